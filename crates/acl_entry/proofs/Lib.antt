@@ -1,0 +1,11 @@
+pub mod PermLaws
+pub mod KeyLaws
+pub mod Placed
+pub mod Ids
+pub mod Maps
+pub mod Faults
+pub mod Bytes
+pub mod Removed
+pub mod Same
+pub mod Groups
+pub mod Modes

@@ -1,0 +1,6 @@
+pub mod Perms
+pub mod Keys
+pub mod Lists
+pub mod Person
+pub mod Check
+pub mod Mentions

@@ -1,0 +1,200 @@
+//! The check of all eight requests in one walk: acl(5), "ACCESS CHECK ALGORITHM".
+ghost use Rattle.std.specs.Prelude.{◌≡◌, ◌&&◌, ◌<◌, ◌^◌, Some, None, Option, Bool, true, false, if◌then◌else◌, option_map, unwrap_or};
+ghost use Rattle.std.specs.List.{list_any};
+ghost use Rattle.std.specs.Int.RustNames.{bit_or};
+ghost use Rattle.std.specs.FinMap as maps;
+ghost use Rattle.acl_entry.specs.declared.key.Key.TheVariants.{Mask};
+ghost use Rattle.acl_entry.specs.Perms.{Perms, contains};
+ghost use Rattle.acl_entry.specs.Lists.{masked, masked_by};
+ghost use Rattle.acl_entry.specs.Check.{has, byte_of, is_for, rights, check, group_of, some_entry_grants};
+ghost use Rattle.acl_entry.specs.Mentions.{AgreeOnMentions};
+ghost use Rattle.acl_entry.specs.Person.{Person};
+ghost use Rattle.std.specs.FinSet as sets;
+ghost use Rattle.std.specs.Option.{option_map_or};
+
+use crate::{Entry, Id, Key, Label, Perm, Subject};
+use std::marker::Model;
+
+/// A set of requests. There are eight, numbered as permission sets are: bit i is request i.
+#[derive(Clone, Copy, PartialEq, Eq, Debug)]
+pub struct Requests {
+    bits: u8,
+}
+
+impl Model for Requests {
+    ghost use Rattle.std.specs.Prelude.{ℕ};
+
+    ghost Value = { ℕ };
+
+    ghost view = { λ r. r.bits };
+
+    ghost inverse = { λ n. record { bits = n } };
+}
+
+// For each permission set, the byte whose bit i is set if request i is a subset.
+const SUBSETS: [u8; 8] = [0x01, 0x03, 0x05, 0x0f, 0x11, 0x33, 0x55, 0xff];
+
+impl Requests {
+    /// Whether the request is one of them.
+    pub fn has(self, request: Perm) -> bool
+        ensures { result ≡ has self request }
+    {
+        self.bits >> request.number() & 1 == 1
+    }
+
+    /// The byte whose bit i is set if request i is one of them.
+    pub fn bits(self) -> u8
+        ensures { result ≡ self }
+    {
+        self.bits
+    }
+
+    /// No request.
+    pub fn none() -> Requests
+        ensures { result ≡ 0 }
+    {
+        Requests { bits: 0 }
+    }
+
+    /// The requests that a permission set contains.
+    pub fn within(perm: Perm) -> Requests
+        ensures { result ≡ byte_of (contains perm) }
+    {
+        Requests {
+            bits: SUBSETS[perm.number() as usize],
+        }
+    }
+
+    /// The requests of either.
+    pub fn union(self, other: Requests) -> Requests
+        ensures { result ≡ bit_or self other }
+    {
+        Requests {
+            bits: self.bits | other.bits,
+        }
+    }
+}
+
+/// The requests that the check of acl(5) grants a user on a file.
+///
+/// Each request is judged by the first case that applies: the owner, a named user, the groups (some
+/// single matching entry contains the request, and so does the mask), the others. Matching group
+/// entries are not added together, so `r` and `w` can each be granted without `rw`, and the empty
+/// request always is. It takes no memory.
+pub fn granted(subject: &Subject, label: &Label) -> Requests
+    ensures all { result ≡ rights subject.now label.now }
+    ensures each { (q : Perms) → has result q ≡ check subject.now label.now q }
+    ensures local { (other : Person) → AgreeOnMentions subject.now other label.now → result ≡ rights other label.now }
+{
+    all_granted(subject, label)
+}
+
+fn all_granted(subject: &Subject, label: &Label) -> Requests
+    ensures { result ≡ rights subject.now label.now }
+{
+    if subject.uid() == label.owner {
+        return Requests::within(label.acl.perm_or_none(&Key::Owner));
+    }
+    let mask = label.acl.get(Key::Mask);
+    if let Some(perm) = label.acl.get(Key::User(subject.uid())) {
+        return Requests::within(under(&mask, perm));
+    }
+    match by_groups(subject, label.group, label.acl.entries(), &mask) {
+        Some(requests) => requests,
+        None => Requests::within(label.acl.perm_or_none(&Key::Other)),
+    }
+}
+
+fn under(mask: &Option<Perm>, perm: Perm) -> Perm
+    ensures { result ≡ masked_by mask.now perm }
+{
+    match mask {
+        Some(mask) => perm.meet(*mask),
+        None => perm,
+    }
+}
+
+// What the entries for the user's groups grant, each alone, if there is one.
+fn by_groups(
+    subject: &Subject,
+    owning: Id,
+    entries: &[Entry],
+    mask: &Option<Perm>,
+) -> Option<Requests>
+    ensures none { list_any (is_for subject.now owning) entries.now ≡ false → result ≡ None }
+    ensures some { list_any (is_for subject.now owning) entries.now ≡ true → result ≡ Some (byte_of (some_entry_grants subject.now owning mask.now entries.now)) }
+{
+    let mut is_matched = false;
+    let mut all = Requests::none();
+    for entry in entries {
+        if is_for(subject, owning, &entry.key) {
+            is_matched = true;
+            all = all.union(Requests::within(under(mask, entry.perm)));
+        }
+    }
+    if is_matched { Some(all) } else { None }
+}
+
+// Whether an entry of the key speaks of one of the user's groups.
+fn is_for(subject: &Subject, owning: Id, key: &Key) -> bool
+    ensures { result ≡ option_map_or (sets.contains subject.now.groups) (group_of owning key.now) false }
+{
+    match *key {
+        Key::OwningGroup => subject.is_of(owning),
+        Key::Group(group) => subject.is_of(group),
+        Key::Owner | Key::User(_) | Key::Mask | Key::Other => false,
+    }
+}
+
+#[cfg(test)]
+mod tests {
+    use super::*;
+    use crate::Acl;
+    use std::process::Abort;
+    use std::test::Fail;
+
+    fn perm(rt: &impl Abort, n: u8) -> Perm {
+        Perm::from_number(n).expect(rt, "a set")
+    }
+
+    fn id(rt: &impl Abort, n: u32) -> Id {
+        Id::new(n).expect(rt, "an id")
+    }
+
+    #[test]
+    fn groups_are_not_added_together(rt: HostRuntime) -> Result<(), Fail> {
+        let entries = [
+            Entry {
+                key: Key::Owner,
+                perm: perm(&rt, 6),
+            },
+            Entry {
+                key: Key::OwningGroup,
+                perm: perm(&rt, 4),
+            },
+            Entry {
+                key: Key::Group(id(&rt, 70)),
+                perm: perm(&rt, 2),
+            },
+            Entry {
+                key: Key::Mask,
+                perm: perm(&rt, 7),
+            },
+            Entry {
+                key: Key::Other,
+                perm: perm(&rt, 0),
+            },
+        ];
+        let acl = Acl::from_entries(rt.alloc(), &entries).expect(&rt, "a list");
+        let label = Label {
+            owner: id(&rt, 1001),
+            group: id(&rt, 70),
+            acl,
+        };
+        let mut groups = Vec::new(rt.alloc());
+        groups.push(id(&rt, 70))?;
+        let small = Subject::new(id(&rt, 1000), groups);
+        assert_eq!(rt; granted(&small, &label).bits(), 0x15);
+        Ok(())
+    }
+}

@@ -1,0 +1,83 @@
+//! What a file has for the check, and who asks: acl(5), "ACCESS CHECK ALGORITHM".
+ghost use Rattle.std.specs.Prelude.{◌≡◌, IfOk};
+ghost use Rattle.std.specs.List.Sorted.{IsStrictlyIncreasing};
+ghost use Rattle.std.specs.FinSet as sets;
+
+use crate::{Acl, Id};
+use std::alloc::{AllocError, Global};
+use std::marker::Model;
+
+/// What the check reads of a file: its owner, its group and its access list.
+#[derive(Debug, Drop)]
+pub struct Label {
+    pub owner: Id,
+    pub group: Id,
+    pub acl: Acl,
+}
+
+/// Who asks: a user's id and groups.
+#[derive(Debug, Drop)]
+pub struct Subject {
+    uid: Id,
+    groups: Vec<Id>,
+}
+
+impl Model for Subject {
+    ghost use Rattle.std.specs.List.Sorted.{IsStrictlyIncreasing};
+    ghost use Rattle.std.specs.FinSet.{from_list};
+    ghost use Rattle.acl_entry.specs.Person.{Person, coded_person};
+
+    ghost Value = { Person };
+
+    ghost coded = { coded_person };
+
+    ghost view = { λ s. record { uid = s.uid; groups = from_list s.groups.items } };
+
+    ghost invariant = { λ s. IsStrictlyIncreasing s.groups.items };
+}
+
+impl Subject {
+    /// A user of these groups, which rise, each once.
+    pub fn new(uid: Id, groups: Vec<Id>) -> Subject
+        requires { IsStrictlyIncreasing groups.items }
+        ensures { result ≡ record { uid = uid; groups = sets.from_list groups.items } }
+    {
+        Subject { uid, groups }
+    }
+
+    /// A user of these groups, in any order and with repeats.
+    ///
+    /// # Errors
+    ///
+    /// Want of memory.
+    pub fn from_groups(alloc: Global, uid: Id, groups: &[Id]) -> Result<Subject, AllocError>
+        ensures { IfOk result (λ subject. subject ≡ record { uid = uid; groups = sets.from_list groups.now }) }
+    {
+        let mut rising = groups.to_vec(alloc)?;
+        rising.sort()?;
+        rising.dedup();
+        Ok(Subject::new(uid, rising))
+    }
+
+    /// The user's id.
+    pub fn uid(&self) -> Id
+        ensures { result ≡ self.now.uid }
+    {
+        self.uid
+    }
+
+    /// The user's groups, which rise, each once.
+    pub fn groups(&self) -> &[Id]
+        ensures all { sets.from_list result.now ≡ self.now.groups }
+        ensures rising { IsStrictlyIncreasing result.now }
+    {
+        &self.groups
+    }
+
+    /// Whether the user is of the group.
+    pub fn is_of(&self, group: Id) -> bool
+        ensures { result ≡ sets.contains self.now.groups group }
+    {
+        self.groups.binary_search(&group).is_ok()
+    }
+}

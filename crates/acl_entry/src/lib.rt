@@ -1,0 +1,24 @@
+//! Access control lists after acl(5) and POSIX.1e draft 17: permission sets, entries, valid lists,
+//! their correspondence with a file's mode, and the check of a request.
+//!
+//! A list is seen by contracts as a finite map from [`Key`] to [`Perm`], and is always valid. Text,
+//! edits of whole files and trees stand in the crates above.
+#![tactic(auto)]
+
+mod acl;
+mod check;
+mod draft;
+mod entry;
+mod key;
+mod label;
+mod mentions;
+mod perm;
+mod sorted;
+
+pub use acl::{Acl, INLINE_ENTRIES, MOST_ENTRIES};
+pub use check::{Requests, granted};
+pub use draft::Draft;
+pub use entry::{Entry, ListFault};
+pub use key::{Id, Key};
+pub use label::{Label, Subject};
+pub use perm::Perm;
