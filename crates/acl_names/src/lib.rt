@@ -1,0 +1,10 @@
+//! Names and paths as they stand in texts: how they are read, written and cut.
+#![tactic(auto)]
+
+pub mod cut;
+mod escape;
+mod name;
+mod path;
+
+pub use name::{Name, append_name, read_name, write_name};
+pub use path::{Path, append_path, read_path, write_path};

@@ -1,0 +1,188 @@
+//! Paths, by their components.
+
+ghost use Rattle.std.specs.Prelude.{◌≡◌, ◌++◌, ℕ, List, Some, map, IsTrue, IfOk, OnOk, OnErr, take, length};
+ghost use Rattle.std.specs.List.{list_any, list_all, flat_map};
+ghost use Rattle.acl_names.specs.Names.{escaped_where, is_escaped_in_paths};
+ghost use Rattle.acl_names.specs.Paths.{is_component, is_allowed, path_from, is_nothing, is_dot_dot, is_refused, path_of, path_cmp, path_text, after_slash, components_of};
+
+use crate::cut::first_piece;
+use crate::escape::{is_escaped_in_paths, push_byte};
+use crate::name::read_name;
+use std::alloc::{AllocError, Global};
+use std::cmp::Ordering;
+use std::marker::Model;
+
+/// A path from the root, as its components: none of them is empty, `.` or `..`, or holds `/` or NUL.
+#[derive(Debug, Drop)]
+pub struct Path {
+    names: Vec<Vec<u8>>,
+}
+
+impl Model for Path {
+    ghost Value = { List (List ℕ) };
+
+    ghost view = { λ p. map (λ v. v.items) p.names.items };
+
+    ghost invariant = { λ p. IsTrue (list_all is_component (map (λ v. v.items) p.names.items)) };
+}
+
+impl Path {
+    #[tactic(auto, using(crate::proofs::Cuts::list_all_map))]
+    /// The path of these components; none where one of them is empty, `.` or `..`, or holds `/` or NUL.
+    /// No components are the root.
+    pub fn new(components: Vec<Vec<u8>>) -> Option<Path>
+        ensures { result ≡ path_from (map (λ v. v.items) components.items) }
+    {
+        if are_components(&components) {
+            Some(Path { names: components })
+        } else {
+            None
+        }
+    }
+
+    /// The components, from the root on.
+    pub fn components(&self) -> &[Vec<u8>]
+        ensures all { map (λ v. v.items) result.now ≡ self.now }
+        ensures valid { IsTrue (list_all is_component self.now) }
+    {
+        &self.names
+    }
+
+    /// The same path once more. Refused for want of memory only.
+    pub fn try_clone(&self, alloc: Global) -> Result<Path, AllocError>
+        ensures { IfOk result (λ path. path ≡ self.now) }
+    {
+        Ok(Path {
+            names: self.names.clone()?,
+        })
+    }
+
+    /// Path order: by components, bytewise, parents first.
+    pub fn order(&self, other: &Path) -> Ordering
+        ensures { result ≡ path_cmp self.now other.now }
+    {
+        self.names.cmp(&other.names)
+    }
+}
+
+fn is_component(part: &[u8]) -> bool
+    ensures { result ≡ is_component part.now }
+{
+    is_allowed(part)
+}
+
+fn is_allowed(part: &[u8]) -> bool
+    ensures { result ≡ is_allowed part.now }
+{
+    !is_nothing(part) && !is_refused(part) && !part.contains(&b'/')
+}
+
+fn are_components(parts: &[Vec<u8>]) -> bool
+    ensures { result ≡ list_all (λ v. is_component v.items) parts.now }
+{
+    parts.iter().all(|part| is_component(part))
+}
+
+fn is_nothing(part: &[u8]) -> bool
+    ensures { result ≡ is_nothing part.now }
+{
+    match part {
+        [] => true,
+        [a] => *a == b'.',
+        _ => false,
+    }
+}
+
+fn is_dot_dot(part: &[u8]) -> bool
+    ensures { result ≡ is_dot_dot part.now }
+{
+    match part {
+        [a, b] => *a == b'.' && *b == b'.',
+        _ => false,
+    }
+}
+
+fn is_refused(part: &[u8]) -> bool
+    ensures { result ≡ is_refused part.now }
+{
+    is_dot_dot(part) || part.contains(&0)
+}
+
+/// The path that a text stands for: decoded as a name, then cut at `/`, without empty components and
+/// `.`. None where a component is `..` or holds a NUL byte. Refused for want of memory only.
+pub fn read_path(alloc: Global, text: &[u8]) -> Result<Option<Path>, AllocError>
+    ensures { IfOk result (λ path. path ≡ path_of text.now) }
+{
+    let name = read_name(alloc, text)?;
+    let mut names = Vec::new(alloc);
+    let mut rest = name.as_bytes();
+    while !rest.is_empty() {
+        let (part, after) = first_piece(rest, b'/');
+        if is_refused(part) {
+            return Ok(None);
+        }
+        if !is_nothing(part) {
+            names.push(Vec::from_slice(alloc, part)?)?;
+        }
+        rest = after;
+    }
+    Ok(Some(Path { names }))
+}
+
+/// The text of a path: `.` for the root, else its components joined by `/`, with backslash, line feed and
+/// carriage return as escapes of three octal digits. It is read as that path. Refused for want of memory
+/// only.
+pub fn write_path(alloc: Global, path: &Path) -> Result<Vec<u8>, AllocError>
+    ensures text { IfOk result (λ text. text.items ≡ path_text path.now) }
+    ensures read_again { IfOk result (λ text. path_of text.items ≡ Some path.now) }
+{
+    let mut text = Vec::new(alloc);
+    push_path(&mut text, path.components())?;
+    Ok(text)
+}
+
+/// Adds the text of a path. Refused for want of memory only, and then nothing is added.
+pub fn append_path(text: &mut Vec<u8>, path: &Path) -> Result<(), AllocError>
+    ensures ok { OnOk result (text.new.items ≡ text.old.items ++ path_text path.now) }
+    ensures err { OnErr result (text.new.items ≡ text.old.items) }
+{
+    let before = text.len();
+    if let Err(refused) = push_path(text, path.components()) {
+        text.truncate(before);
+        return Err(refused);
+    }
+    Ok(())
+}
+
+fn push_path(text: &mut Vec<u8>, components: &[Vec<u8>]) -> Result<(), AllocError>
+    ensures ok { OnOk result (text.new.items ≡ text.old.items ++ path_text (map (λ v. v.items) components.now)) }
+    ensures err { OnErr result (take (length text.old.items) text.new.items ≡ text.old.items) }
+{
+    let [first, others @ ..] = components else {
+        text.push(b'.')?;
+        return Ok(());
+    };
+    push_component(text, first)?;
+    push_others(text, others)
+}
+
+fn push_others(text: &mut Vec<u8>, others: &[Vec<u8>]) -> Result<(), AllocError>
+    ensures ok { OnOk result (text.new.items ≡ text.old.items ++ escaped_where is_escaped_in_paths (flat_map after_slash (map (λ v. v.items) others.now))) }
+    ensures err { OnErr result (take (length text.old.items) text.new.items ≡ text.old.items) }
+{
+    for other in others {
+        text.push(b'/')?;
+        push_component(text, other)?;
+    }
+    Ok(())
+}
+
+fn push_component(text: &mut Vec<u8>, component: &[u8]) -> Result<(), AllocError>
+    ensures ok { OnOk result (text.new.items ≡ text.old.items ++ escaped_where is_escaped_in_paths component.now) }
+    ensures err { OnErr result (take (length text.old.items) text.new.items ≡ text.old.items) }
+{
+    for b in component {
+        push_byte(text, *b, is_escaped_in_paths(*b))?;
+    }
+    Ok(())
+}

@@ -1,0 +1,153 @@
+-- How a run ends, from how far it has come.
+use Rattle.std.proofs.Common.{◌≡◌, ◌≤◌, ◌+◌, ◌-◌, ℕ, Bool, true, false, not, List, [], ◌∷◌, ◌++◌, length, length-append, length-take, take, drop, Option, None, Some, refl, sym, ap, ◌∙◌, subst, arith, append_assoc, append-nil}
+use Rattle.std.specs.Prelude.{IfSome}
+use lib.Seq.{take-append_seam}
+use Rattle.std.specs.Io.KnownBytes.{Consumes, Keeps, IsAtEnd, prepend_known}
+use Rattle.std.proofs.KnownBytes.{Appends-trans}
+use Rattle.facl_script.specs.declared.fault.ScriptFault.{ScriptFault}
+use Rattle.facl_script.specs.declared.fault.ScriptFault.TheVariants.{Read, Write, TooLong, NoMemory}
+use Rattle.facl_script.specs.declared.source.Source.{Source}
+use Rattle.facl_script.specs.declared.source.TheConstants.{SCRIPT_LIMIT, CHUNK}
+use Rattle.facl_script.specs.declared.unit.Script.{Script}
+use Rattle.facl_script.specs.Source.{pending, taken_count, StopsAfter}
+use Rattle.facl_script.specs.Script.{script_taken, ScriptStopsAfter}
+use Rattle.facl_script.specs.Lines.{lines_of}
+use Rattle.facl_script.specs.Units.{ScriptUnit, outside, cut, units_of, full_units, HasNoUnit}
+use Rattle.facl_script.specs.ReadUnit.{IsNextUnit}
+use Rattle.facl_script.specs.Play.{Answer, joined, play, session}
+use Rattle.facl_script.specs.Write.{Writes}
+use Rattle.facl_script.specs.Run.{Gives, Breaks, Ends, Told, StopsWith}
+use Rattle.facl_script.specs.Progress.{Progress}
+use Rattle.facl_script.proofs.SourceLemmas.{stops_later}
+use Rattle.facl_script.proofs.ProgressLemmas.{told_full, next_splits, updated, updated_at, updated_agrees}
+
+pub Consumes-none : (none : List ℕ) (a : Option (List ℕ)) → none ≡ [] → Consumes a (prepend_known none a) []
+Consumes-none none None h = tt
+Consumes-none none (Some x) h = rw h refl
+
+pub left_consumes : (a b : Option (List ℕ)) → b ≡ a → Consumes a b []
+left_consumes None b h = tt
+left_consumes (Some x) b h = subst (λ (o : Option (List ℕ)). Consumes (Some x) o []) (sym h) refl
+
+pub Keeps-refl : (a : Option (List ℕ)) → Keeps a a
+Keeps-refl None = tt
+Keeps-refl (Some x) = refl
+
+pub gives_same : {S : Type 0} (a b : Answer S) (state : S) (spent spent' : ℕ) (o o' e e' : Option (List ℕ)) → a ≡ b → Gives a state spent spent' o o' e e' → Gives b state spent spent' o o' e e'
+gives_same a b state spent spent' o o' e e' h g = subst (λ (x : Answer _). Gives x state spent spent' o o' e e') h g
+
+pending_short : (s : Source) → length (pending s) ≤ CHUNK
+pending_short s = omega (arith, s.in_chunk, length-take (s.end - s.start) (drop s.start s.chunk))
+
+told_units : {S : Type 0} (answered : Bool → ScriptUnit → S → Answer S) (start state : S) (spent spent' : ℕ) (o o' e e' : Option (List ℕ)) (taken : List ℕ) (number : ℕ) (told : Answer S) → Progress answered start taken number false told
+    → (tail : List ℕ) → HasNoUnit tail → Gives told state spent spent' o o' e e' → Told answered start (full_units (units_of (taken ++ tail))) state spent spent' o o' e e'
+told_units answered start state spent spent' o o' e e' taken number told p tail none g =
+    record { m = p.m; gives = gives_same told _ state spent spent' o o' e e' (sym (told_full answered start taken number told p tail none)) g }
+
+stops_known : {S : Type 0} (answered : Bool → ScriptUnit → S → Answer S) (start state : S) (spent spent' : ℕ) (fault : ScriptFault) (script : List ℕ) (r o o' e e' : Option (List ℕ)) (s : Source) (failed : Bool)
+    (taken : List ℕ) (number : ℕ) (told : Answer S) → Progress answered start taken number false told → (tail : List ℕ) → HasNoUnit tail
+    → StopsAfter fault (Some script) s r failed (taken ++ tail) → taken_count s ≡ length (taken ++ tail) → Gives told state spent spent' o o' e e' → StopsWith fault answered start script state spent spent' r o o' e e'
+stops_known answered start state spent spent' Read script r o o' e e' s failed taken number told p tail none stop count g =
+    (taken ++ tail, stop.0, told_units answered start state spent spent' o o' e e' taken number told p tail none g)
+stops_known answered start state spent spent' TooLong script None o o' e e' s failed taken number told p tail none stop count g = absurd stop.0.2
+stops_known answered start state spent spent' TooLong script (Some rest) o o' e e' s failed taken number told p tail none stop count g =
+    let more = stop.0.0 in
+    let all : script ≡ (taken ++ tail) ++ (more ++ rest) = stop.0.2 ∙ append_assoc (taken ++ tail) more rest in
+    let len : length (taken ++ tail) ≡ SCRIPT_LIMIT = sym count ∙ stop.2 in
+    let front : take SCRIPT_LIMIT script ≡ taken ++ tail = ap (λ l. take SCRIPT_LIMIT l) all ∙ ap (λ n. take n ((taken ++ tail) ++ (more ++ rest))) (sym len) ∙ take-append_seam (taken ++ tail) (more ++ rest) in
+    (more, stop.0.1, rw front stop.0.2, omega (arith, len, stop.0.1, ap length all, length-append (taken ++ tail) (more ++ rest), length-append more rest), rw front (told_units answered start state spent spent' o o' e e' taken number told p tail none g))
+stops_known answered start state spent spent' NoMemory script None o o' e e' s failed taken number told p tail none stop count g = absurd stop
+stops_known answered start state spent spent' NoMemory script (Some rest) o o' e e' s failed taken number told p tail none stop count g =
+    (taken ++ tail, pending s, stop ∙ sym (append_assoc (taken ++ tail) (pending s) rest), pending_short s, told_units answered start state spent spent' o o' e e' taken number told p tail none g)
+stops_known answered start state spent spent' Write script r o o' e e' s failed taken number told p tail none stop count g = absurd stop
+
+-- the source stopped: what was written is told of the units done
+pub stops_reading : {S : Type 0} (answered : Bool → ScriptUnit → S → Answer S) (start state : S) (spent spent' : ℕ) (fault : ScriptFault) (a mid r o o' e e' : Option (List ℕ)) (s : Script) (failed : Bool)
+    (taken : List ℕ) (number : ℕ) (told : Answer S) → Progress answered start taken number false told → (tail : List ℕ) → HasNoUnit tail
+    → Consumes a mid taken → ScriptStopsAfter fault mid s r failed tail → script_taken s ≡ length taken + length tail → Gives told state spent spent' o o' e e' → IfSome a (λ script. StopsWith fault answered start script state spent spent' r o o' e e')
+stops_reading answered start state spent spent' fault None mid r o o' e e' s failed taken number told p tail none c stop count g = tt
+stops_reading answered start state spent spent' fault (Some script) mid r o o' e e' s failed taken number told p tail none c stop count g =
+    stops_known answered start state spent spent' fault script r o o' e e' s.source failed taken number told p tail none (stops_later fault s.source (Some script) mid r failed taken tail c stop) (omega (arith, count, length-append taken tail)) g
+
+pub Writes-joined : (o o' o'' e e' e'' : Option (List ℕ)) (a_out a_err b_out b_err : List ℕ) → Writes o o' e e' a_out a_err → Writes o' o'' e' e'' b_out b_err → Writes o o'' e e'' (a_out ++ b_out) (a_err ++ b_err)
+Writes-joined o o' o'' e e' e'' a_out a_err b_out b_err v w = record {
+  out_grows = Appends-trans o o' o'' a_out b_out v.out_grows w.out_grows;
+  err_grows = Appends-trans e e' e'' a_err b_err v.err_grows w.err_grows;
+}
+
+fails_known : {S : Type 0} (answered : Bool → ScriptUnit → S → Answer S) (start state state' : S) (spent spent' spent'' : ℕ) (script : List ℕ) (r after o o' o'' e e' e'' : Option (List ℕ)) (taken : List ℕ) (number number' : ℕ) (told : Answer S)
+    → Progress answered start taken number false told → (before : Option (List ℕ)) (old new : ℕ) (piece : List ℕ) (u : ScriptUnit) → IsNextUnit before after old new number number' piece u
+    → Consumes (Some script) after (taken ++ piece) → Gives told state spent spent' o o' e e' → (wants : Bool) → Breaks (answered wants u told.state) state' spent' spent'' o' o'' e' e''
+    → StopsWith Write answered start script state' spent spent'' r o o'' e e''
+fails_known answered start state state' spent spent' spent'' script r None o o' o'' e e' e'' taken number number' told p before old new piece u next c g wants h = absurd c
+fails_known answered start state state' spent spent' spent'' script r (Some rest) o o' o'' e e' e'' taken number number' told p before old new piece u next c g wants h =
+    let m = updated number wants p.m in
+    let played : play answered m p.done start ≡ told = p.plays m (updated_agrees number wants p.m) in
+    let wanted : m u.number ≡ wants = ap m next.numbered ∙ updated_at number wants p.m in
+    record {
+      m = m;
+      before = p.done;
+      unit = u;
+      after = cut outside number' (lines_of rest);
+      units = ap units_of c ∙ next_splits answered start taken number number' told p before (Some rest) old new piece u next rest next.last ∙ append_assoc p.done (u ∷ []) (cut outside number' (lines_of rest));
+      out_now = o';
+      err_now = e';
+      spent_now = spent';
+      told_spends = rw played g.spends;
+      told = rw played g.writes;
+      breaks = rw (played, wanted) h;
+    }
+
+-- a writer failed in the midst of the unit that was found
+pub fails_writing : {S : Type 0} (answered : Bool → ScriptUnit → S → Answer S) (start state state' : S) (spent spent' spent'' : ℕ) (a r after o o' o'' e e' e'' : Option (List ℕ)) (taken : List ℕ) (number number' : ℕ) (told : Answer S)
+    → Progress answered start taken number false told → (before : Option (List ℕ)) (old new : ℕ) (piece : List ℕ) (u : ScriptUnit) → IsNextUnit before after old new number number' piece u
+    → Consumes a after (taken ++ piece) → Gives told state spent spent' o o' e e' → (wants : Bool) → Breaks (answered wants u told.state) state' spent' spent'' o' o'' e' e''
+    → IfSome a (λ script. StopsWith Write answered start script state' spent spent'' r o o'' e e'')
+fails_writing answered start state state' spent spent' spent'' None r after o o' o'' e e' e'' taken number number' told p before old new piece u next c g wants h = tt
+fails_writing answered start state state' spent spent' spent'' (Some script) r after o o' o'' e e' e'' taken number number' told p before old new piece u next c g wants h =
+    fails_known answered start state state' spent spent' spent'' script r after o o' o'' e e' e'' taken number number' told p before old new piece u next c g wants h
+
+-- nothing is left
+pub ends_here : {S : Type 0} (answered : Bool → ScriptUnit → S → Answer S) (start state : S) (spent spent' : ℕ) (a mid after o o' e e' : Option (List ℕ)) (taken : List ℕ) (number : ℕ) (over : Bool) (told : Answer S)
+    → Progress answered start taken number over told → Consumes a mid taken → Keeps mid after → IsAtEnd after → length taken ≤ SCRIPT_LIMIT → Gives told state spent spent' o o' e e' → (refused : Bool) → refused ≡ told.refused
+    → IfSome a (λ script. Ends answered start script refused state spent spent' o o' e e')
+ends_here answered start state spent spent' None mid after o o' e e' taken number over told p c k last short g refused same = tt
+ends_here answered start state spent spent' (Some script) None after o o' e e' taken number over told p c k last short g refused same = absurd c
+ends_here answered start state spent spent' (Some script) (Some x) None o o' e e' taken number over told p c k last short g refused same = absurd k
+ends_here answered start state spent spent' (Some script) (Some x) (Some y) o o' e e' taken number over told p c k last short g refused same =
+    let all : script ≡ taken ++ [] = c ∙ ap (λ l. taken ++ l) (sym k ∙ last) in
+    let units : units_of script ≡ p.done = ap units_of all ∙ p.splits [] (λ e. refl) ∙ append-nil p.done in
+    let played : session answered p.m script start ≡ told = ap (λ us. play answered p.m us start) units ∙ p.plays p.m (λ j lt. refl) in
+    record {
+      m = p.m;
+      within = omega (arith, short, ap length (all ∙ append-nil taken));
+      gives = gives_same told _ state spent spent' o o' e e' (sym played) g;
+      refused_is = same ∙ ap (λ (z : Answer _). z.refused) (sym played);
+    }
+
+-- whether the end was met before or is met now, nothing is left
+pub at_end : (over : Bool) (mid after : Option (List ℕ)) → (over ≡ true → (after ≡ mid) × IsAtEnd mid) → (over ≡ false → Keeps mid after × IsAtEnd after) → Keeps mid after × IsAtEnd after
+at_end true mid after h k = let e = h refl in rw e.0 (Keeps-refl mid, e.1)
+at_end false mid after h k = k refl
+
+pub not_over : (over : Bool) → (over ≡ true → ⊥) → over ≡ false
+not_over true h = absurd (h refl)
+not_over false h = refl
+
+pub none_of : {A : Type 0} (o : Option A) → ((x : A) → o ≡ Some x → ⊥) → o ≡ None
+none_of None h = refl
+none_of (Some x) h = absurd (h x refl)
+
+pub not_full : (b : Bool) → not b ≡ true → b ≡ false
+not_full true h = sym h
+not_full false h = refl
+
+-- one unit was answered at a state
+abbrev pub GivesAt : {S : Type 0} → (Bool → ScriptUnit → S → Answer S) → ScriptUnit → S → S → Bool → (spent spent' : ℕ) (o o' e e' : Option (List ℕ)) → Type 0
+GivesAt answered unit old new refused spent spent' o o' e e' = (wants : Bool) × Gives (answered wants unit old) new spent spent' o o' e e' × (refused ≡ (answered wants unit old).refused)
+
+abbrev pub BreaksAt : {S : Type 0} → (Bool → ScriptUnit → S → Answer S) → ScriptUnit → S → S → (spent spent' : ℕ) (o o' e e' : Option (List ℕ)) → Type 0
+BreaksAt answered unit old new spent spent' o o' e e' = (wants : Bool) × Breaks (answered wants unit old) new spent spent' o o' e e'
+
+pub Gives-joined : {S : Type 0} (a b : Answer S) (state state' : S) (spent spent' spent'' : ℕ) (o o' o'' e e' e'' : Option (List ℕ)) → Gives a state spent spent' o o' e e' → Gives b state' spent' spent'' o' o'' e' e'' → Gives (joined a b) state' spent spent'' o o'' e e''
+Gives-joined a b state state' spent spent' spent'' o o' o'' e e' e'' v w = record { spends = omega (arith, v.spends, w.spends); writes = Writes-joined o o' o'' e e' e'' a.out a.err b.out b.err v.writes w.writes; state_is = w.state_is }

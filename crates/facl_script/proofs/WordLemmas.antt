@@ -1,0 +1,234 @@
+-- Lemmas on the words of a line.
+use Rattle.std.proofs.Common.{◌≡◌, ◌<◌, ◌≤◌, ◌+◌, ◌/◌, ◌⊎◌, inl, inr, length, true≢false, ℕ, Bool, true, false, cond, nat_lt, List, [], ◌∷◌, ◌++◌, Option, None, Some, Ok, Err, refl, sym, ap, ◌∙◌, append_assoc, append-nil, arith}
+use Rattle.std.specs.Prelude.{option_map}
+use Rattle.std.proofs.lemmas.Bool.{ne_eqb, le-ltb, ltb-true, ltb-false}
+use Rattle.std.proofs.lemmas.Str.{encode_ascii, length-encode, len_utf8_bounds, is_utf8-from_IsUtf8, IsUtf8-from_is_utf8}
+use Rattle.std.specs.Str.{IsUtf8, is_utf8}
+use Rattle.facl_script.specs.declared.words.SplitFault.TheVariants.{NotUtf8, OpenQuote}
+use lib.Utf8.{encode, next}
+use Rattle.facl_script.specs.declared.place.Place.{Place}
+use Rattle.facl_script.specs.declared.place.Place.TheVariants.{Between, Within, Quoted}
+use Rattle.facl_script.specs.declared.place.Effect.{Effect}
+use Rattle.facl_script.specs.declared.place.Effect.TheVariants.{Skips, Joins, Ends}
+use Rattle.facl_script.specs.Words.{is_white, is_quote, onto_word, words_at, words_of, says_nothing, line_words}
+use Rattle.facl_script.specs.Steps.{effect_of, place_after, onto_first, words_seen}
+
+-- an empty word before the rest is the word as it was begun
+pub onto_first_word : (begun : List ℕ) (words : List (List ℕ)) → onto_first begun ([] ∷ words) ≡ begun ∷ words
+onto_first_word [] words = refl
+onto_first_word (b ∷ bs) words = ap (onto_word b) (onto_first_word bs words)
+
+onto_first_more : (begun : List ℕ) (b : ℕ) (words : List (List ℕ)) → onto_first begun (onto_word b words) ≡ onto_first (begun ++ b ∷ []) words
+onto_first_more [] b words = refl
+onto_first_more (a ∷ begun) b words = ap (onto_word a) (onto_first_more begun b words)
+
+-- the words seen, after a character whose bytes these are
+abbrev pub after_effect : Effect → List (List ℕ) → List ℕ → Place → List ℕ → List ℕ → Option (List (List ℕ))
+after_effect Skips done begun place bytes rest = words_seen done begun place rest
+after_effect Joins done begun place bytes rest = words_seen done (begun ++ bytes) place rest
+after_effect Ends done begun place bytes rest = words_seen (done ++ begun ∷ []) [] place rest
+
+joins_map : (done : List (List ℕ)) (begun : List ℕ) (b : ℕ) (o : Option (List (List ℕ)))
+    → option_map (λ words. done ++ onto_first begun words) (option_map (onto_word b) o) ≡ option_map (λ words. done ++ onto_first (begun ++ b ∷ []) words) o
+joins_map done begun b None = refl
+joins_map done begun b (Some words) = ap (λ ws. Some (done ++ ws)) (onto_first_more begun b words)
+
+ends_map : (done : List (List ℕ)) (begun : List ℕ) (o : Option (List (List ℕ)))
+    → option_map (λ words. done ++ onto_first begun words) (option_map (λ words. [] ∷ words) o) ≡ option_map (λ words. (done ++ begun ∷ []) ++ onto_first [] words) o
+ends_map done begun None = refl
+ends_map done begun (Some words) = ap Some (ap (λ ws. done ++ ws) (onto_first_word begun words) ∙ sym (append_assoc done (begun ∷ []) words))
+
+-- what stands between words has no beginning of a word
+abbrev pub IsBegun : Place → List ℕ → Type 0
+IsBegun Between begun = begun ≡ []
+IsBegun Within begun = Unit {0}
+IsBegun Quoted begun = Unit {0}
+
+-- a line of which some words are done, one is begun, and the rest is read from this place on
+pub record IsSeen (line : List ℕ) (done : List (List ℕ)) (begun : List ℕ) (place : Place) (rest : List ℕ) : Type 0 where
+  pub words : words_of line ≡ words_seen done begun place rest
+  pub word : IsBegun place begun
+
+abbrev pub IsSeenAfter : Effect → List ℕ → List (List ℕ) → List ℕ → Place → List ℕ → List ℕ → Type 0
+IsSeenAfter Skips line done begun place bytes rest = IsSeen line done begun place rest
+IsSeenAfter Joins line done begun place bytes rest = IsSeen line done (begun ++ bytes) place rest
+IsSeenAfter Ends line done begun place bytes rest = IsSeen line (done ++ begun ∷ []) [] place rest
+
+abbrev IsBegunAfter : Effect → Place → List ℕ → List ℕ → Type 0
+IsBegunAfter Skips place begun bytes = IsBegun place begun
+IsBegunAfter Joins place begun bytes = IsBegun place (begun ++ bytes)
+IsBegunAfter Ends place begun bytes = IsBegun place []
+
+begun_after : (place : Place) (c : ℕ) (begun bytes : List ℕ) → IsBegun place begun → IsBegunAfter (effect_of place c) (place_after place c) begun bytes
+begun_after Between c begun bytes h = by_tests (is_white c) (is_quote c)
+  where
+    by_tests : (w q : Bool) → IsBegunAfter (cond w Skips (cond q Skips Joins)) (cond w Between (cond q Quoted Within)) begun bytes
+    by_tests true q = h
+    by_tests false true = tt
+    by_tests false false = tt
+begun_after Within c begun bytes h = by_tests (is_white c) (is_quote c)
+  where
+    by_tests : (w q : Bool) → IsBegunAfter (cond w Ends (cond q Skips Joins)) (cond w Between (cond q Quoted Within)) begun bytes
+    by_tests true q = refl
+    by_tests false true = tt
+    by_tests false false = tt
+begun_after Quoted c begun bytes h = by_tests (is_quote c)
+  where
+    by_tests : (q : Bool) → IsBegunAfter (cond q Skips Joins) (cond q Within Quoted) begun bytes
+    by_tests true = tt
+    by_tests false = tt
+
+seen_after : (e : Effect) (line : List ℕ) (done : List (List ℕ)) (begun : List ℕ) (place : Place) (bytes rest : List ℕ)
+    → words_of line ≡ after_effect e done begun place bytes rest → IsBegunAfter e place begun bytes → IsSeenAfter e line done begun place bytes rest
+seen_after Skips line done begun place bytes rest h b = record { words = h; word = b }
+seen_after Joins line done begun place bytes rest h b = record { words = h; word = b }
+seen_after Ends line done begun place bytes rest h b = record { words = h; word = b }
+
+-- one byte of a line
+pub seen_step : (done : List (List ℕ)) (begun : List ℕ) (place : Place) (b : ℕ) (rest : List ℕ)
+    → words_seen done begun place (b ∷ rest) ≡ after_effect (effect_of place b) done begun (place_after place b) (b ∷ []) rest
+seen_step done begun Between b rest = by_tests (is_white b) (is_quote b)
+  where
+    by_tests : (w q : Bool) → option_map (λ words. done ++ onto_first begun words) (cond w (words_at Between rest) (cond q (words_at Quoted rest) (option_map (onto_word b) (words_at Within rest))))
+        ≡ after_effect (cond w Skips (cond q Skips Joins)) done begun (cond w Between (cond q Quoted Within)) (b ∷ []) rest
+    by_tests true q = refl
+    by_tests false true = refl
+    by_tests false false = joins_map done begun b (words_at Within rest)
+seen_step done begun Within b rest = by_tests (is_white b) (is_quote b)
+  where
+    by_tests : (w q : Bool) → option_map (λ words. done ++ onto_first begun words) (cond w (option_map (λ words. [] ∷ words) (words_at Between rest)) (cond q (words_at Quoted rest) (option_map (onto_word b) (words_at Within rest))))
+        ≡ after_effect (cond w Ends (cond q Skips Joins)) done begun (cond w Between (cond q Quoted Within)) (b ∷ []) rest
+    by_tests true q = ends_map done begun (words_at Between rest)
+    by_tests false true = refl
+    by_tests false false = joins_map done begun b (words_at Within rest)
+seen_step done begun Quoted b rest = by_tests (is_quote b)
+  where
+    by_tests : (q : Bool) → option_map (λ words. done ++ onto_first begun words) (cond q (words_at Within rest) (option_map (onto_word b) (words_at Quoted rest)))
+        ≡ after_effect (cond q Skips Joins) done begun (cond q Within Quoted) (b ∷ []) rest
+    by_tests true = refl
+    by_tests false = joins_map done begun b (words_at Quoted rest)
+
+-- bytes past ASCII
+abbrev AllHigh : List ℕ → Type 0
+AllHigh [] = Unit {0}
+AllHigh (b ∷ bs) = (128 ≤ b) × AllHigh bs
+
+encode_high : (c : ℕ) → 128 ≤ c → AllHigh (encode c)
+unfolding encode
+encode_high c h = by_tests _ _ _ (le-ltb c 128 h)
+  where
+    by_tests : (x y z : Bool) → x ≡ false
+        → AllHigh (cond x (c ∷ []) (cond y ((192 + c / 64) ∷ next c ∷ []) (cond z ((224 + c / 4096) ∷ next (c / 64) ∷ next c ∷ []) ((240 + c / 262144) ∷ next (c / 4096) ∷ next (c / 64) ∷ next c ∷ []))))
+    by_tests true y z e = absurd (true≢false e)
+    by_tests false true z e = (omega arith, (omega arith, tt))
+    by_tests false false true e = (omega arith, (omega arith, (omega arith, tt)))
+    by_tests false false false e = (omega arith, (omega arith, (omega arith, (omega arith, tt))))
+
+encode_some : (c : ℕ) → 128 ≤ c → 0 < length (encode c)
+encode_some c h = omega (arith, length-encode c, (len_utf8_bounds c).0)
+
+-- where the reading stands after bytes past ASCII
+high_place : Place → Place
+high_place Between = Within
+high_place Within = Within
+high_place Quoted = Quoted
+
+high_effect : (place : Place) (c : ℕ) → 128 ≤ c → effect_of place c ≡ Joins
+high_effect Between c h = rw (ne_eqb c 32 (λ e. omega (arith, e, h)), ne_eqb c 9 (λ e. omega (arith, e, h)), ne_eqb c 39 (λ e. omega (arith, e, h))) refl
+high_effect Within c h = rw (ne_eqb c 32 (λ e. omega (arith, e, h)), ne_eqb c 9 (λ e. omega (arith, e, h)), ne_eqb c 39 (λ e. omega (arith, e, h))) refl
+high_effect Quoted c h = rw (ne_eqb c 39 (λ e. omega (arith, e, h))) refl
+
+high_after : (place : Place) (c : ℕ) → 128 ≤ c → place_after place c ≡ high_place place
+unfolding high_place
+high_after Between c h = rw (ne_eqb c 32 (λ e. omega (arith, e, h)), ne_eqb c 9 (λ e. omega (arith, e, h)), ne_eqb c 39 (λ e. omega (arith, e, h))) refl
+high_after Within c h = rw (ne_eqb c 32 (λ e. omega (arith, e, h)), ne_eqb c 9 (λ e. omega (arith, e, h)), ne_eqb c 39 (λ e. omega (arith, e, h))) refl
+high_after Quoted c h = rw (ne_eqb c 39 (λ e. omega (arith, e, h))) refl
+
+high_high : (place : Place) → high_place (high_place place) ≡ high_place place
+unfolding high_place
+high_high Between = refl
+high_high Within = refl
+high_high Quoted = refl
+
+-- one byte past ASCII
+seen_high : (done : List (List ℕ)) (begun : List ℕ) (place : Place) (b : ℕ) (rest : List ℕ) → 128 ≤ b
+    → words_seen done begun place (b ∷ rest) ≡ words_seen done (begun ++ b ∷ []) (high_place place) rest
+seen_high done begun place b rest h =
+    seen_step done begun place b rest ∙ ap (λ e. after_effect e done begun (place_after place b) (b ∷ []) rest) (high_effect place b h)
+    ∙ ap (λ p. words_seen done (begun ++ b ∷ []) p rest) (high_after place b h)
+
+-- bytes past ASCII, of which there is one at least
+seen_all_high : (bs : List ℕ) (done : List (List ℕ)) (begun : List ℕ) (place : Place) (rest : List ℕ) → AllHigh bs → 0 < length bs
+    → words_seen done begun place (bs ++ rest) ≡ words_seen done (begun ++ bs) (high_place place) rest
+seen_all_high [] done begun place rest h some = absurd (omega (arith, some))
+seen_all_high (b ∷ []) done begun place rest h some = seen_high done begun place b rest h.0
+seen_all_high (b ∷ a ∷ bs) done begun place rest h some =
+    seen_high done begun place b ((a ∷ bs) ++ rest) h.0 ∙ seen_all_high (a ∷ bs) done (begun ++ b ∷ []) (high_place place) rest h.1 (omega arith)
+    ∙ ap (λ p. words_seen done ((begun ++ b ∷ []) ++ a ∷ bs) p rest) (high_high place) ∙ ap (λ l. words_seen done l (high_place place) rest) (append_assoc begun (b ∷ []) (a ∷ bs))
+
+by_ascii : (c : ℕ) → (c < 128) ⊎ (128 ≤ c)
+by_ascii c = tested (nat_lt c 128) refl
+  where
+    tested : (b : Bool) → nat_lt c 128 ≡ b → (c < 128) ⊎ (128 ≤ c)
+    tested true e = inl (ltb-true c 128 e)
+    tested false e = inr (ltb-false c 128 e)
+
+-- one character of a line that is text
+pub seen_char : (done : List (List ℕ)) (begun : List ℕ) (place : Place) (c : ℕ) (rest : List ℕ)
+    → words_seen done begun place (encode c ++ rest) ≡ after_effect (effect_of place c) done begun (place_after place c) (encode c) rest
+seen_char done begun place c rest = elim (by_ascii c) [ inl low ↦ ascii low | inr high ↦ past high ]
+  where
+    ascii : c < 128 → words_seen done begun place (encode c ++ rest) ≡ after_effect (effect_of place c) done begun (place_after place c) (encode c) rest
+    ascii low = rw (encode_ascii c low) (seen_step done begun place c rest)
+
+    past : 128 ≤ c → words_seen done begun place (encode c ++ rest) ≡ after_effect (effect_of place c) done begun (place_after place c) (encode c) rest
+    past high = rw (high_effect place c high, high_after place c high) (seen_all_high (encode c) done begun place rest (encode_high c high) (encode_some c high))
+
+pub char_seen : (line : List ℕ) (done : List (List ℕ)) (begun : List ℕ) (place : Place) (c : ℕ) (rest : List ℕ)
+    → IsSeen line done begun place (encode c ++ rest) → IsSeenAfter (effect_of place c) line done begun (place_after place c) (encode c) rest
+char_seen line done begun place c rest h =
+    seen_after (effect_of place c) line done begun (place_after place c) (encode c) rest (h.words ∙ seen_char done begun place c rest) (begun_after place c begun (encode c) h.word)
+
+pub byte_seen : (line : List ℕ) (done : List (List ℕ)) (begun : List ℕ) (place : Place) (b : ℕ) (rest : List ℕ)
+    → IsSeen line done begun place (b ∷ rest) → IsSeenAfter (effect_of place b) line done begun (place_after place b) (b ∷ []) rest
+byte_seen line done begun place b rest h =
+    seen_after (effect_of place b) line done begun (place_after place b) (b ∷ []) rest (h.words ∙ seen_step done begun place b rest) (begun_after place b begun (b ∷ []) h.word)
+
+-- nothing of the line is read
+pub begins : (line : List ℕ) → words_of line ≡ words_seen [] [] Between line
+begins line = same (words_of line)
+  where
+    same : (o : Option (List (List ℕ))) → o ≡ option_map (λ words. [] ++ onto_first [] words) o
+    same None = refl
+    same (Some words) = refl
+
+-- the line is read to its end
+pub seen_between : (line : List ℕ) (done : List (List ℕ)) (begun : List ℕ) → IsSeen line done begun Between [] → words_of line ≡ Some done
+seen_between line done begun h = h.words ∙ ap (λ w. Some (done ++ onto_first w [])) h.word ∙ ap Some (append-nil done)
+
+pub seen_within : (line : List ℕ) (done : List (List ℕ)) (begun : List ℕ) → IsSeen line done begun Within [] → words_of line ≡ Some (done ++ begun ∷ [])
+seen_within line done begun h = h.words ∙ ap (λ ws. Some (done ++ ws)) (onto_first_word begun [])
+
+pub seen_quoted : (line : List ℕ) (done : List (List ℕ)) (begun : List ℕ) → IsSeen line done begun Quoted [] → words_of line ≡ None
+seen_quoted line done begun h = h.words
+
+pub nil_by_length : (xs : List ℕ) → length xs ≡ 0 → xs ≡ []
+nil_by_length [] h = refl
+nil_by_length (x ∷ xs) h = absurd (omega (arith, h))
+
+-- what a line says that is no comment and not blank
+pub line_words_text : (line : List ℕ) (words : List (List ℕ)) → says_nothing line ≡ false → IsUtf8 line → words_of line ≡ Some words → line_words line ≡ Ok words
+line_words_text line words n u h = rw (n, is_utf8-from_IsUtf8 line u, h) refl
+
+pub line_words_open : (line : List ℕ) → says_nothing line ≡ false → IsUtf8 line → words_of line ≡ None → line_words line ≡ Err OpenQuote
+line_words_open line n u h = rw (n, is_utf8-from_IsUtf8 line u, h) refl
+
+no_utf8 : (line : List ℕ) → (IsUtf8 line → ⊥) → is_utf8 line ≡ false
+no_utf8 line h = tested (is_utf8 line) refl
+  where
+    tested : (b : Bool) → is_utf8 line ≡ b → is_utf8 line ≡ false
+    tested true e = absurd (h (IsUtf8-from_is_utf8 line e))
+    tested false e = e
+
+pub line_words_bytes : (line : List ℕ) → says_nothing line ≡ false → (IsUtf8 line → ⊥) → line_words line ≡ Err NotUtf8
+line_words_bytes line n h = rw (n, no_utf8 line h) refl

@@ -1,0 +1,27 @@
+use Rattle.std.proofs.Common.{◌≡◌, ◌-◌, ℕ, true, false, List, length}
+use Rattle.std.specs.Io.KnownBytes.{Consumes, IsAtEnd}
+use Rattle.facl_script.specs.declared.source.TheConstants.{SCRIPT_LIMIT}
+use Rattle.facl_script.specs.Script.{script_left, script_taken, next_number, is_over}
+use Rattle.facl_script.specs.Play.{Answer}
+use Rattle.facl_script.specs.Run.{Gives}
+use Rattle.facl_script.specs.Progress.{Progress}
+use Rattle.facl_script.proofs.play.run_session.Given as goal
+
+abbrev pub invariant-loop-script : goal.invariant-loop-script
+invariant-loop-script g l = record {
+  reader_works : g.R.Feed.has_failed l.reader ≡ false;
+  out_works : g.O.Sink.has_failed l.out ≡ false;
+  err_works : g.E.Sink.has_failed l.err ≡ false;
+  taken : List ℕ;
+  told : Answer g.row.S-State.Denot;
+  progress : Progress g.S.Session.answered (g.S.Session.state l.fn.session) taken (next_number l.script) (is_over l.script) told;
+  consumes : Consumes (g.R.Feed.remaining l.fn.reader) (script_left l.script (g.R.Feed.remaining l.reader)) taken;
+  last : is_over l.script ≡ true → IsAtEnd (script_left l.script (g.R.Feed.remaining l.reader));
+  ready : g.S.Session.is_ready (next_number l.script) l.session;
+  gives : Gives told (g.S.Session.state l.session) (g.S.Session.spent l.fn.session) (g.S.Session.spent l.session) (g.O.Sink.contents l.fn.out) (g.O.Sink.contents l.out) (g.E.Sink.contents l.fn.err) (g.E.Sink.contents l.err);
+  refused : l.is_refused ≡ told.refused;
+  count : script_taken l.script ≡ length taken;
+}
+
+abbrev pub decreases-loop-script : goal.decreases-loop-script
+decreases-loop-script g l = SCRIPT_LIMIT - script_taken l.script

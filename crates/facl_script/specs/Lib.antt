@@ -1,0 +1,16 @@
+pub mod Devices
+pub mod StdDevices
+pub mod Lines
+pub mod Source
+pub mod TextWords
+pub mod Words
+pub mod Steps
+pub mod Beginning
+pub mod Units
+pub mod ReadText
+pub mod Script
+pub mod ReadUnit
+pub mod Write
+pub mod Play
+pub mod Run
+pub mod Progress

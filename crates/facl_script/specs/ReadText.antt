@@ -1,0 +1,37 @@
+-- What reading a text finds.
+use Rattle.std.specs.Prelude.{◌≡◌, ◌≤◌, ◌+◌, ℕ, false, List, [], ◌∷◌, ◌++◌, length, Option, None, Some}
+use Rattle.std.specs.Io.KnownBytes.{Consumes, IsAtEnd}
+use Rattle.facl_script.specs.Lines.{lines_of}
+use Rattle.facl_script.specs.Units.{opened, UnitText, none, whole, too_long, unended, outside, within, cut, closed}
+use Rattle.facl_script.specs.declared.text.TextRead.{TextRead}
+use Rattle.facl_script.specs.declared.text.TextFound.{TextFound}
+use Rattle.facl_script.specs.declared.text.TextFound.TheVariants.{Absent, Whole, TooLong, Unended, Lost}
+
+-- of the lines of a text so far the code holds these bytes, or knows that one is over the limit, or has lost them
+abbrev pub HoldsText : TextFound → List ℕ → Option (List ℕ) → Type 0
+HoldsText Whole held content = content ≡ Some held
+HoldsText TooLong held content = content ≡ None
+HoldsText Lost held content = Unit {0}
+HoldsText Absent held content = ⊥
+HoldsText Unended held content = ⊥
+
+-- the code holds the text of a unit, or has lost it
+abbrev pub IsTextFound : TextFound → List ℕ → UnitText → Type 0
+IsTextFound Absent held text = text ≡ none
+IsTextFound Whole held text = text ≡ whole held
+IsTextFound TooLong held text = text ≡ too_long
+IsTextFound Unended held text = text ≡ unended
+IsTextFound Lost held text = Unit {0}
+
+-- This piece ends the unit whose text it begins: its lines are the text's, up to the line `.` or the script's end.
+pub record IsText (found : TextRead) (before after : Option (List ℕ)) (held : List ℕ) (old new : ℕ) (piece : List ℕ) (text : UnitText) : Type 0 where
+  pub consumes : Consumes before after piece
+  pub splits : (number : ℕ) (line : List ℕ) (n : ℕ) (rest : List ℕ) → (found.is_full ≡ false → rest ≡ [])
+      → cut (within (opened number line)) n (lines_of (piece ++ rest)) ≡ closed (opened number line) text found.is_full ∷ cut outside (n + found.lines) (lines_of rest)
+  pub last : found.is_full ≡ false → IsAtEnd after
+  pub holds : IsTextFound found.text held text
+  pub count : new ≡ old + length piece
+  pub lines : found.lines ≤ length piece
+
+abbrev pub FindsText : TextRead → Option (List ℕ) → Option (List ℕ) → List ℕ → ℕ → ℕ → Type 0
+FindsText found before after held old new = (piece : List ℕ) × (text : UnitText) × IsText found before after held old new piece text

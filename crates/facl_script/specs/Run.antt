@@ -1,0 +1,68 @@
+-- How a run over a script ends.
+use Rattle.std.specs.Prelude.{◌≡◌, ◌<◌, ◌≤◌, ◌+◌, ℕ, Bool, List, ◌∷◌, ◌++◌, length, take, Option, Some}
+use Rattle.std.specs.Io.KnownBytes.{Consumes}
+use Rattle.facl_script.specs.declared.fault.ScriptFault.{ScriptFault}
+use Rattle.facl_script.specs.declared.fault.ScriptFault.TheVariants.{Read, Write, TooLong, NoMemory}
+use Rattle.facl_script.specs.declared.source.TheConstants.{SCRIPT_LIMIT, CHUNK}
+use Rattle.facl_script.specs.Units.{ScriptUnit, units_of, full_units}
+use Rattle.facl_script.specs.Play.{Answer, play, session}
+use Rattle.facl_script.specs.Write.{Writes, WritesPart}
+
+-- this is the answer: the state now, what is to be written, and whether the unit is refused; no more was spent than it may cost
+pub record IsAnswer {S : Type 0} (a : Answer S) (state : S) (spent spent' : ℕ) (to_out to_err : List ℕ) (refused : Bool) : Type 0 where
+  pub state_is : state ≡ a.state
+  pub spends : spent' ≤ spent + a.cost
+  pub out_is : to_out ≡ a.out
+  pub err_is : to_err ≡ a.err
+  pub refused_is : refused ≡ a.refused
+
+-- the answer was given: both writers grew by it, and this is the state now
+pub record Gives {S : Type 0} (a : Answer S) (state : S) (spent spent' : ℕ) (out out' err err' : Option (List ℕ)) : Type 0 where
+  pub writes : Writes out out' err err' a.out a.err
+  pub state_is : state ≡ a.state
+  pub spends : spent' ≤ spent + a.cost
+
+-- a writer failed in the midst of the answer
+pub record Breaks {S : Type 0} (a : Answer S) (state : S) (spent spent' : ℕ) (out out' err err' : Option (List ℕ)) : Type 0 where
+  pub writes : WritesPart out out' err err' a.out a.err
+  pub state_is : state ≡ a.state
+  pub spends : spent' ≤ spent + a.cost
+
+-- The whole script was answered. It was within the limit.
+pub record Ends {S : Type 0} (answered : Bool → ScriptUnit → S → Answer S) (start : S) (script : List ℕ) (refused : Bool) (state : S) (spent spent' : ℕ) (out out' err err' : Option (List ℕ)) : Type 0 where
+  pub m : ℕ → Bool
+  pub within : length script ≤ SCRIPT_LIMIT
+  pub gives : Gives (session answered m script start) state spent spent' out out' err err'
+  pub refused_is : refused ≡ (session answered m script start).refused
+
+-- These units were answered, and no other.
+pub record Told {S : Type 0} (answered : Bool → ScriptUnit → S → Answer S) (start : S) (units : List ScriptUnit) (state : S) (spent spent' : ℕ) (out out' err err' : Option (List ℕ)) : Type 0 where
+  pub m : ℕ → Bool
+  pub gives : Gives (play answered m units start) state spent spent' out out' err err'
+
+-- All units before one were answered, and a writer failed in the midst of that one.
+pub record FailsAt {S : Type 0} (answered : Bool → ScriptUnit → S → Answer S) (start : S) (script : List ℕ) (state : S) (spent spent' : ℕ) (out out' err err' : Option (List ℕ)) : Type 0 where
+  pub m : ℕ → Bool
+  pub before : List ScriptUnit
+  pub unit : ScriptUnit
+  pub after : List ScriptUnit
+  pub units : units_of script ≡ before ++ unit ∷ after
+  pub out_now : Option (List ℕ)
+  pub err_now : Option (List ℕ)
+  pub spent_now : ℕ
+  pub told_spends : spent_now ≤ spent + (play answered m before start).cost
+  pub told : Writes out out_now err err_now (play answered m before start).out (play answered m before start).err
+  pub breaks : Breaks (answered (m unit.number) unit (play answered m before start).state) state spent_now spent' out_now out' err_now err'
+
+-- The run over a script stopped with this fault: what the reader has left, and what was answered by then.
+abbrev pub StopsWith : {S : Type 0} → ScriptFault → (Bool → ScriptUnit → S → Answer S) → S → List ℕ → S → (spent spent' : ℕ) (remaining out out' err err' : Option (List ℕ)) → Type 0
+-- the units whose last LF was read
+StopsWith Read answered start script state spent spent' remaining out out' err err' =
+    (read : List ℕ) × Consumes (Some script) remaining read × Told answered start (full_units (units_of read)) state spent spent' out out' err err'
+-- the units whose last LF is within the limit, past which one byte was read
+StopsWith TooLong answered start script state spent spent' remaining out out' err err' =
+    (more : List ℕ) × (length more ≡ 1) × Consumes (Some script) remaining (take SCRIPT_LIMIT script ++ more) × (SCRIPT_LIMIT < length script) × Told answered start (full_units (units_of (take SCRIPT_LIMIT script))) state spent spent' out out' err err'
+-- the units whose last LF came before the line that found no room; past what was looked at then, at most a chunk was read
+StopsWith NoMemory answered start script state spent spent' remaining out out' err err' =
+    (read : List ℕ) × (pending : List ℕ) × Consumes (Some script) remaining (read ++ pending) × (length pending ≤ CHUNK) × Told answered start (full_units (units_of read)) state spent spent' out out' err err'
+StopsWith Write answered start script state spent spent' remaining out out' err err' = FailsAt answered start script state spent spent' out out' err err'

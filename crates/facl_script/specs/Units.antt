@@ -1,0 +1,84 @@
+-- The units of a script: each line, with its text if it takes one.
+use Rattle.std.specs.Prelude.{◌≡◌, ◌+◌, ◌==◌, ℕ, Bool, false, if◌then◌else◌, nat_le, List, [], ◌∷◌, ◌++◌, length, filter, Option, None, Some}
+use Rattle.facl_script.specs.declared.source.TheConstants.{LINE_LIMIT}
+use Rattle.facl_script.specs.Lines.{Line, lines_of}
+use Rattle.facl_script.specs.Words.{takes_text}
+
+-- What a unit has beside its line: nothing, or the lines up to its line `.`, each with its LF.
+-- One of these lines may be over the limit, or the script may end before the line `.`, which counts first.
+pub data UnitText : Type 0 where
+  none : UnitText
+  whole : List ℕ → UnitText
+  too_long : UnitText
+  unended : UnitText
+
+-- A line with its number and its text. A line over the limit is not there. A unit is full if the LF of its last line is there.
+pub record ScriptUnit : Type 0 where
+  pub number : ℕ
+  pub line : Option (List ℕ)
+  pub text : UnitText
+  pub is_full : Bool
+
+-- a line, if it is within the limit
+abbrev pub within_limit : List ℕ → Option (List ℕ)
+within_limit line = if nat_le (length line) LINE_LIMIT then Some line else None
+
+-- the line `.`, which ends a text
+abbrev pub is_end : List ℕ → Bool
+is_end [] = false
+is_end (b ∷ []) = b == 46
+is_end (b ∷ c ∷ bs) = false
+
+-- a text and one more line of it; there is none from a line over the limit on
+abbrev pub more_text : Option (List ℕ) → List ℕ → Option (List ℕ)
+more_text None line = None
+more_text (Some text) line = if nat_le (length line) LINE_LIMIT then Some (text ++ (line ++ 10 ∷ [])) else None
+
+abbrev pub ended_text : Option (List ℕ) → UnitText
+ended_text None = too_long
+ended_text (Some text) = whole text
+
+-- a unit whose text is being read
+pub record Open : Type 0 where
+  pub number : ℕ
+  pub line : List ℕ
+  pub text : Option (List ℕ)
+
+-- a unit whose text begins
+abbrev pub opened : ℕ → List ℕ → Open
+opened number line = record { number = number; line = line; text = Some [] }
+
+abbrev pub with_text_line : Open → List ℕ → Open
+with_text_line o line = record { number = o.number; line = o.line; text = more_text o.text line }
+
+abbrev pub closed : Open → UnitText → Bool → ScriptUnit
+closed o text full = record { number = o.number; line = Some o.line; text = text; is_full = full }
+
+-- between units, or in the text of one
+pub data Mode : Type 0 where
+  outside : Mode
+  within : Open → Mode
+
+-- the units of these lines, of which the first has this number; lines of texts are counted too
+abbrev pub cut : Mode → ℕ → List Line → List ScriptUnit
+cut outside n [] = []
+cut (within o) n [] = closed o unended false ∷ []
+cut outside n (l ∷ ls) =
+    if takes_text l.bytes then cut (within (opened n l.bytes)) (n + 1) ls
+    else record { number = n; line = within_limit l.bytes; text = none; is_full = l.ended } ∷ cut outside (n + 1) ls
+cut (within o) n (l ∷ ls) =
+    if is_end l.bytes then closed o (ended_text o.text) l.ended ∷ cut outside (n + 1) ls else cut (within (with_text_line o l.bytes)) (n + 1) ls
+
+abbrev pub units_of : List ℕ → List ScriptUnit
+units_of script = cut outside 1 (lines_of script)
+
+abbrev pub full_units : List ScriptUnit → List ScriptUnit
+full_units units = filter (λ u. u.is_full) units
+
+-- these bytes, from the beginning of a unit on, make no full unit
+abbrev pub HasNoUnit : List ℕ → Type 0
+HasNoUnit tail = (n : ℕ) → full_units (cut outside n (lines_of tail)) ≡ []
+
+-- nor do these from the beginning of a text on
+abbrev pub HasNoUnitWithin : List ℕ → Type 0
+HasNoUnitWithin tail = (number : ℕ) (line : List ℕ) (n : ℕ) → full_units (cut (within (opened number line)) n (lines_of tail)) ≡ []

@@ -1,0 +1,68 @@
+-- The words of a line.
+use Rattle.std.specs.Prelude.{ℕ, Bool, true, false, not, ◌&&◌, ◌||◌, ◌==◌, nat_le, if◌then◌else◌, List, [], ◌∷◌, length, codes, Option, None, Some, option_map, Result, Ok, Err}
+use Rattle.std.specs.List.{list_any}
+use Rattle.std.specs.Option.{option_map_or}
+use Rattle.std.specs.Str.{bytes_eq, is_utf8}
+use Rattle.facl_script.specs.declared.place.Place.{Place}
+use Rattle.facl_script.specs.declared.place.Place.TheVariants.{Between, Within, Quoted}
+use Rattle.facl_script.specs.declared.words.SplitFault.{SplitFault}
+use Rattle.facl_script.specs.declared.words.SplitFault.TheVariants.{NotUtf8, OpenQuote}
+use Rattle.facl_script.specs.declared.source.TheConstants.{LINE_LIMIT}
+use Rattle.facl_script.specs.TextWords.{is_text_word}
+
+-- white space is a space or a tab
+abbrev pub is_white : ℕ → Bool
+is_white b = b == 32 || b == 9
+
+abbrev pub is_quote : ℕ → Bool
+is_quote b = b == 39
+
+-- a line that is blank, or a comment: its first byte after white space is `#`
+abbrev pub says_nothing : List ℕ → Bool
+says_nothing [] = true
+says_nothing (b ∷ bs) = if is_white b then says_nothing bs else b == 35
+
+-- the byte goes to the front of the first word
+abbrev pub onto_word : ℕ → List (List ℕ) → List (List ℕ)
+onto_word b [] = (b ∷ []) ∷ []
+onto_word b (word ∷ words) = (b ∷ word) ∷ words
+
+-- The words of what is left of a line, from a place on. Within a word and in a quote the first of them is the rest of that word.
+-- White space ends a word. From a quote to the next one all bytes are kept as they stand. A quote that is left open has no words.
+abbrev pub words_at : Place → List ℕ → Option (List (List ℕ))
+words_at Between [] = Some []
+words_at Within [] = Some ([] ∷ [])
+words_at Quoted [] = None
+words_at Between (b ∷ bs) =
+    if is_white b then words_at Between bs else if is_quote b then words_at Quoted bs else option_map (onto_word b) (words_at Within bs)
+words_at Within (b ∷ bs) =
+    if is_white b then option_map (λ words. [] ∷ words) (words_at Between bs)
+    else if is_quote b then words_at Quoted bs else option_map (onto_word b) (words_at Within bs)
+words_at Quoted (b ∷ bs) = if is_quote b then words_at Within bs else option_map (onto_word b) (words_at Quoted bs)
+
+abbrev pub words_of : List ℕ → Option (List (List ℕ))
+words_of line = words_at Between line
+
+-- the words, or the fault of an open quote
+abbrev pub words_or_open : Option (List (List ℕ)) → Result (List (List ℕ)) SplitFault
+words_or_open None = Err OpenQuote
+words_or_open (Some words) = Ok words
+
+-- What a line within the limit says: its words, or what is wrong with it as a line.
+-- A line that says nothing has no words, whatever bytes it has. Bytes that are no UTF-8 are told before an open quote.
+abbrev pub line_words : List ℕ → Result (List (List ℕ)) SplitFault
+line_words line = if says_nothing line then Ok [] else if is_utf8 line then words_or_open (words_of line) else Err NotUtf8
+
+-- one word asks for a text: the first where it is `load`, a later one where it names standard input
+abbrev pub asks_for_text : Bool → List ℕ → Bool
+asks_for_text true word = bytes_eq word (codes "load")
+asks_for_text false word = is_text_word word
+
+-- some of the words asks for a text
+abbrev pub ask_for_text : List (List ℕ) → Bool
+ask_for_text [] = false
+ask_for_text (tool ∷ words) = asks_for_text true tool || list_any (asks_for_text false) words
+
+-- The lines after this one are its text. None takes a text that is over the limit, says nothing or has an open quote.
+abbrev pub takes_text : List ℕ → Bool
+takes_text line = nat_le (length line) LINE_LIMIT && not (says_nothing line) && option_map_or ask_for_text (words_of line) false

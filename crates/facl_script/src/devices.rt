@@ -1,0 +1,133 @@
+//! What a run reads from and writes to.
+ghost use Rattle.std.specs.Prelude.{◌≡◌, ◌||◌, Bool, false, List, ℕ, Option, is_err};
+ghost use Rattle.std.specs.Io.{ReadsAtMost, WritesAtMost};
+ghost use Rattle.std.specs.Io.KnownBytes.{ReadConsumes, WriteAppends};
+ghost use Rattle.facl_script.specs.Devices.{write_fails};
+
+use std::io;
+use std::io::{Read, Write};
+
+/// A reader that remembers whether it failed.
+pub trait Feed {
+    /// The bytes that reads will give from here on, where they are known.
+    ghost remaining: { Self → Option (List ℕ) };
+
+    /// Whether a read answered an error.
+    ghost has_failed: { Self → Bool };
+
+    /// Reads into the front of `buf`, and tells how many bytes. 0 bytes are the end. Each error is a failure, whatever its kind.
+    fn read(&mut self, buf: &mut [u8]) -> io::Result<usize>
+        ensures bound { ReadsAtMost result buf.new }
+        ensures bytes { ReadConsumes (remaining self.old) (remaining self.new) result buf.new }
+        ensures failed { has_failed self.new ≡ (has_failed self.old || is_err result) };
+
+    /// Whether a read answered an error.
+    fn failed(&self) -> bool
+        ensures { result ≡ has_failed self.now };
+}
+
+/// A writer that remembers whether it failed.
+pub trait Sink {
+    /// The bytes that the writer holds, where they are known.
+    ghost contents: { Self → Option (List ℕ) };
+
+    /// Whether a write answered an error, or took nothing of a piece that is not empty.
+    ghost has_failed: { Self → Bool };
+
+    /// Writes a beginning of the piece, and tells how many bytes. Each error is a failure, whatever its kind.
+    fn write(&mut self, piece: &[u8]) -> io::Result<usize>
+        ensures bound { WritesAtMost result piece.now }
+        ensures bytes { WriteAppends (contents self.old) (contents self.new) result piece.now }
+        ensures failed { has_failed self.new ≡ (has_failed self.old || write_fails result piece.now) };
+
+    /// Whether a write failed.
+    fn failed(&self) -> bool
+        ensures { result ≡ has_failed self.now };
+}
+
+/// Any reader, as a `Feed`.
+#[derive(Drop)]
+pub struct StdFeed<R> {
+    reader: R,
+    read_failed: bool,
+}
+
+impl<R: Read> StdFeed<R> {
+    ghost use Rattle.facl_script.specs.StdDevices.{fed_by, feed_failed};
+
+    /// A feed that has not failed. Its bytes are known where the reader's are.
+    pub fn new(reader: R) -> StdFeed<R>
+        ensures reader { fed_by result ≡ reader }
+        ensures works { feed_failed result ≡ false }
+    {
+        StdFeed {
+            reader,
+            read_failed: false,
+        }
+    }
+}
+
+impl<R: Read> Feed for StdFeed<R> {
+    ghost use Rattle.facl_script.specs.StdDevices.{fed_by, feed_failed};
+
+    ghost remaining = { λ f. R.remaining (fed_by f) };
+
+    ghost has_failed = { feed_failed };
+
+    fn read(&mut self, buf: &mut [u8]) -> io::Result<usize> {
+        let outcome = self.reader.read(buf);
+        match &outcome {
+            Ok(_) => {}
+            Err(_) => self.read_failed = true,
+        }
+        outcome
+    }
+
+    fn failed(&self) -> bool {
+        self.read_failed
+    }
+}
+
+/// Any writer, as a `Sink`.
+#[derive(Drop)]
+pub struct StdSink<W> {
+    writer: W,
+    write_failed: bool,
+}
+
+impl<W: Write> StdSink<W> {
+    ghost use Rattle.facl_script.specs.StdDevices.{sunk_in, sink_failed};
+
+    /// A sink that has not failed. Its bytes are known where the writer's are.
+    pub fn new(writer: W) -> StdSink<W>
+        ensures writer { sunk_in result ≡ writer }
+        ensures works { sink_failed result ≡ false }
+    {
+        StdSink {
+            writer,
+            write_failed: false,
+        }
+    }
+}
+
+impl<W: Write> Sink for StdSink<W> {
+    ghost use Rattle.facl_script.specs.StdDevices.{sunk_in, sink_failed};
+
+    ghost contents = { λ s. W.contents (sunk_in s) };
+
+    ghost has_failed = { sink_failed };
+
+    fn write(&mut self, piece: &[u8]) -> io::Result<usize> {
+        let outcome = self.writer.write(piece);
+        match &outcome {
+            Ok(0) if !piece.is_empty() => self.write_failed = true,
+            Ok(_) => {}
+            Err(_) => self.write_failed = true,
+        }
+        outcome
+    }
+
+    fn failed(&self) -> bool {
+        self.write_failed
+    }
+}

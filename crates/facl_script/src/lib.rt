@@ -1,0 +1,23 @@
+//! A script that is read from any reader, cut into lines, words and units, and answered to two writers.
+#![tactic(auto)]
+
+mod devices;
+mod fault;
+mod place;
+mod play;
+mod source;
+mod text;
+mod text_words;
+mod unit;
+mod words;
+mod write;
+
+pub use devices::{Feed, Sink, StdFeed, StdSink};
+pub use fault::ScriptFault;
+pub use play::{Session, run_session};
+pub use source::{LINE_LIMIT, SCRIPT_LIMIT};
+pub use text::TextFound;
+pub use text_words::{is_text_word, takes_text};
+pub use unit::{Script, UnitFound};
+pub use words::{SplitFault, says_nothing, split_words};
+pub use write::{say, write_whole};

@@ -1,0 +1,130 @@
+//! A run over a whole script: each unit is answered, and what it says is written before the next is read.
+ghost use Rattle.std.specs.Prelude.{◌≡◌, ◌⊎◌, ◌<◌, ◌≤◌, ◌+◌, ℕ, Bool, List, true, false, IfOk, IfErr, IfSome, OnOk, OnErr};
+ghost use Rattle.facl_script.specs.Units.{ScriptUnit};
+ghost use Rattle.facl_script.specs.ReadUnit.{IsUnitFound};
+ghost use Rattle.facl_script.specs.Script.{line_held, text_held};
+ghost use Rattle.facl_script.specs.Play.{Answer};
+ghost use Rattle.facl_script.specs.declared.source.TheConstants.{SCRIPT_LIMIT};
+ghost use Rattle.facl_script.specs.Run.{IsAnswer, Gives, Breaks, Ends, StopsWith};
+
+use crate::devices::{Feed, Sink};
+use crate::fault::ScriptFault;
+use crate::unit::{Script, UnitFound};
+use crate::write::say;
+use std::alloc::Global;
+
+/// What answers the units of a script: it holds a state, which each unit may change, and what the last unit says.
+pub trait Session {
+    /// What contracts know of the state.
+    type State;
+
+    /// The state of a session.
+    ghost state: { Self → Self.State };
+
+    /// What a unit does at a state: the first argument tells whether it wants memory.
+    ghost answered: { Bool → ScriptUnit → Self.State → Answer Self.State };
+
+    /// What a session has spent so far of something that it counts. The cost of an answer bounds what a unit adds.
+    ghost spent: { Self → ℕ } = { λ _. 0 };
+
+    /// What a session needs to hold before the line with a number is answered, so that its counts fit.
+    ghost is_ready: { ℕ → Self → Type 0 } = { λ _ _. Unit {0} };
+
+    /// What the last unit writes to the output.
+    ghost to_out: { Self → List ℕ };
+
+    /// What the last unit writes to the messages.
+    ghost to_err: { Self → List ℕ };
+
+    /// Answers a unit, of which this line and this text are held, and tells whether it is refused. All that it writes is
+    /// composed here. Where its text was lost, or a growth is refused, the unit wants memory.
+    fn answer(&mut self, unit: &UnitFound, line: &[u8], text: &[u8]) -> bool
+        requires { is_ready unit.now.number self.old }
+        ensures answers { (u : ScriptUnit) → IsUnitFound unit.now line.now text.now u
+            → (wants : Bool)
+            × IsAnswer (answered wants u (state self.old)) (state self.new) (spent self.old) (spent self.new)
+            (to_out self.new) (to_err self.new) result }
+        ensures ready { (n : ℕ) → unit.now.number < n → n ≤ SCRIPT_LIMIT + 1 → is_ready n self.new };
+
+    /// What the last unit writes to the output.
+    fn out(&self) -> &[u8]
+        ensures { result.now ≡ to_out self.now };
+
+    /// What the last unit writes to the messages.
+    fn err(&self) -> &[u8]
+        ensures { result.now ≡ to_err self.now };
+}
+
+/// Answers one unit, and writes what it says.
+fn answer_unit<S: Session, O: Sink, E: Sink>(
+    session: &mut S,
+    unit: &UnitFound,
+    script: &Script,
+    out: &mut O,
+    err: &mut E,
+) -> Result<bool, ScriptFault>
+    requires ready { S.is_ready unit.now.number session.old }
+    requires out_works { O.has_failed out.old ≡ false }
+    requires err_works { E.has_failed err.old ≡ false }
+    ensures ok { IfOk result (λ refused. (u : ScriptUnit)
+        → IsUnitFound unit.now (line_held script.now) (text_held script.now) u
+        → (wants : Bool)
+        × Gives (S.answered wants u (S.state session.old)) (S.state session.new)
+        (S.spent session.old) (S.spent session.new)
+        (O.contents out.old) (O.contents out.new) (E.contents err.old) (E.contents err.new)
+        × (refused ≡ (S.answered wants u (S.state session.old)).refused)) }
+    ensures works { OnOk result ((O.has_failed out.new ≡ false) × (E.has_failed err.new ≡ false)) }
+    ensures part { OnErr result ((u : ScriptUnit)
+        → IsUnitFound unit.now (line_held script.now) (text_held script.now) u
+        → (wants : Bool)
+        × Breaks (S.answered wants u (S.state session.old)) (S.state session.new)
+        (S.spent session.old) (S.spent session.new)
+        (O.contents out.old) (O.contents out.new) (E.contents err.old) (E.contents err.new)) }
+    ensures failed { OnErr result ((O.has_failed out.new ≡ true) ⊎ (E.has_failed err.new ≡ true)) }
+    ensures which { IfErr result (λ e. e ≡ ScriptFault.Write) }
+    ensures ready { (n : ℕ) → unit.now.number < n → n ≤ SCRIPT_LIMIT + 1 → S.is_ready n session.new }
+{
+    let is_refused = session.answer(unit, script.line(), script.text());
+    say(out, err, session.out(), session.err())?;
+    Ok(is_refused)
+}
+
+/// Runs a session over a script: reads it unit by unit, and writes what each unit says before the next is read. Tells
+/// whether a unit was refused.
+///
+/// An error says that the reader or a writer failed, that the script goes on past the limit, or that no memory was there
+/// for a line. No read or write is tried again, and nothing is read after the end.
+pub fn run_session<S: Session, R: Feed, O: Sink, E: Sink>(
+    alloc: Global,
+    session: &mut S,
+    reader: &mut R,
+    out: &mut O,
+    err: &mut E,
+) -> Result<bool, ScriptFault>
+    requires ready { S.is_ready 1 session.old }
+    requires reader { R.has_failed reader.old ≡ false }
+    requires out { O.has_failed out.old ≡ false }
+    requires err { E.has_failed err.old ≡ false }
+
+    ensures ok { IfOk result (λ refused. IfSome (R.remaining reader.old) (λ script.
+        Ends S.answered (S.state session.old) script refused (S.state session.new)
+        (S.spent session.old) (S.spent session.new)
+        (O.contents out.old) (O.contents out.new) (E.contents err.old) (E.contents err.new))) }
+    ensures fault { IfErr result (λ fault. IfSome (R.remaining reader.old) (λ script.
+        StopsWith fault S.answered (S.state session.old) script (S.state session.new)
+        (S.spent session.old) (S.spent session.new) (R.remaining reader.new)
+        (O.contents out.old) (O.contents out.new) (E.contents err.old) (E.contents err.new))) }
+
+    // A fault of a device is told only where that device has failed.
+    ensures works { OnOk result ((R.has_failed reader.new ≡ false)
+        × (O.has_failed out.new ≡ false) × (E.has_failed err.new ≡ false)) }
+    ensures read { result ≡ Err ScriptFault.Read → R.has_failed reader.new ≡ true }
+    ensures write { result ≡ Err ScriptFault.Write → (O.has_failed out.new ≡ true) ⊎ (E.has_failed err.new ≡ true) }
+{
+    let mut script = Script::new(alloc);
+    let mut is_refused = false;
+    while let Some(unit) = script.next_unit(reader)? {
+        is_refused |= answer_unit(session, &unit, &script, out, err)?;
+    }
+    Ok(is_refused)
+}

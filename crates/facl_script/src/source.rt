@@ -1,0 +1,193 @@
+//! The script's bytes, read in chunks and handed out by lines.
+ghost use Rattle.std.specs.Prelude.{◌≡◌, ◌≤◌, ◌<◌, ◌+◌, ◌-◌, ℕ, true, false, List, [], ◌∷◌, ◌++◌, take, drop, length, vec_len, slice_range, IfOk, IfErr, OnOk, OnErr, MatchOption};
+ghost use Rattle.std.specs.Io.KnownBytes.{Keeps, Consumes, IsAtEnd};
+ghost use Rattle.facl_script.specs.Lines.{HasNoLineFeed, Held, spelled};
+ghost use Rattle.facl_script.specs.declared.source.TheConstants.{CHUNK, SCRIPT_LIMIT};
+
+use crate::devices::Feed;
+use crate::fault::ScriptFault;
+use std::alloc::AllocError;
+
+/// How many bytes a script may have.
+pub const SCRIPT_LIMIT: u64 = 67_108_864;
+
+/// How many bytes a line may have, without its LF.
+pub const LINE_LIMIT: usize = 65_536;
+
+const CHUNK: usize = 65_536;
+
+/// A line that was found.
+#[derive(Clone, Copy)]
+pub struct Found {
+    pub is_ended: bool,
+    pub is_too_long: bool,
+}
+
+fn line_feed_at(piece: &[u8]) -> Option<usize>
+    ensures { MatchOption result (HasNoLineFeed piece.now) (λ n.
+        (n < length piece.now) × HasNoLineFeed (take n piece.now)
+        × (piece.now ≡ take n piece.now ++ (10 ∷ drop (n + 1) piece.now))) }
+{
+    for (i, b) in piece.iter().enumerate() {
+        if *b == b'\n' {
+            return Some(i);
+        }
+    }
+    None
+}
+
+/// Adds a piece to what is held of a line, and tells whether the line is too long by now.
+fn hold(line: &mut Vec<u8>, is_too_long: bool, piece: &[u8]) -> Result<bool, AllocError>
+    ensures { IfOk result (λ long. (text : List ℕ)
+        → Held is_too_long line.old.items text → Held long line.new.items (text ++ piece.now)) }
+{
+    if is_too_long || line.len() + piece.len() > LINE_LIMIT {
+        return Ok(true);
+    }
+    line.extend_from_slice(piece)?;
+    Ok(false)
+}
+
+/// Reads into the front of a chunk.
+fn read_some<R: Feed>(reader: &mut R, chunk: &mut [u8], room: usize) -> Result<usize, ScriptFault>
+    requires works { R.has_failed reader.old ≡ false }
+    requires room { 0 < room }
+    requires fits { room ≤ length chunk.old }
+    ensures within { IfOk result (λ n. n ≤ room) }
+    ensures bytes { IfOk result (λ n. Consumes (R.remaining reader.old) (R.remaining reader.new) (take n chunk.new)) }
+    ensures end { IfOk result (λ n. n ≡ 0 → IsAtEnd (R.remaining reader.new)) }
+    ensures works { OnOk result (R.has_failed reader.new ≡ false) }
+    ensures err { IfErr result (λ e. e ≡ ScriptFault.Read) }
+    ensures keeps { OnErr result (Keeps (R.remaining reader.old) (R.remaining reader.new)) }
+    ensures failed { OnErr result (R.has_failed reader.new ≡ true) }
+{
+    match reader.read(&mut chunk[..room]) {
+        Ok(n) => Ok(n),
+        Err(_) => Err(ScriptFault::Read),
+    }
+}
+
+/// What was read and not yet handed out.
+#[derive(Drop)]
+pub struct Source {
+    chunk: [u8; CHUNK],
+    start: usize,
+    end: usize,
+    taken: u64,
+    ghost in_order: { start ≤ end },
+    ghost in_chunk: { end ≤ CHUNK },
+    ghost within: { taken + (end - start) ≤ SCRIPT_LIMIT },
+}
+
+impl Source {
+    ghost use Rattle.facl_script.specs.Source.{pending, unread, StopsAfter, FindsLine, taken_count};
+
+    pub fn new() -> Source
+        ensures none { pending result ≡ [] }
+        ensures count { taken_count result ≡ 0 }
+    {
+        Source {
+            chunk: [0; CHUNK],
+            start: 0,
+            end: 0,
+            taken: 0,
+        }
+    }
+
+    fn pending(&self) -> &[u8]
+        ensures { result.now ≡ pending self.now }
+    {
+        &self.chunk[self.start..self.end]
+    }
+
+    fn skip(&mut self, n: usize)
+        requires { n ≤ length (pending self.old) }
+        ensures pending { pending self.new ≡ drop n (pending self.old) }
+        ensures count { taken_count self.new ≡ taken_count self.old + n }
+    {
+        self.start += n;
+        self.taken += n as u64;
+    }
+
+    /// Reads a chunk where nothing is pending. At the limit of the script it reads one byte more, which is to be the end.
+    fn fill<R: Feed>(&mut self, reader: &mut R) -> Result<(), ScriptFault>
+        requires { R.has_failed reader.old ≡ false }
+        ensures same { OnOk result (Keeps
+            (unread self.old (R.remaining reader.old)) (unread self.new (R.remaining reader.new))) }
+        ensures works { OnOk result (R.has_failed reader.new ≡ false) }
+        ensures end { OnOk result (pending self.new ≡ [] → IsAtEnd (R.remaining reader.new)) }
+        ensures err { IfErr result (λ e.
+            StopsAfter e (unread self.old (R.remaining reader.old)) self.new
+            (R.remaining reader.new) (R.has_failed reader.new) []) }
+        ensures count { taken_count self.new ≡ taken_count self.old }
+    {
+        if self.start < self.end {
+            return Ok(());
+        }
+        self.start = 0;
+        self.end = 0;
+        let left = SCRIPT_LIMIT - self.taken;
+        if left == 0 {
+            let n = read_some(reader, &mut self.chunk, 1)?;
+            return if n == 0 {
+                Ok(())
+            } else {
+                Err(ScriptFault::TooLong)
+            };
+        }
+        let room = left.min(CHUNK as u64) as usize;
+        self.end = read_some(reader, &mut self.chunk, room)?;
+        Ok(())
+    }
+
+    /// The next line of the script, without its LF. `None` is the end.
+    pub fn next_line<R: Feed>(
+        &mut self,
+        reader: &mut R,
+        line: &mut Vec<u8>,
+    ) -> Result<Option<Found>, ScriptFault>
+        requires { R.has_failed reader.old ≡ false }
+        ensures ok { IfOk result (λ found. FindsLine found
+            (unread self.old (R.remaining reader.old)) (unread self.new (R.remaining reader.new))
+            line.new.items (taken_count self.old) (taken_count self.new)) }
+        ensures works { OnOk result (R.has_failed reader.new ≡ false) }
+        ensures err { IfErr result (λ e. (text : List ℕ) × HasNoLineFeed text
+            × StopsAfter e (unread self.old (R.remaining reader.old)) self.new
+            (R.remaining reader.new) (R.has_failed reader.new) text
+            × (taken_count self.new ≡ taken_count self.old + length text)) }
+        ensures grows { taken_count self.old ≤ taken_count self.new }
+    {
+        line.clear();
+        let mut is_too_long = false;
+        let mut is_empty = true;
+        loop {
+            self.fill(reader)?;
+            let piece = self.pending();
+            let n = piece.len();
+            if n == 0 {
+                if is_empty {
+                    return Ok(None);
+                }
+                return Ok(Some(Found {
+                    is_ended: false,
+                    is_too_long,
+                }));
+            }
+            match line_feed_at(piece) {
+                Some(at) => {
+                    is_too_long = hold(line, is_too_long, &piece[..at])?;
+                    self.skip(at + 1);
+                    return Ok(Some(Found {
+                        is_ended: true,
+                        is_too_long,
+                    }));
+                }
+                None => {
+                    is_too_long = hold(line, is_too_long, piece)?;
+                    self.skip(n);
+                    is_empty = false;
+                }
+            }
+        }
+    }
+}

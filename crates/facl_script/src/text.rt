@@ -1,0 +1,120 @@
+//! The text of a unit: the lines up to a line `.`.
+ghost use Rattle.std.specs.Prelude.{◌≡◌, ◌≤◌, ◌+◌, ℕ, List, [], ◌∷◌, ◌++◌, true, false, OnOk, IfOk, IfErr, Option, length};
+ghost use Rattle.facl_script.specs.Source.{unread, StopsAfter, taken_count};
+ghost use Rattle.facl_script.specs.Units.{is_end as ends_text, more_text, HasNoUnitWithin};
+ghost use Rattle.facl_script.specs.Lines.{Held};
+ghost use Rattle.facl_script.specs.ReadText.{FindsText, HoldsText};
+
+use crate::devices::Feed;
+use crate::fault::ScriptFault;
+use crate::source::Source;
+use std::alloc::AllocError;
+
+/// What is held of the text of a unit.
+#[derive(Clone, Copy, Debug, PartialEq, Eq)]
+pub enum TextFound {
+    /// The line takes no text.
+    Absent,
+    /// All lines up to the line `.`.
+    Whole,
+    /// One of the lines is over the limit.
+    TooLong,
+    /// The script ends before the line `.`.
+    Unended,
+    /// No memory was there to keep the text, which was read to its end all the same.
+    Lost,
+}
+
+/// A text that was read to its end.
+#[derive(Clone, Copy)]
+pub(crate) struct TextRead {
+    pub(crate) lines: u64,
+    pub(crate) text: TextFound,
+    pub(crate) is_full: bool,
+}
+
+fn is_end(line: &[u8]) -> bool
+    ensures { result ≡ ends_text line.now }
+{
+    match line {
+        [only] => *only == b'.',
+        _ => false,
+    }
+}
+
+/// Whether the line that is held is the end of a text.
+fn ends_here(is_too_long: bool, line: &[u8]) -> bool
+    ensures { (text : List ℕ) → Held is_too_long line.now text → result ≡ ends_text text }
+{
+    !is_too_long && is_end(line)
+}
+
+fn append(text: &mut Vec<u8>, line: &[u8]) -> Result<(), AllocError>
+    ensures { OnOk result (text.new.items ≡ text.old.items ++ (line.now ++ 10 ∷ [])) }
+{
+    text.extend_from_slice(line)?;
+    text.push(b'\n')?;
+    Ok(())
+}
+
+/// Adds a line to what is held of a text, and tells what is held by now.
+fn keep(text: &mut Vec<u8>, held: TextFound, is_too_long: bool, line: &[u8]) -> TextFound
+    ensures { (content : Option (List ℕ)) (t : List ℕ)
+        → HoldsText held text.old.items content → Held is_too_long line.now t
+        → HoldsText result text.new.items (more_text content t) }
+{
+    match held {
+        TextFound::Whole if is_too_long => TextFound::TooLong,
+        TextFound::Whole => match append(text, line) {
+            Ok(()) => TextFound::Whole,
+            Err(_) => TextFound::Lost,
+        },
+        _ => held,
+    }
+}
+
+/// Reads a text to its end, line by line, and keeps it where it can.
+pub(crate) fn read_text<R: Feed>(
+    source: &mut Source,
+    reader: &mut R,
+    line: &mut Vec<u8>,
+    text: &mut Vec<u8>,
+) -> Result<TextRead, ScriptFault>
+    requires { R.has_failed reader.old ≡ false }
+    ensures ok { IfOk result (λ found. FindsText found
+        (unread source.old (R.remaining reader.old)) (unread source.new (R.remaining reader.new))
+        text.new.items (taken_count source.old) (taken_count source.new)) }
+    ensures works { OnOk result (R.has_failed reader.new ≡ false) }
+    ensures err { IfErr result (λ e. (tail : List ℕ) × HasNoUnitWithin tail
+        × StopsAfter e (unread source.old (R.remaining reader.old)) source.new
+        (R.remaining reader.new) (R.has_failed reader.new) tail
+        × (taken_count source.new ≡ taken_count source.old + length tail)) }
+    ensures grows { taken_count source.old ≤ taken_count source.new }
+{
+    text.clear();
+    let mut lines: u64 = 0;
+    let mut held = TextFound::Whole;
+    while let Some(found) = source.next_line(reader, line)? {
+        lines += 1;
+        if ends_here(found.is_too_long, line) {
+            return Ok(TextRead {
+                lines,
+                text: held,
+                is_full: found.is_ended,
+            });
+        }
+        if !found.is_ended {
+            return Ok(TextRead {
+                lines,
+                text: TextFound::Unended,
+                is_full: false,
+            });
+        }
+        held = keep(text, held, found.is_too_long, line);
+    }
+    Ok(TextRead {
+        lines,
+        text: TextFound::Unended,
+        is_full: false,
+    })
+}

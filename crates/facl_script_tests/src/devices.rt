@@ -1,0 +1,97 @@
+//! Readers and writers that fail.
+use std::io;
+use std::io::{ErrorKind, Read, Write};
+
+/// Gives its bytes one at a time, and fails once `left` of them were given, with the error that other code tries again.
+#[derive(Drop)]
+pub struct FailingReader<'a> {
+    pub bytes: &'a [u8],
+    pub at: usize,
+    pub left: usize,
+}
+
+impl Read for FailingReader<'_> {
+    fn read(&mut self, buf: &mut [u8]) -> io::Result<usize> {
+        if self.left == 0 {
+            return Err(io::Error::from(ErrorKind::Interrupted));
+        }
+        if buf.is_empty() || self.at >= self.bytes.len() {
+            return Ok(0);
+        }
+        buf[0] = self.bytes[self.at];
+        self.at += 1;
+        self.left -= 1;
+        Ok(1)
+    }
+}
+
+/// Gives its bytes, then 0 bytes once, and fails at each read after that.
+#[derive(Drop)]
+pub struct EndingReader<'a> {
+    pub bytes: &'a [u8],
+    pub has_ended: bool,
+}
+
+impl Read for EndingReader<'_> {
+    fn read(&mut self, buf: &mut [u8]) -> io::Result<usize> {
+        if self.has_ended {
+            return Err(io::Error::from(ErrorKind::Other));
+        }
+        let n = self.bytes.read(buf)?;
+        self.has_ended = n == 0;
+        Ok(n)
+    }
+}
+
+/// Gives comment lines of 1,023 bytes, up to a number of bytes in all.
+#[derive(Drop)]
+pub struct CommentReader {
+    pub given: u64,
+    pub total: u64,
+}
+
+impl Read for CommentReader {
+    fn read(&mut self, buf: &mut [u8]) -> io::Result<usize> {
+        for (i, b) in buf.iter_mut().enumerate() {
+            if self.given >= self.total {
+                return Ok(i);
+            }
+            *b = if self.given % 1024 == 1023 {
+                b'\n'
+            } else {
+                b'#'
+            };
+            self.given += 1;
+        }
+        Ok(buf.len())
+    }
+}
+
+/// Takes one byte a call, and once `left` of them were taken fails, or takes nothing.
+#[derive(Drop)]
+pub struct FailingWriter {
+    pub held: Vec<u8>,
+    pub left: usize,
+    pub takes_nothing: bool,
+}
+
+impl Write for FailingWriter {
+    fn write(&mut self, buf: &[u8]) -> io::Result<usize> {
+        if buf.is_empty() {
+            return Ok(0);
+        }
+        if self.left == 0 {
+            if self.takes_nothing {
+                return Ok(0);
+            }
+            return Err(io::Error::from(ErrorKind::Interrupted));
+        }
+        self.held.push(buf[0])?;
+        self.left -= 1;
+        Ok(1)
+    }
+
+    fn flush(&mut self) -> io::Result<()> {
+        Ok(())
+    }
+}

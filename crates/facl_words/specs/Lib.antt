@@ -1,0 +1,10 @@
+pub mod Forms
+pub mod Lines
+pub mod Rows
+pub mod Refusals
+pub mod Args
+pub mod Tools
+pub mod Places
+pub mod Setfacl
+pub mod Usage
+pub mod Words

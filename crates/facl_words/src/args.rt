@@ -1,0 +1,41 @@
+//! The program's own words.
+ghost use Rattle.std.specs.Prelude.{◌≡◌, MatchResult, Some, map, option_map, string_bytes};
+ghost use Rattle.facl_words.specs.Args.{files_for, program_line};
+ghost use Rattle.facl_words.specs.Refusals.{IsRefusal};
+ghost use Rattle.facl_words.specs.Rows.{line_of};
+
+use crate::commands::{matches_for, value_of};
+use crate::fault::WordsFault;
+use crate::rows::{LineRows, SwitchRow, by_name};
+use std::alloc::Global;
+
+static FILES: [SwitchRow; 3] = [by_name!("passwd"), by_name!("group"), by_name!("dump")];
+
+fn program_rows() -> LineRows
+    ensures { line_of result ≡ program_line }
+{
+    LineRows {
+        flags: &[],
+        options: FILES.as_slice(),
+        operands: &[],
+    }
+}
+
+/// The files of `--passwd`, `--group` and `--dump`, in this order, from the words after the program's
+/// name; none for an absent option.
+///
+/// Refused with `Usage` where `clap` refuses the words: another word, an option without its value, or
+/// one that is given twice. Refused with `NoMemory` for want of memory only.
+#[tactic(auto, unfolding(crate::specs::Args::files_for))]
+pub fn read_args(alloc: Global, words: &[String]) -> Result<[Option<String>; 3], WordsFault>
+    ensures { MatchResult result
+        (λ files. files_for (map string_bytes words.now) ≡ Some (map (option_map string_bytes) files))
+        (IsRefusal (files_for (map string_bytes words.now))) }
+{
+    let line = program_rows();
+    let matches = matches_for(alloc, &line, words)?;
+    let passwd = value_of(alloc, &matches, "passwd")?;
+    let group = value_of(alloc, &matches, "group")?;
+    let dump = value_of(alloc, &matches, "dump")?;
+    Ok([passwd, group, dump])
+}

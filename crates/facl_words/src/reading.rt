@@ -1,0 +1,122 @@
+//! A line's words out of what clap found.
+ghost use Rattle.std.specs.Prelude.{◌≡◌, ◌++◌, [], IfOk, MatchResult, OnOk, Some, map};
+ghost use Rattle.std.specs.Prelude.{string_bytes, true, unwrap_or};
+ghost use Rattle.clap.specs.Words.{all_of, first_of, found_of, is_simple_and_free, rows_of};
+ghost use Rattle.facl_words.specs.Lines.{app_for, is_on};
+ghost use Rattle.facl_words.specs.Lines.{flags_in, operands_in, value_or, values_in};
+ghost use Rattle.facl_words.specs.Refusals.{IsRefusal};
+ghost use Rattle.facl_words.specs.Rows.{line_of, switch_of};
+ghost use Rattle.facl_words.specs.Words.{words_read};
+
+use crate::commands::matches_for;
+use crate::fault::WordsFault;
+use crate::rows::{LineRows, SwitchRow};
+use crate::words::{Flags, Operands, Values, Word, Words};
+use clap::ArgMatches;
+use std::alloc::{AllocError, Global};
+
+fn is_flag_on(matches: &ArgMatches<'_>, id: &str) -> bool
+    ensures { result ≡ is_on id.now (rows_of (found_of matches.now)) }
+{
+    match matches.get_str(id) {
+        Some(value) => value == "true",
+        None => false,
+    }
+}
+
+fn flags_of(alloc: Global, line: &LineRows, matches: &ArgMatches<'_>) -> Result<Flags, AllocError>
+    ensures { IfOk result (λ f.
+        f ≡ flags_in (line_of line.now) (rows_of (found_of matches.now))) }
+{
+    let mut items = Vec::new(alloc);
+    for flag in line.flags {
+        items.push(is_flag_on(matches, flag.id))?;
+    }
+    Ok(Flags::new(items))
+}
+
+fn option_value(
+    alloc: Global,
+    row: &SwitchRow,
+    matches: &ArgMatches<'_>,
+) -> Result<Option<Word>, AllocError>
+    ensures { IfOk result (λ v. v ≡ value_or (switch_of row.now).fallback
+        (first_of (switch_of row.now).id (rows_of (found_of matches.now)))) }
+{
+    match matches.get_str(row.id) {
+        Some(text) => Ok(Some(Word::new(alloc, text)?)),
+        None => match row.fallback {
+            Some(text) => Ok(Some(Word::new(alloc, text)?)),
+            None => Ok(None),
+        },
+    }
+}
+
+fn values_of(alloc: Global, line: &LineRows, matches: &ArgMatches<'_>) -> Result<Values, AllocError>
+    ensures { IfOk result (λ v.
+        v ≡ values_in (line_of line.now) (rows_of (found_of matches.now))) }
+{
+    let mut items = Vec::new(alloc);
+    for option in line.options {
+        items.push(option_value(alloc, option, matches)?)?;
+    }
+    Ok(Values::new(items))
+}
+
+fn push_words(alloc: Global, items: &mut Vec<Word>, texts: &[&str]) -> Result<(), AllocError>
+    ensures { OnOk result (items.new.items ≡ items.old.items ++ map (λ t. t.now) texts.now) }
+{
+    for text in texts {
+        items.push(Word::new(alloc, text)?)?;
+    }
+    Ok(())
+}
+
+fn push_operand(
+    alloc: Global,
+    items: &mut Vec<Word>,
+    id: &str,
+    matches: &ArgMatches<'_>,
+) -> Result<(), AllocError>
+    ensures { OnOk result (items.new.items
+        ≡ items.old.items ++ unwrap_or (all_of id.now (rows_of (found_of matches.now))) []) }
+{
+    match matches.get_raw(id) {
+        Some(texts) => push_words(alloc, items, texts),
+        None => Ok(()),
+    }
+}
+
+fn operands_of(
+    alloc: Global,
+    line: &LineRows,
+    matches: &ArgMatches<'_>,
+) -> Result<Operands, AllocError>
+    ensures { IfOk result (λ o.
+        o ≡ operands_in (line_of line.now) (rows_of (found_of matches.now))) }
+{
+    let mut items = Vec::new(alloc);
+    for operand in line.operands {
+        push_operand(alloc, &mut items, operand.id, matches)?;
+    }
+    Ok(Operands::new(items))
+}
+
+/// The words as clap reads them.
+pub(crate) fn words_by_clap(
+    alloc: Global,
+    line: &LineRows,
+    words: &[String],
+) -> Result<Words, WordsFault>
+    requires { is_simple_and_free (app_for (line_of line.now)) ≡ true }
+    ensures { MatchResult result
+        (λ w. words_read (line_of line.now) (map string_bytes words.now) ≡ Some w)
+        (IsRefusal (words_read (line_of line.now) (map string_bytes words.now))) }
+{
+    let matches = matches_for(alloc, line, words)?;
+    Ok(Words {
+        flags: flags_of(alloc, line, &matches)?,
+        values: values_of(alloc, line, &matches)?,
+        operands: operands_of(alloc, line, &matches)?,
+    })
+}
