@@ -65,6 +65,7 @@ impl Path {
     }
 }
 
+/// That a component is made of bytes, which its definition asks too, is known of a slice of them.
 fn is_component(part: &[u8]) -> bool
     ensures { result ≡ is_component part.now }
 {

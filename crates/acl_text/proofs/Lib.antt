@@ -1,0 +1,9 @@
+pub mod Judging
+pub mod FieldCounts
+pub mod Numbers
+pub mod Counted
+pub mod Plain
+pub mod WrittenWords
+pub mod WrittenLists
+pub mod Lowest
+pub mod LowestRows

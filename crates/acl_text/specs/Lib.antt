@@ -1,0 +1,11 @@
+pub mod Told
+pub mod Blanks
+pub mod Ids
+pub mod Rows
+pub mod Seen
+pub mod Words
+pub mod Fields
+pub mod Letters
+pub mod Entries
+pub mod Writing
+pub mod Lowest

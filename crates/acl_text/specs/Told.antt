@@ -1,0 +1,69 @@
+-- What a text says, piece by piece, and which fault is told.
+use Rattle.std.specs.Prelude.{◌≡◌, ◌≢◌, ℕ, ◌+◌, List, [], ◌∷◌, ◌++◌, length, Option, Some, None, Result, Ok, Err}
+use Rattle.acl_text.specs.declared.fault.FaultKind.{FaultKind}
+use Rattle.acl_text.specs.declared.fault.FaultKind.TheVariants.{NoMemory}
+use Rattle.acl_text.specs.declared.fault.FaultKind.TheVariants as kinds
+use Rattle.acl_text.specs.declared.fault.Which.{Which}
+use Rattle.acl_entry.specs.declared.entry.ListFault.{ListFault}
+use Rattle.acl_entry.specs.declared.entry.ListFault.TheVariants as faults
+use Rattle.acl_text.specs.declared.fault.TextFault.{TextFault}
+
+-- what is wrong with a text whose list has a fault; want of memory is none of the list's
+abbrev pub of_list : Which → ListFault → FaultKind
+of_list which faults.NoMemory = NoMemory
+of_list which (faults.Repeated at) = kinds.List which (faults.Repeated at)
+of_list which (faults.MissingBase key) = kinds.List which (faults.MissingBase key)
+of_list which (faults.MissingMask at) = kinds.List which (faults.MissingMask at)
+of_list which faults.TooLong = kinds.List which faults.TooLong
+
+-- a judgement of the piece at a place, and what is told of the pieces after it
+abbrev pub at_place : {S T : Type 0} → ℕ → Result S FaultKind → (S → Result T TextFault) → Result T TextFault
+at_place at (Ok said) more = more said
+at_place at (Err kind) more = Err (record { kind = kind; at = at })
+
+-- A judge gives what is said once the piece at a place is read too, or the lowest kind of fault of that piece.
+-- The value of all pieces is what is said in the end; else the first faulty piece is told.
+abbrev pub told_from : {S P : Type 0} → (ℕ → S → P → Result S FaultKind) → ℕ → S → List P → Result S TextFault
+told_from judge at said [] = Ok said
+told_from judge at said (p ∷ ps) = at_place at (judge at said p) (λ more. told_from judge (at + 1) more ps)
+
+-- what a text says, whose pieces count from 1
+abbrev pub told : {S P : Type 0} → (ℕ → S → P → Result S FaultKind) → S → List P → Result S TextFault
+told judge start ps = told_from judge 1 start ps
+
+-- the kinds of fault of one piece are looked for in their order, so the lowest is told
+infixl 10 ◌>>=◌
+abbrev pub ◌>>=◌ : {A B : Type 0} → Result A FaultKind → (A → Result B FaultKind) → Result B FaultKind
+(Ok x) >>= f = f x
+(Err kind) >>= f = Err kind
+
+-- what is there, or a fault
+abbrev pub or_fault : {A : Type 0} → Option A → FaultKind → Result A FaultKind
+or_fault None kind = Err kind
+or_fault (Some x) kind = Ok x
+
+-- the first faulty piece: what is before it has no fault, and it has this one
+pub record IsFirstFault {S P : Type 0} (judge : ℕ → S → P → Result S FaultKind) (from : ℕ) (start : S) (ps : List P) (fault : TextFault) : Type 0 where
+  pub before : List P
+  pub piece : P
+  pub after : List P
+  pub parts : ps ≡ before ++ piece ∷ after
+  pub place : fault.at ≡ from + length before
+  pub said : S
+  pub no_fault_before : told_from judge from start before ≡ Ok said
+  pub faulty : judge fault.at said piece ≡ Err fault.kind
+
+-- A call gives the value, seen by view, or exactly the fault, unless memory ran out.
+abbrev pub Gives : {X Y : Type 0} → (X → Y) → Result X TextFault → Result Y TextFault → Type 0
+Gives view (Ok x) is = is ≡ Ok (view x)
+Gives view (Err fault) is = fault.kind ≢ NoMemory → is ≡ Err fault
+
+-- What a step with the piece at a place did: it said one piece more, or told the fault of this piece, unless memory ran out.
+abbrev pub JudgesAt : {S X : Type 0} → ℕ → Result X TextFault → S → Result S FaultKind → Type 0
+JudgesAt at (Ok x) new is = is ≡ Ok new
+JudgesAt at (Err fault) new is = fault.kind ≢ NoMemory → (is ≡ Err fault.kind) × (fault.at ≡ at)
+
+-- A call gives the value of a piece, seen by view, or exactly its fault at its place, unless memory ran out.
+abbrev pub GivesAt : {X Y : Type 0} → ℕ → (X → Y) → Result X TextFault → Result Y FaultKind → Type 0
+GivesAt at view (Ok x) is = is ≡ Ok (view x)
+GivesAt at view (Err fault) is = fault.kind ≢ NoMemory → (is ≡ Err fault.kind) × (fault.at ≡ at)

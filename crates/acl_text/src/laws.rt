@@ -1,0 +1,56 @@
+//! Laws of the definitions, each proved as the contract of a function that does nothing.
+
+ghost use Rattle.std.specs.Prelude.{◌≡◌, ◌↔◌, ℕ, List, [], Option, Err, ◌<◌, false, length};
+ghost use Rattle.acl_names.specs.Pieces.{pieces};
+ghost use Rattle.acl_text.specs.declared.fault.TextFault.{TextFault};
+ghost use Rattle.acl_text.specs.declared.entries.Sep.{Sep};
+ghost use Rattle.acl_text.specs.declared.entries.Want.{Want};
+ghost use Rattle.acl_text.specs.Told.{IsFirstFault};
+ghost use Rattle.acl_text.specs.declared.rows.PasswdRow.{PasswdRow};
+ghost use Rattle.acl_text.specs.declared.rows.GroupRow.{GroupRow};
+ghost use Rattle.acl_text.specs.Rows.{says_nothing, passwd_name, passwd_row, passwd_line, passwd_of, group_name, group_row, group_line, group_of};
+ghost use Rattle.acl_text.specs.Entries.{rules_of, separator, content, one_more, entries_of};
+ghost use Rattle.acl_text.specs.declared.entries.Spec.{Spec};
+ghost use Rattle.acl_text.specs.Blanks.{trimmed};
+ghost use Rattle.acl_text.specs.Fields.{default_of, entry_fields};
+ghost use Rattle.acl_text.specs.Lowest.{TellsLowest, EntryHas, RowHas};
+
+/// The fault of a passwd text is the lowest kind of fault of the first line that has one.
+pub fn passwd_fault_is_first()
+    ensures { (bytes : List ℕ) (fault : TextFault) → (passwd_of bytes ≡ Err fault) ↔ IsFirstFault passwd_line 1 [] (pieces 10 bytes) fault }
+{}
+
+/// The fault of a group text is the lowest kind of fault of the first line that has one.
+pub fn group_fault_is_first()
+    ensures { (bytes : List ℕ) (fault : TextFault) → (group_of bytes ≡ Err fault) ↔ IsFirstFault group_line 1 [] (pieces 10 bytes) fault }
+{}
+
+/// The fault of an entry text is the lowest kind of fault of the first entry that has one.
+pub fn entries_fault_is_first()
+    ensures { (user_id group_id : List ℕ → Option ℕ) (sep : Sep) (want : Want) (bytes : List ℕ) (fault : TextFault) →
+        (entries_of user_id group_id sep want bytes ≡ Err fault)
+        ↔ IsFirstFault (one_more user_id group_id sep (rules_of want)) 1 [] (pieces (separator sep) bytes) fault }
+{}
+
+/// The fault of an entry that is not empty is the lowest of the kinds that it has, each looked for by
+/// itself; where it has none, the entry is read.
+pub fn entry_fault_is_lowest()
+    ensures { (user_id group_id : List ℕ → Option ℕ) (sep : Sep) (want : Want) (at : ℕ) (specs : List Spec) (piece : List ℕ) →
+        0 < length (trimmed (content sep piece)) →
+        TellsLowest (EntryHas user_id group_id (rules_of want) specs (default_of (entry_fields (content sep piece))))
+        (one_more user_id group_id sep (rules_of want) at specs piece) }
+{}
+
+/// The fault of a passwd line that says something is the lowest of the kinds that it has, each looked for
+/// by itself; where it has none, the line is read.
+pub fn passwd_line_fault_is_lowest()
+    ensures { (at : ℕ) (rows : List PasswdRow) (line : List ℕ) → says_nothing line ≡ false →
+        TellsLowest (RowHas passwd_name passwd_row rows line) (passwd_line at rows line) }
+{}
+
+/// The fault of a group line that says something is the lowest of the kinds that it has, each looked for
+/// by itself; where it has none, the line is read.
+pub fn group_line_fault_is_lowest()
+    ensures { (at : ℕ) (rows : List GroupRow) (line : List ℕ) → says_nothing line ≡ false →
+        TellsLowest (RowHas group_name group_row rows line) (group_line at rows line) }
+{}

@@ -1,0 +1,51 @@
+//! The counted rows of passwd(5) and group(5).
+
+ghost use Rattle.std.specs.Prelude.{◌≡◌, List, ℕ};
+
+use acl_entry::Id;
+use acl_names::Name;
+use std::marker::Model;
+
+/// A counted row of passwd(5).
+#[derive(Debug, Drop)]
+pub struct PasswdRow {
+    pub name: Name,
+    pub uid: Id,
+    pub gid: Id,
+}
+
+/// A counted row of group(5), with the names of its members.
+#[derive(Debug, Drop)]
+pub struct GroupRow {
+    pub name: Name,
+    pub gid: Id,
+    pub names: NameList,
+}
+
+/// The names in a group's row, in their order.
+#[derive(Debug, Drop)]
+pub struct NameList {
+    names: Vec<Name>,
+}
+
+impl Model for NameList {
+    ghost Value = { List (List ℕ) };
+
+    ghost view = { λ l. l.names.items };
+}
+
+impl NameList {
+    /// The list of these names.
+    pub fn new(names: Vec<Name>) -> NameList
+        ensures { result ≡ names.items }
+    {
+        NameList { names }
+    }
+
+    /// The names, in their order.
+    pub fn as_slice(&self) -> &[Name]
+        ensures { result.now ≡ self.now }
+    {
+        &self.names
+    }
+}
