@@ -58,10 +58,10 @@ plain_perms false true false = refl
 plain_perms false false true = refl
 plain_perms false false false = refl
 
-plain_text : (p : Perms) → list_all is_plain (text p) ≡ true
+pub plain_text : (p : Perms) → list_all is_plain (text p) ≡ true
 plain_text p = plain_perms p.read p.write p.execute
 
-tag_plain : (form : Form) (k : Key) → list_all is_plain (tag_text form k) ≡ true
+pub tag_plain : (form : Form) (k : Key) → list_all is_plain (tag_text form k) ≡ true
 tag_plain Long keys.Owner = refl
 tag_plain Long (keys.User id) = refl
 tag_plain Long keys.OwningGroup = refl
@@ -95,7 +95,7 @@ module _ (takes_default takes_x : Bool) (user_id group_id : List ℕ → Option 
 
   -- ---- fields
 
-  qualifier_plain : (k : Key) → id_of k < 4294967295 → IsNamedKey k → list_all is_plain (qualifier user_name group_name k) ≡ true
+  pub qualifier_plain : (k : Key) → id_of k < 4294967295 → IsNamedKey k → list_all is_plain (qualifier user_name group_name k) ≡ true
   qualifier_plain keys.Owner lt named = refl
   qualifier_plain (keys.User id) lt named = (word_again user_id id (user_name id) lt named).plain
   qualifier_plain keys.OwningGroup lt named = refl
@@ -116,7 +116,7 @@ module _ (takes_default takes_x : Bool) (user_id group_id : List ℕ → Option 
   group_again Long at (b ∷ bs) id is p = rw (perms_again takes_x p.read p.write p.execute, is.again) refl
   group_again Short at (b ∷ bs) id is p = rw (perms_again takes_x p.read p.write p.execute, is.again) refl
 
-  key_again : (form : Form) (at : ℕ) (k : Key) (p : Perms) → id_of k < 4294967295 → IsNamedKey k → FromFields at (tag_text form k) (qualifier user_name group_name k) k p
+  pub key_again : (form : Form) (at : ℕ) (k : Key) (p : Perms) → id_of k < 4294967295 → IsNamedKey k → FromFields at (tag_text form k) (qualifier user_name group_name k) k p
   key_again Long at keys.Owner p lt named = rw (perms_again takes_x p.read p.write p.execute) refl
   key_again Short at keys.Owner p lt named = rw (perms_again takes_x p.read p.write p.execute) refl
   key_again form at (keys.User id) p lt named = user_again form at (id_text id (user_name id)) id (word_again user_id id (user_name id) lt named) p

@@ -9,7 +9,8 @@ fn is_blank(b: u8) -> bool
     b == b' ' || b == b'\t'
 }
 
-fn trim_front(bytes: &[u8]) -> &[u8]
+/// The bytes without the spaces and tabs in front.
+pub fn trim_front(bytes: &[u8]) -> &[u8]
     ensures { result.now ≡ trim_front bytes.now }
 {
     let mut rest = bytes;

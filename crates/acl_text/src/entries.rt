@@ -48,7 +48,7 @@ pub struct Spec {
 
 /// What a use of an entry text takes.
 #[derive(Clone, Copy, Debug)]
-pub(crate) struct Rules {
+pub struct Rules {
     /// Default entries.
     pub takes_default: bool,
     /// Permissions, which each entry then has; else none has them, and base entries are refused.

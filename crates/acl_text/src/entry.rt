@@ -82,8 +82,10 @@ fn key_of<N: Names>(
     }
 }
 
-/// The entry of a piece of text that is not empty.
-fn entry_of<N: Names>(
+/// The entry of a piece of text that is not empty and has no comment, by the rules of its use. Of several
+/// faults the first of `BadTag`, `MissingPerms`, `UnwantedPerms`, `BadPerms`, `UnknownUser`,
+/// `UnknownGroup` and `BaseEntry` is told, at this place.
+pub fn entry_of<N: Names>(
     alloc: Global,
     names: &N,
     rules: Rules,
@@ -125,7 +127,7 @@ fn entry_of<N: Names>(
 }
 
 /// A piece without its comment.
-fn content(sep: Sep, piece: &[u8]) -> &[u8]
+pub fn content(sep: Sep, piece: &[u8]) -> &[u8]
     ensures { result.now ≡ content sep piece.now }
 {
     match sep {

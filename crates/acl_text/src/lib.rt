@@ -21,9 +21,9 @@ mod writing;
 pub use acl_names::{
     Name, Path, append_name, append_path, read_name, read_path, write_name, write_path,
 };
-pub use blanks::trim;
-pub use entries::{PermSpec, Sep, Spec, Want};
-pub use entry::read_entries;
+pub use blanks::{trim, trim_front};
+pub use entries::{PermSpec, Rules, Sep, Spec, Want};
+pub use entry::{content, entry_of, read_entries};
 pub use fault::{FaultKind, TextFault, Which};
 pub use form::Form;
 pub use group::read_group;
@@ -36,4 +36,4 @@ pub use letters::read_perms;
 pub use naming::{Names, NoNames, read_group_word, read_user_word};
 pub use passwd::read_passwd;
 pub use rows::{GroupRow, NameList, PasswdRow};
-pub use writing::{append_entry, append_short, write_long, write_short};
+pub use writing::{append_entry, append_id, append_short, write_long, write_short};

@@ -36,8 +36,9 @@ fn tag(form: Form, key: &Key) -> &'static [u8]
     }
 }
 
-/// Adds an id's name, or its number where it has none.
-fn append_id(text: &mut Vec<u8>, id: Id, name: Option<&[u8]>) -> Result<(), AllocError>
+/// Adds the name of a user or a group with escapes, or the number of its id where it has no name. Refused
+/// for want of memory only, and then nothing is added.
+pub fn append_id(text: &mut Vec<u8>, id: Id, name: Option<&[u8]>) -> Result<(), AllocError>
     ensures ok { OnOk result (text.new.items ≡ text.old.items ++ id_text id (option_copied name.entry)) }
     ensures err { OnErr result (text.new.items ≡ text.old.items) }
 {
