@@ -1,0 +1,7 @@
+pub mod Nodes
+pub mod Parts
+pub mod Steps
+pub mod Masks
+pub mod Edits
+pub mod Laws
+pub mod Creation

@@ -1,0 +1,195 @@
+//! What a setfacl(1) line leaves of a file's lists.
+ghost use Rattle.std.specs.Prelude.{◌≡◌, ◌≢◌, Ok, Err, IfOk, IfErr, OnOk};
+ghost use Rattle.acl_edit.specs.Parts.{part};
+ghost use Rattle.acl_edit.specs.Masks.{takes_mask};
+ghost use Rattle.acl_edit.specs.Steps as steps;
+ghost use Rattle.acl_edit.specs.Edits as edits;
+ghost use Rattle.acl_edit.specs.Edits.{worked, access_after, default_after, access_before, default_before, changed_access, changed_default, is_misplaced};
+ghost use Rattle.acl_edit.specs.Nodes.{IsSound};
+ghost use Rattle.acl_edit.specs.Laws.{LeavesUnnamed, ShowsRecalculated, KeepsGranted, GivesModified, GoesByKey};
+ghost use Rattle.acl_edit.specs.declared.edit.EditFault.TheVariants.{NoMemory};
+
+use crate::masks::{complete_mask, has_mask};
+use crate::steps::{fill_from, gives_execute, modify, remove, replace, strip};
+use crate::{Change, EditFault, Kind, Node};
+use acl_entry::{Acl, Draft};
+use acl_text::Which;
+use std::alloc::{AllocError, Global};
+
+impl Change {
+    // Whether the line takes the list's mask out.
+    fn takes_mask(&self, which: Which, draft: &Draft) -> bool
+        ensures { result ≡ takes_mask (part self.now which) draft.now }
+    {
+        has_mask(draft) && self.scope(which).takes_mask(self.remove.as_slice())
+    }
+
+    // Replaces, removes and modifies, and says whether the list lost its mask.
+    #[tactic(auto, unfolding(crate::specs::Edits::worked))]
+    fn work(
+        &self,
+        alloc: Global,
+        which: Which,
+        x: bool,
+        draft: &mut Draft,
+    ) -> Result<bool, AllocError>
+        ensures list { OnOk result (draft.new ≡ worked x (part self.now which) draft.old) }
+        ensures lost { IfOk result (λ lost. lost ≡ takes_mask (part self.now which) (steps.replace x (part self.now which).set draft.old)) }
+    {
+        let scope = self.scope(which);
+        replace(alloc, draft, scope, x, self.set.as_slice())?;
+        let lost = self.takes_mask(which, draft);
+        remove(draft, scope, self.remove.as_slice());
+        modify(draft, scope, x, self.modify.as_slice())?;
+        Ok(lost)
+    }
+
+    // The line's steps on an access list.
+    #[tactic(auto, unfolding(crate::specs::Edits::access_after))]
+    fn edit_access(&self, alloc: Global, x: bool, draft: &mut Draft) -> Result<(), AllocError>
+        ensures { OnOk result (draft.new ≡ access_after self.now x draft.old) }
+    {
+        if self.names(Which::Access) {
+            let lost = self.work(alloc, Which::Access, x, draft)?;
+            complete_mask(draft, self, Which::Access, lost)?;
+        }
+        Ok(())
+    }
+
+    // The line's steps on a default list, beside the access list that they left.
+    #[tactic(auto, unfolding(crate::specs::Edits::default_after))]
+    fn edit_default(
+        &self,
+        alloc: Global,
+        x: bool,
+        acl: &Acl,
+        draft: &mut Draft,
+    ) -> Result<(), AllocError>
+        ensures { OnOk result (draft.new ≡ default_after self.now x acl.now draft.old) }
+    {
+        if self.names(Which::Default) {
+            let lost = self.work(alloc, Which::Default, x, draft)?;
+            if self.puts(Which::Default) {
+                fill_from(draft, acl)?;
+            }
+            complete_mask(draft, self, Which::Default, lost)?;
+        }
+        Ok(())
+    }
+
+    // The access list that the steps begin with.
+    fn access_before(&self, alloc: Global, acl: &Acl) -> Result<Draft, AllocError>
+        ensures { IfOk result (λ draft. draft ≡ access_before self.now acl.now) }
+    {
+        if self.strip {
+            strip(alloc, acl)
+        } else {
+            Draft::of(alloc, acl)
+        }
+    }
+
+    // The default list that the steps begin with.
+    fn default_before(&self, alloc: Global, dacl: &Option<Acl>) -> Result<Draft, AllocError>
+        ensures { IfOk result (λ draft. draft ≡ default_before self.now dacl.now) }
+    {
+        match dacl {
+            Some(acl) if !self.strip && !self.drop_default => Draft::of(alloc, acl),
+            _ => Ok(Draft::new(alloc)),
+        }
+    }
+}
+
+// The entries as a list, if they are one.
+fn checked(which: Which, draft: Draft) -> Result<Acl, EditFault>
+    ensures made { IfOk result (λ acl. edits.checked which draft ≡ Ok acl) }
+    ensures told { IfErr result (λ fault. edits.checked which draft ≡ Err fault) }
+{
+    match draft.finish() {
+        Ok(acl) => Ok(acl),
+        Err(fault) => Err(EditFault::List(which, fault)),
+    }
+}
+
+// The entries as a default list, which is none where there are no entries.
+fn checked_default(draft: Draft) -> Result<Option<Acl>, EditFault>
+    ensures made { IfOk result (λ dacl. edits.checked_default draft ≡ Ok dacl) }
+    ensures told { IfErr result (λ fault. edits.checked_default draft ≡ Err fault) }
+{
+    if draft.entries().is_empty() {
+        return Ok(None);
+    }
+    Ok(Some(checked(Which::Default, draft)?))
+}
+
+fn changed_access(alloc: Global, node: &Node, change: &Change, x: bool) -> Result<Acl, EditFault>
+    requires { x ≡ steps.gives_execute node.now }
+    ensures made { IfOk result (λ acl. changed_access node.now change.now ≡ Ok acl) }
+    ensures told { IfErr result (λ fault. fault ≢ NoMemory → changed_access node.now change.now ≡ Err fault) }
+{
+    let mut draft = change.access_before(alloc, &node.label.acl)?;
+    change.edit_access(alloc, x, &mut draft)?;
+    checked(Which::Access, draft)
+}
+
+fn changed_default(
+    alloc: Global,
+    node: &Node,
+    change: &Change,
+    x: bool,
+    acl: &Acl,
+) -> Result<Option<Acl>, EditFault>
+    requires { x ≡ steps.gives_execute node.now }
+    ensures made { IfOk result (λ dacl. changed_default node.now.kind node.now change.now acl.now ≡ Ok dacl) }
+    ensures told { IfErr result (λ fault. fault ≢ NoMemory → changed_default node.now.kind node.now change.now acl.now ≡ Err fault) }
+{
+    if node.kind == Kind::Plain {
+        return Ok(clone_of(alloc, &node.dacl)?);
+    }
+    let mut draft = change.default_before(alloc, &node.dacl)?;
+    change.edit_default(alloc, x, acl, &mut draft)?;
+    checked_default(draft)
+}
+
+// The same list again, if there is one.
+pub(crate) fn clone_of(alloc: Global, acl: &Option<Acl>) -> Result<Option<Acl>, AllocError>
+    ensures { IfOk result (λ clone. clone ≡ acl.now) }
+{
+    match acl {
+        Some(acl) => Ok(Some(acl.try_clone(alloc)?)),
+        None => Ok(None),
+    }
+}
+
+// Whether the line puts default entries into a file that is no directory, and not in a recursion.
+fn is_misplaced(node: &Node, line: &Change, in_recursion: bool) -> bool
+    ensures { result ≡ is_misplaced node.now line.now in_recursion }
+{
+    node.kind != Kind::Directory && !in_recursion && line.puts(Which::Default)
+}
+
+/// The file after a setfacl(1) line.
+#[tactic(auto, unfolding(crate::specs::Edits::change))]
+pub(crate) fn change(
+    alloc: Global,
+    node: &Node,
+    line: &Change,
+    in_recursion: bool,
+) -> Result<Node, EditFault>
+    ensures made { IfOk result (λ n. edits.change node.now line.now in_recursion ≡ Ok n) }
+    ensures told { IfErr result (λ fault. fault ≢ NoMemory → edits.change node.now line.now in_recursion ≡ Err fault) }
+    ensures unnamed { IfOk result (LeavesUnnamed node.now line.now) }
+    ensures shown { IfOk result (ShowsRecalculated node.now line.now) }
+    ensures granted { IfOk result (KeepsGranted node.now line.now) }
+    ensures modified { IfOk result (GivesModified node.now line.now) }
+    ensures by_key { IfOk result (GoesByKey node.now line.now) }
+    ensures sound { IsSound node.now → IfOk result IsSound }
+{
+    node.lists_are_valid();
+    if is_misplaced(node, line, in_recursion) {
+        return Err(EditFault::DefaultOnFile);
+    }
+    let x = gives_execute(node);
+    let acl = changed_access(alloc, node, line, x)?;
+    let dacl = changed_default(alloc, node, line, x, &acl)?;
+    Ok(node.with_lists(acl, dacl))
+}

@@ -1,0 +1,90 @@
+//! New files: acl(5), "OBJECT CREATION AND DEFAULT ACLs".
+ghost use Rattle.std.specs.Prelude.{◌≡◌, IfOk, IfErr};
+ghost use Rattle.acl_edit.specs.Nodes.{IsSound, HasValidLists};
+ghost use Rattle.acl_edit.specs.Creation.{inherit, inherited_access};
+ghost use Rattle.acl_edit.specs.declared.edit.EditFault.TheVariants.{NoMemory};
+
+use crate::change::clone_of;
+use crate::{EditFault, Kind, Node};
+use acl_entry::{Acl, Id, Label};
+use std::alloc::{AllocError, Global};
+
+/// The node of a new file in a directory.
+///
+/// Under a default list of the directory the access list is that list, its entries that correspond to
+/// the mode met with the mode, the umask has no effect, and a directory gets the default list too. Else
+/// the access list is minimal, of the mode without the umask's bits. Mode and umask count by their low
+/// nine bits. A directory with set group ID hands its group on, and to a directory the flag too.
+///
+/// # Errors
+///
+/// Want of memory.
+pub fn create(
+    alloc: Global,
+    parent: &Node,
+    kind: Kind,
+    mode: u16,
+    umask: u16,
+    owner: Id,
+    group: Id,
+) -> Result<Node, EditFault>
+    ensures made { IfOk result (λ node. node ≡ inherit parent.now kind mode umask owner group) }
+    ensures valid { IfOk result HasValidLists }
+    ensures sound { IfOk result IsSound }
+    ensures told { IfErr result (λ fault. fault ≡ NoMemory) }
+{
+    let node = inherit(alloc, parent, kind, mode, umask, owner, group)?;
+    node.lists_are_valid();
+    Ok(node)
+}
+
+// What a new file gets of its directory.
+fn inherit(
+    alloc: Global,
+    parent: &Node,
+    kind: Kind,
+    mode: u16,
+    umask: u16,
+    owner: Id,
+    group: Id,
+) -> Result<Node, AllocError>
+    ensures { IfOk result (λ node. node ≡ inherit parent.now kind mode umask owner group) }
+{
+    let [_setuid, setgid, _sticky] = parent.flags;
+    let acl = inherited_access(alloc, &parent.dacl, mode, umask)?;
+    let is_directory = kind == Kind::Directory;
+    let dacl = if is_directory {
+        clone_of(alloc, &parent.dacl)?
+    } else {
+        None
+    };
+    Ok(Node {
+        kind,
+        label: Label {
+            owner,
+            group: if setgid { parent.label.group } else { group },
+            acl,
+        },
+        flags: [false, setgid && is_directory, false],
+        dacl,
+    })
+}
+
+// The access list under a directory's default list, if it has one.
+fn inherited_access(
+    alloc: Global,
+    dacl: &Option<Acl>,
+    mode: u16,
+    umask: u16,
+) -> Result<Acl, AllocError>
+    ensures { IfOk result (λ acl. acl ≡ inherited_access dacl.now mode umask) }
+{
+    match dacl {
+        Some(dacl) => {
+            let mut acl = dacl.try_clone(alloc)?;
+            acl.restrict(mode);
+            Ok(acl)
+        }
+        None => Acl::minimal(alloc, mode & !umask),
+    }
+}

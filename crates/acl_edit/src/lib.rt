@@ -1,0 +1,21 @@
+//! One file's edits after setfacl(1), chacl(1), chmod(1) and acl(5): what an edit leaves of a file's
+//! lists, and what a new file gets of its directory's.
+//!
+//! A [`Node`] is plain data. Paths, people and whole commands stand in the crates above.
+#![tactic(auto)]
+
+mod change;
+mod creation;
+mod edit;
+mod edits;
+mod masks;
+mod node;
+mod parts;
+mod steps;
+mod written;
+
+pub use creation::create;
+pub use edit::{Change, Edit, EditFault};
+pub use edits::apply;
+pub use node::{Kind, Node, chmod};
+pub use written::Specs;

@@ -1,0 +1,84 @@
+//! The mask that a setfacl(1) line leaves in a list that it names.
+ghost use Rattle.std.specs.Prelude.{◌≡◌, OnOk, map, filter};
+ghost use Rattle.acl_entry.specs.Lists.{union_all, in_class, perm_of_entry};
+ghost use Rattle.acl_edit.specs.Parts.{part};
+ghost use Rattle.acl_edit.specs.Masks as masks;
+ghost use Rattle.acl_edit.specs.Masks.{has_mask, has_named, is_recalculated};
+
+use crate::Change;
+use acl_entry::{Draft, Entry, Key, Perm};
+use acl_text::Which;
+use std::alloc::AllocError;
+
+/// Whether the list has a mask.
+pub(crate) fn has_mask(draft: &Draft) -> bool
+    ensures { result ≡ has_mask draft.now }
+{
+    draft.get(Key::Mask).is_some()
+}
+
+fn has_named(draft: &Draft) -> bool
+    ensures { result ≡ has_named draft.now }
+{
+    draft.entries().iter().any(|entry| entry.key.is_named())
+}
+
+// All that the entries of the group class have.
+fn class_union(entries: &[Entry]) -> Perm
+    ensures { result ≡ union_all (map perm_of_entry (filter in_class entries.now)) }
+{
+    let mut all = Perm::none();
+    for entry in entries {
+        if entry.key.is_class() {
+            all = all.union(entry.perm);
+        }
+    }
+    all
+}
+
+// Gives a list with named entries and without a mask one that is equal to the owning group.
+fn add_mask(draft: &mut Draft) -> Result<(), AllocError>
+    ensures { OnOk result (draft.new ≡ masks.add_mask draft.old) }
+{
+    if has_named(draft) && !has_mask(draft) {
+        if let Some(perm) = draft.get(Key::OwningGroup) {
+            draft.insert(Key::Mask, perm)?;
+        }
+    }
+    Ok(())
+}
+
+// Makes a mask that stands all that the group class has.
+fn recalculate(draft: &mut Draft) -> Result<(), AllocError>
+    ensures { OnOk result (draft.new ≡ masks.recalculate draft.old) }
+{
+    if has_mask(draft) {
+        let all = class_union(draft.entries());
+        draft.insert(Key::Mask, all)?;
+    }
+    Ok(())
+}
+
+fn is_recalculated(change: &Change, which: Which) -> bool
+    ensures { result ≡ is_recalculated change.now (part change.now which) }
+{
+    !change.no_mask && (change.remask || !change.gives_mask(which))
+}
+
+/// Completes a list with its mask, where `lost` says that the line took one out.
+pub(crate) fn complete_mask(
+    draft: &mut Draft,
+    change: &Change,
+    which: Which,
+    lost: bool,
+) -> Result<(), AllocError>
+    ensures { OnOk result (draft.new ≡ masks.with_mask change.now (part change.now which) lost draft.old) }
+{
+    if !lost {
+        add_mask(draft)?;
+    }
+    if is_recalculated(change, which) {
+        recalculate(draft)?;
+    }
+    Ok(())
+}

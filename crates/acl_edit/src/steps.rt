@@ -1,0 +1,139 @@
+//! The steps of a setfacl(1) line on one list.
+ghost use Rattle.std.specs.Prelude.{◌≡◌, IfOk, OnOk, filter};
+ghost use Rattle.std.specs.List.{list_any};
+ghost use Rattle.acl_edit.specs.Parts.{speaks_of};
+ghost use Rattle.acl_edit.specs.Steps as steps;
+ghost use Rattle.acl_edit.specs.Steps.{execute, gives_execute, perms_of, may_execute};
+
+use crate::parts::{Scope, is_mask};
+use crate::{Kind, Node};
+use acl_entry::{Acl, Draft, Entry, Key, Perm};
+use acl_text::{PermSpec, Spec};
+use std::alloc::{AllocError, Global};
+
+fn execute() -> Perm
+    ensures { result ≡ execute }
+{
+    Perm::from_number(1).unwrap()
+}
+
+// Whether the entry, which is not the mask, has execute.
+fn may_execute(entry: &Entry) -> bool
+    ensures { result ≡ may_execute entry.now }
+{
+    !is_mask(&entry.key) && entry.perm.contains(execute())
+}
+
+/// Whether an entry other than the mask has execute.
+pub(crate) fn someone_may_execute(entries: &[Entry]) -> bool
+    ensures { result ≡ list_any may_execute entries.now }
+{
+    entries.iter().any(|entry| may_execute(entry))
+}
+
+/// Whether `X` gives execute: to a directory, and where someone may execute the file already.
+pub(crate) fn gives_execute(node: &Node) -> bool
+    ensures { result ≡ gives_execute node.now }
+{
+    node.kind == Kind::Directory || someone_may_execute(node.label.acl.entries())
+}
+
+// What an entry gives, where x says whether X gives execute.
+fn perms_of(x: bool, perm: &Option<PermSpec>) -> Perm
+    ensures { result ≡ perms_of x perm.now }
+{
+    match perm {
+        None => Perm::none(),
+        Some(perm) if x && perm.cond_x => perm.fixed.union(execute()),
+        Some(perm) => perm.fixed,
+    }
+}
+
+// Puts an entry, if there is one.
+pub(crate) fn put_some(draft: &mut Draft, key: &Key, perm: Option<Perm>) -> Result<(), AllocError>
+    ensures { OnOk result (draft.new ≡ steps.put_some draft.old key.now perm) }
+{
+    if let Some(perm) = perm {
+        draft.insert(*key, perm)?;
+    }
+    Ok(())
+}
+
+/// The base entries of a list alone, with what they grant: `-b`.
+pub(crate) fn strip(alloc: Global, acl: &Acl) -> Result<Draft, AllocError>
+    ensures { IfOk result (λ draft. draft ≡ steps.strip acl.now) }
+{
+    let mut kept = Draft::new(alloc);
+    put_some(&mut kept, &Key::Owner, acl.effective(Key::Owner))?;
+    put_some(
+        &mut kept,
+        &Key::OwningGroup,
+        acl.effective(Key::OwningGroup),
+    )?;
+    put_some(&mut kept, &Key::Other, acl.effective(Key::Other))?;
+    Ok(kept)
+}
+
+/// Takes the keys out of a list.
+pub(crate) fn remove(draft: &mut Draft, scope: Scope, specs: &[Spec])
+    ensures { draft.new ≡ steps.remove (filter (speaks_of scope.as_default scope.which) specs.now) draft.old }
+{
+    for spec in specs {
+        if scope.takes(spec) {
+            draft.remove(&spec.key);
+        }
+    }
+}
+
+/// Puts the entries into a list, the later ones over the earlier ones.
+pub(crate) fn modify(
+    draft: &mut Draft,
+    scope: Scope,
+    x: bool,
+    specs: &[Spec],
+) -> Result<(), AllocError>
+    ensures { OnOk result (draft.new ≡ steps.modify x (filter (speaks_of scope.as_default scope.which) specs.now) draft.old) }
+{
+    for spec in specs {
+        if scope.takes(spec) {
+            draft.insert(spec.key, perms_of(x, &spec.perm))?;
+        }
+    }
+    Ok(())
+}
+
+/// Puts the entries in place of the list, if there are any.
+pub(crate) fn replace(
+    alloc: Global,
+    draft: &mut Draft,
+    scope: Scope,
+    x: bool,
+    specs: &[Spec],
+) -> Result<(), AllocError>
+    ensures { OnOk result (draft.new ≡ steps.replace x (filter (speaks_of scope.as_default scope.which) specs.now) draft.old) }
+{
+    if scope.takes_some(specs) {
+        *draft = Draft::new(alloc);
+        modify(draft, scope, x, specs)?;
+    }
+    Ok(())
+}
+
+/// Copies the base entries that a list lacks from another.
+pub(crate) fn fill_from(draft: &mut Draft, other: &Acl) -> Result<(), AllocError>
+    ensures { OnOk result (draft.new ≡ steps.fill_from other.now draft.old) }
+{
+    fill_one(draft, &Key::Owner, other)?;
+    fill_one(draft, &Key::OwningGroup, other)?;
+    fill_one(draft, &Key::Other, other)
+}
+
+// Copies one entry, if the list lacks it.
+fn fill_one(draft: &mut Draft, key: &Key, other: &Acl) -> Result<(), AllocError>
+    ensures { OnOk result (draft.new ≡ steps.fill_one other.now draft.old key.now) }
+{
+    if draft.get(*key).is_some() {
+        return Ok(());
+    }
+    put_some(draft, key, other.get(*key))
+}

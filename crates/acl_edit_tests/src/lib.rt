@@ -1,0 +1,13 @@
+//! Worked examples of edits, chmod and new files, and each public call of `acl_edit` once.
+//!
+//! They stand apart from `acl_edit`, since a crate with tests is proved twice.
+#![tactic(auto)]
+
+#[cfg(test)]
+mod changes;
+#[cfg(test)]
+mod files;
+#[cfg(test)]
+mod made;
+#[cfg(test)]
+mod modes;

@@ -1,0 +1,65 @@
+-- The names that ids print as are found under these ids.
+use Rattle.std.proofs.Common.{◌≡◌, ℕ, ◌<◌, Bool, true, false, not, ◌&&◌, eqb, List, length, get_or, slice_get, position, Option, Some, None, option_map, option_and_then, refl, sym, ap, subst, ◌∙◌}
+use Rattle.std.proofs.lemmas.Bool.{eqb-true}
+use Rattle.std.proofs.lemmas.List.Quantifiers.{position-Some}
+use Rattle.std.proofs.lemmas.Option.{get_or_from_slice_get}
+use Rattle.acl_text.specs.Ids.{is_number}
+use Rattle.acl_people.specs.Rolls.{Named, is_name, prints, id_named, name_shown, AreNames, IsNaming}
+use Rattle.acl_people.proofs.Places.{find-position}
+
+-- a row that an id prints as
+record Shown (es : List Named) (id : ℕ) (name : List ℕ) : Type 0 where
+  row : Named
+  at : ℕ
+  within : at < length es
+  stands : slice_get es at ≡ Some row
+  named : row.0 ≡ name
+  passes : prints id row ≡ true
+
+none_is_not_some : {A : Type 0} (x : A) → None ≡ Some x → ⊥
+none_is_not_some x e = cc
+
+some_same : {A : Type 0} (x y : A) → Some x ≡ Some y → x ≡ y
+some_same x y e = cc
+
+shown : (es : List Named) (id : ℕ) (name : List ℕ) → name_shown id es ≡ Some name → Shown es id name
+shown es id name is = by (position (prints id) es) refl (sym (ap (λ o. option_map (λ e. e.0) o) (find-position (prints id) es)) ∙ is)
+  where
+    by : (o : Option ℕ) → position (prints id) es ≡ o → option_map (λ e. e.0) (option_and_then (λ i. slice_get es i) o) ≡ Some name → Shown es id name
+    by None e h = absurd (none_is_not_some name h)
+    by (Some i) e h = row (slice_get es i) refl h
+      where
+        row : (r : Option Named) → slice_get es i ≡ r → option_map (λ e. e.0) r ≡ Some name → Shown es id name
+        row None e2 h2 = absurd (none_is_not_some name h2)
+        row (Some r) e2 h2 =
+            let first = position-Some (prints id) es i r e in
+            record {
+              row = r;
+              at = i;
+              within = first.0;
+              stands = e2;
+              named = some_same r.0 name h2;
+              passes = ap (λ x. prints id x) (sym (get_or_from_slice_get es i r r e2)) ∙ first.1;
+            }
+
+both : (a b : Bool) → (a && not b) ≡ true → (a ≡ true) × (b ≡ false)
+both true false h = (refl, refl)
+both true true h = cc
+both false b h = cc
+
+pub is_naming : (es : List Named) → AreNames es → IsNaming (λ name. id_named name es) (λ id. name_shown id es)
+is_naming es names = record {
+  found = λ id name is.
+      let s = shown es id name is in
+      let at : get_or es s.at s.row ≡ s.row = get_or_from_slice_get es s.at s.row s.row s.stands in
+      let first : position (is_name name) es ≡ Some s.at = ap (λ n. position (is_name n) es) (sym (ap (λ e. e.0) at ∙ s.named)) ∙ names.once s.at s.row s.within in
+      let id_is : s.row.1 ≡ id = eqb-true s.row.1 id (both (eqb s.row.1 id) (is_number s.row.0) s.passes).0 in
+      ap (λ o. option_map (λ e. e.1) o) (find-position (is_name name) es ∙ ap (λ o. option_and_then (λ i. slice_get es i) o) first ∙ s.stands) ∙ ap (λ n. Some n) id_is;
+  filled = λ id name is.
+      let s = shown es id name is in
+      let at : get_or es s.at s.row ≡ s.row = get_or_from_slice_get es s.at s.row s.row s.stands in
+      subst (λ n. 0 < length n) (ap (λ e. e.0) at ∙ s.named) (names.filled s.at s.row s.within);
+  no_number = λ id name is.
+      let s = shown es id name is in
+      ap (λ n. is_number n) (sym s.named) ∙ (both (eqb s.row.1 id) (is_number s.row.0) s.passes).1;
+}

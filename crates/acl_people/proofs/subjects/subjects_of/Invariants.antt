@@ -1,0 +1,6 @@
+use Rattle.std.proofs.Common.{◌≡◌, map, take}
+use Rattle.acl_people.specs.Registers.{person}
+use Rattle.acl_people.proofs.subjects.subjects_of.Given as goal
+
+abbrev pub invariant-loop-row : goal.invariant-loop-row
+invariant-loop-row l = l.subjects.items ≡ map (person l.groups) (take l.row-index l.users)

@@ -1,0 +1,10 @@
+-- The names and ids of rows.
+use Rattle.acl_text.specs.declared.rows.PasswdRow.{PasswdRow}
+use Rattle.acl_text.specs.declared.rows.GroupRow.{GroupRow}
+use Rattle.acl_people.specs.Rolls.{Named}
+
+abbrev pub user_entry : PasswdRow → Named
+user_entry row = (row.name, row.uid)
+
+abbrev pub group_entry : GroupRow → Named
+group_entry row = (row.name, row.gid)

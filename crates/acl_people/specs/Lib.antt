@@ -1,0 +1,4 @@
+pub mod Rolls
+pub mod Entries
+pub mod Registers
+pub mod Members

@@ -1,0 +1,69 @@
+-- The users and groups that are known: the counted rows of passwd(5) and group(5).
+use Rattle.std.specs.Prelude.{◌≡◌, ◌≢◌, ℕ, List, [], ◌∷◌, map, filter, slice_get, Bool, true, false, Option, option_map, Result, Ok, Err, MatchResult, if◌then◌else◌}
+use Rattle.std.specs.List.{list_any}
+use Rattle.std.specs.Str.{bytes_eq}
+use Rattle.std.specs.FinSet.{from_list}
+use Rattle.acl_entry.specs.Person.{Person}
+use Rattle.acl_text.specs.declared.rows.PasswdRow.{PasswdRow}
+use Rattle.acl_text.specs.declared.rows.GroupRow.{GroupRow}
+use Rattle.acl_text.specs.declared.fault.TextFault.{TextFault}
+use Rattle.acl_text.specs.Rows.{passwd_of, group_of}
+use Rattle.acl_people.specs.declared.fault.LoadFault.{LoadFault}
+use Rattle.acl_people.specs.declared.fault.LoadFault.TheVariants.{AlreadyLoaded, Text, NoMemory}
+use Rattle.acl_people.specs.Rolls.{Named}
+use Rattle.acl_people.specs.Entries.{user_entry, group_entry}
+
+-- the counted rows, and which texts were loaded
+pub record Register : Type 0 where
+  pub users : List PasswdRow
+  pub groups : List GroupRow
+  pub passwd_loaded : Bool
+  pub group_loaded : Bool
+
+-- nobody is known
+abbrev pub nobody : Register
+nobody = record { users = []; groups = []; passwd_loaded = false; group_loaded = false }
+
+-- the users' names and ids, in the order of their rows
+abbrev pub users_of : Register → List Named
+users_of known = map user_entry known.users
+
+-- the groups' names and ids, in the order of their rows
+abbrev pub groups_of : Register → List Named
+groups_of known = map group_entry known.groups
+
+-- a group's row names the user
+abbrev pub names_user : List ℕ → GroupRow → Bool
+names_user name row = list_any (λ member. bytes_eq member name) row.names
+
+-- a user's groups: the primary group, and each group whose row names the user
+abbrev pub gids_of : List GroupRow → PasswdRow → List ℕ
+gids_of groups row = row.gid ∷ map (λ group. group.gid) (filter (names_user row.name) groups)
+
+-- a user as the check of access sees one
+abbrev pub person : List GroupRow → PasswdRow → Person
+person groups row = record { uid = row.uid; groups = from_list (gids_of groups row) }
+
+-- the user at a place
+abbrev pub subject : Register → ℕ → Option Person
+subject known at = option_map (person known.groups) (slice_get known.users at)
+
+abbrev pub loaded : {A : Type 0} → (A → Register) → Result A TextFault → Result Register LoadFault
+loaded put (Ok rows) = Ok (put rows)
+loaded put (Err fault) = Err (Text fault)
+
+-- the users are those of a passwd text, which is loaded once
+abbrev pub load_passwd : Register → List ℕ → Result Register LoadFault
+load_passwd known bytes =
+    if known.passwd_loaded then Err AlreadyLoaded
+    else loaded (λ rows. record { users = rows; groups = known.groups; passwd_loaded = true; group_loaded = known.group_loaded }) (passwd_of bytes)
+
+-- the groups are those of a group text, which is loaded once
+abbrev pub load_group : Register → List ℕ → Result Register LoadFault
+load_group known bytes =
+    if known.group_loaded then Err AlreadyLoaded
+    else loaded (λ rows. record { users = known.users; groups = rows; passwd_loaded = known.passwd_loaded; group_loaded = true }) (group_of bytes)
+
+-- A load gives what it is to give, or exactly the fault, unless memory ran out.
+abbrev pub Loads : {A : Type 0} → (A → Register) → Result A LoadFault → Result Register LoadFault → Type 0
+Loads view result is = MatchResult result (λ people. is ≡ Ok (view people)) (λ fault. fault ≢ NoMemory → is ≡ Err fault)

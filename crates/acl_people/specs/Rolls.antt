@@ -1,0 +1,43 @@
+-- Names with their ids, in the order of their rows.
+use Rattle.std.specs.Prelude.{◌≡◌, ◌<◌, ℕ, List, length, slice_index_or, Bool, false, not, ◌&&◌, ◌==◌, Option, Some, option_map, option_and_then, find, position, if◌then◌else◌}
+use Rattle.std.specs.Str.{bytes_eq}
+use Rattle.acl_text.specs.Ids.{is_number, id_of}
+
+-- a name and its id
+abbrev pub Named : Type 0
+Named = List ℕ × ℕ
+
+abbrev pub is_name : List ℕ → Named → Bool
+is_name name e = bytes_eq name e.0
+
+abbrev pub is_id : ℕ → Named → Bool
+is_id id e = e.1 == id
+
+-- an id prints as a name that is not digits alone
+abbrev pub prints : ℕ → Named → Bool
+prints id e = is_id id e && not (is_number e.0)
+
+-- the id of the first row of a name
+abbrev pub id_named : List ℕ → List Named → Option ℕ
+id_named name es = option_map (λ e. e.1) (find (is_name name) es)
+
+-- the name that an id prints as: that of the first row of the id whose name is not digits alone
+abbrev pub name_shown : ℕ → List Named → Option (List ℕ)
+name_shown id es = option_map (λ e. e.0) (find (prints id) es)
+
+-- the place of the row that a word stands for: digits alone are always an id, any other word is a name
+abbrev pub place_of_word : List ℕ → List Named → Option ℕ
+place_of_word word es =
+    if is_number word then option_and_then (λ id. position (is_id id) es) (id_of word)
+    else position (is_name word) es
+
+-- each name stands in one row, and is not empty
+pub record AreNames (es : List Named) : Type 0 where
+  pub once : (i : ℕ) (d : Named) → i < length es → position (is_name (slice_index_or es i d).0) es ≡ Some i
+  pub filled : (i : ℕ) (d : Named) → i < length es → 0 < length (slice_index_or es i d).0
+
+-- Each name that an id prints as is found under that id, is not empty, and is not digits alone.
+pub record IsNaming (id_of : List ℕ → Option ℕ) (name_of : ℕ → Option (List ℕ)) : Type 0 where
+  pub found : (id : ℕ) (name : List ℕ) → name_of id ≡ Some name → id_of name ≡ Some id
+  pub filled : (id : ℕ) (name : List ℕ) → name_of id ≡ Some name → 0 < length name
+  pub no_number : (id : ℕ) (name : List ℕ) → name_of id ≡ Some name → is_number name ≡ false

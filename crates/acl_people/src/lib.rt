@@ -1,0 +1,14 @@
+//! People: the users and groups of passwd(5) and group(5), looked up by name and by id, and each user's
+//! groups.
+#![tactic(auto)]
+
+mod fault;
+mod groups;
+mod members;
+mod people;
+mod roll;
+mod subjects;
+mod users;
+
+pub use fault::LoadFault;
+pub use people::People;

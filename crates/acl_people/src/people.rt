@@ -1,0 +1,199 @@
+//! People: who is known by passwd(5) and group(5).
+
+ghost use Rattle.std.specs.Prelude.{◌≡◌, length, map, slice_get, IfOk, option_map};
+ghost use Rattle.std.specs.Option.{option_copied};
+ghost use Rattle.acl_people.specs.Rolls.{id_named, name_shown, place_of_word, IsNaming};
+ghost use Rattle.acl_people.specs.Registers.{nobody, users_of, groups_of, person, subject, load_passwd, load_group, Loads};
+
+use crate::fault::{LoadFault, text_fault};
+use crate::groups::Groups;
+use crate::subjects::subjects_of;
+use crate::users::Users;
+use acl_entry::{Id, Subject};
+use acl_text::Names;
+use std::alloc::{AllocError, Global};
+use std::marker::Model;
+use std::rc::Rc;
+
+/// The users and groups of a passwd and a group text, each loaded at most once. What is known is shared
+/// among copies.
+#[derive(Drop)]
+pub struct People {
+    users: Rc<Users>,
+    groups: Rc<Groups>,
+    subjects: Rc<Vec<Subject>>,
+    passwd_loaded: bool,
+    group_loaded: bool,
+}
+
+impl Model for People {
+    ghost use Rattle.std.specs.Prelude.{◌≡◌, map};
+    ghost use Rattle.acl_people.specs.Registers.{Register, person};
+
+    ghost Value = { Register };
+
+    ghost view = { λ p. record { users = p.users.value; groups = p.groups.value; passwd_loaded = p.passwd_loaded; group_loaded = p.group_loaded } };
+
+    ghost invariant = { λ p. p.subjects.value.items ≡ map (person p.groups.value) p.users.value };
+}
+
+impl People {
+    /// Nobody: no text is loaded. Refused for want of memory only.
+    pub fn new(alloc: Global) -> Result<People, AllocError>
+        ensures { IfOk result (λ people. people ≡ nobody) }
+    {
+        Ok(People {
+            users: Rc::new(alloc, Users::new(alloc))?,
+            groups: Rc::new(alloc, Groups::new(alloc))?,
+            subjects: Rc::new(alloc, Vec::new(alloc))?,
+            passwd_loaded: false,
+            group_loaded: false,
+        })
+    }
+
+    /// The same people once more; the rows are shared. Refused for want of memory only.
+    pub fn share(&self) -> Result<People, AllocError>
+        ensures { IfOk result (λ people. people ≡ self.now) }
+    {
+        Ok(People {
+            users: self.users.clone()?,
+            groups: self.groups.clone()?,
+            subjects: self.subjects.clone()?,
+            passwd_loaded: self.passwd_loaded(),
+            group_loaded: self.group_loaded(),
+        })
+    }
+
+    /// Whether a passwd text was loaded.
+    pub fn passwd_loaded(&self) -> bool
+        ensures { result ≡ self.now.passwd_loaded }
+    {
+        self.passwd_loaded
+    }
+
+    /// Whether a group text was loaded.
+    pub fn group_loaded(&self) -> bool
+        ensures { result ≡ self.now.group_loaded }
+    {
+        self.group_loaded
+    }
+
+    /// The number of users.
+    pub fn users(&self) -> usize
+        ensures { result ≡ length self.now.users }
+    {
+        self.users.rows().len()
+    }
+
+    /// The place of the user that a word stands for: digits alone are the first user of that id, any other
+    /// word is a name.
+    pub fn find_user(&self, word: &[u8]) -> Option<usize>
+        ensures { result ≡ place_of_word word.now (users_of self.now) }
+    {
+        self.users.roll().place_of_word(word)
+    }
+
+    /// The name in the user's row; none past the last user.
+    pub fn name(&self, user: usize) -> Option<&[u8]>
+        ensures { option_copied result ≡ option_map (λ row. row.name) (slice_get self.now.users user) }
+    {
+        match self.users.rows().get(user) {
+            Some(row) => Some(row.name.as_bytes()),
+            None => None,
+        }
+    }
+
+    /// The user's id and groups; none past the last user.
+    pub fn subject(&self, user: usize) -> Option<&Subject>
+        ensures { option_copied result ≡ subject self.now user }
+    {
+        self.subjects().get(user)
+    }
+
+    /// Every user's id and groups, in the order of their rows.
+    pub fn subjects(&self) -> &[Subject]
+        ensures { result.now ≡ map (person self.now.groups) self.now.users }
+    {
+        &self.subjects
+    }
+
+    /// These people with the users of a passwd text. Refused where one was loaded, for the text's first fault
+    /// and for want of memory.
+    pub fn load_passwd(&self, alloc: Global, bytes: &[u8]) -> Result<People, LoadFault>
+        ensures { Loads (λ people. people) result (load_passwd self.now bytes.now) }
+    {
+        if self.passwd_loaded {
+            return Err(LoadFault::AlreadyLoaded);
+        }
+        let users = match Users::read(alloc, bytes) {
+            Ok(users) => users,
+            Err(fault) => return Err(text_fault(fault)),
+        };
+        let subjects = subjects_of(alloc, users.rows(), self.groups.rows())?;
+        Ok(People {
+            users: Rc::new(alloc, users)?,
+            groups: self.groups.clone()?,
+            subjects: Rc::new(alloc, subjects)?,
+            passwd_loaded: true,
+            group_loaded: self.group_loaded,
+        })
+    }
+
+    /// These people with the groups of a group text. Refused where one was loaded, for the text's first fault
+    /// and for want of memory.
+    pub fn load_group(&self, alloc: Global, bytes: &[u8]) -> Result<People, LoadFault>
+        ensures { Loads (λ people. people) result (load_group self.now bytes.now) }
+    {
+        if self.group_loaded {
+            return Err(LoadFault::AlreadyLoaded);
+        }
+        let groups = match Groups::read(alloc, bytes) {
+            Ok(groups) => groups,
+            Err(fault) => return Err(text_fault(fault)),
+        };
+        let subjects = subjects_of(alloc, self.users.rows(), groups.rows())?;
+        Ok(People {
+            users: self.users.clone()?,
+            groups: Rc::new(alloc, groups)?,
+            subjects: Rc::new(alloc, subjects)?,
+            passwd_loaded: self.passwd_loaded,
+            group_loaded: true,
+        })
+    }
+
+    /// Nothing is done: the names that ids print as are found under these ids, are not empty, and are not
+    /// digits alone.
+    pub fn naming_is_read_back(&self)
+        ensures users { IsNaming (λ name. id_named name (users_of self.now)) (λ id. name_shown id (users_of self.now)) }
+        ensures groups { IsNaming (λ name. id_named name (groups_of self.now)) (λ id. name_shown id (groups_of self.now)) }
+    {
+        let _users = self.users.roll();
+        let _groups = self.groups.roll();
+    }
+}
+
+impl Names for People {
+    ghost user_id = { λ known name. id_named name (users_of known) };
+
+    ghost group_id = { λ known name. id_named name (groups_of known) };
+
+    ghost user_name = { λ known id. name_shown id (users_of known) };
+
+    ghost group_name = { λ known id. name_shown id (groups_of known) };
+
+    fn user_id(&self, name: &[u8]) -> Option<Id> {
+        self.users.roll().id_named(name)
+    }
+
+    fn group_id(&self, name: &[u8]) -> Option<Id> {
+        self.groups.roll().id_named(name)
+    }
+
+    fn user_name(&self, id: Id) -> Option<&[u8]> {
+        self.users.roll().name_shown(id)
+    }
+
+    fn group_name(&self, id: Id) -> Option<&[u8]> {
+        self.groups.roll().name_shown(id)
+    }
+}

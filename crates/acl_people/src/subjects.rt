@@ -1,0 +1,44 @@
+//! Each user as the check of access sees one.
+
+ghost use Rattle.std.specs.Prelude.{◌≡◌, ◌∷◌, map, IfOk};
+ghost use Rattle.std.specs.FinSet as sets;
+ghost use Rattle.acl_people.specs.Members.{gids_at};
+ghost use Rattle.acl_people.specs.Registers.{person};
+
+use crate::members::members_of;
+use acl_entry::{Id, Subject};
+use acl_text::{GroupRow, PasswdRow};
+use std::alloc::{AllocError, Global};
+use std::collections::HashMap;
+
+fn subject_of(
+    alloc: Global,
+    members: &HashMap<&[u8], Vec<Id>>,
+    row: &PasswdRow,
+) -> Result<Subject, AllocError>
+    ensures { IfOk result (λ subject. subject ≡ record { uid = row.now.uid; groups = sets.from_list (row.now.gid ∷ gids_at members.now row.now.name) }) }
+{
+    let mut gids = Vec::new(alloc);
+    gids.push(row.gid)?;
+    if let Some(more) = members.get(row.name.as_bytes()) {
+        gids.extend_from_slice(more)?;
+    }
+    Subject::from_groups(alloc, row.uid, &gids)
+}
+
+/// Every user's id and groups, in the order of the users' rows: one pass over the group rows, and one over
+/// the users.
+pub fn subjects_of(
+    alloc: Global,
+    users: &[PasswdRow],
+    groups: &[GroupRow],
+) -> Result<Vec<Subject>, AllocError>
+    ensures { IfOk result (λ subjects. subjects.items ≡ map (person groups.now) users.now) }
+{
+    let members = members_of(alloc, groups)?;
+    let mut subjects = Vec::new(alloc);
+    for row in users {
+        subjects.push(subject_of(alloc, &members, row)?)?;
+    }
+    Ok(subjects)
+}
