@@ -1,0 +1,10 @@
+//! Lists as the bytes of the extended attributes `system.posix_acl_access` and
+//! `system.posix_acl_default`, in which Linux keeps them (linux/posix_acl_xattr.h).
+#![tactic(auto)]
+
+mod decode;
+mod encode;
+mod fields;
+
+pub use decode::decode_attr;
+pub use encode::encode_attr;

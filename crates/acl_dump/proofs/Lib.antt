@@ -1,0 +1,5 @@
+pub mod SeenPaths
+pub mod Streams
+pub mod WrittenEntries
+pub mod WrittenNames
+pub mod WrittenRecords

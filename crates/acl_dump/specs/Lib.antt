@@ -1,0 +1,6 @@
+pub mod Groups
+pub mod Lines
+pub mod Records
+pub mod Seen
+pub mod Writing
+pub mod Again

@@ -1,0 +1,175 @@
+//! A record in the making.
+
+ghost use Rattle.std.specs.Prelude.{◌≡◌, ◌++◌, ◌∷◌, [], List, IfOk, IfErr, OnOk};
+ghost use Rattle.acl_text.specs.declared.fault.FaultKind.TheVariants.{NoMemory};
+ghost use Rattle.acl_text.specs.Told.{GivesAt};
+ghost use Rattle.acl_dump.specs.Records.{has_no_entry, with_entry, with_said, add, begun};
+ghost use Rattle.acl_dump.specs.Seen.{SeenAre};
+ghost use Rattle.acl_dump.specs.declared.record.DumpRecord.{DumpRecord};
+
+use crate::said::{Said, bad_header};
+use crate::seen::Seen;
+use acl_entry::{Entry, Id, Key, Perm};
+use acl_names::{Path, read_path};
+use acl_text::{FaultKind, TextFault};
+use std::alloc::{AllocError, Global};
+use std::marker::Model;
+
+/// The entries of one list in the order of their lines.
+#[derive(Debug, Drop)]
+pub(crate) struct EntryLines {
+    entries: Vec<Entry>,
+}
+
+impl Model for EntryLines {
+    ghost use Rattle.std.specs.Prelude.{List};
+    ghost use Rattle.acl_entry.specs.declared.entry.Entry.{Entry};
+
+    ghost Value = { List Entry };
+
+    ghost view = { λ l. l.entries.items };
+}
+
+impl EntryLines {
+    fn new(alloc: Global) -> EntryLines
+        ensures { result ≡ [] }
+    {
+        EntryLines {
+            entries: Vec::new(alloc),
+        }
+    }
+
+    fn push(&mut self, key: Key, perm: Perm) -> Result<(), AllocError>
+        ensures { OnOk result (self.new ≡ self.old ++ record { key = key; perm = perm } ∷ []) }
+    {
+        self.entries.push(Entry { key, perm })?;
+        Ok(())
+    }
+
+    pub(crate) fn as_slice(&self) -> &[Entry]
+        ensures { result.now ≡ self.now }
+    {
+        &self.entries
+    }
+}
+
+/// A record of which more lines may come.
+#[derive(Debug, Drop)]
+pub(crate) struct Draft {
+    pub at: usize,
+    pub path: Path,
+    pub slash: bool,
+    pub owner: Option<Id>,
+    pub group: Option<Id>,
+    pub flags: Option<[bool; 3]>,
+    pub access: EntryLines,
+    pub dacl: EntryLines,
+}
+
+impl Draft {
+    fn has_no_entry(&self) -> bool
+        ensures { result ≡ has_no_entry self.now }
+    {
+        self.access.as_slice().is_empty() && self.dacl.as_slice().is_empty()
+    }
+}
+
+/// The record with what a line at a place says.
+fn with_said(draft: Draft, at: usize, said: Said) -> Result<Draft, TextFault>
+    ensures { GivesAt at (λ draft. draft) result (with_said said draft) }
+{
+    match said {
+        Said::Owner(id) => {
+            if draft.owner.is_some() || !draft.has_no_entry() {
+                return Err(bad_header(at));
+            }
+            Ok(Draft {
+                owner: Some(id),
+                ..draft
+            })
+        }
+        Said::OwningGroup(id) => {
+            if draft.group.is_some() || !draft.has_no_entry() {
+                return Err(bad_header(at));
+            }
+            Ok(Draft {
+                group: Some(id),
+                ..draft
+            })
+        }
+        Said::Flags(flags) => {
+            if draft.flags.is_some() || !draft.has_no_entry() {
+                return Err(bad_header(at));
+            }
+            Ok(Draft {
+                flags: Some(flags),
+                ..draft
+            })
+        }
+        Said::Entry(dflt, entry) => with_entry(draft, dflt, entry),
+    }
+}
+
+fn with_entry(draft: Draft, dflt: bool, entry: Entry) -> Result<Draft, TextFault>
+    ensures ok { IfOk result (λ new. new ≡ with_entry dflt entry draft) }
+    ensures err { IfErr result (λ fault. fault.kind ≡ NoMemory) }
+{
+    let mut new = draft;
+    if dflt {
+        new.dacl.push(entry.key, entry.perm)?;
+    } else {
+        new.access.push(entry.key, entry.perm)?;
+    }
+    Ok(new)
+}
+
+/// Adds what a line says to the record that is begun, if one is.
+pub(crate) fn add(
+    draft: Option<Draft>,
+    at: usize,
+    said: Option<Said>,
+) -> Result<Option<Draft>, TextFault>
+    ensures { GivesAt at (λ draft. draft) result (add said draft) }
+{
+    let Some(said) = said else {
+        return Ok(draft);
+    };
+    match draft {
+        None => Err(TextFault {
+            kind: FaultKind::MissingHeader,
+            at,
+        }),
+        Some(draft) => Ok(Some(with_said(draft, at, said)?)),
+    }
+}
+
+/// The record that a `file:` line of this value begins, whose path no earlier record has.
+pub(crate) fn begin(alloc: Global, seen: &Seen, at: usize, value: &[u8]) -> Result<Draft, TextFault>
+    ensures { (records : List DumpRecord) → SeenAre seen.now records → GivesAt at (λ draft. draft) result (begun records at value.now) }
+{
+    if value.is_empty() {
+        return Err(bad_header(at));
+    }
+    let Some(path) = read_path(alloc, value)? else {
+        return Err(TextFault {
+            kind: FaultKind::BadPath,
+            at,
+        });
+    };
+    if seen.contains(&path) {
+        return Err(TextFault {
+            kind: FaultKind::RepeatedFile,
+            at,
+        });
+    }
+    Ok(Draft {
+        at,
+        path,
+        slash: value.ends_with(b"/"),
+        owner: None,
+        group: None,
+        flags: None,
+        access: EntryLines::new(alloc),
+        dacl: EntryLines::new(alloc),
+    })
+}

@@ -1,0 +1,100 @@
+//! Reading dumps.
+
+ghost use Rattle.std.specs.Prelude.{◌≡◌, [], ◌∷◌, OnOk, None};
+ghost use Rattle.acl_text.specs.Told.{Gives, GivesAt};
+ghost use Rattle.acl_dump.specs.Records.{lines_of, line_in, begins, begin, close, dump_of, dump_stream};
+ghost use Rattle.acl_dump.specs.Groups.{stepped};
+ghost use Rattle.acl_dump.specs.Seen.{SeenAre};
+
+use crate::close::close;
+use crate::draft::{Draft, add, begin};
+use crate::line::{LineKind, content_of};
+use crate::record::{DumpRecord, DumpUse};
+use crate::said::said_by;
+use crate::seen::Seen;
+use acl_names::cut::first_piece;
+use acl_text::{Names, TextFault};
+use std::alloc::Global;
+
+/// The records of a dump, in their order: what getfacl(1) writes and setfacl(1) --restore reads.
+///
+/// A line is, behind white space, a header `# file:`, `# owner:`, `# group:` or `# flags:`, or a comment,
+/// or empty, or an entry as setfacl(1) takes it, without `X`. `# file:` begins a record; its other headers
+/// stand once and before its entries. Lines count from 1.
+///
+/// # Errors
+///
+/// The first faulty record's fault. It is the first faulty line of the record and there the first kind
+/// that applies of: an entry's, `UnknownUser` and `UnknownGroup`, `BadHeader` (an empty value, flags that
+/// are none, a header that stands twice or behind an entry), `MissingHeader` (before the first `# file:`),
+/// `BadPath`, and `RepeatedFile`. A record whose lines have no fault is told at its `# file:` line:
+/// `MissingHeader` where it is loaded and has no owner or no group, else `List` of its access list, else
+/// of its default list, whose places count the record's entries of that list. Or `NoMemory`.
+pub fn read_dump<N: Names>(
+    alloc: Global,
+    bytes: &[u8],
+    dump_use: DumpUse,
+    names: &N,
+) -> Result<Vec<DumpRecord>, TextFault>
+    ensures { Gives (λ records. records.items) result (dump_of (N.user_id names.now) (N.group_id names.now) dump_use bytes.now) }
+{
+    read_stream(alloc, bytes, dump_use, names)
+}
+
+fn read_stream<N: Names>(
+    alloc: Global,
+    bytes: &[u8],
+    dump_use: DumpUse,
+    names: &N,
+) -> Result<Vec<DumpRecord>, TextFault>
+    ensures { Gives (λ records. records.items) result (dump_stream (N.user_id names.now) (N.group_id names.now) dump_use [] None (lines_of bytes.now)) }
+{
+    let mut records = Vec::new(alloc);
+    let mut seen = Seen::new(alloc);
+    let mut draft = None;
+    let mut rest = bytes;
+    let mut at = 0;
+    while !rest.is_empty() {
+        at += 1;
+        let (line, after) = first_piece(rest, b'\n');
+        draft = read_line(
+            alloc,
+            names,
+            dump_use,
+            &mut records,
+            &mut seen,
+            draft,
+            at,
+            line,
+        )?;
+        rest = after;
+    }
+    close(alloc, dump_use, &mut records, &mut seen, draft)?;
+    Ok(records)
+}
+
+/// Reads a line: one that begins a record closes the record before it, and any other belongs to the
+/// record that is begun.
+fn read_line<N: Names>(
+    alloc: Global,
+    names: &N,
+    dump_use: DumpUse,
+    records: &mut Vec<DumpRecord>,
+    seen: &mut Seen,
+    draft: Option<Draft>,
+    at: usize,
+    line: &[u8],
+) -> Result<Option<Draft>, TextFault>
+    requires { SeenAre seen.old records.old.items }
+    ensures stepped { Gives (λ new. (records.new.items, new)) result (stepped begins begin (line_in (N.user_id names.now) (N.group_id names.now)) (close dump_use) records.old.items draft (at, line.now)) }
+    ensures seen_are { OnOk result (SeenAre seen.new records.new.items) }
+{
+    let (kind, value) = content_of(line);
+    if kind == LineKind::File {
+        close(alloc, dump_use, records, seen, draft)?;
+        Ok(Some(begin(alloc, seen, at, value)?))
+    } else {
+        let said = said_by(alloc, names, at, kind, value)?;
+        add(draft, at, said)
+    }
+}

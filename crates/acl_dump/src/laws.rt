@@ -1,0 +1,17 @@
+//! Laws of the definitions, each proved as the contract of a function that does nothing.
+
+ghost use Rattle.std.specs.Prelude.{◌≡◌, ℕ, List, [], Option, Ok};
+ghost use Rattle.std.specs.List.{AllByRecursion};
+ghost use Rattle.acl_dump.specs.declared.record.DumpUse.{DumpUse};
+ghost use Rattle.acl_dump.specs.declared.record.DumpRecord.{DumpRecord};
+ghost use Rattle.acl_dump.specs.Records.{dump_of};
+ghost use Rattle.acl_dump.specs.Again.{IsReadable, AreApart, paths, placed, dump_text};
+
+/// The texts of records, put one after another, are read as those records, each at its line: where their
+/// names are found again under the ids that they are written for, no path stands twice, and records that
+/// are loaded have owners and groups.
+pub fn records_are_read_again()
+    ensures { (user_id group_id : List ℕ → Option ℕ) (user_name group_name : ℕ → Option (List ℕ)) (dump_use : DumpUse) (records : List DumpRecord) →
+        AllByRecursion (IsReadable user_id group_id user_name group_name dump_use) records → AreApart [] (paths records) →
+        dump_of user_id group_id dump_use (dump_text user_name group_name records) ≡ Ok (placed 1 records) }
+{}

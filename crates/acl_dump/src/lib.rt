@@ -1,0 +1,22 @@
+//! Dumps: files with their owners, groups, flags and lists, as getfacl(1) writes them and
+//! setfacl(1) --restore reads them.
+#![tactic(auto)]
+
+mod close;
+mod draft;
+mod dump;
+mod effective;
+mod header;
+mod laws;
+mod line;
+mod record;
+mod said;
+mod seen;
+mod writing;
+
+pub use dump::read_dump;
+pub use effective::Effective;
+pub use header::{append_header, append_record};
+pub use laws::records_are_read_again;
+pub use record::{DumpRecord, DumpUse};
+pub use writing::append_list;

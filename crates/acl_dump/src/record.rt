@@ -1,0 +1,30 @@
+//! The records of a dump.
+
+use acl_entry::{Acl, Id};
+use acl_names::Path;
+
+/// What a dump is read for.
+#[derive(Clone, Copy, Debug, PartialEq, Eq)]
+pub enum DumpUse {
+    /// To make the files of a tree: each record needs its owner and its group.
+    Load,
+    /// To give files their lists back, as setfacl(1) --restore does.
+    Restore,
+}
+
+/// A file as a record of a dump says it.
+#[derive(Debug, Drop)]
+pub struct DumpRecord {
+    /// The number of its `# file:` line, counted from 1.
+    pub at: usize,
+    pub path: Path,
+    /// Whether the path ends in `/` as it is written, as that of a directory does.
+    pub slash: bool,
+    pub owner: Option<Id>,
+    pub group: Option<Id>,
+    /// Whether the file has set user ID, set group ID, and is sticky, where the record says so.
+    pub flags: Option<[bool; 3]>,
+    pub access: Acl,
+    /// The default list, where the record has default entries.
+    pub dacl: Option<Acl>,
+}

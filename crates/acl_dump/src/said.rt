@@ -1,0 +1,150 @@
+//! What a line says of the record that it belongs to.
+
+ghost use Rattle.std.specs.Prelude.{◌≡◌};
+ghost use Rattle.acl_text.specs.Told.{GivesAt, or_fault};
+ghost use Rattle.acl_text.specs.declared.fault.FaultKind.TheVariants.{BadHeader, UnknownUser, UnknownGroup};
+ghost use Rattle.acl_dump.specs.Records.{rules, perm_said, entry_said, flag_of, flags_of, named, said_by};
+
+use crate::line::LineKind;
+use acl_entry::{Entry, Id, Perm};
+use acl_text::{
+    FaultKind, Names, PermSpec, Rules, Spec, TextFault, entry_of, read_group_word, read_user_word,
+};
+use std::alloc::Global;
+
+/// What a line says that begins no record.
+#[derive(Clone, Copy, Debug)]
+pub(crate) enum Said {
+    Owner(Id),
+    OwningGroup(Id),
+    /// Set user ID, set group ID, sticky.
+    Flags([bool; 3]),
+    /// An entry, of the default list or else of the access list.
+    Entry(bool, Entry),
+}
+
+fn flag_of(letter: u8, b: u8) -> Option<bool>
+    ensures { result ≡ flag_of letter b }
+{
+    if b == letter {
+        Some(true)
+    } else if b == b'-' {
+        Some(false)
+    } else {
+        None
+    }
+}
+
+fn flags_of(value: &[u8]) -> Option<[bool; 3]>
+    ensures { result ≡ flags_of value.now }
+{
+    match value {
+        [a, b, c] => {
+            let setuid = flag_of(b's', *a)?;
+            let setgid = flag_of(b's', *b)?;
+            let sticky = flag_of(b't', *c)?;
+            Some([setuid, setgid, sticky])
+        }
+        _ => None,
+    }
+}
+
+/// Entries have permissions, may be default entries, and have no `X`.
+fn rules() -> Rules
+    ensures { result ≡ rules }
+{
+    Rules {
+        takes_default: true,
+        takes_perms: true,
+        takes_x: false,
+    }
+}
+
+fn perm_said(perm: Option<PermSpec>) -> Perm
+    ensures { result ≡ perm_said perm }
+{
+    match perm {
+        None => Perm::none(),
+        Some(perm) => perm.fixed,
+    }
+}
+
+fn entry_said(spec: Spec) -> Said
+    ensures { result ≡ entry_said spec }
+{
+    Said::Entry(
+        spec.dflt,
+        Entry {
+            key: spec.key,
+            perm: perm_said(spec.perm),
+        },
+    )
+}
+
+fn read_owner<N: Names>(alloc: Global, names: &N, at: usize, value: &[u8]) -> Result<Id, TextFault>
+    ensures { GivesAt at (λ id. id) result (named (N.user_id names.now) UnknownUser value.now) }
+{
+    if value.is_empty() {
+        return Err(bad_header(at));
+    }
+    match read_user_word(alloc, value, names)? {
+        Some(id) => Ok(id),
+        None => Err(TextFault {
+            kind: FaultKind::UnknownUser,
+            at,
+        }),
+    }
+}
+
+fn read_group<N: Names>(alloc: Global, names: &N, at: usize, value: &[u8]) -> Result<Id, TextFault>
+    ensures { GivesAt at (λ id. id) result (named (N.group_id names.now) UnknownGroup value.now) }
+{
+    if value.is_empty() {
+        return Err(bad_header(at));
+    }
+    match read_group_word(alloc, value, names)? {
+        Some(id) => Ok(id),
+        None => Err(TextFault {
+            kind: FaultKind::UnknownGroup,
+            at,
+        }),
+    }
+}
+
+fn read_flags(at: usize, value: &[u8]) -> Result<[bool; 3], TextFault>
+    ensures { GivesAt at (λ flags. flags) result (or_fault (flags_of value.now) BadHeader) }
+{
+    match flags_of(value) {
+        Some(flags) => Ok(flags),
+        None => Err(bad_header(at)),
+    }
+}
+
+pub(crate) fn bad_header(at: usize) -> TextFault
+    ensures kind { result.kind ≡ BadHeader }
+    ensures place { result.at ≡ at }
+{
+    TextFault {
+        kind: FaultKind::BadHeader,
+        at,
+    }
+}
+
+/// What a line says that begins no record, or the lowest kind of fault that it has in itself.
+pub(crate) fn said_by<N: Names>(
+    alloc: Global,
+    names: &N,
+    at: usize,
+    kind: LineKind,
+    value: &[u8],
+) -> Result<Option<Said>, TextFault>
+    ensures { GivesAt at (λ said. said) result (said_by (N.user_id names.now) (N.group_id names.now) at kind value.now) }
+{
+    match kind {
+        LineKind::Nothing | LineKind::File => Ok(None),
+        LineKind::Owner => Ok(Some(Said::Owner(read_owner(alloc, names, at, value)?))),
+        LineKind::OwningGroup => Ok(Some(Said::OwningGroup(read_group(alloc, names, at, value)?))),
+        LineKind::Flags => Ok(Some(Said::Flags(read_flags(at, value)?))),
+        LineKind::Entry => Ok(Some(entry_said(entry_of(alloc, names, rules(), at, value)?))),
+    }
+}

@@ -1,0 +1,154 @@
+//! Writing the records of a dump (getfacl(1)).
+
+ghost use Rattle.std.specs.Prelude.{◌≡◌, ◌++◌, ◌∷◌, [], OnOk, OnErr, take, length};
+ghost use Rattle.std.specs.List.{flat_map};
+ghost use Rattle.acl_entry.specs.Lists as lists;
+ghost use Rattle.acl_text.specs.declared.fault.Which.TheVariants.{Default};
+ghost use Rattle.acl_dump.specs.Writing.{is_told, tab_count, tabs, comment, front, shown, entry_line, list_text, default_text};
+
+use crate::effective::Effective;
+use acl_entry::{Acl, Entry, Key, Perm};
+use acl_text::{Form, Names, Which, append_entry};
+use std::alloc::AllocError;
+
+/// As many tabs as are ever written behind an entry.
+const TABS: [u8; 4] = [b'\t', b'\t', b'\t', b'\t'];
+
+fn is_told(how: Effective, mask: Perm, perm: Perm) -> bool
+    ensures { result ≡ is_told how mask perm }
+{
+    match how {
+        Effective::WhereMasked => !mask.contains(perm),
+        Effective::Always => true,
+        Effective::Never => false,
+    }
+}
+
+/// The number of tabs behind an entry of this many bytes.
+fn tab_count(bytes: usize) -> usize
+    ensures { result ≡ tab_count bytes }
+{
+    4usize.saturating_sub(bytes / 8).max(1)
+}
+
+/// Adds the effective permissions of an entry of this many bytes, where they are told.
+fn push_comment(
+    text: &mut Vec<u8>,
+    how: Effective,
+    mask: &Option<Perm>,
+    entry: &Entry,
+    bytes: usize,
+) -> Result<(), AllocError>
+    ensures ok { OnOk result (text.new.items ≡ text.old.items ++ comment how mask.now entry.now bytes) }
+    ensures err { OnErr result (take (length text.old.items) text.new.items ≡ text.old.items) }
+{
+    let Some(mask) = mask else {
+        return Ok(());
+    };
+    if !entry.key.is_class() || !is_told(how, *mask, entry.perm) {
+        return Ok(());
+    }
+    text.extend_from_slice(&TABS[..tab_count(bytes)])?;
+    text.extend_from_slice(b"#effective:")?;
+    text.extend_from_slice(&entry.perm.meet(*mask).text())?;
+    Ok(())
+}
+
+fn front(which: Which) -> &'static [u8]
+    ensures { result.now ≡ front which }
+{
+    match which {
+        Which::Access => b"",
+        Which::Default => b"default:",
+    }
+}
+
+fn push_shown<N: Names>(
+    text: &mut Vec<u8>,
+    which: Which,
+    entry: &Entry,
+    names: &N,
+) -> Result<(), AllocError>
+    ensures ok { OnOk result (text.new.items ≡ text.old.items ++ shown (N.user_name names.now) (N.group_name names.now) which entry.now) }
+    ensures err { OnErr result (take (length text.old.items) text.new.items ≡ text.old.items) }
+{
+    text.extend_from_slice(front(which))?;
+    append_entry(text, entry, Form::Long, names)
+}
+
+fn push_line<N: Names>(
+    text: &mut Vec<u8>,
+    how: Effective,
+    which: Which,
+    mask: &Option<Perm>,
+    entry: &Entry,
+    names: &N,
+) -> Result<(), AllocError>
+    ensures ok { OnOk result (text.new.items ≡ text.old.items ++ entry_line (N.user_name names.now) (N.group_name names.now) how which mask.now entry.now) }
+    ensures err { OnErr result (take (length text.old.items) text.new.items ≡ text.old.items) }
+{
+    let before = text.len();
+    push_shown(text, which, entry, names)?;
+    let bytes = text.len() - before;
+    push_comment(text, how, mask, entry, bytes)?;
+    text.push(b'\n')?;
+    Ok(())
+}
+
+fn push_list<N: Names>(
+    text: &mut Vec<u8>,
+    how: Effective,
+    which: Which,
+    mask: &Option<Perm>,
+    entries: &[Entry],
+    names: &N,
+) -> Result<(), AllocError>
+    ensures ok { OnOk result (text.new.items ≡ text.old.items ++ flat_map (entry_line (N.user_name names.now) (N.group_name names.now) how which mask.now) entries.now) }
+    ensures err { OnErr result (take (length text.old.items) text.new.items ≡ text.old.items) }
+{
+    for entry in entries {
+        push_line(text, how, which, mask, entry, names)?;
+    }
+    Ok(())
+}
+
+/// Adds the entries of one of a file's lists, a line each, in the long form and in list order; default
+/// entries have `default:` in front. Where the effective permissions of an entry are told they follow
+/// behind tabs and `#effective:`; the tabs are as many as an entry of its length needs, at least one.
+///
+/// # Errors
+///
+/// Want of memory; then nothing is added.
+pub fn append_list<N: Names>(
+    text: &mut Vec<u8>,
+    acl: &Acl,
+    which: Which,
+    how: Effective,
+    names: &N,
+) -> Result<(), AllocError>
+    ensures ok { OnOk result (text.new.items ≡ text.old.items ++ list_text (N.user_name names.now) (N.group_name names.now) how which acl.now) }
+    ensures err { OnErr result (text.new.items ≡ text.old.items) }
+{
+    let mask = acl.get(Key::Mask);
+    let before = text.len();
+    if let Err(refused) = push_list(text, how, which, &mask, acl.entries(), names) {
+        text.truncate(before);
+        return Err(refused);
+    }
+    Ok(())
+}
+
+pub(crate) fn append_default<N: Names>(
+    text: &mut Vec<u8>,
+    dacl: &Option<Acl>,
+    how: Effective,
+    names: &N,
+) -> Result<(), AllocError>
+    ensures ok { OnOk result (text.new.items ≡ text.old.items ++ default_text (N.user_name names.now) (N.group_name names.now) how dacl.now) }
+    ensures err { OnErr result (text.new.items ≡ text.old.items) }
+{
+    match dacl {
+        None => Ok(()),
+        Some(acl) => append_list(text, acl, Which::Default, how, names),
+    }
+}

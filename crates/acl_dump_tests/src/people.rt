@@ -1,0 +1,62 @@
+//! Three users and four groups.
+
+ghost use Rattle.std.specs.Prelude.{◌==◌, if◌then◌else◌, Some, None, codes};
+ghost use Rattle.std.specs.Str.{bytes_eq};
+
+use acl_entry::Id;
+use acl_text::Names;
+
+#[derive(Clone, Copy)]
+pub struct People;
+
+impl Names for People {
+    ghost user_id = { λ _ name. if bytes_eq name (codes "lisa") then Some 1001 else (if bytes_eq name (codes "joe") then Some 1000 else None) };
+
+    ghost group_id = { λ _ name. if bytes_eq name (codes "staff") then Some 50 else (if bytes_eq name (codes "cool") then Some 60 else None) };
+
+    ghost user_name = { λ _ id. if id == 1001 then Some (codes "lisa") else (if id == 1000 then Some (codes "joe") else None) };
+
+    ghost group_name = { λ _ id. if id == 50 then Some (codes "staff") else (if id == 60 then Some (codes "cool") else None) };
+
+    fn user_id(&self, name: &[u8]) -> Option<Id> {
+        if name == b"lisa".as_slice() {
+            Id::new(1001)
+        } else if name == b"joe".as_slice() {
+            Id::new(1000)
+        } else {
+            None
+        }
+    }
+
+    fn group_id(&self, name: &[u8]) -> Option<Id> {
+        if name == b"staff".as_slice() {
+            Id::new(50)
+        } else if name == b"cool".as_slice() {
+            Id::new(60)
+        } else {
+            None
+        }
+    }
+
+    fn user_name(&self, id: Id) -> Option<&[u8]> {
+        let number = id.number();
+        if number == 1001 {
+            Some(b"lisa")
+        } else if number == 1000 {
+            Some(b"joe")
+        } else {
+            None
+        }
+    }
+
+    fn group_name(&self, id: Id) -> Option<&[u8]> {
+        let number = id.number();
+        if number == 50 {
+            Some(b"staff")
+        } else if number == 60 {
+            Some(b"cool")
+        } else {
+            None
+        }
+    }
+}

@@ -1,0 +1,290 @@
+//! A reader of dumps that is written apart from the one that is tested, for texts without digits and with
+//! one backslash at most, in which no escape stands.
+use crate::people::People;
+use acl_dump::DumpUse;
+use acl_entry::{Acl, Entry, Key, Perm};
+use acl_text::{FaultKind, Names, Which};
+use std::alloc::Global;
+use std::test::Fail;
+
+/// A record as it is read.
+#[derive(Drop)]
+pub struct Slow {
+    pub at: usize,
+    pub owner: Option<u32>,
+    pub group: Option<u32>,
+    pub flags: Option<[bool; 3]>,
+    pub access: Vec<Entry>,
+    pub dacl: Vec<Entry>,
+}
+
+/// A kind of fault and the number of its line.
+pub type Fault = (FaultKind, usize);
+
+/// What a line says.
+#[derive(Drop)]
+enum Says {
+    Nothing,
+    File,
+    Owner(u32),
+    Group(u32),
+    Flags([bool; 3]),
+    Entry(bool, Entry),
+}
+
+fn flag(letter: u8, byte: u8) -> Option<bool> {
+    match byte {
+        b'-' => Some(false),
+        _ if byte == letter => Some(true),
+        _ => None,
+    }
+}
+
+fn flags(value: &[u8]) -> Option<[bool; 3]> {
+    let [a, b, c] = value else {
+        return None;
+    };
+    Some([flag(b's', *a)?, flag(b's', *b)?, flag(b't', *c)?])
+}
+
+fn says_header(text: &[u8]) -> Result<Says, FaultKind> {
+    if let Some(name) = text.strip_prefix(b"file:") {
+        if name.is_empty() || name == b" ".as_slice() {
+            return Err(FaultKind::BadHeader);
+        }
+        if name.contains(&0) {
+            return Err(FaultKind::BadPath);
+        }
+        return Ok(Says::File);
+    }
+    if let Some(word) = text.strip_prefix(b"owner:") {
+        let word = word.trim_ascii();
+        if word.is_empty() {
+            return Err(FaultKind::BadHeader);
+        }
+        return match People.user_id(word) {
+            Some(id) => Ok(Says::Owner(id.number())),
+            None => Err(FaultKind::UnknownUser),
+        };
+    }
+    if let Some(word) = text.strip_prefix(b"group:") {
+        let word = word.trim_ascii();
+        if word.is_empty() {
+            return Err(FaultKind::BadHeader);
+        }
+        return match People.group_id(word) {
+            Some(id) => Ok(Says::Group(id.number())),
+            None => Err(FaultKind::UnknownGroup),
+        };
+    }
+    if let Some(word) = text.strip_prefix(b"flags:") {
+        return match flags(word.trim_ascii()) {
+            Some(flags) => Ok(Says::Flags(flags)),
+            None => Err(FaultKind::BadHeader),
+        };
+    }
+    Ok(Says::Nothing)
+}
+
+fn perm(letters: &[u8]) -> Option<Perm> {
+    if !letters.iter().all(|b| b"rwx-".contains(b)) {
+        return None;
+    }
+    let mut number = 0;
+    if letters.contains(&b'r') {
+        number += 4;
+    }
+    if letters.contains(&b'w') {
+        number += 2;
+    }
+    if letters.contains(&b'x') {
+        number += 1;
+    }
+    Perm::from_number(number)
+}
+
+fn user(word: &[u8]) -> Result<Key, FaultKind> {
+    if word.is_empty() {
+        return Ok(Key::Owner);
+    }
+    match People.user_id(word) {
+        Some(id) => Ok(Key::User(id)),
+        None => Err(FaultKind::UnknownUser),
+    }
+}
+
+fn group(word: &[u8]) -> Result<Key, FaultKind> {
+    if word.is_empty() {
+        return Ok(Key::OwningGroup);
+    }
+    match People.group_id(word) {
+        Some(id) => Ok(Key::Group(id)),
+        None => Err(FaultKind::UnknownGroup),
+    }
+}
+
+fn is(word: &[u8], short: &[u8], long: &[u8]) -> bool {
+    word == short || word == long
+}
+
+/// The tag, the word and the permissions field.
+fn row<'a>(fields: &[&'a [u8]]) -> Result<(u8, &'a [u8], &'a [u8]), FaultKind> {
+    match fields {
+        [tag] if is(tag, b"m", b"mask") || is(tag, b"o", b"other") => Err(FaultKind::MissingPerms),
+        [tag] if tag.is_empty() || is(tag, b"u", b"user") || is(tag, b"g", b"group") => {
+            Err(FaultKind::BadTag)
+        }
+        [_] => Err(FaultKind::MissingPerms),
+        [tag, _] if is(tag, b"u", b"user") || is(tag, b"g", b"group") => {
+            Err(FaultKind::MissingPerms)
+        }
+        [tag, perms] if is(tag, b"m", b"mask") => Ok((b'm', b"", perms)),
+        [tag, perms] if is(tag, b"o", b"other") => Ok((b'o', b"", perms)),
+        [tag, _] if tag.is_empty() => Err(FaultKind::BadTag),
+        [name, perms] => Ok((b'u', name, perms)),
+        [tag, word, perms] if is(tag, b"u", b"user") => Ok((b'u', word, perms)),
+        [tag, word, perms] if is(tag, b"g", b"group") => Ok((b'g', word, perms)),
+        [tag, word, perms] if word.is_empty() && is(tag, b"m", b"mask") => Ok((b'm', b"", perms)),
+        [tag, word, perms] if word.is_empty() && is(tag, b"o", b"other") => Ok((b'o', b"", perms)),
+        _ => Err(FaultKind::BadTag),
+    }
+}
+
+fn entry(fields: &[&[u8]]) -> Result<Entry, FaultKind> {
+    let (tag, word, letters) = row(fields)?;
+    let Some(perm) = perm(letters) else {
+        return Err(FaultKind::BadPerms);
+    };
+    let key = match tag {
+        b'u' => user(word)?,
+        b'g' => group(word)?,
+        b'm' => Key::Mask,
+        _ => Key::Other,
+    };
+    Ok(Entry { key, perm })
+}
+
+fn said_of(alloc: Global, line: &[u8]) -> Result<Result<Says, FaultKind>, Fail> {
+    let text = line.trim_ascii_start();
+    if text.is_empty() {
+        return Ok(Ok(Says::Nothing));
+    }
+    if let Some(behind) = text.strip_prefix(b"#") {
+        return Ok(says_header(behind.trim_ascii_start()));
+    }
+    let mut fields: Vec<&[u8]> = Vec::new(alloc);
+    for content in text.split(|b| *b == b'#').take(1) {
+        for field in content.split(|b| *b == b':') {
+            fields.push(field.trim_ascii())?;
+        }
+    }
+    let said = match fields.as_slice() {
+        [word, others @ ..] if !others.is_empty() && is(word, b"d", b"default") => {
+            match entry(others) {
+                Ok(entry) => Ok(Says::Entry(true, entry)),
+                Err(kind) => Err(kind),
+            }
+        }
+        all => match entry(all) {
+            Ok(entry) => Ok(Says::Entry(false, entry)),
+            Err(kind) => Err(kind),
+        },
+    };
+    Ok(said)
+}
+
+fn push(entries: &mut Vec<Entry>, key: Key, perm: Perm) -> Result<(), Fail> {
+    entries.push(Entry { key, perm })?;
+    Ok(())
+}
+
+fn put(record: &mut Slow, said: Says) -> Result<bool, Fail> {
+    let bare = record.access.is_empty() && record.dacl.is_empty();
+    match said {
+        Says::Nothing | Says::File => {}
+        Says::Owner(id) => {
+            if record.owner.is_some() || !bare {
+                return Ok(false);
+            }
+            record.owner = Some(id);
+        }
+        Says::Group(id) => {
+            if record.group.is_some() || !bare {
+                return Ok(false);
+            }
+            record.group = Some(id);
+        }
+        Says::Flags(flags) => {
+            if record.flags.is_some() || !bare {
+                return Ok(false);
+            }
+            record.flags = Some(flags);
+        }
+        Says::Entry(true, entry) => push(&mut record.dacl, entry.key, entry.perm)?,
+        Says::Entry(false, entry) => push(&mut record.access, entry.key, entry.perm)?,
+    }
+    Ok(true)
+}
+
+fn whole(alloc: Global, record: &Slow, dump_use: DumpUse) -> Option<FaultKind> {
+    if dump_use == DumpUse::Load && (record.owner.is_none() || record.group.is_none()) {
+        return Some(FaultKind::MissingHeader);
+    }
+    if let Some(fault) = Acl::from_entries(alloc, &record.access).err() {
+        return Some(FaultKind::List(Which::Access, fault));
+    }
+    if record.dacl.is_empty() {
+        return None;
+    }
+    let fault = Acl::from_entries(alloc, &record.dacl).err()?;
+    Some(FaultKind::List(Which::Default, fault))
+}
+
+/// The records of a dump whose paths are apart, or its fault.
+pub fn read(
+    alloc: Global,
+    bytes: &[u8],
+    dump_use: DumpUse,
+) -> Result<Result<Vec<Slow>, Fault>, Fail> {
+    let mut records: Vec<Slow> = Vec::new(alloc);
+    let mut at = 0usize;
+    for line in bytes.split(|b| *b == b'\n') {
+        at = at.saturating_add(1);
+        let said = match said_of(alloc, line)? {
+            Ok(said) => said,
+            Err(kind) => return Ok(Err((kind, at))),
+        };
+        match said {
+            Says::Nothing => {}
+            Says::File => {
+                if let Some(last) = records.last() {
+                    if let Some(kind) = whole(alloc, last, dump_use) {
+                        return Ok(Err((kind, last.at)));
+                    }
+                }
+                records.push(Slow {
+                    at,
+                    owner: None,
+                    group: None,
+                    flags: None,
+                    access: Vec::new(alloc),
+                    dacl: Vec::new(alloc),
+                })?;
+            }
+            other => match records.last_mut() {
+                None => return Ok(Err((FaultKind::MissingHeader, at))),
+                Some(last) => {
+                    if !put(last, other)? {
+                        return Ok(Err((FaultKind::BadHeader, at)));
+                    }
+                }
+            },
+        }
+    }
+    if let Some(last) = records.last() {
+        if let Some(kind) = whole(alloc, last, dump_use) {
+            return Ok(Err((kind, last.at)));
+        }
+    }
+    Ok(Ok(records))
+}
