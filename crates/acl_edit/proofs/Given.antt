@@ -1,8 +1,8 @@
 -- What a line gives the keys that it modifies.
-use Rattle.std.proofs.Common.{◌≡◌, ℕ, Bool, true, false, cond, if◌then◌else◌, not, ◌&&◌, ◌||◌, List, [], ◌∷◌, Option, Some, None, is_some, option_map, refl, sym, ap, subst, ◌∙◌}
+use Rattle.std.proofs.Common.{◌≡◌, Bool, true, false, cond, if◌then◌else◌, not, ◌&&◌, ◌||◌, List, [], ◌∷◌, Option, Some, None, is_some, option_map, refl, sym, ap, ◌∙◌}
 use Rattle.std.specs.FinMap as maps
 use Rattle.acl_entry.specs.Perms.{Perms}
-use Rattle.acl_entry.specs.Keys.{key_cmp, same_key}
+use Rattle.acl_entry.specs.Keys.{same_key}
 use Rattle.acl_entry.specs.Lists.{KeyMap, class_union, or_else}
 use Rattle.acl_entry.specs.declared.key.Key.{Key}
 use Rattle.acl_entry.specs.declared.key.Key.TheVariants.{Owner, User, OwningGroup, Group, Mask, Other}

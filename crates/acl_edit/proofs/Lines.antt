@@ -1,13 +1,12 @@
 -- What a line keeps of a file.
-use Rattle.std.proofs.Common.{◌≡◌, ℕ, Bool, true, false, cond, if◌then◌else◌, ◌&&◌, ◌||◌, eqb, List, [], map, length, Option, Some, None, Result, Ok, Err, unwrap_or, option_and_then, refl, sym, ap, subst, ◌∙◌}
+use Rattle.std.proofs.Common.{◌≡◌, Bool, true, false, cond, if◌then◌else◌, ◌&&◌, ◌||◌, eqb, length, Option, Some, None, Result, Ok, Err, unwrap_or, option_and_then, refl, sym, ap, subst, ◌∙◌}
 use Rattle.std.proofs.lemmas.Bool.{eq-eqb, eqb-true}
 use Rattle.std.proofs.lemmas.List.{length-map}
 use Rattle.std.specs.Option.{option_map_or, ForSome}
 use Rattle.std.specs.FinMap as maps
 use Rattle.acl_entry.specs.Perms.{Perms}
 use Rattle.acl_entry.specs.Keys.{key_cmp}
-use Rattle.acl_entry.specs.Lists.{KeyMap, entries, fault, or_else, IsValid}
-use Rattle.acl_entry.specs.declared.entry.Entry.{Entry}
+use Rattle.acl_entry.specs.Lists.{KeyMap, entries, fault, or_else}
 use Rattle.acl_entry.specs.declared.entry.ListFault.{ListFault}
 use Rattle.acl_entry.specs.declared.key.Key.{Key}
 use Rattle.acl_text.specs.declared.fault.Which.TheVariants.{Access, Default}

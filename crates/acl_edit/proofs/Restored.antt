@@ -1,9 +1,8 @@
 -- A record of a sound file gives it back.
-use Rattle.std.proofs.Common.{◌≡◌, ℕ, Bool, List, Option, Some, None, Result, Ok, Err, refl, sym, ap, subst, ◌∙◌}
+use Rattle.std.proofs.Common.{◌≡◌, Bool, Option, Some, None, Ok, refl, sym, ap, subst, ◌∙◌}
 use Rattle.acl_entry.specs.Lists.{KeyMap}
 use Rattle.acl_edit.specs.Nodes.{IsSound}
 use Rattle.acl_edit.specs.Edits.{allowed, restore, ◌>>=◌}
-use Rattle.acl_edit.specs.declared.edit.EditFault.{EditFault}
 use Rattle.acl_edit.specs.declared.node.Kind.{Kind}
 use Rattle.acl_edit.specs.declared.node.Kind.TheVariants.{Plain, Directory}
 use Rattle.acl_edit.specs.declared.node.Node.{Node}

@@ -1,5 +1,5 @@
 -- What a new file gets of its directory: acl(5), "OBJECT CREATION AND DEFAULT ACLs".
-use Rattle.std.specs.Prelude.{ℕ, ◌-◌, ◌&&◌, Bool, false, List, [], ◌∷◌, Option, Some, None, bit_and, if◌then◌else◌}
+use Rattle.std.specs.Prelude.{ℕ, ◌-◌, ◌&&◌, false, [], ◌∷◌, Option, Some, None, bit_and, if◌then◌else◌}
 use Rattle.acl_entry.specs.Lists.{KeyMap, restrict, minimal}
 use Rattle.acl_edit.specs.Nodes.{is_directory, setgid}
 use Rattle.acl_edit.specs.declared.node.Kind.{Kind}

@@ -2,7 +2,6 @@
 use Rattle.std.specs.Prelude.{ℕ, ◌==◌, Bool, true, false, not, ◌&&◌, ◌||◌, List, [], ◌∷◌, length, Option, Some, None, Result, Ok, Err, unwrap_or, if◌then◌else◌}
 use Rattle.std.specs.Option.{option_map_or}
 use Rattle.std.specs.FinMap as maps
-use Rattle.acl_entry.specs.Lists as lists
 use Rattle.acl_entry.specs.Lists.{KeyMap, entries, fault, minimal, mode, or_else}
 use Rattle.acl_text.specs.declared.fault.Which.{Which}
 use Rattle.acl_text.specs.declared.fault.Which.TheVariants.{Access, Default}
