@@ -1,0 +1,40 @@
+-- Files some of which are edited.
+use Rattle.std.specs.List.{list_any}
+use Rattle.std.proofs.Common.{◌≡◌, ◌&&◌, ◌||◌, List, [], ◌∷◌, ◌++◌, map, if◌then◌else◌, refl, sym, ap, ◌∙◌, Bool, true, false}
+use Rattle.std.specs.Ordering.{is_lt}
+use Rattle.std.specs.FinMap.{is_sorted}
+use Rattle.std.specs.FinMap.Entries.{below_all}
+use Rattle.std.proofs.lemmas.List.{map_push}
+use Rattle.acl_names.specs.Paths.{path_cmp}
+use Rattle.acl_edit.specs.declared.node.Node.{Node}
+use Rattle.acl_tree.specs.Files.{PathOf, Files, IsInOrder}
+use Rattle.acl_tree.specs.Operands.{edit_files}
+
+below_edited : (x : PathOf) (test : PathOf → Bool) (g : Node → Node) (t : Files) → below_all path_cmp x (edit_files test g t) ≡ below_all path_cmp x t
+below_edited x test g [] = refl
+below_edited x test g (e ∷ t) = ap (λ b. is_lt (path_cmp x e.0) && b) (below_edited x test g t)
+
+sorted-edited : (test : PathOf → Bool) (g : Node → Node) (t : Files) → is_sorted path_cmp (edit_files test g t) ≡ is_sorted path_cmp t
+sorted-edited test g [] = refl
+sorted-edited test g (e ∷ t) = ap (λ b. b && is_sorted path_cmp (edit_files test g t)) (below_edited e.0 test g t) ∙ ap (λ b. below_all path_cmp e.0 t && b) (sorted-edited test g t)
+
+-- an edit keeps the order
+pub in_order-edited : (test : PathOf → Bool) (g : Node → Node) (t : Files) → IsInOrder t → IsInOrder (edit_files test g t)
+in_order-edited test g t h = sorted-edited test g t ∙ h
+
+-- one file more
+pub edited_push : (test : PathOf → Bool) (g : Node → Node) (t : Files) (e x : PathOf × Node) (new : Files) → new ≡ edit_files test g t → x ≡ (e.0, if test e.0 then g e.1 else e.1) → new ++ x ∷ [] ≡ edit_files test g (t ++ e ∷ [])
+edited_push test g t e x new is made =
+    ap (λ l. l ++ x ∷ []) is
+    ∙ ap (λ (y : PathOf × Node). edit_files test g t ++ y ∷ []) made
+    ∙ sym (map_push (λ (y : PathOf × Node). let z : PathOf × Node = (y.0, if test y.0 then g y.1 else y.1) in z) t e)
+
+pub any-map : {A B : Type 0} (p : B → Bool) (f : A → B) (xs : List A) → list_any p (map f xs) ≡ list_any (λ x. p (f x)) xs
+any-map p f [] = refl
+any-map p f (x ∷ xs) = ap (λ b. p (f x) || b) (any-map p f xs)
+
+pub when_true : (b : Bool) (p : PathOf) (x y : Node) → b ≡ true → (let r : PathOf × Node = (p, x) in r ≡ (p, if b then x else y))
+when_true b p x y is = ap (λ c. let r : PathOf × Node = (p, if c then x else y) in r) (sym is)
+
+pub when_false : (b : Bool) (p : PathOf) (x y : Node) → b ≡ false → (let r : PathOf × Node = (p, y) in r ≡ (p, if b then x else y))
+when_false b p x y is = ap (λ c. let r : PathOf × Node = (p, if c then x else y) in r) (sym is)

@@ -1,0 +1,9 @@
+pub mod Places
+pub mod Shared
+pub mod Within
+pub mod Chunks
+pub mod Near
+pub mod Edited
+pub mod Loaded
+pub mod Kept
+pub mod Meant

@@ -1,0 +1,16 @@
+use Rattle.std.proofs.Common.{◌-◌, ◌<◌, ◌≤◌, Global, length, get_or}
+use Rattle.std.specs.declared.rc.Rc.{Rc}
+use Rattle.acl_tree.specs.declared.chunk.Chunk.{Chunk}
+use Rattle.acl_tree.specs.Files.{BeginsBy, BeginsAfter}
+use Rattle.acl_tree.proofs.tree.begun.Given as goal
+
+abbrev pub invariant-loop-low : goal.invariant-loop-low
+invariant-loop-low l = record {
+  ordered : l.low ≤ l.high;
+  in_range : l.high ≤ length l.chunks;
+  last : (d : Rc Chunk Global) → 0 < l.low → BeginsBy (get_or l.chunks (l.low - 1) d).value l.path;
+  next : (d : Rc Chunk Global) → l.high < length l.chunks → BeginsAfter (get_or l.chunks l.high d).value l.path;
+}
+
+abbrev pub decreases-loop-low : goal.decreases-loop-low
+decreases-loop-low l = l.high - l.low

@@ -1,0 +1,26 @@
+-- The facts that every command keeps. That each list is valid is a fact of every list, by its type.
+use Rattle.std.specs.Prelude.{◌≡◌, ⊤, [], ◌∷◌, length, Bool, true, false, ◌||◌, ◌==◌}
+use Rattle.std.specs.List.{list_any}
+use Rattle.acl_edit.specs.Nodes as nodes
+use Rattle.acl_edit.specs.declared.node.Node.{Node}
+use Rattle.acl_edit.specs.declared.node.Kind.TheVariants.{Directory}
+use Rattle.acl_tree.specs.Files.{PathOf, Files, Recorded}
+use Rattle.acl_tree.specs.Below.{is_below}
+
+-- whether a file lies below a path
+abbrev pub holds_below : Files → PathOf → Bool
+holds_below es p = list_any (λ e. is_below p e.0) es
+
+-- the root and what has a file below it are directories, and only directories have default lists
+pub record IsPlaced (es : Files) (e : PathOf × Node) : Type 0 where
+  pub directory : ((length e.0 == 0) || holds_below es e.0) ≡ true → e.1.kind ≡ Directory
+  pub default : nodes.IsSound e.1
+
+abbrev pub ArePlaced : Files → Files → Type 0
+ArePlaced all [] = ⊤
+ArePlaced all (e ∷ es) = IsPlaced all e × ArePlaced all es
+
+-- no file stands before a dump is loaded, and each file is placed
+pub record IsSoundTree (t : Recorded) : Type 0 where
+  pub unloaded : t.loaded ≡ false → t.files ≡ []
+  pub placed : ArePlaced t.files t.files

@@ -1,0 +1,81 @@
+-- The whole state, and what a command makes of it.
+use Rattle.std.specs.Prelude.{◌≡◌, ◌≢◌, ℕ, List, length, Bool, true, nat_lt, if◌then◌else◌, Option, Some, None, Result, Ok, Err, MatchResult, refl}
+use Rattle.std.specs.Coded.{Coded, code_by, coded×}
+use Rattle.acl_text.specs.declared.fault.TextFault.{TextFault}
+use Rattle.acl_dump.specs.declared.record.DumpRecord.{DumpRecord}
+use Rattle.acl_dump.specs.declared.record.DumpUse.TheVariants as uses
+use Rattle.acl_dump.specs.Records.{dump_of}
+use Rattle.acl_edit.specs.Nodes as nodes
+use Rattle.acl_people.specs.declared.fault.LoadFault.{LoadFault}
+use Rattle.acl_people.specs.declared.fault.LoadFault.TheVariants as loads
+use Rattle.acl_people.specs.contracts.people.People as people_contracts
+use Rattle.acl_people.specs.Rolls.{id_named}
+use Rattle.acl_people.specs.Registers.{Register, users_of, groups_of, load_passwd, load_group}
+use Rattle.acl_tree.specs.declared.command.Command.{Command}
+use Rattle.acl_tree.specs.declared.command.Command.TheVariants.{Load, Chmod}
+use Rattle.acl_tree.specs.declared.command.Table.{Table}
+use Rattle.acl_tree.specs.declared.command.Table.TheVariants.{Passwd, Group, Dump}
+use Rattle.acl_tree.specs.declared.command.TreeFault.{TreeFault}
+use Rattle.acl_tree.specs.declared.command.TreeFault.TheVariants.{NoSuchFile, TooMany, AlreadyLoaded, Text, NoMemory}
+use Rattle.acl_tree.specs.Files.{PathOf, Recorded, coded_recorded}
+use Rattle.acl_tree.specs.Loading.{files_of}
+use Rattle.acl_tree.specs.Operands.{is_file, first_missing, edit_files}
+
+-- the recorded files, and the users and groups
+pub record State : Type 0 where
+  pub tree : Recorded
+  pub people : Register
+
+abbrev pub coded_state : Coded State
+coded_state =
+    code_by (Recorded × Register) (coded× coded_recorded people_contracts.the_row.coded) (λ s. (s.tree, s.people)) (λ p. record { tree = p.0; people = p.1 }) (λ _. refl)
+
+-- ---- chmod
+
+-- the files of the command with a mode put into them
+abbrev pub chmod_all : Bool → List PathOf → ℕ → Recorded → Recorded
+chmod_all recursive paths mode tree = record tree { files = edit_files (is_file recursive paths) (λ n. nodes.chmod n mode) tree.files }
+
+abbrev pub or_missing : Option PathOf → State → Result State TreeFault
+or_missing None s = Ok s
+or_missing (Some p) s = Err (NoSuchFile p)
+
+-- ---- load
+
+abbrev pub tree_fault : LoadFault → TreeFault
+tree_fault loads.AlreadyLoaded = AlreadyLoaded
+tree_fault (loads.Text fault) = Text fault
+tree_fault loads.NoMemory = NoMemory
+
+abbrev pub with_people : State → Result Register LoadFault → Result State TreeFault
+with_people s (Ok people) = Ok (record s { people = people })
+with_people s (Err fault) = Err (tree_fault fault)
+
+abbrev pub with_records : State → Result (List DumpRecord) TextFault → Result State TreeFault
+with_records s (Err fault) = Err (Text fault)
+with_records s (Ok records) =
+    if nat_lt 1048576 (length records) then Err TooMany
+    else Ok (record s { tree = record { files = files_of records; loaded = true } })
+
+-- the records of a dump, whose users and groups are looked up
+abbrev pub dump_records : Register → List ℕ → Result (List DumpRecord) TextFault
+dump_records known bytes = dump_of (λ name. id_named name (users_of known)) (λ name. id_named name (groups_of known)) uses.Load bytes
+
+abbrev pub load_dump : State → List ℕ → Result State TreeFault
+load_dump s bytes = with_records s (dump_records s.people bytes)
+
+abbrev pub load : State → Table → List ℕ → Result State TreeFault
+load s Passwd bytes = if s.tree.loaded then Err AlreadyLoaded else with_people s (load_passwd s.people bytes)
+load s Group bytes = if s.tree.loaded then Err AlreadyLoaded else with_people s (load_group s.people bytes)
+load s Dump bytes = if s.tree.loaded then Err AlreadyLoaded else load_dump s bytes
+
+-- ---- all commands
+
+-- the state after a command, or its first fault
+abbrev pub step : State → Command → Result State TreeFault
+step s (Load which bytes) = load s which bytes.items
+step s (Chmod paths mode recursive) = or_missing (first_missing paths s.tree.files) (record s { tree = chmod_all recursive paths mode s.tree })
+
+-- A call stages the state after a step, or tells exactly its fault, unless memory ran out.
+abbrev pub Stages : {A : Type 0} → (A → State) → Result A TreeFault → Result State TreeFault → Type 0
+Stages view result is = MatchResult result (λ staged. is ≡ Ok (view staged)) (λ fault. fault ≢ NoMemory → is ≡ Err fault)

@@ -1,0 +1,97 @@
+//! Commands, and why one is refused.
+
+ghost use Rattle.std.specs.Prelude.{◌≡◌};
+ghost use Rattle.acl_tree.specs.declared.command.TreeFault.TheVariants.{NoMemory};
+
+use acl_names::Path;
+use acl_text::TextFault;
+use std::alloc::{AllocError, AllocFailed};
+use std::marker::Model;
+
+/// What a text is loaded as.
+#[derive(Clone, Copy, Debug, PartialEq, Eq)]
+pub enum Table {
+    /// The users: passwd(5).
+    Passwd,
+    /// The groups: group(5).
+    Group,
+    /// The files: a dump as getfacl(1) writes it.
+    Dump,
+}
+
+/// The operands of a command.
+#[derive(Debug, Drop)]
+pub struct Paths {
+    list: Vec<Path>,
+}
+
+impl Model for Paths {
+    ghost use Rattle.std.specs.Prelude.{List, ℕ};
+
+    ghost Value = { List (List (List ℕ)) };
+
+    ghost view = { λ p. p.list.items };
+}
+
+impl Paths {
+    /// The operands, in their order.
+    pub fn new(list: Vec<Path>) -> Paths
+        ensures { result ≡ list.items }
+    {
+        Paths { list }
+    }
+
+    /// The operands, in their order.
+    pub fn as_slice(&self) -> &[Path]
+        ensures { result.now ≡ self.now }
+    {
+        &self.list
+    }
+}
+
+/// A command on the whole state.
+#[derive(Debug, Drop)]
+pub enum Command {
+    /// Loads a text. Each kind is loaded once, and people before files.
+    Load {
+        which: Table,
+        bytes: Vec<u8>,
+    },
+    /// Puts the low twelve bits of a mode into the operands, with `recursive` also into all files below
+    /// them: chmod(1).
+    Chmod {
+        paths: Paths,
+        mode: u16,
+        recursive: bool,
+    },
+}
+
+/// Why a command is refused. A refused command changes nothing.
+#[derive(Debug, Drop)]
+pub enum TreeFault {
+    /// The first operand that is not recorded.
+    NoSuchFile { path: Path },
+    /// More than 1,048,576 files.
+    TooMany,
+    /// A text of this kind was loaded before, or a dump.
+    AlreadyLoaded,
+    /// The text's first fault, which is not want of memory.
+    Text(TextFault),
+    NoMemory,
+}
+
+impl From<AllocError> for TreeFault {
+    ghost from_gives = { λ _ fault. fault ≡ NoMemory };
+
+    fn from(_: AllocError) -> TreeFault {
+        TreeFault::NoMemory
+    }
+}
+
+impl<T: Drop> From<AllocFailed<T>> for TreeFault {
+    ghost from_gives = { λ _ fault. fault ≡ NoMemory };
+
+    fn from(_: AllocFailed<T>) -> TreeFault {
+        TreeFault::NoMemory
+    }
+}

@@ -1,0 +1,180 @@
+//! A dump as a tree.
+
+ghost use Rattle.std.specs.Prelude.{◌≡◌, ◌≢◌, ◌<◌, length, true, map, IfOk, unwrap_or};
+ghost use Rattle.std.specs.List.{flat_map};
+ghost use Rattle.std.specs.BTreeMap.{values};
+ghost use Rattle.acl_tree.specs.Files.{IsInOrder};
+ghost use Rattle.acl_tree.specs.Loading.{in_path_order, is_directory, node_of, next_below, files_from, files_of};
+ghost use Rattle.acl_tree.specs.Step.{load_dump, Stages};
+
+use crate::below::is_below;
+use crate::chunk::{Chunk, MOST_RECORDS};
+use crate::command::TreeFault;
+use crate::record::Record;
+use crate::staged::Staged;
+use crate::tree::Tree;
+use acl_dump::{DumpRecord, DumpUse, read_dump};
+use acl_edit::{Kind, Node};
+use acl_entry::{Id, Label};
+use acl_names::Path;
+use acl_people::People;
+use acl_text::{FaultKind, TextFault};
+use std::alloc::{AllocError, Global};
+use std::collections::BTreeMap;
+use std::rc::Rc;
+
+/// The most files of a tree.
+const MOST_FILES: usize = 1048576;
+
+/// The records by their paths.
+fn places_of<'a>(
+    alloc: Global,
+    records: &'a [DumpRecord],
+) -> Result<BTreeMap<&'a [Vec<u8>], &'a DumpRecord>, AllocError>
+    ensures { IfOk result (λ places. map (λ e. e.1.now) places.entries ≡ in_path_order records.now) }
+{
+    let mut places: BTreeMap<&[Vec<u8>], &DumpRecord> = BTreeMap::new(alloc);
+    for entry in records {
+        places.insert(entry.path.components(), entry)?;
+    }
+    Ok(places)
+}
+
+fn in_order<'a>(
+    alloc: Global,
+    places: &BTreeMap<&'a [Vec<u8>], &'a DumpRecord>,
+) -> Result<Vec<&'a DumpRecord>, AllocError>
+    ensures { IfOk result (λ sorted. sorted.items ≡ values places.now) }
+{
+    places.values().copied().collect(alloc)
+}
+
+fn kind_of(has_below: bool, entry: &DumpRecord) -> Kind
+    ensures { result ≡ (node_of has_below entry.now).kind }
+{
+    if entry.slash || entry.path.components().is_empty() || entry.dacl.is_some() || has_below {
+        Kind::Directory
+    } else {
+        Kind::Plain
+    }
+}
+
+fn id_or_root(id: Option<Id>) -> Id
+    ensures { result ≡ unwrap_or id 0 }
+{
+    match id {
+        Some(id) => id,
+        None => Id::new(0).unwrap(),
+    }
+}
+
+fn node_of(alloc: Global, has_below: bool, entry: &DumpRecord) -> Result<Node, AllocError>
+    ensures { IfOk result (λ node. node ≡ node_of has_below entry.now) }
+{
+    let acl = entry.access.try_clone(alloc)?;
+    let dacl = match &entry.dacl {
+        Some(dacl) => Some(dacl.try_clone(alloc)?),
+        None => None,
+    };
+    Ok(Node {
+        kind: kind_of(has_below, entry),
+        label: Label {
+            owner: id_or_root(entry.owner),
+            group: id_or_root(entry.group),
+            acl,
+        },
+        flags: entry.flags.unwrap_or([false; 3]),
+        dacl,
+    })
+}
+
+fn next_below(path: &Path, following: &[&DumpRecord]) -> bool
+    ensures { result ≡ next_below path.now (map (λ r. r.now) following.now) }
+{
+    match following {
+        [] => false,
+        [next, ..] => is_below(path, &next.path),
+    }
+}
+
+/// The files of records in path order.
+fn files_from(alloc: Global, sorted: &[&DumpRecord]) -> Result<Vec<Rc<Record>>, AllocError>
+    ensures { IfOk result (λ files. map (λ r. r.value) files.items ≡ files_from (map (λ r. r.now) sorted.now)) }
+{
+    let mut files = Vec::with_capacity(alloc, sorted.len())?;
+    let mut rest = sorted;
+    while let [first, following @ ..] = rest {
+        let node = node_of(alloc, next_below(&first.path, following), first)?;
+        let path = Rc::new(alloc, first.path.try_clone(alloc)?)?;
+        files.push(Rc::new(alloc, Record::new(path, node))?)?;
+        rest = following;
+    }
+    Ok(files)
+}
+
+/// Files as one chunk.
+fn chunk_of(alloc: Global, files: &[Rc<Record>]) -> Result<Rc<Chunk>, AllocError>
+    requires order { IsInOrder (map (λ r. r.value) files.now) }
+    requires some { 0 < length files.now }
+    ensures { IfOk result (λ chunk. chunk.value ≡ map (λ r. r.value) files.now) }
+{
+    Ok(Rc::new(alloc, Chunk::new(files.to_vec(alloc)?))?)
+}
+
+/// The files in chunks.
+fn chunks_of(alloc: Global, files: &[Rc<Record>]) -> Result<Vec<Rc<Chunk>>, AllocError>
+    requires { IsInOrder (map (λ r. r.value) files.now) }
+    ensures { IfOk result (λ chunks. flat_map (λ c. c.value) chunks.items ≡ map (λ r. r.value) files.now) }
+{
+    let mut chunks = Vec::new(alloc);
+    let mut rest = files;
+    while !rest.is_empty() {
+        let length = rest.len().min(MOST_RECORDS);
+        let (part, after) = rest.split_at(length);
+        chunks.push(chunk_of(alloc, part)?)?;
+        rest = after;
+    }
+    Ok(chunks)
+}
+
+/// A text's fault, and want of memory as such.
+fn text_fault(fault: TextFault) -> TreeFault
+    ensures text { fault.kind ≢ FaultKind.NoMemory → result ≡ TreeFault.Text fault }
+    ensures memory { fault.kind ≡ FaultKind.NoMemory → result ≡ TreeFault.NoMemory }
+{
+    if fault.kind == FaultKind::NoMemory {
+        TreeFault::NoMemory
+    } else {
+        TreeFault::Text(fault)
+    }
+}
+
+fn tree_of(alloc: Global, records: &[DumpRecord]) -> Result<Tree, AllocError>
+    ensures { IfOk result (λ tree. tree ≡ record { files = files_of records.now; loaded = true }) }
+{
+    let places = places_of(alloc, records)?;
+    let sorted = in_order(alloc, &places)?;
+    let files = files_from(alloc, &sorted)?;
+    Ok(Tree::of(chunks_of(alloc, &files)?, true))
+}
+
+impl Tree {
+    pub(crate) fn load_dump(
+        &self,
+        alloc: Global,
+        people: &People,
+        bytes: &[u8],
+    ) -> Result<Staged, TreeFault>
+        ensures { Stages (λ s. s) result (load_dump (record { tree = self.now; people = people.now }) bytes.now) }
+    {
+        let records = match read_dump(alloc, bytes, DumpUse::Load, people) {
+            Ok(records) => records,
+            Err(fault) => return Err(text_fault(fault)),
+        };
+        if records.len() > MOST_FILES {
+            return Err(TreeFault::TooMany);
+        }
+        let tree = tree_of(alloc, &records)?;
+        Ok(Staged::of(tree, people.share()?))
+    }
+}

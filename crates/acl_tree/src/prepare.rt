@@ -1,0 +1,98 @@
+//! Commands on the whole state: each is prepared whole, or refused.
+
+ghost use Rattle.std.specs.Prelude.{◌≡◌, IfOk, IfErr, OnOk, Err};
+ghost use Rattle.acl_tree.specs.Step.{chmod_all, or_missing, tree_fault, load, step, Stages};
+ghost use Rattle.acl_tree.specs.declared.command.TreeFault.TheVariants.{NoMemory};
+ghost use Rattle.acl_tree.specs.Operands.{first_missing};
+ghost use Rattle.acl_tree.specs.Sound.{IsSoundTree};
+
+use crate::changing::{chmod_files, look_up};
+use crate::command::{Command, Paths, Table, TreeFault};
+use crate::staged::Staged;
+use crate::tree::Tree;
+use acl_people::{LoadFault, People};
+use std::alloc::Global;
+
+fn load_fault(fault: LoadFault) -> TreeFault
+    ensures { result ≡ tree_fault fault }
+{
+    match fault {
+        LoadFault::AlreadyLoaded => TreeFault::AlreadyLoaded,
+        LoadFault::Text(fault) => TreeFault::Text(fault),
+        LoadFault::NoMemory => TreeFault::NoMemory,
+    }
+}
+
+impl Tree {
+    /// The state after a command. This tree and these people stay as they are: a refused command changes
+    /// nothing.
+    ///
+    /// # Errors
+    ///
+    /// The command's first fault. A load tells `AlreadyLoaded` before any look at the text, then the text's
+    /// first fault, then `TooMany`; a chmod tells `NoSuchFile` of the first operand that is not recorded. Or
+    /// `NoMemory`.
+    pub fn prepare(
+        &self,
+        alloc: Global,
+        people: &People,
+        command: &Command,
+    ) -> Result<Staged, TreeFault>
+        ensures made { Stages (λ s. s) result (step (record { tree = self.now; people = people.now }) command.now) }
+        ensures sound { IfOk result (λ staged. IsSoundTree self.now → IsSoundTree staged.tree) }
+    {
+        match command {
+            Command::Load { which, bytes } => self.load(alloc, people, *which, bytes),
+            Command::Chmod {
+                paths,
+                mode,
+                recursive,
+            } => self.chmod(alloc, people, paths, *mode, *recursive),
+        }
+    }
+
+    fn load(
+        &self,
+        alloc: Global,
+        people: &People,
+        which: Table,
+        bytes: &[u8],
+    ) -> Result<Staged, TreeFault>
+        ensures { Stages (λ s. s) result (load (record { tree = self.now; people = people.now }) which bytes.now) }
+    {
+        if self.is_loaded() {
+            return Err(TreeFault::AlreadyLoaded);
+        }
+        match which {
+            Table::Passwd => self.with_people(people.load_passwd(alloc, bytes)),
+            Table::Group => self.with_people(people.load_group(alloc, bytes)),
+            Table::Dump => self.load_dump(alloc, people, bytes),
+        }
+    }
+
+    fn with_people(&self, loaded: Result<People, LoadFault>) -> Result<Staged, TreeFault>
+        ensures ok { IfOk loaded (λ people. IfOk result (λ staged. staged ≡ record { tree = self.now; people = people })) }
+        ensures err { IfErr loaded (λ fault. result ≡ Err (tree_fault fault)) }
+        ensures memory { OnOk loaded (IfErr result (λ fault. fault ≡ NoMemory)) }
+    {
+        match loaded {
+            Ok(people) => Ok(Staged::of(self.share()?, people)),
+            Err(fault) => Err(load_fault(fault)),
+        }
+    }
+
+    fn chmod(
+        &self,
+        alloc: Global,
+        people: &People,
+        paths: &Paths,
+        mode: u16,
+        recursive: bool,
+    ) -> Result<Staged, TreeFault>
+        ensures { Stages (λ s. s) result (or_missing (first_missing paths.now self.now.files) (record { tree = chmod_all recursive paths.now mode self.now; people = people.now })) }
+    {
+        look_up(self, alloc, paths.as_slice())?;
+        let tree = chmod_files(self, alloc, paths.as_slice(), mode, recursive)?;
+        Ok(Staged::of(tree, people.share()?))
+    }
+}

@@ -1,0 +1,11 @@
+//! Worked examples of whole commands, and each public call of `acl_tree` once.
+//!
+//! They stand apart from `acl_tree`, since a crate with tests is proved twice.
+#![tactic(auto)]
+
+#[cfg(test)]
+mod chmod;
+#[cfg(test)]
+mod loads;
+#[cfg(test)]
+mod made;

@@ -1,0 +1,102 @@
+//! Short ways to make a state and to look at it in tests.
+use acl_edit::Kind;
+use acl_names::{Path, read_path};
+use acl_people::People;
+use acl_tree::{Command, Paths, Table, Tree, TreeFault};
+use std::alloc::Global;
+use std::process::Abort;
+use std::test::Fail;
+
+pub const PASSWD: &[u8] = b"lisa:x:1001:50:Lisa:/home/lisa:/bin/sh\n\
+joe:x:1000:100:Joe:/home/joe:/bin/sh\nann:x:1002:100:Ann:/home/ann:/bin/sh\n";
+
+pub const GROUP: &[u8] = b"staff:x:50:\nusers:x:100:\ncool:x:60:lisa\nadm:x:70:\n";
+
+pub const DUMP: &[u8] =
+    b"# file: f\n# owner: lisa\n# group: staff\nuser::rw-\ngroup::r--\nother::---\n\n\
+# file: .\n# owner: lisa\n# group: staff\nuser::rwx\ngroup::r-x\nother::r-x\n\n\
+# file: d/e\n# owner: ann\n# group: users\nuser::rw-\ngroup::r--\nother::r--\n\n\
+# file: d\n# owner: ann\n# group: users\nuser::rwx\ngroup::r-x\nother::r-x\n\n";
+
+/// The tree and the people of the texts above.
+pub fn setup(rt: &impl Abort, alloc: Global) -> Result<(Tree, People), Fail> {
+    let mut tree = Tree::new(alloc);
+    let mut people = People::new(alloc)?;
+    let passwd = load(alloc, Table::Passwd, PASSWD)?;
+    let group = load(alloc, Table::Group, GROUP)?;
+    let dump = load(alloc, Table::Dump, DUMP)?;
+    assert!(rt; run(alloc, &mut tree, &mut people, &passwd).is_none());
+    assert!(rt; run(alloc, &mut tree, &mut people, &group).is_none());
+    assert!(rt; run(alloc, &mut tree, &mut people, &dump).is_none());
+    Ok((tree, people))
+}
+
+pub fn load(alloc: Global, which: Table, bytes: &[u8]) -> Result<Command, Fail> {
+    Ok(Command::Load {
+        which,
+        bytes: Vec::from_slice(alloc, bytes)?,
+    })
+}
+
+/// Runs a command, which is refused where a fault is given back.
+pub fn run(
+    alloc: Global,
+    tree: &mut Tree,
+    people: &mut People,
+    command: &Command,
+) -> Option<TreeFault> {
+    match tree.prepare(alloc, people, command) {
+        Ok(staged) => {
+            tree.commit(people, staged);
+            None
+        }
+        Err(fault) => Some(fault),
+    }
+}
+
+pub fn path(rt: &impl Abort, alloc: Global, text: &[u8]) -> Result<Path, Fail> {
+    Ok(read_path(alloc, text)?.expect(rt, "a path"))
+}
+
+pub fn chmod(
+    rt: &impl Abort,
+    alloc: Global,
+    mode: u16,
+    recursive: bool,
+    names: &[&[u8]],
+) -> Result<Command, Fail> {
+    let mut paths = Vec::new(alloc);
+    for name in names {
+        paths.push(path(rt, alloc, name)?)?;
+    }
+    Ok(Command::Chmod {
+        paths: Paths::new(paths),
+        mode,
+        recursive,
+    })
+}
+
+pub fn mode_at(tree: &Tree, path: &Path) -> Option<u16> {
+    match tree.get(path) {
+        Some(node) => Some(node.label.acl.mode()),
+        None => None,
+    }
+}
+
+/// A file's mode.
+pub fn mode(rt: &impl Abort, alloc: Global, tree: &Tree, name: &[u8]) -> Result<u16, Fail> {
+    let path = path(rt, alloc, name)?;
+    Ok(tree.get(&path).expect(rt, "a file").label.acl.mode())
+}
+
+/// A file's flags: setuid, setgid and sticky.
+pub fn flags(rt: &impl Abort, alloc: Global, tree: &Tree, name: &[u8]) -> Result<[bool; 3], Fail> {
+    let path = path(rt, alloc, name)?;
+    Ok(tree.get(&path).expect(rt, "a file").flags)
+}
+
+/// Whether a file is a directory.
+pub fn kind(rt: &impl Abort, alloc: Global, tree: &Tree, name: &[u8]) -> Result<Kind, Fail> {
+    let path = path(rt, alloc, name)?;
+    Ok(tree.get(&path).expect(rt, "a file").kind)
+}
