@@ -5,3 +5,4 @@ pub mod Loading
 pub mod Places
 pub mod Step
 pub mod Sound
+pub mod Found

@@ -3,7 +3,7 @@
 ghost use Rattle.std.specs.Prelude.{◌≡◌};
 ghost use Rattle.acl_tree.specs.declared.command.TreeFault.TheVariants.{NoMemory};
 
-use acl_names::Path;
+use acl_names::{Name, Path};
 use acl_text::TextFault;
 use std::alloc::{AllocError, AllocFailed};
 use std::marker::Model;
@@ -71,6 +71,8 @@ pub enum Command {
 pub enum TreeFault {
     /// The first operand that is not recorded.
     NoSuchFile { path: Path },
+    /// No row of this user. No command tells it: those who ask for a user by name do.
+    NoSuchUser { name: Name },
     /// More than 1,048,576 files.
     TooMany,
     /// A text of this kind was loaded before, or a dump.

@@ -6,6 +6,7 @@ mod changing;
 mod chunk;
 mod command;
 mod files;
+mod found;
 mod listing;
 mod load;
 mod operands;
@@ -16,6 +17,7 @@ mod tree;
 
 pub use command::{Command, Paths, Table, TreeFault};
 pub use files::Files;
+pub use found::Found;
 pub use record::Record;
 pub use staged::Staged;
 pub use tree::Tree;
