@@ -4,6 +4,8 @@ pub mod Within
 pub mod Chunks
 pub mod Near
 pub mod Edited
+pub mod Follows
 pub mod Loaded
 pub mod Kept
 pub mod Meant
+pub mod Listed

@@ -1,28 +1,27 @@
 -- Records of a dump in path order, and which lie below which.
-use Rattle.std.proofs.Common.{◌≡◌, ℕ, Bool, true, false, IsTrue, ◌&&◌, ◌||◌, List, [], ◌∷◌, ◌++◌, map, Ordering, Less, Equal, Greater, refl, sym, ap, subst, ◌∙◌, append_assoc}
+use Rattle.std.proofs.Common.{◌≡◌, ℕ, List, [], ◌∷◌, ◌++◌, map, Ordering, Less, Equal, Greater, refl, sym, ap, subst, ◌∙◌, append_assoc}
 use Rattle.std.specs.Prelude.{fold}
 use Rattle.std.specs.declared.vec.Vec.{Vec}
 use Rattle.std.specs.declared.alloc.Global.{Global}
-use Rattle.std.specs.Ordering.{is_gt, is_eq, is_lt, nat_cmp, ordering_then, match_ordering}
+use Rattle.std.specs.Ordering.{match_ordering}
 use Rattle.std.specs.BTreeMap.{insert_entry}
-use Rattle.std.specs.FinMap.{put, is_sorted}
-use Rattle.std.specs.FinMap.Entries.{below_all, by_order}
-use Rattle.std.specs.Cmp.Lexicographic.{slice_cmp}
-use Rattle.std.proofs.lemmas.Bool.{and_parts}
-use Rattle.std.proofs.lemmas.List.Folds.{list_any-append}
-use Rattle.std.proofs.lemmas.Cmp.{tied_itself}
+use Rattle.std.specs.FinMap.{put}
+use Rattle.std.specs.FinMap.Entries.{by_order}
+use Rattle.std.proofs.lemmas.List.{map-append}
 use denote.Ref.{Bor}
 use Rattle.acl_names.specs.Paths.{path_cmp}
-use Rattle.acl_names.proofs.PathOrder.{path_total, exact_paths}
+use Rattle.acl_names.proofs.PathOrder.{exact_paths}
 use Rattle.acl_dump.specs.declared.record.DumpRecord.{DumpRecord}
 use Rattle.acl_edit.specs.declared.node.Node.{Node}
 use Rattle.acl_tree.specs.Files.{PathOf, Files, IsInOrder}
-use Rattle.acl_tree.specs.Below.{is_within, is_below}
+use Rattle.acl_tree.specs.Below.{is_below}
 use Rattle.acl_tree.specs.Loading.{insert_record, in_path_order, node_of, has_below, as_files, files_of, next_below, files_from}
 use Rattle.acl_tree.specs.Places.{Place, Keyed}
-use Rattle.acl_tree.proofs.Places.{above}
+use Rattle.acl_tree.specs.Sound.{holds_below}
+use Rattle.acl_tree.specs.Found.{next_file_below}
 use Rattle.acl_tree.proofs.Shared.{in_order-put}
-use Rattle.acl_tree.proofs.Within.{convex}
+use Rattle.acl_tree.proofs.Edited.{any-map}
+use Rattle.acl_tree.proofs.Follows.{told_by_next}
 
 -- ---- the map of the records
 
@@ -80,107 +79,28 @@ in_order-records h rs = in_order-fold h rs [] refl
 
 -- ---- below
 
-equal : (o : Ordering) → is_eq o ≡ true → o ≡ Equal
-equal Less h = cc
-equal Equal h = refl
-equal Greater h = cc
+below_seen : (h : DumpRecord → Node) (rs : List DumpRecord) (p : PathOf) → holds_below (seen h rs) p ≡ has_below rs p
+below_seen h rs p = any-map (λ (e : PathOf × Node). is_below p e.0) (λ (r : DumpRecord). (r.path, h r)) rs
 
-below_within : (p q : PathOf) → is_below p q ≡ true → is_within p q ≡ true
-below_within [] q h = refl
-below_within (x ∷ p) [] h = h
-below_within (x ∷ p) (y ∷ q) h = let parts = and_parts (is_eq (slice_cmp nat_cmp x y)) (is_below p q) h in ap (λ b. b && is_within p q) parts.0 ∙ below_within p q parts.1
-
-below_less : (p q : PathOf) → is_below p q ≡ true → path_cmp p q ≡ Less
-unfolding path_cmp
-below_less [] [] h = cc
-below_less [] (y ∷ q) h = refl
-below_less (x ∷ p) [] h = cc
-below_less (x ∷ p) (y ∷ q) h = let parts = and_parts (is_eq (slice_cmp nat_cmp x y)) (is_below p q) h in ap (λ o. ordering_then o (slice_cmp (slice_cmp nat_cmp) p q)) (equal (slice_cmp nat_cmp x y) parts.0) ∙ below_less p q parts.1
-
-within_below : (p q : PathOf) → is_within p q ≡ true → path_cmp p q ≡ Less → is_below p q ≡ true
-unfolding path_cmp
-within_below [] [] w h = cc
-within_below [] (y ∷ q) w h = refl
-within_below (x ∷ p) [] w h = w
-within_below (x ∷ p) (y ∷ q) w h =
-    let parts = and_parts (is_eq (slice_cmp nat_cmp x y)) (is_within p q) w in
-    ap (λ b. b && is_below p q) parts.0
-    ∙ within_below p q parts.1 (ap (λ o. ordering_then o (slice_cmp (slice_cmp nat_cmp) p q)) (sym (equal (slice_cmp nat_cmp x y) parts.0)) ∙ h)
-
-false_from : (b : Bool) → (b ≡ true → ⊥) → b ≡ false
-false_from true h = absurd (h refl)
-false_from false h = refl
-
-not_both : (b : Bool) → b ≡ true → b ≡ false → ⊥
-not_both true x y = cc
-not_both false x y = cc
-
--- a path before another has nothing below it past a path that isn't below it
-convex_below : (p s t : PathOf) → path_cmp p s ≡ Less → path_cmp s t ≡ Less → is_below p t ≡ true → is_below p s ≡ true
-convex_below p s t ps st h = within_below p s (convex p s t (ap is_gt ps) st (below_within p t h)) ps
-
-less : (o : Ordering) → is_lt o ≡ true → o ≡ Less
-less Less h = refl
-less Equal h = cc
-less Greater h = cc
+next_seen : (h : DumpRecord → Node) (rs : List DumpRecord) (p : PathOf) → next_file_below p (seen h rs) ≡ next_below p rs
+next_seen h [] p = refl
+next_seen h (r ∷ rs) p = refl
 
 module _ (h : DumpRecord → Node) where
-  none_below : (p s : PathOf) (ss : List DumpRecord) → is_below p s ≡ false → path_cmp p s ≡ Less → IsTrue (below_all path_cmp s (seen h ss)) → has_below ss p ≡ false
-  none_below p s [] apart ps order = refl
-  none_below p s (t ∷ ss) apart ps order =
-      let parts = and_parts (is_lt (path_cmp s t.path)) (below_all path_cmp s (seen h ss)) order in
-      ap (λ b. b || has_below ss p) (false_from (is_below p t.path) (λ below. not_both (is_below p s) (convex_below p s t.path ps (less (path_cmp s t.path) parts.0) below) apart))
-      ∙ none_below p s ss apart ps parts.1
-
-  -- what lies below a path follows it at once
-  below_next : (p : PathOf) (rs : List DumpRecord) → IsTrue (below_all path_cmp p (seen h rs)) → IsInOrder (seen h rs) → has_below rs p ≡ next_below p rs
-  below_next p [] after order = refl
-  below_next p (s ∷ ss) after order = by (is_below p s.path) refl
-    where
-      by : (b : Bool) → is_below p s.path ≡ b → (is_below p s.path || has_below ss p) ≡ is_below p s.path
-      by true e = ap (λ b. b || has_below ss p) e ∙ sym e
-      by false e =
-          let first = and_parts (is_lt (path_cmp p s.path)) (below_all path_cmp p (seen h ss)) after in
-          let rest = and_parts (below_all path_cmp s.path (seen h ss)) (is_sorted path_cmp (seen h ss)) order in
-          ap (λ b. b || has_below ss p) e ∙ none_below p s.path ss e (less (path_cmp p s.path) first.0) rest.0 ∙ sym e
-
-  before_it : (q : PathOf) (pre : List DumpRecord) (r : DumpRecord) (rs : List DumpRecord) → IsTrue (below_all path_cmp q (seen h (pre ++ r ∷ rs))) → path_cmp q r.path ≡ Less
-  before_it q [] r rs order = less (path_cmp q r.path) (and_parts (is_lt (path_cmp q r.path)) (below_all path_cmp q (seen h rs)) order).0
-  before_it q (s ∷ pre) r rs order = before_it q pre r rs (and_parts (is_lt (path_cmp q s.path)) (below_all path_cmp q (seen h (pre ++ r ∷ rs))) order).1
-
-  not_before_below : (pre : List DumpRecord) (r : DumpRecord) (rs : List DumpRecord) → IsInOrder (seen h (pre ++ r ∷ rs)) → has_below pre r.path ≡ false
-  not_before_below [] r rs order = refl
-  not_before_below (q ∷ pre) r rs order =
-      let parts = and_parts (below_all path_cmp q.path (seen h (pre ++ r ∷ rs))) (is_sorted path_cmp (seen h (pre ++ r ∷ rs))) order in
-      ap (λ b. b || has_below pre r.path) (false_from (is_below r.path q.path) (λ below. greater_is_not_less (sym (above q.path r.path (before_it q.path pre r rs parts.0)) ∙ below_less r.path q.path below)))
-      ∙ not_before_below pre r rs parts.1
-    where
-      greater_is_not_less : Greater ≡ Less → ⊥
-      greater_is_not_less e = cc
-
-  order-right : (pre rs : List DumpRecord) → IsInOrder (seen h (pre ++ rs)) → IsInOrder (seen h rs)
-  order-right [] rs order = order
-  order-right (q ∷ pre) rs order = order-right pre rs (and_parts (below_all path_cmp q.path (seen h (pre ++ rs))) (is_sorted path_cmp (seen h (pre ++ rs))) order).1
-
-  not_below_itself : (p : PathOf) → is_below p p ≡ false
-  not_below_itself p = false_from (is_below p p) (λ below. equal_is_not_less (sym (tied_itself path_total p) ∙ below_less p p below))
-    where
-      equal_is_not_less : Equal ≡ Less → ⊥
-      equal_is_not_less e = cc
+  -- another record lies below a record exactly if the next one in path order does
+  next_tells : (pre : List DumpRecord) (r : DumpRecord) (rs : List DumpRecord) → IsInOrder (seen h (pre ++ r ∷ rs)) → next_below r.path rs ≡ has_below (pre ++ r ∷ rs) r.path
+  next_tells pre r rs order =
+      let parts : seen h (pre ++ r ∷ rs) ≡ seen h pre ++ (r.path, h r) ∷ seen h rs = map-append (λ (s : DumpRecord). (s.path, h s)) pre (r ∷ rs) in
+      sym (next_seen h rs r.path)
+      ∙ told_by_next (seen h pre) (r.path, h r) (seen h rs) (subst IsInOrder parts order)
+      ∙ ap (λ es. holds_below es r.path) (sym parts)
+      ∙ below_seen h (pre ++ r ∷ rs) r.path
 
   by_next : (pre rs : List DumpRecord) → IsInOrder (seen h (pre ++ rs)) → files_from rs ≡ as_files (pre ++ rs) rs
   by_next pre [] order = refl
   by_next pre (r ∷ rs) order =
-      let here = order-right pre (r ∷ rs) order in
-      let parts = and_parts (below_all path_cmp r.path (seen h rs)) (is_sorted path_cmp (seen h rs)) here in
-      let same : next_below r.path rs ≡ has_below (pre ++ r ∷ rs) r.path =
-      sym (list_any-append (λ s. is_below r.path s.path) pre (r ∷ rs)
-      ∙ ap (λ b. b || (is_below r.path r.path || has_below rs r.path)) (not_before_below pre r rs order)
-      ∙ ap (λ b. b || has_below rs r.path) (not_below_itself r.path)
-      ∙ below_next r.path rs parts.0 parts.1)
-      in
       let moved : pre ++ r ∷ rs ≡ (pre ++ r ∷ []) ++ rs = sym (append_assoc pre (r ∷ []) rs) in
-      ap (λ b. (r.path, node_of b r) ∷ files_from rs) same
+      ap (λ b. (r.path, node_of b r) ∷ files_from rs) (next_tells pre r rs order)
       ∙ ap (λ l. (r.path, node_of (has_below (pre ++ r ∷ rs) r.path) r) ∷ l) (by_next (pre ++ r ∷ []) rs (subst (λ l. IsInOrder (seen h l)) moved order) ∙ ap (λ l. as_files l rs) (sym moved))
 
 -- the files by what follows each, in path order

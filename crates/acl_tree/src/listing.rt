@@ -1,13 +1,16 @@
 //! The files of a command, for those who list them.
 
-ghost use Rattle.std.specs.Prelude.{◌≡◌, ◌≢◌, ◌++◌, ◌∷◌, [], map, filter, None, IfOk, IfErr, OnOk};
-ghost use Rattle.std.specs.List.{list_any};
-ghost use Rattle.acl_tree.specs.Operands.{means, first_missing, files_meant, IsMissing};
+ghost use Rattle.std.specs.Prelude.{◌≡◌, ◌≢◌, ◌++◌, ◌∷◌, [], map, None, IfOk, IfErr, OnOk, if◌then◌else◌};
+ghost use Rattle.std.specs.List.{flat_map};
+ghost use Rattle.acl_tree.specs.Found.{files_found, found_file, next_file_below, found_by_next};
+ghost use Rattle.acl_tree.specs.Operands.{is_file, first_missing, IsMissing};
 ghost use Rattle.acl_tree.specs.declared.command.TreeFault.TheVariants.{NoMemory};
 
+use crate::below::is_below;
 use crate::changing::look_up;
 use crate::chunk::Chunk;
 use crate::command::{Paths, TreeFault};
+use crate::found::Found;
 use crate::operands::{is_file, near};
 use crate::record::Record;
 use crate::tree::Tree;
@@ -15,69 +18,98 @@ use acl_names::Path;
 use std::alloc::{AllocError, Global};
 use std::rc::Rc;
 
+/// Whether the first file of chunks lies below a path.
+fn begins_below(path: &Path, chunks: &[Rc<Chunk>]) -> bool
+    ensures { result ≡ next_file_below path.now (flat_map (λ c. c.value) chunks.now) }
+{
+    match chunks {
+        [] => false,
+        [chunk, ..] => is_below(path, chunk.first()),
+    }
+}
+
+/// Whether the next file in path order lies below a path: it stands in the same chunk, or begins the next.
+fn next_below(path: &Path, following: &[Rc<Record>], after: &[Rc<Chunk>]) -> bool
+    ensures { result ≡ next_file_below path.now (map (λ r. r.value) following.now ++ flat_map (λ c. c.value) after.now) }
+{
+    match following {
+        [] => begins_below(path, after),
+        [next, ..] => is_below(path, next.path()),
+    }
+}
+
 fn add_record(
-    files: &mut Vec<Rc<Record>>,
+    files: &mut Vec<Found>,
     file: &Rc<Record>,
+    following: &[Rc<Record>],
+    after: &[Rc<Chunk>],
     operands: &[&Path],
     recursive: bool,
 ) -> Result<(), AllocError>
-    ensures { OnOk result (map (λ r. r.value) files.new.items ≡ map (λ r. r.value) files.old.items ++ filter (λ e. list_any (λ p. means recursive p.now e.0) operands.now) (file.now.value ∷ [])) }
+    ensures { OnOk result (files.new.items ≡ files.old.items ++ (if is_file recursive (map (λ p. p.now) operands.now) file.now.value.0 then found_file (next_file_below file.now.value.0 (map (λ r. r.value) following.now ++ flat_map (λ c. c.value) after.now)) file.now.value ∷ [] else [])) }
 {
     if is_file(recursive, operands, file.path()) {
-        files.push(file.clone()?)?;
+        let has_below = next_below(file.path(), following, after);
+        files.push(Found::new(file.clone()?, has_below))?;
     }
     Ok(())
 }
 
 fn add_records(
-    files: &mut Vec<Rc<Record>>,
+    files: &mut Vec<Found>,
     records: &[Rc<Record>],
+    after: &[Rc<Chunk>],
     operands: &[&Path],
     recursive: bool,
 ) -> Result<(), AllocError>
-    ensures { OnOk result (map (λ r. r.value) files.new.items ≡ map (λ r. r.value) files.old.items ++ filter (λ e. list_any (λ p. means recursive p.now e.0) operands.now) (map (λ r. r.value) records.now)) }
+    ensures { OnOk result (files.new.items ≡ files.old.items ++ found_by_next (is_file recursive (map (λ p. p.now) operands.now)) (map (λ r. r.value) records.now) (flat_map (λ c. c.value) after.now)) }
 {
-    for file in records {
-        add_record(files, file, operands, recursive)?;
+    let mut rest = records;
+    while let [first, following @ ..] = rest {
+        add_record(files, first, following, after, operands, recursive)?;
+        rest = following;
     }
     Ok(())
 }
 
 fn add_chunk(
     alloc: Global,
-    files: &mut Vec<Rc<Record>>,
+    files: &mut Vec<Found>,
     chunk: &Chunk,
+    after: &[Rc<Chunk>],
     operands: &[Path],
     recursive: bool,
 ) -> Result<(), AllocError>
-    ensures { OnOk result (map (λ r. r.value) files.new.items ≡ map (λ r. r.value) files.old.items ++ files_meant recursive operands.now chunk.now) }
+    ensures { OnOk result (files.new.items ≡ files.old.items ++ found_by_next (is_file recursive operands.now) chunk.now (flat_map (λ c. c.value) after.now)) }
 {
     let near = near(alloc, operands, chunk.first(), chunk.last())?;
     if near.is_empty() {
         return Ok(());
     }
-    add_records(files, chunk.records(), &near, recursive)?;
+    add_records(files, chunk.records(), after, &near, recursive)?;
     Ok(())
 }
 
-fn files_meant(
+fn files_found(
     tree: &Tree,
     alloc: Global,
     operands: &[Path],
     recursive: bool,
-) -> Result<Vec<Rc<Record>>, AllocError>
-    ensures { IfOk result (λ files. map (λ r. r.value) files.items ≡ files_meant recursive operands.now tree.now.files) }
+) -> Result<Vec<Found>, AllocError>
+    ensures { IfOk result (λ files. files.items ≡ files_found recursive operands.now tree.now.files) }
 {
     let mut files = Vec::new(alloc);
-    for chunk in tree.chunks() {
-        add_chunk(alloc, &mut files, chunk, operands, recursive)?;
+    let mut rest = tree.chunks();
+    while let [chunk, after @ ..] = rest {
+        add_chunk(alloc, &mut files, chunk, after, operands, recursive)?;
+        rest = after;
     }
     Ok(files)
 }
 
 impl Tree {
     /// The files of a command: its operands, and with `recursive` all files below them, each once, in path
-    /// order.
+    /// order, each with whether another recorded file lies below it.
     ///
     /// # Errors
     ///
@@ -87,12 +119,12 @@ impl Tree {
         alloc: Global,
         paths: &Paths,
         recursive: bool,
-    ) -> Result<Vec<Rc<Record>>, TreeFault>
-        ensures all { IfOk result (λ files. map (λ r. r.value) files.items ≡ files_meant recursive paths.now self.now.files) }
+    ) -> Result<Vec<Found>, TreeFault>
+        ensures all { IfOk result (λ files. files.items ≡ files_found recursive paths.now self.now.files) }
         ensures there { OnOk result (first_missing paths.now self.now.files ≡ None) }
         ensures told { IfErr result (λ fault. fault ≢ NoMemory → IsMissing fault (first_missing paths.now self.now.files)) }
     {
         look_up(self, alloc, paths.as_slice())?;
-        Ok(files_meant(self, alloc, paths.as_slice(), recursive)?)
+        Ok(files_found(self, alloc, paths.as_slice(), recursive)?)
     }
 }

@@ -1,8 +1,7 @@
 //! The files that a command's operands mean.
 
 ghost use Rattle.std.specs.Prelude.{◌≡◌, map, filter, IfOk};
-ghost use Rattle.std.specs.List.{list_any};
-ghost use Rattle.acl_tree.specs.Operands.{means, is_near};
+ghost use Rattle.acl_tree.specs.Operands.{means, is_file, is_near};
 
 use crate::below::is_within;
 use acl_names::Path;
@@ -22,11 +21,14 @@ fn means(recursive: bool, operand: &Path, path: &Path) -> bool
 
 /// Whether a file is one of a command's.
 pub(crate) fn is_file(recursive: bool, operands: &[&Path], path: &Path) -> bool
-    ensures { result ≡ list_any (λ p. means recursive p.now path.now) operands.now }
+    ensures { result ≡ is_file recursive (map (λ p. p.now) operands.now) path.now }
 {
-    operands
-        .iter()
-        .any(|operand| means(recursive, operand, path))
+    for operand in operands {
+        if means(recursive, operand, path) {
+            return true;
+        }
+    }
+    false
 }
 
 fn is_near(first: &Path, last: &Path, operand: &Path) -> bool

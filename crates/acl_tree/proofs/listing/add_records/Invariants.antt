@@ -1,8 +1,13 @@
-use Rattle.std.proofs.Common.{◌≡◌, ◌++◌, map, filter, take}
-use Rattle.std.specs.List.{list_any}
-use Rattle.acl_tree.specs.Operands.{means}
+use Rattle.std.proofs.Common.{◌≡◌, ◌++◌, map, length}
+use Rattle.std.specs.List.{flat_map}
+use Rattle.acl_tree.specs.Operands.{is_file}
+use Rattle.acl_tree.specs.Found.{found_by_next}
 use Rattle.acl_tree.proofs.listing.add_records.Given as goal
 
-abbrev pub invariant-loop-file : goal.invariant-loop-file
-invariant-loop-file l =
-    map (λ r. r.value) l.files.items ≡ map (λ r. r.value) l.fn.files.items ++ filter (λ e. list_any (λ p. means l.recursive p.now e.0) l.operands) (map (λ r. r.value) (take l.file-index l.records))
+abbrev pub invariant-loop-rest : goal.invariant-loop-rest
+invariant-loop-rest l =
+    l.files.items ++ found_by_next (is_file l.recursive (map (λ p. p.now) l.operands)) (map (λ r. r.value) l.rest) (flat_map (λ c. c.value) l.after)
+    ≡ l.fn.files.items ++ found_by_next (is_file l.recursive (map (λ p. p.now) l.operands)) (map (λ r. r.value) l.records) (flat_map (λ c. c.value) l.after)
+
+abbrev pub decreases-loop-rest : goal.decreases-loop-rest
+decreases-loop-rest l = length l.rest

@@ -1,0 +1,56 @@
+-- What a run writes.
+use Rattle.std.specs.Prelude.{◌≡◌, ◌≤◌, ℕ, Bool, true, false, List, Option, Result, Ok, Err, ◌⊎◌, length, IfSome}
+use Rattle.acl_tree.specs.Step.{State}
+use Rattle.facl_script.specs.Play.{session}
+use Rattle.facl_script.specs.Run.{StopsWith}
+use Rattle.facl_script.specs.Write.{Writes}
+use Rattle.facl_script.specs.declared.fault.ScriptFault.{ScriptFault}
+use Rattle.facl_script.specs.declared.source.TheConstants.{SCRIPT_LIMIT}
+use Rattle.facl_script.specs.declared.fault.ScriptFault.TheVariants as scripts
+use Rattle.facl_messages.specs.declared.fault.RunFault.{RunFault}
+use Rattle.facl_messages.specs.declared.fault.RunFault.TheVariants.{Read, Write, Setup, ScriptTooLong, NoMemory}
+use Rattle.facl.specs.declared.status.Status.{Status}
+use Rattle.facl.specs.declared.status.Status.TheVariants.{Accepted, Refused}
+use Rattle.facl.specs.Tools.{Verdict}
+use Rattle.facl.specs.Units.{answered}
+
+-- a line was refused
+abbrev pub has_refused : Status → Bool
+has_refused Accepted = false
+has_refused Refused = true
+
+-- The whole script was answered, for some units that wanted memory: out and err grew by what they do in turn.
+pub record Answers (verdict : Verdict) (start : State) (script : List ℕ) (status : Status) (out out' err err' : Option (List ℕ)) : Type 0 where
+  pub m : ℕ → Bool
+  pub within : length script ≤ SCRIPT_LIMIT
+  pub writes : Writes out out' err err' (session (answered verdict) m script start).out (session (answered verdict) m script start).err
+  pub status_is : has_refused status ≡ (session (answered verdict) m script start).refused
+
+-- The run began at this state, and answered the whole script.
+pub record RunsTo (verdict : Verdict) (begun : Result State RunFault) (script : List ℕ) (status : Status) (out out' err err' : Option (List ℕ)) : Type 0 where
+  pub start : State
+  pub starts : begun ≡ Ok start
+  pub answers : Answers verdict start script status out out' err err'
+
+-- nothing was read and nothing written
+pub record IsUntouched (remaining remaining' out out' err err' : Option (List ℕ)) : Type 0 where
+  pub reads : remaining' ≡ remaining
+  pub writes_out : out' ≡ out
+  pub writes_err : err' ≡ err
+
+-- The run began at this state, and its script stopped so.
+pub record Stops (fault : ScriptFault) (verdict : Verdict) (begun : Result State RunFault) (remaining remaining' out out' err err' : Option (List ℕ)) : Type 0 where
+  pub start : State
+  pub starts : begun ≡ Ok start
+  pub state : State
+  pub stops : IfSome remaining (λ script. StopsWith fault (answered verdict) start script state 0 0 remaining' out out' err err')
+
+-- How a run that answers a fault has ended. Before the script nothing is read or written.
+abbrev pub EndsBy : RunFault → Verdict → Result State RunFault → (remaining remaining' out out' err err' : Option (List ℕ)) → Type 0
+EndsBy (Setup which fault) verdict begun remaining remaining' out out' err err' =
+    (begun ≡ Err (Setup which fault)) × IsUntouched remaining remaining' out out' err err'
+EndsBy NoMemory verdict begun remaining remaining' out out' err err' =
+    IsUntouched remaining remaining' out out' err err' ⊎ Stops scripts.NoMemory verdict begun remaining remaining' out out' err err'
+EndsBy Read verdict begun remaining remaining' out out' err err' = Stops scripts.Read verdict begun remaining remaining' out out' err err'
+EndsBy Write verdict begun remaining remaining' out out' err err' = Stops scripts.Write verdict begun remaining remaining' out out' err err'
+EndsBy ScriptTooLong verdict begun remaining remaining' out out' err err' = Stops scripts.TooLong verdict begun remaining remaining' out out' err err'

@@ -1,0 +1,31 @@
+-- What a contract sees of a session: its state, and what the last line says.
+use Rattle.std.specs.Prelude.{◌≡◌, ℕ, Bool, true, false, if◌then◌else◌, List, []}
+use Rattle.acl_tree.specs.Step.{State}
+use Rattle.facl_script.specs.Play.{Answer}
+use Rattle.facl.specs.declared.session.Facl.{Facl}
+
+abbrev pub state_of : Facl → State
+state_of f = f.state
+
+abbrev pub out_of : Facl → List ℕ
+out_of f = f.out.items
+
+-- the last line found no memory
+abbrev pub wants_memory : Facl → Bool
+wants_memory f = f.lacks_memory
+
+abbrev pub err_of : Facl → List ℕ
+err_of f = if f.lacks_memory then f.spare else f.err.items
+
+-- nothing is said yet
+pub record IsQuiet (f : Facl) : Type 0 where
+  pub out : f.out.items ≡ []
+  pub err : f.err.items ≡ []
+  pub memory : f.lacks_memory ≡ false
+
+-- the session is at the state of the answer, and says what it says
+pub record Says (a : Answer State) (f : Facl) (is_refused : Bool) : Type 0 where
+  pub state : state_of f ≡ a.state
+  pub out : out_of f ≡ a.out
+  pub err : err_of f ≡ a.err
+  pub refused : is_refused ≡ a.refused

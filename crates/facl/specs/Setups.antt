@@ -1,0 +1,35 @@
+-- What stands before the first line of a script.
+use Rattle.std.specs.Prelude.{ℕ, List, Option, None, Some, option_map, Result, Ok, Err}
+use Rattle.acl_people.specs.Registers.{nobody}
+use Rattle.acl_tree.specs.declared.command.Table.{Table}
+use Rattle.acl_tree.specs.declared.command.Table.TheVariants.{Passwd, Group, Dump}
+use Rattle.acl_tree.specs.declared.command.TreeFault.{TreeFault}
+use Rattle.acl_tree.specs.Files.{no_files}
+use Rattle.acl_tree.specs.Step.{State, load}
+use Rattle.facl_messages.specs.declared.fault.RunFault.{RunFault}
+use Rattle.facl_messages.specs.declared.fault.RunFault.TheVariants as runs
+use Rattle.facl.specs.declared.setup.Setup.{Setup}
+use Rattle.facl.specs.Replies.{after}
+
+-- nobody is known, and no file
+abbrev pub nothing : State
+nothing = record { tree = no_files; people = nobody }
+
+abbrev pub set_up : Table → Result State TreeFault → Result State RunFault
+set_up which (Ok s) = Ok s
+set_up which (Err fault) = Err (runs.Setup which fault)
+
+-- the state after a text is loaded, if there is one
+abbrev pub with_text : Table → Option (List ℕ) → State → Result State RunFault
+with_text which None s = Ok s
+with_text which (Some text) s = set_up which (load s which text)
+
+-- a text, if it is there
+abbrev pub text_of : Option (Ref (List ℕ)) → Option (List ℕ)
+text_of text = option_map (λ t. t.now) text
+
+-- the state once the texts that are there are loaded one after another, or the first fault
+abbrev pub begun : Setup → Result State RunFault
+begun setup =
+    after (with_text Passwd (text_of setup.passwd) nothing)
+    (λ s. after (with_text Group (text_of setup.group) s) (λ t. with_text Dump (text_of setup.dump) t))

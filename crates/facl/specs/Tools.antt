@@ -1,0 +1,103 @@
+-- What each tool does, by the words that it was given.
+use Rattle.std.specs.Prelude.{ℕ, ◌+◌, ◌*◌, ◌-◌, List, [], ◌∷◌, Bool, true, false, if◌then◌else◌, codes, Result, Ok, Err}
+use Rattle.std.specs.Str.{bytes_eq}
+use Rattle.acl_entry.specs.Person.{Person}
+use Rattle.acl_entry.specs.declared.label.Label.{Label}
+use Rattle.acl_dump.specs.declared.effective.Effective.{Effective}
+use Rattle.acl_dump.specs.declared.effective.Effective.TheVariants.{WhereMasked, Always, Never}
+use Rattle.acl_tree.specs.declared.command.Command.TheVariants.{Chmod}
+use Rattle.acl_tree.specs.declared.command.Table.{Table}
+use Rattle.acl_tree.specs.declared.command.Table.TheVariants.{Passwd, Group, Dump}
+use Rattle.acl_tree.specs.Operands.{first_missing}
+use Rattle.acl_people.specs.Registers.{Register, users_of, groups_of}
+use Rattle.acl_people.specs.Rolls.{name_shown}
+use Rattle.acl_tree.specs.Found.{FoundFile, files_found}
+use Rattle.acl_tree.specs.Step.{State, load, step}
+use Rattle.facl_words.specs.Forms.{Text}
+use Rattle.facl_words.specs.Places.{has, operand, operands_from}
+use Rattle.facl_words.specs.declared.tool.Tool.{Tool}
+use Rattle.facl_words.specs.declared.tool.Tool.TheVariants as tools
+use Rattle.facl_words.specs.declared.words.Words.{Words}
+use Rattle.facl_messages.specs.declared.fault.LineFault.{LineFault}
+use Rattle.facl_messages.specs.declared.fault.LineFault.TheVariants.{UnknownTool}
+use Rattle.facl_listings.specs.declared.options.Options.{Options}
+use Rattle.facl_listings.specs.Listings.{listing}
+use Rattle.facl_listings.specs.Requests.{requests_line}
+use Rattle.facl.specs.Replies.{Reply, after, changed, printed}
+use Rattle.facl.specs.Operands.{path_at, paths_from, name_meant, user_or_fault, file_or_fault, recorded_or_fault}
+
+-- who may do what with which files: what an access check grants
+abbrev pub Verdict : Type 0
+Verdict = Person → Label → ℕ
+
+-- ---- load
+
+abbrev pub table_named : Text → Table
+table_named name = if bytes_eq name (codes "passwd") then Passwd else if bytes_eq name (codes "group") then Group else Dump
+
+abbrev pub load_line : State → Words → List ℕ → Result Reply LineFault
+load_line s w text = changed (load s (table_named (operand tools.Load w (codes "table"))) text)
+
+-- ---- chmod(1)
+
+-- the number that octal digits write after those of a number
+abbrev pub octal_after : ℕ → Text → ℕ
+octal_after n [] = n
+octal_after n (digit ∷ digits) = octal_after (8 * n + (digit - 48)) digits
+
+abbrev pub mode_of : Text → ℕ
+mode_of digits = octal_after 0 digits
+
+abbrev pub chmod_line : State → Words → Result Reply LineFault
+chmod_line s w =
+    after (paths_from 1 (operands_from tools.Chmod w (codes "file")))
+    (λ paths. changed (step s (Chmod paths (mode_of (operand tools.Chmod w (codes "mode"))) (has tools.Chmod w (codes "R")))))
+
+-- ---- getfacl(1)
+
+abbrev pub effective_for : Bool → Bool → Effective
+effective_for always never = if always then Always else if never then Never else WhereMasked
+
+abbrev pub options_of : Words → Options
+options_of w = record {
+  access_only = has tools.Getfacl w (codes "access");
+  omit_header = has tools.Getfacl w (codes "omit-header");
+  effective = effective_for (has tools.Getfacl w (codes "all-effective")) (has tools.Getfacl w (codes "no-effective"));
+  skip_base = has tools.Getfacl w (codes "skip-base");
+  numeric = has tools.Getfacl w (codes "numeric");
+}
+
+-- ids print as the names that these people have
+abbrev pub named_listing : Register → Options → List FoundFile → List ℕ
+named_listing known options files = listing (λ id. name_shown id (users_of known)) (λ id. name_shown id (groups_of known)) options files
+
+abbrev pub getfacl_line : State → Words → Result Reply LineFault
+getfacl_line s w =
+    after (paths_from 1 (operands_from tools.Getfacl w (codes "file")))
+    (λ paths. recorded_or_fault (first_missing paths s.tree.files)
+    (printed s (named_listing s.people (options_of w) (files_found (has tools.Getfacl w (codes "recursive")) paths s.tree.files))))
+
+-- ---- can
+
+abbrev pub can_line : Verdict → State → Words → Result Reply LineFault
+can_line verdict s w =
+    after (path_at 1 (operand tools.Can w (codes "file")))
+    (λ path. after (user_or_fault s.people (name_meant (operand tools.Can w (codes "user"))))
+    (λ user. after (file_or_fault s.tree.files path) (λ node. Ok (printed s (requests_line (verdict user node.label))))))
+
+-- ---- all tools
+
+-- the tools that a script may use
+abbrev pub is_served : Tool → Bool
+is_served tools.Load = true
+is_served tools.Getfacl = true
+is_served tools.Chmod = true
+is_served tools.Can = true
+is_served _ = false
+
+abbrev pub tool_line : Verdict → State → Tool → Words → List ℕ → Result Reply LineFault
+tool_line verdict s tools.Load w text = load_line s w text
+tool_line verdict s tools.Getfacl w text = getfacl_line s w
+tool_line verdict s tools.Chmod w text = chmod_line s w
+tool_line verdict s tools.Can w text = can_line verdict s w
+tool_line verdict s _ w text = Err UnknownTool

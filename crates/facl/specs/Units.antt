@@ -1,0 +1,92 @@
+-- What a unit of a script does: a line, with its text if it takes one.
+use Rattle.std.specs.Prelude.{ℕ, Bool, true, false, if◌then◌else◌, List, [], ◌∷◌, Option, None, Some, Result, Ok, Err, option_and_then}
+use Rattle.facl_script.specs.Play.{Answer, quiet}
+use Rattle.facl_script.specs.Units.{ScriptUnit, UnitText, none, whole, too_long, unended}
+use Rattle.facl_script.specs.Words.{says_nothing, line_words}
+use Rattle.facl_script.specs.declared.words.SplitFault.{SplitFault}
+use Rattle.facl_words.specs.Forms.{Text}
+use Rattle.facl_words.specs.Tools.{tool_named}
+use Rattle.facl_words.specs.Words.{words_for}
+use Rattle.facl_words.specs.declared.tool.Tool.{Tool}
+use Rattle.facl_words.specs.declared.words.Words.{Words}
+use Rattle.acl_tree.specs.Step.{State}
+use Rattle.facl_messages.specs.Faults.{line_fault_of_split}
+use Rattle.facl_messages.specs.Messages.{message}
+use Rattle.facl_messages.specs.declared.fault.LineFault.{LineFault}
+use Rattle.facl_messages.specs.declared.fault.LineFault.TheVariants.{LineTooLong, UnknownTool, UnendedText, TextLineTooLong, Usage, NoMemory}
+use Rattle.facl.specs.Replies.{Reply, after, or_fault, printed}
+use Rattle.facl.specs.Tools.{Verdict, is_served, tool_line}
+
+-- a line that is blank or a comment, as far as it is within the limit
+abbrev pub is_silent : Option (List ℕ) → Bool
+is_silent None = false
+is_silent (Some line) = says_nothing line
+
+-- ---- what a line asks for
+
+abbrev pub split : Result (List Text) SplitFault → Result (List Text) LineFault
+split (Ok words) = Ok words
+split (Err fault) = Err (line_fault_of_split fault)
+
+-- the words of a line, or what is wrong with it as a line
+abbrev pub words_said : Option (List ℕ) → Result (List Text) LineFault
+words_said line = after (or_fault LineTooLong line) (λ text. split (line_words text))
+
+abbrev pub if_served : Tool → Option Tool
+if_served tool = if is_served tool then Some tool else None
+
+-- the tool of a name
+abbrev pub tool_or_fault : Text → Result Tool LineFault
+tool_or_fault name = or_fault UnknownTool (option_and_then if_served (tool_named name))
+
+-- the text of a line, which is empty where it takes none
+abbrev pub text_or_fault : UnitText → Result (List ℕ) LineFault
+text_or_fault none = Ok []
+text_or_fault (whole text) = Ok text
+text_or_fault too_long = Err TextLineTooLong
+text_or_fault unended = Err UnendedText
+
+abbrev pub words_or_fault : Tool → List Text → Result Words LineFault
+words_or_fault tool words = or_fault Usage (words_for tool words)
+
+-- ---- what is answered
+
+-- what the words of a line do at a state: its reply, or its first fault
+abbrev pub reply : Verdict → State → UnitText → List Text → Result Reply LineFault
+reply verdict s text [] = Ok (printed s [])
+reply verdict s text (name ∷ words) =
+    after (tool_or_fault name)
+    (λ tool. after (text_or_fault text)
+    (λ said. after (words_or_fault tool words) (λ w. tool_line verdict s tool w said)))
+
+-- a refused line leaves the state, and its message names its number, its tool and the fault
+abbrev pub refused : ℕ → Text → LineFault → State → Answer State
+refused number tool fault s = record { out = []; err = message number tool fault; state = s; refused = true; cost = 0 }
+
+abbrev pub accepted : Reply → Answer State
+accepted r = record { out = r.out; err = []; state = r.state; refused = false; cost = 0 }
+
+abbrev pub told : ℕ → Text → State → Result Reply LineFault → Answer State
+told number tool s (Ok r) = accepted r
+told number tool s (Err fault) = refused number tool fault s
+
+-- the first word, which names the tool
+abbrev pub tool_word : List Text → Text
+tool_word [] = []
+tool_word (name ∷ words) = name
+
+abbrev pub told_of_words : Verdict → ScriptUnit → State → Result (List Text) LineFault → Answer State
+told_of_words verdict u s (Ok words) = told u.number (tool_word words) s (reply verdict s u.text words)
+told_of_words verdict u s (Err fault) = refused u.number [] fault s
+
+-- a line that wants memory is refused with that message
+abbrev pub unless_wanting : Bool → ℕ → State → Answer State → Answer State
+unless_wanting wants number s a = if wants then refused number [] NoMemory s else a
+
+-- a line that says something is refused with its first fault, or does what it asks for
+abbrev pub answered_line : Verdict → Bool → ScriptUnit → State → Answer State
+answered_line verdict wants u s = unless_wanting wants u.number s (told_of_words verdict u s (words_said u.line))
+
+-- what a unit does at a state: nothing where it says nothing
+abbrev pub answered : Verdict → Bool → ScriptUnit → State → Answer State
+answered verdict wants u s = if is_silent u.line then quiet s else answered_line verdict wants u s

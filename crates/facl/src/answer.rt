@@ -1,0 +1,38 @@
+//! Lines are answered one by one.
+
+ghost use Rattle.std.specs.Prelude.{◌≡◌};
+ghost use Rattle.acl_entry.specs.Check.{rights};
+ghost use Rattle.facl.specs.Units.{answered};
+ghost use Rattle.facl.specs.Sessions.{state_of, out_of, err_of};
+
+use crate::session::Facl;
+use crate::state::State;
+use facl_script::{Session, UnitFound, says_nothing};
+
+impl Session for Facl {
+    type State = State;
+
+    ghost state = { state_of };
+
+    ghost answered = { answered rights };
+
+    ghost to_out = { out_of };
+
+    ghost to_err = { err_of };
+
+    fn answer(&mut self, unit: &UnitFound, line: &[u8], text: &[u8]) -> bool {
+        self.fall_silent();
+        if !unit.is_too_long && says_nothing(line) {
+            return false;
+        }
+        self.answer_line(unit, line, text)
+    }
+
+    fn out(&self) -> &[u8] {
+        self.printed()
+    }
+
+    fn err(&self) -> &[u8] {
+        self.message()
+    }
+}

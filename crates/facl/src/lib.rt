@@ -1,0 +1,30 @@
+//! A script of access control list tools over a tree of files: what is printed, and what it says of each line.
+//!
+//! [`run`] loads three texts, answers a script line by line, and writes what each line prints. Its contract is the
+//! whole: what is written are the bytes of a session made from scratch.
+#![tactic(auto)]
+
+mod answer;
+mod can;
+mod change;
+mod chmod;
+mod getfacl;
+mod line;
+mod load;
+mod operands;
+mod program;
+mod effect;
+mod session;
+mod setup;
+mod state;
+mod status;
+mod tools;
+
+pub use facl_messages::{LineFault, RunFault, Source, append_message, append_run_fault};
+pub use facl_script::{Feed, Sink, StdFeed, StdSink};
+pub use facl_words::{
+    Flags, Operands, Tool, Values, Word, Words, WordsFault, places, read_args, read_words,
+};
+pub use program::run;
+pub use setup::Setup;
+pub use status::Status;

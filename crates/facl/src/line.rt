@@ -1,0 +1,84 @@
+//! A line of a script: its words, its tool, its text, and what they do.
+
+ghost use Rattle.std.specs.Prelude.{◌≡◌, ℕ, List, Option, map, string_bytes};
+ghost use Rattle.acl_entry.specs.Check.{rights};
+ghost use Rattle.facl_script.specs.Units.{UnitText};
+ghost use Rattle.facl_script.specs.ReadText.{IsTextFound};
+ghost use Rattle.facl_script.specs.ReadUnit.{IsLineFound};
+ghost use Rattle.facl.specs.Replies.{Gives, left};
+ghost use Rattle.facl.specs.Units.{words_said, tool_or_fault, text_or_fault, words_or_fault, reply, tool_word};
+
+use crate::effect::Effect;
+use crate::state::State;
+use crate::tools::{is_served, tool_line};
+use facl_messages::LineFault;
+use facl_script::{TextFound, UnitFound, split_words};
+use facl_words::{Tool, read_words};
+use std::alloc::Global;
+
+/// The words of a line.
+pub(crate) fn words_said(
+    alloc: Global,
+    is_too_long: bool,
+    line: &[u8],
+) -> Result<Vec<String>, LineFault>
+    ensures { (said : Option (List ℕ)) → IsLineFound is_too_long line.now said
+        → Gives (λ words. map string_bytes words.items) result (words_said said) }
+{
+    if is_too_long {
+        return Err(LineFault::LineTooLong);
+    }
+    Ok(split_words(alloc, line)?)
+}
+
+fn tool_meant(name: &str) -> Result<Tool, LineFault>
+    ensures { result ≡ tool_or_fault name.now }
+{
+    match Tool::named(name) {
+        Some(tool) if is_served(tool) => Ok(tool),
+        _ => Err(LineFault::UnknownTool),
+    }
+}
+
+/// The text of a line.
+fn text_said(found: TextFound, text: &[u8]) -> Result<&[u8], LineFault>
+    ensures { (said : UnitText) → IsTextFound found text.now said → Gives (λ t. t.now) result (text_or_fault said) }
+{
+    match found {
+        TextFound::Absent => Ok(b""),
+        TextFound::Whole => Ok(text),
+        TextFound::TooLong => Err(LineFault::TextLineTooLong),
+        TextFound::Unended => Err(LineFault::UnendedText),
+        TextFound::Lost => Err(LineFault::NoMemory),
+    }
+}
+
+/// The first word, which names the tool.
+pub(crate) fn tool_word(words: &[String]) -> &[u8]
+    ensures { result.now ≡ tool_word (map string_bytes words.now) }
+{
+    match words {
+        [name, ..] => name.as_bytes(),
+        [] => b"",
+    }
+}
+
+/// What the words of a line do at a state.
+pub(crate) fn reply(
+    alloc: Global,
+    state: &State,
+    found: TextFound,
+    text: &[u8],
+    words: &[String],
+) -> Result<Effect, LineFault>
+    ensures { (said : UnitText) → IsTextFound found text.now said
+        → Gives (left state.now) result (reply rights state.now said (map string_bytes words.now)) }
+{
+    let [name, words @ ..] = words else {
+        return Ok(Effect::Prints(Vec::new(alloc)));
+    };
+    let tool = tool_meant(name)?;
+    let text = text_said(found, text)?;
+    let words = read_words(alloc, tool, words)?;
+    tool_line(alloc, state, tool, &words, text)
+}

@@ -1,0 +1,42 @@
+//! The tool `load`: a text is read as users, groups or files.
+
+ghost use Rattle.std.specs.Prelude.{◌≡◌, codes};
+ghost use Rattle.facl_words.specs.Places.{operand};
+ghost use Rattle.facl_words.specs.declared.tool.Tool.TheVariants as tools;
+ghost use Rattle.facl.specs.Replies.{Gives, left};
+ghost use Rattle.facl.specs.Tools.{table_named, load_line};
+
+use crate::change::prepare;
+use crate::effect::Effect;
+use crate::state::State;
+use acl_tree::{Command, Table};
+use facl_messages::LineFault;
+use facl_words::Words;
+use facl_words::places::load::TABLE;
+use std::alloc::Global;
+
+fn table_named(name: &str) -> Table
+    ensures { result ≡ table_named name.now }
+{
+    match name {
+        "passwd" => Table::Passwd,
+        "group" => Table::Group,
+        _ => Table::Dump,
+    }
+}
+
+/// Loads the text of a line.
+pub(crate) fn load(
+    alloc: Global,
+    state: &State,
+    words: &Words,
+    text: &[u8],
+) -> Result<Effect, LineFault>
+    ensures { Gives (left state.now) result (load_line state.now words.now text.now) }
+{
+    let command = Command::Load {
+        which: table_named(words.operands.get(TABLE)),
+        bytes: Vec::from_slice(alloc, text)?,
+    };
+    prepare(alloc, state, &command)
+}

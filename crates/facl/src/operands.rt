@@ -1,0 +1,74 @@
+//! The operands of a line: files and users.
+
+ghost use Rattle.std.specs.Prelude.{◌≡◌, option_map};
+ghost use Rattle.facl.specs.Replies.{Gives};
+ghost use Rattle.facl.specs.Operands.{path_at, paths_from, name_meant, user_of, user_or_fault, file_or_fault};
+
+use acl_edit::Node;
+use acl_entry::Subject;
+use acl_names::{Path, read_name, read_path};
+use acl_people::People;
+use acl_text::{FaultKind, TextFault, trim};
+use acl_tree::{Paths, Tree, TreeFault};
+use facl_messages::{LineFault, Source};
+use facl_words::Word;
+use std::alloc::Global;
+
+/// The path of the operand at a place, counted from 1.
+pub(crate) fn path_at(alloc: Global, at: usize, word: &str) -> Result<Path, LineFault>
+    ensures { Gives (λ path. path) result (path_at at word.now) }
+{
+    match read_path(alloc, word.as_bytes())? {
+        Some(path) => Ok(path),
+        None => Err(LineFault::Text(
+            Source::Operand,
+            TextFault {
+                kind: FaultKind::BadPath,
+                at,
+            },
+        )),
+    }
+}
+
+/// The paths of the FILE operands of a line.
+pub(crate) fn paths_of(alloc: Global, words: &[Word]) -> Result<Paths, LineFault>
+    ensures { Gives (λ paths. paths) result (paths_from 1 words.now) }
+{
+    let mut paths = Vec::new(alloc);
+    for word in words {
+        let path = path_at(alloc, paths.len() + 1, word.as_str())?;
+        paths.push(path)?;
+    }
+    Ok(Paths::new(paths))
+}
+
+fn user_of<'a>(people: &'a People, name: &[u8]) -> Option<&'a Subject>
+    ensures { option_map (λ user. user.now) result ≡ user_of people.now name.now }
+{
+    people.subject(people.find_user(name)?)
+}
+
+/// The user that a word means.
+pub(crate) fn user_meant<'a>(
+    alloc: Global,
+    people: &'a People,
+    word: &str,
+) -> Result<&'a Subject, LineFault>
+    ensures { Gives (λ user. user.now) result (user_or_fault people.now (name_meant word.now)) }
+{
+    let name = read_name(alloc, trim(word.as_bytes()))?;
+    match user_of(people, name.as_bytes()) {
+        Some(user) => Ok(user),
+        None => Err(LineFault::Tree(TreeFault::NoSuchUser { name })),
+    }
+}
+
+/// The recorded file of a path.
+pub(crate) fn file_at(tree: &Tree, path: Path) -> Result<&Node, LineFault>
+    ensures { Gives (λ node. node.now) result (file_or_fault tree.now.files path) }
+{
+    match tree.get(&path) {
+        Some(node) => Ok(node),
+        None => Err(LineFault::Tree(TreeFault::NoSuchFile { path })),
+    }
+}

@@ -1,0 +1,53 @@
+//! A run over a script.
+
+ghost use Rattle.std.specs.Prelude.{◌≡◌, ◌⊎◌, true, false, IfOk, IfErr, IfSome, Err};
+ghost use Rattle.acl_entry.specs.Check.{rights};
+ghost use Rattle.facl.specs.Setups.{begun};
+ghost use Rattle.facl.specs.Runs.{RunsTo, EndsBy};
+
+use crate::session::Facl;
+use crate::setup::{Setup, start};
+use crate::status::Status;
+use facl_messages::RunFault;
+use facl_script::{Feed, Sink, run_session};
+use std::alloc::Global;
+
+/// Loads the setup's texts, then answers a script: reads it line by line, and writes what each line prints to `out`, and
+/// the message of each refused line to `err`, before the next line is read.
+///
+/// What is written are the bytes of the session made from scratch: the definition of each accepted line replayed on the
+/// loaded texts, every question judged by acl(5)'s check. A refused line changes nothing, and its message names its
+/// first fault.
+///
+/// # Errors
+///
+/// `Setup` tells the first text that is refused: nothing is read or written then. `Read`, `Write` and `ScriptTooLong`
+/// tell why the script was not answered to its end, `NoMemory` that the setup or a line found no memory. What was
+/// written by then is the beginning of the session.
+pub fn run<R: Feed, O: Sink, E: Sink>(
+    alloc: Global,
+    setup: &Setup<'_>,
+    reader: &mut R,
+    out: &mut O,
+    err: &mut E,
+) -> Result<Status, RunFault>
+    requires reader { R.has_failed reader.old ≡ false }
+    requires out { O.has_failed out.old ≡ false }
+    requires err { E.has_failed err.old ≡ false }
+
+    ensures ok { IfOk result (λ status. IfSome (R.remaining reader.old) (λ script.
+        RunsTo rights (begun setup.now) script status
+        (O.contents out.old) (O.contents out.new) (E.contents err.old) (E.contents err.new))) }
+    ensures fault { IfErr result (λ fault.
+        EndsBy fault rights (begun setup.now) (R.remaining reader.old) (R.remaining reader.new)
+        (O.contents out.old) (O.contents out.new) (E.contents err.old) (E.contents err.new)) }
+
+    // A fault of a device is told only where that device has failed.
+    ensures read { result ≡ Err RunFault.Read → R.has_failed reader.new ≡ true }
+    ensures write { result ≡ Err RunFault.Write → (O.has_failed out.new ≡ true) ⊎ (E.has_failed err.new ≡ true) }
+{
+    let state = start(alloc, setup)?;
+    let mut session = Facl::new(alloc, state)?;
+    let is_refused = run_session(alloc, &mut session, reader, out, err)?;
+    Ok(Status::of(is_refused))
+}

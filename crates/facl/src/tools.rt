@@ -1,0 +1,44 @@
+//! What the tools do, by the words that they were given.
+
+ghost use Rattle.std.specs.Prelude.{◌≡◌, IsTrue, List, ℕ};
+ghost use Rattle.acl_entry.specs.Check.{rights};
+ghost use Rattle.facl_words.specs.Usage.{fits_tool};
+ghost use Rattle.facl.specs.Replies.{Gives, left};
+ghost use Rattle.facl.specs.Tools.{is_served, tool_line};
+
+use crate::can::can;
+use crate::chmod::chmod;
+use crate::effect::Effect;
+use crate::getfacl::getfacl;
+use crate::load::load;
+use crate::state::State;
+use facl_messages::LineFault;
+use facl_words::{Tool, Words};
+use std::alloc::Global;
+
+/// Whether a script may use the tool.
+pub(crate) fn is_served(tool: Tool) -> bool
+    ensures { result ≡ is_served tool }
+{
+    matches!(tool, Tool::Load | Tool::Getfacl | Tool::Chmod | Tool::Can)
+}
+
+/// What a tool does at a state.
+pub(crate) fn tool_line(
+    alloc: Global,
+    state: &State,
+    tool: Tool,
+    words: &Words,
+    text: &[u8],
+) -> Result<Effect, LineFault>
+    requires { IsTrue (fits_tool tool words.now) }
+    ensures { Gives (left state.now) result (tool_line rights state.now tool words.now text.now) }
+{
+    match tool {
+        Tool::Load => load(alloc, state, words, text),
+        Tool::Getfacl => getfacl(alloc, state, words),
+        Tool::Chmod => chmod(alloc, state, words),
+        Tool::Can => can(alloc, state, words),
+        _ => Err(LineFault::UnknownTool),
+    }
+}

@@ -1,0 +1,59 @@
+-- What getfacl(1) prints of files.
+use Rattle.std.specs.Prelude.{ℕ, List, [], ◌∷◌, ◌++◌, length, filter, Bool, true, false, not, ◌&&◌, ◌||◌, ◌==◌, if◌then◌else◌, Option, Some, None, is_some, is_none}
+use Rattle.std.specs.List.{list_any, flat_map}
+use Rattle.acl_entry.specs.Lists.{is_minimal}
+use Rattle.acl_edit.specs.Nodes.{is_directory}
+use Rattle.acl_edit.specs.declared.node.Node.{Node}
+use Rattle.acl_text.specs.declared.fault.Which.TheVariants.{Access}
+use Rattle.acl_dump.specs.declared.effective.Effective.TheVariants.{WhereMasked}
+use Rattle.acl_dump.specs.Writing.{header_text, list_text, default_text}
+use Rattle.acl_tree.specs.Found.{FoundFile}
+use Rattle.facl_listings.specs.declared.options.Options.{Options}
+
+-- a file has no more than its mode says: a minimal access list and no default list
+abbrev pub has_base_alone : Node → Bool
+has_base_alone n = is_minimal n.label.acl && is_none n.dacl
+
+abbrev pub is_listed : Options → FoundFile → Bool
+is_listed options file = not (options.skip_base && has_base_alone file.node)
+
+-- A final `/` tells a directory that nothing else tells: that is not the root, has no default list and no file below
+-- it.
+abbrev pub has_slash : FoundFile → Bool
+has_slash file = is_directory file.node.kind && not ((length file.path == 0) || (is_some file.node.dacl || file.has_below))
+
+-- the flags are told where one of them is set
+abbrev pub flags_told : List Bool → Option (List Bool)
+flags_told flags = if list_any (λ flag. flag) flags then Some flags else None
+
+-- the name that an id is printed as; with numbers none is
+abbrev pub name_told : Bool → (ℕ → Option (List ℕ)) → ℕ → Option (List ℕ)
+name_told true name_of id = None
+name_told false name_of id = name_of id
+
+module _ (user_name group_name : ℕ → Option (List ℕ)) where
+  abbrev pub headers : Options → FoundFile → List ℕ
+  headers options file =
+      if options.omit_header then []
+      else header_text user_name group_name file.path (has_slash file) (Some file.node.label.owner) (Some file.node.label.group) (flags_told file.node.flags)
+
+  abbrev pub default_entries : Options → Node → List ℕ
+  default_entries options n = if options.access_only then [] else default_text user_name group_name options.effective n.dacl
+
+  -- a file: its headers, its access entries, its default entries, and an empty line
+  abbrev pub file_text : Options → FoundFile → List ℕ
+  file_text options file =
+      headers options file ++ (list_text user_name group_name options.effective Access file.node.label.acl ++ (default_entries options file.node ++ 10 ∷ []))
+
+  -- the files one after another
+  abbrev pub files_text : Options → List FoundFile → List ℕ
+  files_text options files = flat_map (file_text options) (filter (is_listed options) files)
+
+-- what getfacl prints, where users and groups have these names
+abbrev pub listing : (ℕ → Option (List ℕ)) → (ℕ → Option (List ℕ)) → Options → List FoundFile → List ℕ
+listing user_name group_name options files =
+    files_text (name_told options.numeric user_name) (name_told options.numeric group_name) options files
+
+-- getfacl without options
+abbrev pub plain : Options
+plain = record { access_only = false; omit_header = false; effective = WhereMasked; skip_base = false; numeric = false }

@@ -1,0 +1,165 @@
+//! The listings of getfacl(1).
+
+ghost use Rattle.std.specs.Prelude.{◌≡◌, ◌++◌, OnOk, OnErr, take, length};
+ghost use Rattle.facl_listings.specs.Listings.{has_base_alone, is_listed, has_slash, flags_told, headers, default_entries, file_text, files_text, listing};
+
+use crate::options::Options;
+use acl_dump::{append_header, append_list};
+use acl_edit::{Kind, Node};
+use acl_text::{Names, NoNames, Which};
+use acl_tree::Found;
+use std::alloc::AllocError;
+
+fn has_base_alone(node: &Node) -> bool
+    ensures { result ≡ has_base_alone node.now }
+{
+    node.label.acl.is_minimal() && node.dacl.is_none()
+}
+
+fn is_listed(options: &Options, file: &Found) -> bool
+    ensures { result ≡ is_listed options.now file.now }
+{
+    !(options.skip_base && has_base_alone(file.node()))
+}
+
+/// Whether a final `/` says that the file is a directory, as nothing else does.
+fn has_slash(file: &Found) -> bool
+    ensures { result ≡ has_slash file.now }
+{
+    let is_told = file.path().components().is_empty()
+        || file.node().dacl.is_some()
+        || file.has_below();
+    file.node().kind == Kind::Directory && !is_told
+}
+
+fn flags_told(flags: [bool; 3]) -> Option<[bool; 3]>
+    ensures { result ≡ flags_told flags }
+{
+    let [setuid, setgid, sticky] = flags;
+    if setuid || setgid || sticky {
+        Some(flags)
+    } else {
+        None
+    }
+}
+
+fn push_headers<N: Names>(
+    text: &mut Vec<u8>,
+    names: &N,
+    options: &Options,
+    file: &Found,
+) -> Result<(), AllocError>
+    ensures ok { OnOk result (text.new.items ≡ text.old.items ++ headers (N.user_name names.now) (N.group_name names.now) options.now file.now) }
+    ensures err { OnErr result (take (length text.old.items) text.new.items ≡ text.old.items) }
+{
+    if options.omit_header {
+        return Ok(());
+    }
+    let node = file.node();
+    append_header(
+        text,
+        file.path(),
+        has_slash(file),
+        &Some(node.label.owner),
+        &Some(node.label.group),
+        flags_told(node.flags),
+        names,
+    )
+}
+
+fn push_default<N: Names>(
+    text: &mut Vec<u8>,
+    names: &N,
+    options: &Options,
+    node: &Node,
+) -> Result<(), AllocError>
+    ensures ok { OnOk result (text.new.items ≡ text.old.items ++ default_entries (N.user_name names.now) (N.group_name names.now) options.now node.now) }
+    ensures err { OnErr result (take (length text.old.items) text.new.items ≡ text.old.items) }
+{
+    match &node.dacl {
+        Some(dacl) if !options.access_only => {
+            append_list(text, dacl, Which::Default, options.effective, names)
+        }
+        _ => Ok(()),
+    }
+}
+
+fn push_file<N: Names>(
+    text: &mut Vec<u8>,
+    names: &N,
+    options: &Options,
+    file: &Found,
+) -> Result<(), AllocError>
+    ensures ok { OnOk result (text.new.items ≡ text.old.items ++ file_text (N.user_name names.now) (N.group_name names.now) options.now file.now) }
+    ensures err { OnErr result (take (length text.old.items) text.new.items ≡ text.old.items) }
+{
+    push_headers(text, names, options, file)?;
+    let node = file.node();
+    append_list(
+        text,
+        &node.label.acl,
+        Which::Access,
+        options.effective,
+        names,
+    )?;
+    push_default(text, names, options, node)?;
+    text.push(b'\n')?;
+    Ok(())
+}
+
+fn push_files<N: Names>(
+    text: &mut Vec<u8>,
+    names: &N,
+    options: &Options,
+    files: &[Found],
+) -> Result<(), AllocError>
+    ensures ok { OnOk result (text.new.items ≡ text.old.items ++ files_text (N.user_name names.now) (N.group_name names.now) options.now files.now) }
+    ensures err { OnErr result (take (length text.old.items) text.new.items ≡ text.old.items) }
+{
+    for file in files {
+        if is_listed(options, file) {
+            push_file(text, names, options, file)?;
+        }
+    }
+    Ok(())
+}
+
+fn push_listing<N: Names>(
+    text: &mut Vec<u8>,
+    names: &N,
+    options: &Options,
+    files: &[Found],
+) -> Result<(), AllocError>
+    ensures ok { OnOk result (text.new.items ≡ text.old.items ++ listing (N.user_name names.now) (N.group_name names.now) options.now files.now) }
+    ensures err { OnErr result (take (length text.old.items) text.new.items ≡ text.old.items) }
+{
+    if options.numeric {
+        push_files(text, &NoNames, options, files)
+    } else {
+        push_files(text, names, options, files)
+    }
+}
+
+/// Adds what getfacl(1) prints of these files, in their order: for each its header lines, its access
+/// entries, its default entries with `default:` in front, and an empty line. The path of a directory ends
+/// in `/` where nothing else tells that it is one.
+///
+/// # Errors
+///
+/// Want of memory; then nothing is added.
+pub fn append_listing<N: Names>(
+    text: &mut Vec<u8>,
+    names: &N,
+    options: &Options,
+    files: &[Found],
+) -> Result<(), AllocError>
+    ensures ok { OnOk result (text.new.items ≡ text.old.items ++ listing (N.user_name names.now) (N.group_name names.now) options.now files.now) }
+    ensures err { OnErr result (text.new.items ≡ text.old.items) }
+{
+    let before = text.len();
+    if let Err(refused) = push_listing(text, names, options, files) {
+        text.truncate(before);
+        return Err(refused);
+    }
+    Ok(())
+}

@@ -1,0 +1,69 @@
+//! The requests that a user is granted, as a line.
+
+ghost use Rattle.std.specs.Prelude.{◌≡◌, ◌++◌, OnOk, OnErr, take, length};
+ghost use Rattle.facl_listings.specs.Requests.{request_text, requests_granted, requests_text, requests_line};
+
+use acl_entry::{Perm, Requests};
+use std::alloc::AllocError;
+
+/// The numbers of the requests other than none.
+const NUMBERS: [u8; 7] = [1, 2, 3, 4, 5, 6, 7];
+
+/// Adds a request that is granted, behind a space where it is not the first.
+fn push_request(text: &mut Vec<u8>, request: Perm, is_first: bool) -> Result<(), AllocError>
+    ensures ok { OnOk result (text.new.items ≡ text.old.items ++ request_text is_first request) }
+    ensures err { OnErr result (take (length text.old.items) text.new.items ≡ text.old.items) }
+{
+    if !is_first {
+        text.push(b' ')?;
+    }
+    text.extend_from_slice(&request.text())?;
+    Ok(())
+}
+
+fn push_requests(text: &mut Vec<u8>, granted: Requests) -> Result<(), AllocError>
+    ensures ok { OnOk result (text.new.items ≡ text.old.items ++ requests_text (requests_granted granted)) }
+    ensures err { OnErr result (take (length text.old.items) text.new.items ≡ text.old.items) }
+{
+    let mut is_first = true;
+    for number in &NUMBERS {
+        match Perm::from_number(*number) {
+            Some(request) if granted.has(request) => {
+                push_request(text, request, is_first)?;
+                is_first = false;
+            }
+            _ => {}
+        }
+    }
+    if is_first {
+        text.extend_from_slice(b"none")?;
+    }
+    Ok(())
+}
+
+fn push_line(text: &mut Vec<u8>, granted: Requests) -> Result<(), AllocError>
+    ensures ok { OnOk result (text.new.items ≡ text.old.items ++ requests_line granted) }
+    ensures err { OnErr result (take (length text.old.items) text.new.items ≡ text.old.items) }
+{
+    push_requests(text, granted)?;
+    text.push(b'\n')?;
+    Ok(())
+}
+
+/// Adds the line of the requests that are granted: each of them other than none, by its permissions, in
+/// rising number with a space between each two, or `none`.
+///
+/// # Errors
+///
+/// Want of memory; then nothing is added.
+pub fn append_requests(text: &mut Vec<u8>, granted: Requests) -> Result<(), AllocError>
+    ensures ok { OnOk result (text.new.items ≡ text.old.items ++ requests_line granted) }
+    ensures err { OnErr result (text.new.items ≡ text.old.items) }
+{
+    let before = text.len();
+    if let Err(refused) = push_line(text, granted) {
+        text.truncate(before);
+        return Err(refused);
+    }
+    Ok(())
+}

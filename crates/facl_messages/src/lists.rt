@@ -1,0 +1,51 @@
+//! What is told of a list's fault.
+
+ghost use Rattle.std.specs.Prelude.{◌≡◌, ◌++◌, OnOk, OnErr, codes, decimal, length, take};
+ghost use Rattle.acl_text.specs.declared.form.Form.TheVariants.{Long};
+ghost use Rattle.acl_text.specs.Writing.{tag_text};
+ghost use Rattle.facl_messages.specs.Texts.{list_text};
+
+use acl_entry::{Key, ListFault};
+use itoa::Buffer;
+use std::alloc::AllocError;
+
+/// Adds a number between two texts.
+pub(crate) fn push_numbered(
+    text: &mut Vec<u8>,
+    before: &[u8],
+    number: usize,
+    after: &[u8],
+) -> Result<(), AllocError>
+    ensures ok { OnOk result (text.new.items ≡ text.old.items ++ (before.now ++ decimal number ++ after.now)) }
+    ensures err { OnErr result (take (length text.old.items) text.new.items ≡ text.old.items) }
+{
+    let mut buffer = Buffer::new();
+    text.extend_from_slice(before)?;
+    text.extend_from_slice(buffer.format(number).as_bytes())?;
+    text.extend_from_slice(after)
+}
+
+fn missing_base(key: &Key) -> &'static [u8]
+    ensures { result.now ≡ tag_text Long key.now ++ codes ":: missing" }
+{
+    match key {
+        Key::Owner | Key::User(_) => b"user:: missing",
+        Key::OwningGroup | Key::Group(_) => b"group:: missing",
+        Key::Mask => b"mask:: missing",
+        Key::Other => b"other:: missing",
+    }
+}
+
+/// Adds the text of a list's fault.
+pub(crate) fn push_list_fault(text: &mut Vec<u8>, fault: &ListFault) -> Result<(), AllocError>
+    ensures ok { OnOk result (text.new.items ≡ text.old.items ++ list_text fault.now) }
+    ensures err { OnErr result (take (length text.old.items) text.new.items ≡ text.old.items) }
+{
+    match fault {
+        ListFault::Repeated { at } => push_numbered(text, b"entry ", *at, b" is repeated"),
+        ListFault::MissingBase { key } => text.extend_from_slice(missing_base(key)),
+        ListFault::MissingMask { at } => push_numbered(text, b"entry ", *at, b" needs a mask"),
+        ListFault::TooLong => text.extend_from_slice(b"too many entries"),
+        ListFault::NoMemory => text.extend_from_slice(b"no memory"),
+    }
+}

@@ -1,0 +1,80 @@
+//! The message of a refused line.
+
+ghost use Rattle.std.specs.Prelude.{◌≡◌, ◌++◌, OnOk, OnErr, length, take};
+ghost use Rattle.facl_messages.specs.Messages.{line_text, message, numbered, teller};
+
+use crate::fault::LineFault;
+use crate::kinds::push_text_fault;
+use crate::lists::push_numbered;
+use crate::trees::push_tree_fault;
+use itoa::Buffer;
+use std::alloc::AllocError;
+
+/// Who tells a fault: the tool, once the line has words and a text, and before that the program.
+fn teller<'a>(tool: &'a [u8], fault: &LineFault) -> &'a [u8]
+    ensures { result.now ≡ teller tool.now fault.now }
+{
+    match fault {
+        LineFault::LineTooLong
+        | LineFault::NotUtf8
+        | LineFault::OpenQuote
+        | LineFault::UnknownTool
+        | LineFault::UnendedText
+        | LineFault::TextLineTooLong
+        | LineFault::NoMemory => b"facl",
+        LineFault::Usage | LineFault::Text(_, _) | LineFault::Both { .. } | LineFault::Tree(_) =>
+            tool,
+    }
+}
+
+/// Adds the text of why a line is refused.
+fn push_line_fault(text: &mut Vec<u8>, fault: &LineFault) -> Result<(), AllocError>
+    ensures ok { OnOk result (text.new.items ≡ text.old.items ++ line_text fault.now) }
+    ensures err { OnErr result (take (length text.old.items) text.new.items ≡ text.old.items) }
+{
+    match fault {
+        LineFault::LineTooLong => text.extend_from_slice(b"line too long"),
+        LineFault::NotUtf8 => text.extend_from_slice(b"not UTF-8"),
+        LineFault::OpenQuote => text.extend_from_slice(b"open quote"),
+        LineFault::UnknownTool => text.extend_from_slice(b"unknown tool"),
+        LineFault::UnendedText => text.extend_from_slice(b"text without end"),
+        LineFault::TextLineTooLong => text.extend_from_slice(b"text line too long"),
+        LineFault::Usage => text.extend_from_slice(b"usage"),
+        LineFault::Text(source, fault) => push_text_fault(text, *source, fault),
+        LineFault::Both { at } => {
+            push_numbered(text, b"entry ", *at, b": both removed and modified")
+        }
+        LineFault::Tree(fault) => push_tree_fault(text, fault),
+        LineFault::NoMemory => text.extend_from_slice(b"no memory"),
+    }
+}
+
+/// Adds `line N: ` for the line with this number.
+fn push_number(text: &mut Vec<u8>, number: u64) -> Result<(), AllocError>
+    ensures ok { OnOk result (text.new.items ≡ text.old.items ++ numbered number) }
+    ensures err { OnErr result (take (length text.old.items) text.new.items ≡ text.old.items) }
+{
+    let mut buffer = Buffer::new();
+    text.extend_from_slice(b"line ")?;
+    text.extend_from_slice(buffer.format(number).as_bytes())?;
+    text.extend_from_slice(b": ")
+}
+
+/// Adds the message of a line that is refused: `line N: TOOL: TEXT` and a line feed. TOOL is the line's first
+/// word, but `facl` for a fault that is found before the tool's own words are read, and for want of memory.
+/// Refused for want of memory only, and then what stood before still stands.
+pub fn append_message(
+    text: &mut Vec<u8>,
+    number: u64,
+    tool: &[u8],
+    fault: &LineFault,
+) -> Result<(), AllocError>
+    ensures ok { OnOk result (text.new.items ≡ text.old.items ++ message number tool.now fault.now) }
+    ensures err { OnErr result (take (length text.old.items) text.new.items ≡ text.old.items) }
+{
+    push_number(text, number)?;
+    text.extend_from_slice(teller(tool, fault))?;
+    text.extend_from_slice(b": ")?;
+    push_line_fault(text, fault)?;
+    text.extend_from_slice(b"\n")
+}

@@ -1,0 +1,44 @@
+//! What the program prints of a run that ended early.
+
+ghost use Rattle.std.specs.Prelude.{◌≡◌, ◌++◌, OnOk, OnErr, length, take};
+ghost use Rattle.facl_messages.specs.Messages.{run_fault_text, setup_text, table_name};
+
+use crate::fault::RunFault;
+use crate::trees::push_tree_fault;
+use acl_tree::{Table, TreeFault};
+use std::alloc::AllocError;
+
+fn table_name(which: Table) -> &'static [u8]
+    ensures { result.now ≡ table_name which }
+{
+    match which {
+        Table::Passwd => b"passwd",
+        Table::Group => b"group",
+        Table::Dump => b"dump",
+    }
+}
+
+fn push_setup(text: &mut Vec<u8>, which: Table, fault: &TreeFault) -> Result<(), AllocError>
+    ensures ok { OnOk result (text.new.items ≡ text.old.items ++ setup_text which fault.now) }
+    ensures err { OnErr result (take (length text.old.items) text.new.items ≡ text.old.items) }
+{
+    text.extend_from_slice(b"setup: ")?;
+    text.extend_from_slice(table_name(which))?;
+    text.extend_from_slice(b": ")?;
+    push_tree_fault(text, fault)
+}
+
+/// Adds what the program prints after `facl: ` of a run that ended early, without a line feed. Refused for
+/// want of memory only, and then what stood before still stands.
+pub fn append_run_fault(text: &mut Vec<u8>, fault: &RunFault) -> Result<(), AllocError>
+    ensures ok { OnOk result (text.new.items ≡ text.old.items ++ run_fault_text fault.now) }
+    ensures err { OnErr result (take (length text.old.items) text.new.items ≡ text.old.items) }
+{
+    match fault {
+        RunFault::Read => text.extend_from_slice(b"read fault"),
+        RunFault::Write => text.extend_from_slice(b"write fault"),
+        RunFault::Setup { which, fault } => push_setup(text, *which, fault),
+        RunFault::ScriptTooLong => text.extend_from_slice(b"script too long"),
+        RunFault::NoMemory => text.extend_from_slice(b"no memory"),
+    }
+}
