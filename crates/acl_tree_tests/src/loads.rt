@@ -135,5 +135,8 @@ fn operands_mean_their_files_once(rt: HostRuntime) -> Result<(), Fail> {
     assert_eq!(rt; files.len(), 3);
     assert_eq!(rt; files[0].path().components().len(), 1);
     assert_eq!(rt; files[1].path().components().len(), 2);
+    assert!(rt; files[0].has_below(), "d/e");
+    assert!(rt; !files[1].has_below());
+    assert_eq!(rt; files[2].node().label.owner.number(), 1001);
     Ok(())
 }

@@ -27,12 +27,11 @@ fn push_requests(text: &mut Vec<u8>, granted: Requests) -> Result<(), AllocError
 {
     let mut is_first = true;
     for number in &NUMBERS {
-        match Perm::from_number(*number) {
-            Some(request) if granted.has(request) => {
+        if let Some(request) = Perm::from_number(*number) {
+            if granted.has(request) {
                 push_request(text, request, is_first)?;
                 is_first = false;
             }
-            _ => {}
         }
     }
     if is_first {

@@ -1,0 +1,41 @@
+use Rattle.std.proofs.Common.{◌≡◌, ◌+◌, ◌<◌, ◌++◌, ◌∷◌, [], ℕ, List, length, get_or, take, lit<, sym, ap, subst, ◌∙◌, arith}
+use Rattle.std.proofs.lemmas.Grind.{common_steps}
+use Rattle.acl_entry.specs.Perms.{numbered}
+use Rattle.acl_entry.specs.Check.{has}
+use Rattle.acl_names.proofs.Appended.{still_begins}
+use Rattle.facl_listings.proofs.Spaced.{spaced, is_empty, among, not_empty, one_granted, one_refused, below_eight, text_step}
+use Rattle.facl_listings.proofs.requests.push_requests.Goals as goal
+use Rattle.facl_listings.proofs.requests.push_requests.Goals.{in-Some+then-has+in_ok-push_request, in-Some+else-has, in_default}
+
+abbrev numbers : List ℕ
+numbers = 1 ∷ 2 ∷ 3 ∷ 4 ∷ 5 ∷ 6 ∷ 7 ∷ []
+
+pub returns-in_err-push_request-clause-err : goal.returns-in_err-push_request-clause-err
+returns-in_err-push_request-clause-err c =
+    let told = spaced (among c.args.granted (take c.loop-number.number-index numbers)) in
+    let begins = still_begins c.args.text.now.items told c.loop-number.text.items c.push_request.new.text.items c.loop-number.invariant.text c.in_err-push_request.ensures.err in
+    grind (arith, common_steps, begins)
+
+pub loop-number-preserved : goal.loop-number-preserved
+loop-number-preserved c =
+    let i = c.loop-number.number-index in
+    let granted = c.args.granted in
+    let before = among granted (take i numbers) in
+    elim c.match-from_number.branch [
+      | in-Some+then-has+in_ok-push_request w ↦
+          let is = w.in-Some.ensures.1 in
+          let more = one_granted granted numbers i c.loop-number-test.true (ap (has granted) (sym is) ∙ (sym w.has.ensures ∙ w.if-has.true)) in
+          record {
+            text = text_step c.args.text.now.items c.loop-number.text.items c.match-from_number.text.items before (among granted (take (i + 1) numbers)) (numbered (get_or numbers i 0)) w.in-Some.request c.loop-number.is_first
+            (ap (λ t. t.items) w.text-is ∙ w.in_ok-push_request.ensures.ok) c.loop-number.invariant.text c.loop-number.invariant.first is more;
+            first = w.is_first-is ∙ sym (ap is_empty more ∙ not_empty before (numbered (get_or numbers i 0)));
+          }
+      | in-Some+else-has w ↦
+          let is = w.in-Some.ensures.1 in
+          let same = one_refused granted numbers i c.loop-number-test.true (ap (has granted) (sym is) ∙ (sym w.has.ensures ∙ w.if-has.false)) in
+          record {
+            text = ap (λ t. t.items) w.text-is ∙ (c.loop-number.invariant.text ∙ ap (λ qs. c.args.text.now.items ++ spaced qs) (sym same));
+            first = w.is_first-is ∙ (c.loop-number.invariant.first ∙ ap is_empty (sym same));
+          }
+      | in_default w ↦ absurd (w.in_default.ensures (below_eight numbers (lit< tt, (lit< tt, (lit< tt, (lit< tt, (lit< tt, (lit< tt, (lit< tt, tt))))))) i c.loop-number-test.true))
+    ]
