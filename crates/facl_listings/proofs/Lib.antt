@@ -1,1 +1,3 @@
 pub mod Spaced
+pub mod Rising
+pub mod Reloaded

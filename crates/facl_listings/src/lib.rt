@@ -2,10 +2,13 @@
 //! is granted.
 #![tactic(auto)]
 
+mod again;
+mod laws;
 mod listing;
 mod options;
 mod requests;
 
+pub use laws::listing_is_loaded_again;
 pub use listing::append_listing;
 pub use options::Options;
 pub use requests::append_requests;

@@ -42,9 +42,13 @@ teller tool NoMemory = codes "facl"
 abbrev pub numbered : ℕ → List ℕ
 numbered number = codes "line " ++ decimal number ++ codes ": "
 
+-- `line N: TOOL: `
+abbrev pub head : ℕ → List ℕ → List ℕ
+head number told_by = numbered number ++ told_by ++ codes ": "
+
 -- `line N: TOOL: TEXT`, and a line feed
 unfoldable pub message : ℕ → List ℕ → LineFault → List ℕ
-message number tool fault = numbered number ++ teller tool fault ++ codes ": " ++ line_text fault ++ 10 ∷ []
+message number tool fault = head number (teller tool fault) ++ line_text fault ++ 10 ∷ []
 
 -- ---- runs
 

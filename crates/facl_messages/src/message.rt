@@ -1,7 +1,7 @@
 //! The message of a refused line.
 
 ghost use Rattle.std.specs.Prelude.{◌≡◌, ◌++◌, OnOk, OnErr, length, take};
-ghost use Rattle.facl_messages.specs.Messages.{line_text, message, numbered, teller};
+ghost use Rattle.facl_messages.specs.Messages.{head, line_text, message, numbered, teller};
 
 use crate::fault::LineFault;
 use crate::kinds::push_text_fault;
@@ -60,6 +60,17 @@ fn push_number(text: &mut Vec<u8>, number: u64) -> Result<(), AllocError>
     text.extend_from_slice(b": ")
 }
 
+/// Adds `line N: TOOL: `.
+fn push_head(text: &mut Vec<u8>, number: u64, told_by: &[u8]) -> Result<(), AllocError>
+    ensures ok { OnOk result (text.new.items ≡ text.old.items ++ head number told_by.now) }
+    ensures err { OnErr result (take (length text.old.items) text.new.items ≡ text.old.items) }
+{
+    push_number(text, number)?;
+    text.extend_from_slice(told_by)?;
+    text.extend_from_slice(b": ")
+}
+
+#[tactic(auto, unfolding(crate::specs::Messages::message))]
 /// Adds the message of a line that is refused: `line N: TOOL: TEXT` and a line feed. TOOL is the line's first
 /// word, but `facl` for a fault that is found before the tool's own words are read, and for want of memory.
 /// Refused for want of memory only, and then what stood before still stands.
@@ -72,9 +83,7 @@ pub fn append_message(
     ensures ok { OnOk result (text.new.items ≡ text.old.items ++ message number tool.now fault.now) }
     ensures err { OnErr result (take (length text.old.items) text.new.items ≡ text.old.items) }
 {
-    push_number(text, number)?;
-    text.extend_from_slice(teller(tool, fault))?;
-    text.extend_from_slice(b": ")?;
+    push_head(text, number, teller(tool, fault))?;
     push_line_fault(text, fault)?;
     text.extend_from_slice(b"\n")
 }

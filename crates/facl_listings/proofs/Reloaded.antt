@@ -1,0 +1,166 @@
+-- What is printed of all files is loaded as these files.
+use Rattle.std.proofs.Common.{◌≡◌, ℕ, suc, ◌+◌, ◌<◌, ◌≤◌, Bool, true, false, not, cond, IsTrue, ◌&&◌, ◌||◌, List, [], ◌∷◌, ◌++◌, length, map, Option, Some, None, Result, Ok, Err, refl, sym, ap, subst, ◌∙◌, append_assoc, arith, nat_lt}
+use Rattle.std.specs.Prelude.{filter, is_some, unwrap_or, ◌==◌}
+use Rattle.std.specs.List.{list_any, list_all, AllByRecursion}
+use Rattle.std.specs.Ordering.{is_eq}
+use Rattle.std.proofs.lemmas.Cmp.{tied_itself}
+use Rattle.std.proofs.lemmas.List.Folds.{list_any-append}
+use Rattle.acl_entry.specs.Lists.{KeyMap}
+use Rattle.acl_names.specs.Paths.{path_cmp}
+use Rattle.acl_names.proofs.PathOrder.{path_total}
+use Rattle.acl_edit.specs.Nodes as nodes
+use Rattle.acl_edit.specs.declared.node.Kind.{Kind}
+use Rattle.acl_edit.specs.declared.node.Kind.TheVariants.{Plain, Directory}
+use Rattle.acl_edit.specs.declared.node.Node.{Node}
+use Rattle.acl_people.specs.Registers.{Register}
+use Rattle.acl_dump.specs.declared.record.DumpRecord.{DumpRecord}
+use Rattle.acl_dump.specs.declared.record.DumpUse.TheVariants.{Load}
+use Rattle.acl_dump.specs.Writing.{record_text}
+use Rattle.acl_dump.specs.Records.{dump_of}
+use Rattle.acl_dump.specs.Again.{AreApart, AreFlags, IsReadable, paths, placed, dump_text, line_count}
+use Rattle.acl_dump.proofs.WrittenRecords.{dump_again}
+use Rattle.acl_tree.specs.declared.command.Table.TheVariants.{Dump}
+use Rattle.acl_tree.specs.declared.command.TreeFault.{TreeFault}
+use Rattle.acl_tree.specs.declared.command.TreeFault.TheVariants.{TooMany}
+use Rattle.acl_tree.specs.Files.{PathOf, Files, Recorded, IsInOrder, no_files}
+use Rattle.acl_tree.specs.Below.{is_below}
+use Rattle.acl_tree.specs.Loading.{is_directory, node_of, has_below, as_files, files_of, in_path_order}
+use Rattle.acl_tree.specs.Operands.{is_file, files_meant}
+use Rattle.acl_tree.specs.Sound.{holds_below, IsPlaced, ArePlaced}
+use Rattle.acl_tree.specs.Found.{FoundFile, found_in, files_found}
+use Rattle.acl_tree.specs.Step.{State, load, with_records}
+use Rattle.facl_listings.specs.Listings.{listing, plain, has_slash, flags_told, is_listed, file_text}
+use Rattle.facl_listings.specs.Again.{user_id, group_id, user_name, group_name, IsReadAgain, whole_listing}
+use Rattle.facl_listings.proofs.Rising.{Rising, paths_of, rising, apart, in_order_already}
+
+-- the record that is printed of a file
+abbrev pub record_of : FoundFile → DumpRecord
+record_of f = record { at = 0; path = f.path; slash = has_slash f; owner = Some f.node.label.owner; group = Some f.node.label.group; flags = flags_told f.node.flags; access = f.node.label.acl; dacl = f.node.dacl }
+
+abbrev pub found : Files → PathOf × Node → FoundFile
+found all e = record { path = e.0; node = e.1; has_below = holds_below all e.0 }
+
+abbrev pub records_of : Files → Files → List DumpRecord
+records_of all es = map record_of (found_in all es)
+
+-- ---- the text
+
+printed : (user_names group_names : ℕ → Option (List ℕ)) (fs : List FoundFile) → listing user_names group_names plain fs ≡ dump_text user_names group_names (map record_of fs)
+printed user_names group_names [] = refl
+printed user_names group_names (f ∷ fs) = ap (λ (l : List ℕ). record_text user_names group_names (record_of f) ++ l) (printed user_names group_names fs)
+
+-- ---- all paths as operands
+
+meant_itself : (pre : Files) (e : PathOf × Node) (es : Files) → is_file false (paths_of (pre ++ e ∷ es)) e.0 ≡ true
+meant_itself [] e es = ap (λ o. is_eq o || is_file false (paths_of es) e.0) (tied_itself path_total e.0)
+meant_itself (d ∷ pre) e es = ap (λ b. is_eq (path_cmp e.0 d.0) || b) (meant_itself pre e es) ∙ either (is_eq (path_cmp e.0 d.0))
+  where
+    either : (b : Bool) → (b || true) ≡ true
+    either true = refl
+    either false = refl
+
+all_meant : (pre es : Files) → filter (λ e. is_file false (paths_of (pre ++ es)) e.0) es ≡ es
+all_meant pre [] = refl
+all_meant pre (e ∷ es) =
+    let moved : pre ++ e ∷ es ≡ (pre ++ e ∷ []) ++ es = sym (append_assoc pre (e ∷ []) es) in
+    let test : Files → PathOf × Node → Bool = λ all d. is_file false (paths_of all) d.0 in
+    ap (λ b. cond b (e ∷ filter (test (pre ++ e ∷ es)) es) (filter (test (pre ++ e ∷ es)) es)) (meant_itself pre e es)
+    ∙ ap (λ (l : Files). e ∷ l) (ap (λ (all : Files). filter (test all) es) moved ∙ all_meant (pre ++ e ∷ []) es)
+
+found_all : (es : Files) → files_found false (paths_of es) es ≡ found_in es es
+found_all es = ap (λ l. found_in es l) (all_meant [] es)
+
+-- ---- one file
+
+flags_again : (flags : List Bool) → length flags ≡ 3 → unwrap_or (flags_told flags) (false ∷ false ∷ false ∷ []) ≡ flags
+flags_again [] three = absurd (omega arith)
+flags_again (a ∷ []) three = absurd (omega arith)
+flags_again (a ∷ b ∷ []) three = absurd (omega arith)
+flags_again (true ∷ b ∷ c ∷ []) three = refl
+flags_again (false ∷ true ∷ c ∷ []) three = refl
+flags_again (false ∷ false ∷ true ∷ []) three = refl
+flags_again (false ∷ false ∷ false ∷ []) three = refl
+flags_again (a ∷ b ∷ c ∷ d ∷ more) three = absurd (omega arith)
+
+three_flags : (flags : List Bool) → length flags ≡ 3 → AreFlags (flags_told flags)
+three_flags flags three = elim (list_any (λ flag. flag) flags) as (λ b. AreFlags (cond b (Some flags) None)) [ true ↦ three | false ↦ tt ]
+
+kind_again : (k : Kind) (told : Bool) → (told ≡ true → k ≡ Directory) → cond ((nodes.is_directory k && not told) || told) Directory Plain ≡ k
+kind_again Plain true h = sym (h refl)
+kind_again Plain false h = refl
+kind_again Directory true h = refl
+kind_again Directory false h = refl
+
+-- what tells a directory without a final `/` is right
+told_rightly : (k : Kind) (root below : Bool) (dacl : Option KeyMap) → ((root || below) ≡ true → k ≡ Directory) → (k ≡ Plain → dacl ≡ None) → (root || (is_some dacl || below)) ≡ true → k ≡ Directory
+told_rightly Directory root below dacl placed default told = refl
+told_rightly Plain true below dacl placed default told = placed refl
+told_rightly Plain false true dacl placed default told = placed refl
+told_rightly Plain false false dacl placed default told = absurd (cc (ap (λ (o : Option KeyMap). is_some o || false) (default refl), told))
+
+node_again : (all : Files) (e : PathOf × Node) (at : ℕ) → IsPlaced all e → length e.1.flags ≡ 3 → node_of (holds_below all e.0) (record (record_of (found all e)) { at = at }) ≡ e.1
+node_again all e at is three =
+    let n = e.1 in
+    let below = holds_below all e.0 in
+    let root = length e.0 == 0 in
+    ap (λ (k : Kind). let m : Node = record { kind = k; label = n.label; flags = unwrap_or (flags_told n.flags) (false ∷ false ∷ false ∷ []); dacl = n.dacl } in m)
+    (kind_again n.kind (root || (is_some n.dacl || below)) (told_rightly n.kind root below n.dacl is.directory is.default))
+    ∙ ap (λ (flags : List Bool). let m : Node = record { kind = n.kind; label = n.label; flags = flags; dacl = n.dacl } in m) (flags_again n.flags three)
+
+-- ---- all files
+
+files_again : (known : Register) (all : Files) (records : List DumpRecord) → ((p : PathOf) → has_below records p ≡ holds_below all p) → (at : ℕ) (es : Files) → ArePlaced all es → AllByRecursion (IsReadAgain known) es
+    → as_files records (placed at (records_of all es)) ≡ es
+files_again known all records same at [] are again = refl
+files_again known all records same at (e ∷ es) are again =
+    let r : DumpRecord = record (record_of (found all e)) { at = at } in
+    let others = as_files records (placed (at + line_count (record_of (found all e))) (records_of all es)) in
+    ap (λ (b : Bool). let f : PathOf × Node = (e.0, node_of b r) in f ∷ others) (same e.0)
+    ∙ (ap (λ (n : Node). let f : PathOf × Node = (e.0, n) in f ∷ others) (node_again all e at are.0 again.0.flags)
+    ∙ ap (λ (l : Files). e ∷ l) (files_again known all records same (at + line_count (record_of (found all e))) es are.1 again.1))
+
+below_same : (all es : Files) (at : ℕ) (p : PathOf) → has_below (placed at (records_of all es)) p ≡ holds_below es p
+below_same all [] at p = refl
+below_same all (e ∷ es) at p = ap (λ b. is_below p e.0 || b) (below_same all es (at + line_count (record_of (found all e))) p)
+
+paths_placed : (all es : Files) (at : ℕ) → paths (placed at (records_of all es)) ≡ paths_of es
+paths_placed all [] at = refl
+paths_placed all (e ∷ es) at = ap (λ (l : List PathOf). e.0 ∷ l) (paths_placed all es (at + line_count (record_of (found all e))))
+
+paths_same : (all es : Files) → paths (records_of all es) ≡ paths_of es
+paths_same all [] = refl
+paths_same all (e ∷ es) = ap (λ (l : List PathOf). e.0 ∷ l) (paths_same all es)
+
+as_many : (all es : Files) (at : ℕ) → length (placed at (records_of all es)) ≡ length es
+as_many all [] at = refl
+as_many all (e ∷ es) at = ap suc (as_many all es (at + line_count (record_of (found all e))))
+
+readable : (known : Register) (all es : Files) → AllByRecursion (IsReadAgain known) es → AllByRecursion (IsReadable (user_id known) (group_id known) (user_name known) (group_name known) Load) (records_of all es)
+readable known all [] again = tt
+readable known all (e ∷ es) again =
+    (record { path = again.0.path; headers = (refl, refl); owner = again.0.owner; group = again.0.group; flags = three_flags e.1.flags again.0.flags; access = again.0.access; dacl = again.0.dacl },
+    readable known all es again.1)
+
+few : (n : ℕ) → n ≤ 1048576 → nat_lt 1048576 n ≡ false
+few n h = grind arith
+
+-- what is printed of all files is loaded as these files
+pub loaded_again : (known : Register) (es : Files) → IsInOrder es → ArePlaced es es → AllByRecursion (IsReadAgain known) es → length es ≤ 1048576
+    → load (record { tree = no_files; people = known }) Dump (whole_listing known es) ≡ Ok (record { tree = record { files = es; loaded = true }; people = known })
+loaded_again known es order are again within =
+    let empty : State = record { tree = no_files; people = known } in
+    let after : Files → Result State TreeFault = λ files. Ok (record { tree = record { files = files; loaded = true }; people = known }) in
+    let rs = records_of es es in
+    let read = placed 1 rs in
+    let text : whole_listing known es ≡ dump_text (user_name known) (group_name known) rs =
+    ap (λ fs. listing (user_name known) (group_name known) plain fs) (found_all es) ∙ printed (user_name known) (group_name known) (found_in es es)
+    in
+    let apart_rs = subst (λ ps. AreApart [] ps) (sym (paths_same es es)) (apart [] (paths_of es) (rising es order)) in
+    let rises = subst (λ ps. Rising [] ps) (sym (paths_placed es es 1)) (rising es order) in
+    let files : files_of read ≡ es =
+    ap (λ (l : List DumpRecord). as_files l l) (in_order_already read rises) ∙ files_again known es read (below_same es es 1) 1 es are again
+    in
+    ap (λ bytes. load empty Dump bytes) text
+    ∙ (ap (with_records empty) (dump_again Load (user_id known) (group_id known) (user_name known) (group_name known) rs (readable known es es again) apart_rs)
+    ∙ (ap (λ b. cond b (Err TooMany) (after (files_of read))) (few (length read) (subst (λ n. n ≤ 1048576) (sym (as_many es es 1)) within))
+    ∙ ap after files))

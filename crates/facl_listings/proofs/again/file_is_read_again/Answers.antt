@@ -1,0 +1,24 @@
+use Rattle.std.proofs.Common.{◌≡◌, Bool, List, Option, Some, None, length, true, sym, ap, subst, ◌∙◌}
+use Rattle.std.specs.List.{list_all}
+use Rattle.acl_names.specs.Paths.{is_component}
+use Rattle.acl_entry.specs.Lists.{KeyMap}
+use Rattle.acl_dump.specs.Again.{IsListIf}
+use Rattle.acl_edit.specs.declared.node.Node.{Node}
+use Rattle.acl_tree.specs.Files.{PathOf}
+use Rattle.acl_people.specs.Registers.{Register}
+use Rattle.facl_listings.specs.Again.{user_id, group_id, user_name, group_name, IsReadAgain}
+use Rattle.facl_listings.proofs.again.file_is_read_again.Goals as goal
+
+pub returns-in-Some : goal.returns-in-Some
+returns-in-Some c =
+    let known : Register = c.args.people.now in
+    let p : PathOf = c.path.result.now in
+    let n : Node = c.node-node.result.now in
+    let path : list_all is_component p ≡ true = c.components-components.ensures.valid in
+    let three : length n.flags ≡ 3 = c.are_three.ensures in
+    let dacl : IsListIf (user_id known) (group_id known) (user_name known) (group_name known) n.dacl =
+    subst (IsListIf (user_id known) (group_id known) (user_name known) (group_name known)) (sym c.in-Some.is) c.list_is_read_again-in-Some.ensures
+    in
+    let here : IsReadAgain known (p, n) = record { path = path; owner = c.user_is_found.ensures; group = c.group_is_found.ensures; flags = three; access = c.list_is_read_again.ensures; dacl = dacl } in
+    subst (λ (q : PathOf). IsReadAgain known (q, c.args.file.now.1)) c.path.ensures
+    (subst (λ (m : Node). IsReadAgain known (p, m)) c.node-node.ensures here)

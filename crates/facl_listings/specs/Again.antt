@@ -1,0 +1,43 @@
+-- Where what getfacl(1) prints of all files is loaded as these files.
+use Rattle.std.specs.Prelude.{◌≡◌, ℕ, List, map, length, true, false, Option}
+use Rattle.std.specs.List.{list_all}
+use Rattle.acl_entry.specs.Lists.{KeyMap}
+use Rattle.acl_names.specs.Paths.{is_component}
+use Rattle.acl_edit.specs.declared.node.Node.{Node}
+use Rattle.acl_people.specs.Rolls.{id_named, name_shown}
+use Rattle.acl_people.specs.Registers.{Register, users_of, groups_of}
+use Rattle.acl_dump.specs.Again.{IsFound, IsList, IsListIf}
+use Rattle.acl_tree.specs.Files.{PathOf, Files}
+use Rattle.acl_tree.specs.Found.{files_found}
+use Rattle.facl_listings.specs.Listings.{listing, plain}
+
+-- who is called what, by the rows that are known
+abbrev pub user_id : Register → List ℕ → Option ℕ
+user_id known name = id_named name (users_of known)
+
+abbrev pub group_id : Register → List ℕ → Option ℕ
+group_id known name = id_named name (groups_of known)
+
+abbrev pub user_name : Register → ℕ → Option (List ℕ)
+user_name known id = name_shown id (users_of known)
+
+abbrev pub group_name : Register → ℕ → Option (List ℕ)
+group_name known id = name_shown id (groups_of known)
+
+-- a list whose names these people find again
+abbrev pub IsListAgain : Register → KeyMap → Type 0
+IsListAgain known acl = IsList (user_id known) (group_id known) (user_name known) (group_name known) acl
+
+-- a file that these people read as it is written: the path is one, owner and group are found again, there are three
+-- flags, and the lists are valid ones whose names are found again
+pub record IsReadAgain (known : Register) (e : PathOf × Node) : Type 0 where
+  pub path : list_all is_component e.0 ≡ true
+  pub owner : IsFound (user_id known) (user_name known) e.1.label.owner
+  pub group : IsFound (group_id known) (group_name known) e.1.label.group
+  pub flags : length e.1.flags ≡ 3
+  pub access : IsListAgain known e.1.label.acl
+  pub dacl : IsListIf (user_id known) (group_id known) (user_name known) (group_name known) e.1.dacl
+
+-- what getfacl prints without options, where its operands are all paths
+abbrev pub whole_listing : Register → Files → List ℕ
+whole_listing known es = listing (user_name known) (group_name known) plain (files_found false (map (λ e. e.0) es) es)

@@ -1,0 +1,88 @@
+//! What is known of the files of a tree and of those who are known: that files are read again as they are
+//! written.
+
+ghost use Rattle.std.specs.Prelude.{◌≡◌, length, true};
+ghost use Rattle.std.specs.List.{list_all, AllByRecursion};
+ghost use Rattle.acl_names.specs.Pieces.{is_byte};
+ghost use Rattle.acl_text.specs.Writing.{IsKeyNamed};
+ghost use Rattle.acl_dump.specs.Again.{IsFound};
+ghost use Rattle.facl_listings.specs.Again.{user_id, group_id, user_name, group_name, IsListAgain, IsReadAgain};
+
+use acl_entry::{Acl, Id, Key};
+use acl_people::People;
+use acl_text::Names;
+use acl_tree::{Record, Tree};
+
+fn is_made_of_bytes(name: &[u8])
+    ensures { list_all is_byte name.now ≡ true }
+{
+    let _bytes = name;
+}
+
+fn are_three(flags: [bool; 3])
+    ensures { length flags ≡ 3 }
+{
+    let _flags = flags;
+}
+
+fn user_is_found(people: &People, id: Id)
+    ensures { IsFound (user_id people.now) (user_name people.now) id }
+{
+    people.naming_is_read_back();
+    let _number = id.number();
+    if let Some(name) = people.user_name(id) {
+        is_made_of_bytes(name);
+    }
+}
+
+fn group_is_found(people: &People, id: Id)
+    ensures { IsFound (group_id people.now) (group_name people.now) id }
+{
+    people.naming_is_read_back();
+    let _number = id.number();
+    if let Some(name) = people.group_name(id) {
+        is_made_of_bytes(name);
+    }
+}
+
+fn key_is_found(people: &People, key: &Key)
+    ensures { IsKeyNamed (user_id people.now) (group_id people.now) (user_name people.now) (group_name people.now) key.now }
+{
+    match *key {
+        Key::User(id) => user_is_found(people, id),
+        Key::Group(id) => group_is_found(people, id),
+        Key::Owner | Key::OwningGroup | Key::Mask | Key::Other => {}
+    }
+}
+
+fn list_is_read_again(people: &People, acl: &Acl)
+    ensures { IsListAgain people.now acl.now }
+{
+    for entry in acl.entries() {
+        key_is_found(people, &entry.key);
+    }
+}
+
+fn file_is_read_again(people: &People, file: &Record)
+    ensures { IsReadAgain people.now file.now }
+{
+    let _components = file.path().components();
+    let node = file.node();
+    are_three(node.flags);
+    user_is_found(people, node.label.owner);
+    group_is_found(people, node.label.group);
+    list_is_read_again(people, &node.label.acl);
+    if let Some(dacl) = &node.dacl {
+        list_is_read_again(people, dacl);
+    }
+}
+
+/// Nothing is done: each file is read again as it is written.
+pub(crate) fn files_are_read_again(people: &People, tree: &Tree)
+    ensures { AllByRecursion (IsReadAgain people.now) tree.now.files }
+{
+    let mut files = tree.iter();
+    while let Some(file) = files.next() {
+        file_is_read_again(people, file);
+    }
+}

@@ -1,0 +1,74 @@
+//! The messages of lines and of runs, but for those of texts and commands.
+use acl_tree::{Table, TreeFault};
+use facl_messages::{LineFault, RunFault, Spare, append_message, append_run_fault};
+use std::test::Fail;
+
+const LINES: [(LineFault, &str); 9] = [
+    (LineFault::LineTooLong, "line 1: facl: line too long\n"),
+    (LineFault::NotUtf8, "line 1: facl: not UTF-8\n"),
+    (LineFault::OpenQuote, "line 1: facl: open quote\n"),
+    (LineFault::UnknownTool, "line 1: facl: unknown tool\n"),
+    (LineFault::UnendedText, "line 1: facl: text without end\n"),
+    (
+        LineFault::TextLineTooLong,
+        "line 1: facl: text line too long\n",
+    ),
+    (LineFault::Usage, "line 1: setfacl: usage\n"),
+    (
+        LineFault::Both { at: 1 },
+        "line 1: setfacl: entry 1: both removed and modified\n",
+    ),
+    (LineFault::NoMemory, "line 1: facl: no memory\n"),
+];
+
+const RUNS: [(RunFault, &str); 6] = [
+    (RunFault::Read, "read fault"),
+    (RunFault::Write, "write fault"),
+    (
+        RunFault::Setup {
+            which: Table::Passwd,
+            fault: TreeFault::TooMany,
+        },
+        "setup: passwd: too many files",
+    ),
+    (
+        RunFault::Setup {
+            which: Table::Group,
+            fault: TreeFault::AlreadyLoaded,
+        },
+        "setup: group: already loaded",
+    ),
+    (RunFault::ScriptTooLong, "script too long"),
+    (RunFault::NoMemory, "no memory"),
+];
+
+#[test]
+fn lines(rt: HostRuntime) -> Result<(), Fail> {
+    for (fault, message) in &LINES {
+        let mut text = Vec::new(rt.alloc());
+        append_message(&mut text, 1, b"setfacl", fault)?;
+        assert!(rt; text.as_slice() == message.as_bytes(), "{message}");
+    }
+    Ok(())
+}
+
+#[test]
+fn runs(rt: HostRuntime) -> Result<(), Fail> {
+    for (fault, message) in &RUNS {
+        let mut text = Vec::new(rt.alloc());
+        append_run_fault(&mut text, fault)?;
+        assert!(rt; text.as_slice() == message.as_bytes(), "{message}");
+    }
+    Ok(())
+}
+
+#[test]
+fn without_memory(rt: HostRuntime) -> Result<(), Fail> {
+    let mut spare = Spare::new(rt.alloc())?;
+    assert!(rt; spare.as_bytes().is_empty());
+    spare.put_no_memory(u64::MAX);
+    assert!(rt; spare.as_bytes() == b"line 18446744073709551615: facl: no memory\n".as_slice());
+    spare.put_no_memory(7);
+    assert!(rt; spare.as_bytes() == b"line 7: facl: no memory\n".as_slice());
+    Ok(())
+}
