@@ -24,12 +24,8 @@ abbrev pub with_text : Table → Option (List ℕ) → State → Result State Ru
 with_text which None s = Ok s
 with_text which (Some text) s = set_up which (load s which text)
 
--- a text, if it is there
-abbrev pub text_of : Option (Ref (List ℕ)) → Option (List ℕ)
-text_of text = option_map (λ t. t.now) text
-
 -- the state once the texts that are there are loaded one after another, or the first fault
 abbrev pub begun : Setup → Result State RunFault
 begun setup =
-    after (with_text Passwd (text_of setup.passwd) nothing)
-    (λ s. after (with_text Group (text_of setup.group) s) (λ t. with_text Dump (text_of setup.dump) t))
+    after (with_text Passwd (option_map (λ t. t.now) setup.passwd) nothing)
+    (λ s. after (with_text Group (option_map (λ t. t.now) setup.group) s) (λ t. with_text Dump (option_map (λ t. t.now) setup.dump) t))

@@ -8,6 +8,7 @@ use Rattle.acl_dump.specs.declared.effective.Effective.TheVariants.{WhereMasked,
 use Rattle.acl_tree.specs.declared.command.Command.TheVariants.{Chmod}
 use Rattle.acl_tree.specs.declared.command.Table.{Table}
 use Rattle.acl_tree.specs.declared.command.Table.TheVariants.{Passwd, Group, Dump}
+use Rattle.acl_tree.specs.Files.{PathOf}
 use Rattle.acl_tree.specs.Operands.{first_missing}
 use Rattle.acl_people.specs.Registers.{Register, users_of, groups_of}
 use Rattle.acl_people.specs.Rolls.{name_shown}
@@ -79,11 +80,16 @@ getfacl_line s w =
 
 -- ---- can
 
+-- what the user may do with the file of a path
+abbrev pub can_user : Verdict → State → PathOf → Person → Result Reply LineFault
+can_user verdict s path user = after (file_or_fault s.tree.files path) (λ node. Ok (printed s (requests_line (verdict user node.label))))
+
+-- what the user that a word means may do with the file of a path
+abbrev pub can_at : Verdict → State → Text → PathOf → Result Reply LineFault
+can_at verdict s word path = after (user_or_fault s.people (name_meant word)) (can_user verdict s path)
+
 abbrev pub can_line : Verdict → State → Words → Result Reply LineFault
-can_line verdict s w =
-    after (path_at 1 (operand tools.Can w (codes "file")))
-    (λ path. after (user_or_fault s.people (name_meant (operand tools.Can w (codes "user"))))
-    (λ user. after (file_or_fault s.tree.files path) (λ node. Ok (printed s (requests_line (verdict user node.label))))))
+can_line verdict s w = after (path_at 1 (operand tools.Can w (codes "file"))) (can_at verdict s (operand tools.Can w (codes "user")))
 
 -- ---- all tools
 

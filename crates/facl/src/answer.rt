@@ -5,9 +5,10 @@ ghost use Rattle.acl_entry.specs.Check.{rights};
 ghost use Rattle.facl.specs.Units.{answered};
 ghost use Rattle.facl.specs.Sessions.{state_of, out_of, err_of};
 
+use crate::line::is_silent;
 use crate::session::Facl;
 use crate::state::State;
-use facl_script::{Session, UnitFound, says_nothing};
+use facl_script::{Session, UnitFound};
 
 impl Session for Facl {
     type State = State;
@@ -22,7 +23,7 @@ impl Session for Facl {
 
     fn answer(&mut self, unit: &UnitFound, line: &[u8], text: &[u8]) -> bool {
         self.fall_silent();
-        if !unit.is_too_long && says_nothing(line) {
+        if is_silent(unit.is_too_long, line) {
             return false;
         }
         self.answer_line(unit, line, text)

@@ -6,15 +6,22 @@ ghost use Rattle.facl_script.specs.Units.{UnitText};
 ghost use Rattle.facl_script.specs.ReadText.{IsTextFound};
 ghost use Rattle.facl_script.specs.ReadUnit.{IsLineFound};
 ghost use Rattle.facl.specs.Replies.{Gives, left};
-ghost use Rattle.facl.specs.Units.{words_said, tool_or_fault, text_or_fault, words_or_fault, reply, tool_word};
+ghost use Rattle.facl.specs.Units.{is_silent, words_said, tool_or_fault, text_or_fault, words_or_fault, reply, tool_word};
 
 use crate::effect::Effect;
 use crate::state::State;
 use crate::tools::{is_served, tool_line};
 use facl_messages::LineFault;
-use facl_script::{TextFound, UnitFound, split_words};
+use facl_script::{TextFound, says_nothing, split_words};
 use facl_words::{Tool, read_words};
 use std::alloc::Global;
+
+/// Whether a line is blank or a comment.
+pub(crate) fn is_silent(is_too_long: bool, line: &[u8]) -> bool
+    ensures { (said : Option (List ℕ)) → IsLineFound is_too_long line.now said → result ≡ is_silent said }
+{
+    !is_too_long && says_nothing(line)
+}
 
 /// The words of a line.
 pub(crate) fn words_said(

@@ -35,9 +35,10 @@ pub(crate) fn paths_of(alloc: Global, words: &[Word]) -> Result<Paths, LineFault
     ensures { Gives (λ paths. paths) result (paths_from 1 words.now) }
 {
     let mut paths = Vec::new(alloc);
-    for word in words {
-        let path = path_at(alloc, paths.len() + 1, word.as_str())?;
-        paths.push(path)?;
+    let mut rest = words;
+    while let [word, more @ ..] = rest {
+        paths.push(path_at(alloc, paths.len() + 1, word.as_str())?)?;
+        rest = more;
     }
     Ok(Paths::new(paths))
 }

@@ -28,8 +28,8 @@ fn with_text(
     mut state: State,
 ) -> Result<State, RunFault>
     ensures { MatchResult result
-        (λ new. with_text which (option_map (λ t. t.now) text) state ≡ Ok new)
-        (λ fault. fault ≢ NoMemory → with_text which (option_map (λ t. t.now) text) state ≡ Err fault) }
+        (λ new. with_text which (option_map (λ t. t.now) text.entry) state ≡ Ok new)
+        (λ fault. fault ≢ NoMemory → with_text which (option_map (λ t. t.now) text.entry) state ≡ Err fault) }
 {
     let Some(text) = text else {
         return Ok(state);

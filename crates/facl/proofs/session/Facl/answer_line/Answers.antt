@@ -1,0 +1,13 @@
+use Rattle.std.proofs.Common.{◌≡◌, ◌≢◌, ◌∙◌, Ok, Err, true, List, ℕ, sym, subst, map, string_bytes}
+use Rattle.facl_messages.specs.declared.fault.LineFault.TheVariants.{NoMemory}
+use Rattle.facl.specs.Replies.{Gives}
+use Rattle.facl.specs.Sessions.{state_of, wants_memory, Says}
+use Rattle.facl.specs.Units.{words_said}
+use Rattle.facl.proofs.Refusing.{refused_line}
+use Rattle.facl.proofs.session.Facl.answer_line.Goals as goal
+
+pub returns-in-Err : goal.returns-in-Err
+returns-in-Err c = λ u found.
+    let said = subst (λ r. Gives (λ words. map string_bytes words.items) r (words_said u.line)) c.in-Err.is (c.words_said.ensures u.line found.line_is) in
+    let answers = refused_line u (wants_memory c.refuse.new.self) c.args.unit.now.number c.in-Err.fault (state_of c.args.self.now) found.number c.refuse.ensures.memory said in
+    subst (λ a. Says a c.refuse.new.self true) answers c.refuse.ensures.says
