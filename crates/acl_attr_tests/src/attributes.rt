@@ -47,6 +47,31 @@ fn both_ways(rt: HostRuntime) -> Result<(), Fail> {
     Ok(())
 }
 
+/// `user::rw-`, `group::r--`, `other::---`.
+const MINIMAL: [u8; 28] = [
+    2, 0, 0, 0, 1, 0, 6, 0, 255, 255, 255, 255, 4, 0, 4, 0, 255, 255, 255, 255, 32, 0, 0, 0, 255,
+    255, 255, 255,
+];
+
+#[test]
+fn the_attribute_of_a_minimal_list(rt: HostRuntime) -> Result<(), Fail> {
+    let minimal = Acl::minimal(rt.alloc(), 0o640)?;
+    let bytes = encode_attr(rt.alloc(), &minimal)?;
+    assert_eq!(rt; bytes.as_slice(), MINIMAL.as_slice());
+    Ok(())
+}
+
+// Another number in front, permissions of 8, and a list that lacks the entry of the others.
+#[test]
+fn the_places_of_refusals(rt: HostRuntime) -> Result<(), Fail> {
+    let alloc = rt.alloc();
+    assert_eq!(rt; decode_attr(alloc, &[3, 0, 0, 0]).err(), bad(0));
+    let permissions_of_8 = [2, 0, 0, 0, 1, 0, 8, 0, 255, 255, 255, 255];
+    assert_eq!(rt; decode_attr(alloc, &permissions_of_8).err(), bad(1));
+    assert_eq!(rt; decode_attr(alloc, &MINIMAL[..20]).err(), bad(3));
+    Ok(())
+}
+
 #[test]
 fn a_byte_is_missing(rt: HostRuntime) -> Result<(), Fail> {
     assert_eq!(rt; decode_attr(rt.alloc(), &WORKED[..43]).err(), bad(5));

@@ -128,29 +128,29 @@ pub fn append_header<N: Names>(
 
 fn push_record<N: Names>(
     text: &mut Vec<u8>,
-    record: &DumpRecord,
+    dump_record: &DumpRecord,
     names: &N,
 ) -> Result<(), AllocError>
-    ensures ok { OnOk result (text.new.items ≡ text.old.items ++ record_text (N.user_name names.now) (N.group_name names.now) record.now) }
+    ensures ok { OnOk result (text.new.items ≡ text.old.items ++ record_text (N.user_name names.now) (N.group_name names.now) dump_record.now) }
     ensures err { OnErr result (take (length text.old.items) text.new.items ≡ text.old.items) }
 {
     append_header(
         text,
-        &record.path,
-        record.slash,
-        &record.owner,
-        &record.group,
-        record.flags,
+        &dump_record.path,
+        dump_record.slash,
+        &dump_record.owner,
+        &dump_record.group,
+        dump_record.flags,
         names,
     )?;
     append_list(
         text,
-        &record.access,
+        &dump_record.access,
         Which::Access,
         Effective::WhereMasked,
         names,
     )?;
-    append_default(text, &record.dacl, Effective::WhereMasked, names)?;
+    append_default(text, &dump_record.dacl, Effective::WhereMasked, names)?;
     text.push(b'\n')?;
     Ok(())
 }
@@ -163,14 +163,14 @@ fn push_record<N: Names>(
 /// Want of memory; then nothing is added.
 pub fn append_record<N: Names>(
     text: &mut Vec<u8>,
-    record: &DumpRecord,
+    dump_record: &DumpRecord,
     names: &N,
 ) -> Result<(), AllocError>
-    ensures ok { OnOk result (text.new.items ≡ text.old.items ++ record_text (N.user_name names.now) (N.group_name names.now) record.now) }
+    ensures ok { OnOk result (text.new.items ≡ text.old.items ++ record_text (N.user_name names.now) (N.group_name names.now) dump_record.now) }
     ensures err { OnErr result (text.new.items ≡ text.old.items) }
 {
     let before = text.len();
-    if let Err(refused) = push_record(text, record, names) {
+    if let Err(refused) = push_record(text, dump_record, names) {
         text.truncate(before);
         return Err(refused);
     }

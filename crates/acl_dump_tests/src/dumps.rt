@@ -147,6 +147,8 @@ fn number_of(id: Option<Id>) -> Option<u32> {
 
 fn same_record(rt: &impl Abort, record: &DumpRecord, slow: &Slow) {
     assert_eq!(rt; record.at, slow.at);
+    assert!(rt; record.path.components() == slow.path.as_slice());
+    assert_eq!(rt; record.slash, slow.slash);
     assert_eq!(rt; number_of(record.owner), slow.owner);
     assert_eq!(rt; number_of(record.group), slow.group);
     assert_eq!(rt; record.flags, slow.flags);
@@ -181,7 +183,7 @@ fn every_cut_and_change(rt: HostRuntime) -> Result<(), Fail> {
     for place in 0..LISTED.len() {
         agrees(&rt, rt.alloc(), &LISTED[..place], DumpUse::Load)?;
         agrees(&rt, rt.alloc(), &LISTED[..place], DumpUse::Restore)?;
-        for byte in [0, b'#', b':', b'\\', 255] {
+        for byte in [0, b'#', b':', b'\\', b'/', 255] {
             let mut bytes = Vec::from_slice(rt.alloc(), LISTED)?;
             if place < bytes.len() {
                 bytes[place] = byte;

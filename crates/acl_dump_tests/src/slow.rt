@@ -1,8 +1,8 @@
 //! A reader of dumps that is written apart from the one that is tested, for texts without digits and with
-//! one backslash at most, in which no escape stands.
+//! one backslash at most, in which no escape stands, and whose paths have no `..`.
 use crate::people::People;
 use acl_dump::DumpUse;
-use acl_entry::{Acl, Entry, Key, Perm};
+use acl_entry::{Entry, Key, ListFault, Perm};
 use acl_text::{FaultKind, Names, Which};
 use std::alloc::Global;
 use std::test::Fail;
@@ -11,6 +11,8 @@ use std::test::Fail;
 #[derive(Drop)]
 pub struct Slow {
     pub at: usize,
+    pub path: Vec<Vec<u8>>,
+    pub slash: bool,
     pub owner: Option<u32>,
     pub group: Option<u32>,
     pub flags: Option<[bool; 3]>,
@@ -226,18 +228,103 @@ fn put(record: &mut Slow, said: Says) -> Result<bool, Fail> {
     Ok(true)
 }
 
-fn whole(alloc: Global, record: &Slow, dump_use: DumpUse) -> Option<FaultKind> {
+fn has(entries: &[Entry], key: &Key) -> bool {
+    entries.iter().any(|entry| entry.key == *key)
+}
+
+fn repeated(entries: &[Entry]) -> Option<ListFault> {
+    let mut at = 0usize;
+    for entry in entries {
+        if has(entries.get(..at)?, &entry.key) {
+            return Some(ListFault::Repeated {
+                at: at.saturating_add(1),
+            });
+        }
+        at = at.saturating_add(1);
+    }
+    None
+}
+
+fn without_base(entries: &[Entry]) -> Option<ListFault> {
+    for key in [Key::Owner, Key::OwningGroup, Key::Other] {
+        if !has(entries, &key) {
+            return Some(ListFault::MissingBase { key });
+        }
+    }
+    None
+}
+
+fn without_mask(entries: &[Entry]) -> Option<ListFault> {
+    if has(entries, &Key::Mask) {
+        return None;
+    }
+    let before = entries
+        .iter()
+        .position(|entry| matches!(entry.key, Key::User(_) | Key::Group(_)))?;
+    Some(ListFault::MissingMask {
+        at: before.saturating_add(1),
+    })
+}
+
+/// What is wrong with the entries as a list.
+fn list_fault(entries: &[Entry]) -> Option<ListFault> {
+    if entries.len() > 4096 {
+        return Some(ListFault::TooLong);
+    }
+    if let Some(fault) = repeated(entries) {
+        return Some(fault);
+    }
+    match without_base(entries) {
+        Some(fault) => Some(fault),
+        None => without_mask(entries),
+    }
+}
+
+fn whole(record: &Slow, dump_use: DumpUse) -> Option<FaultKind> {
     if dump_use == DumpUse::Load && (record.owner.is_none() || record.group.is_none()) {
         return Some(FaultKind::MissingHeader);
     }
-    if let Some(fault) = Acl::from_entries(alloc, &record.access).err() {
+    if let Some(fault) = list_fault(&record.access) {
         return Some(FaultKind::List(Which::Access, fault));
     }
     if record.dacl.is_empty() {
         return None;
     }
-    let fault = Acl::from_entries(alloc, &record.dacl).err()?;
+    let fault = list_fault(&record.dacl)?;
     Some(FaultKind::List(Which::Default, fault))
+}
+
+/// The name in a `# file:` line: what stands behind the colon, without a blank in front.
+fn name_of(line: &[u8]) -> &[u8] {
+    match line.splitn(2, |b| *b == b':').last() {
+        Some([b' ', name @ ..]) => name,
+        Some(name) => name,
+        None => line,
+    }
+}
+
+/// The components of a path: no empty ones and no `.`.
+fn components(alloc: Global, name: &[u8]) -> Result<Vec<Vec<u8>>, Fail> {
+    let mut parts = Vec::new(alloc);
+    for part in name.split(|b| *b == b'/') {
+        if !part.is_empty() && part != b".".as_slice() {
+            parts.push(Vec::from_slice(alloc, part)?)?;
+        }
+    }
+    Ok(parts)
+}
+
+fn started(alloc: Global, at: usize, name: &[u8]) -> Result<Slow, Fail> {
+    Ok(Slow {
+        at,
+        path: components(alloc, name)?,
+        slash: name.ends_with(b"/"),
+        owner: None,
+        group: None,
+        flags: None,
+        access: Vec::new(alloc),
+        dacl: Vec::new(alloc),
+    })
 }
 
 /// The records of a dump whose paths are apart, or its fault.
@@ -258,18 +345,11 @@ pub fn read(
             Says::Nothing => {}
             Says::File => {
                 if let Some(last) = records.last() {
-                    if let Some(kind) = whole(alloc, last, dump_use) {
+                    if let Some(kind) = whole(last, dump_use) {
                         return Ok(Err((kind, last.at)));
                     }
                 }
-                records.push(Slow {
-                    at,
-                    owner: None,
-                    group: None,
-                    flags: None,
-                    access: Vec::new(alloc),
-                    dacl: Vec::new(alloc),
-                })?;
+                records.push(started(alloc, at, name_of(line))?)?;
             }
             other => match records.last_mut() {
                 None => return Ok(Err((FaultKind::MissingHeader, at))),
@@ -282,7 +362,7 @@ pub fn read(
         }
     }
     if let Some(last) = records.last() {
-        if let Some(kind) = whole(alloc, last, dump_use) {
+        if let Some(kind) = whole(last, dump_use) {
             return Ok(Err((kind, last.at)));
         }
     }

@@ -87,6 +87,21 @@ fn groups_are_not_added_together(rt: HostRuntime) -> Result<(), Fail> {
     Ok(())
 }
 
+// staff owns the file and has an entry of its own beside: each alone is granted, and not both.
+#[test]
+fn a_group_that_stands_twice_is_not_added_together(rt: HostRuntime) -> Result<(), Fail> {
+    let entries = [
+        entry(&rt, Key::Owner, 6),
+        entry(&rt, Key::OwningGroup, 4),
+        entry(&rt, group(&rt, STAFF), 2),
+        entry(&rt, Key::Mask, 7),
+        entry(&rt, Key::Other, 0),
+    ];
+    let found = bits(&rt, rt.alloc(), JOE, &[STAFF], &entries)?;
+    assert_eq!(rt; found, 0b0001_0101);
+    Ok(())
+}
+
 // The entry of a named user denies, whatever the groups and the others are granted.
 #[test]
 fn a_named_entry_is_the_last_word(rt: HostRuntime) -> Result<(), Fail> {
