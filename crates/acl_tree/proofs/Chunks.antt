@@ -47,11 +47,6 @@ in_order-left [] ys h = refl
 in_order-left (x ∷ xs) ys h = let parts = and_parts (below_all path_cmp x.0 (xs ++ ys)) (is_sorted path_cmp (xs ++ ys)) h in
     both _ _ (below-left x.0 xs ys parts.0) (in_order-left xs ys parts.1)
 
-greater : (o : Ordering) → o ≢ Less → o ≢ Equal → o ≡ Greater
-greater Less h k = absurd (h refl)
-greater Equal h k = absurd (k refl)
-greater Greater h k = refl
-
 -- a path that isn't before the later part stands there, if anywhere
 pub find_right : (xs ys : Files) (p : PathOf) → IsInOrder (xs ++ ys) → BeginsBy ys p → find path_cmp p (xs ++ ys) ≡ find path_cmp p ys
 find_right xs ys p h begins = find-append p xs ys ∙ ap (λ o. option_or o (find path_cmp p ys)) (find_gap xs p (length xs) (record {
@@ -148,3 +143,7 @@ module _ {A : Type 0} (f : A → Files) where
       ∙ ap (λ l. (flat_map f cs ++ l) ++ rest) (append-nil (f c))
       ∙ append_assoc (flat_map f cs) (f c) rest
       ∙ ap (λ l. flat_map f cs ++ l) h
+
+  -- the files of a list of parts that got one more
+  pub part_pushed : (cs : List A) (c : A) → flat_map f (cs ++ c ∷ []) ≡ flat_map f cs ++ f c
+  part_pushed cs c = flat_map-append cs (c ∷ []) ∙ ap (λ l. flat_map f cs ++ l) (append-nil (f c))

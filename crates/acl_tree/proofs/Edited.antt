@@ -1,10 +1,10 @@
 -- Files some of which are edited.
 use Rattle.std.specs.List.{list_any}
-use Rattle.std.proofs.Common.{◌≡◌, ◌&&◌, ◌||◌, List, [], ◌∷◌, ◌++◌, map, if◌then◌else◌, refl, sym, ap, ◌∙◌, Bool, true, false}
+use Rattle.std.proofs.Common.{◌≡◌, ◌&&◌, ◌||◌, List, [], ◌∷◌, ◌++◌, map, if◌then◌else◌, refl, sym, ap, ◌∙◌, Bool}
 use Rattle.std.specs.Ordering.{is_lt}
 use Rattle.std.specs.FinMap.{is_sorted}
 use Rattle.std.specs.FinMap.Entries.{below_all}
-use Rattle.std.proofs.lemmas.List.{map_push}
+use Rattle.std.proofs.lemmas.List.{map_push, map-append}
 use Rattle.acl_names.specs.Paths.{path_cmp}
 use Rattle.acl_edit.specs.declared.node.Node.{Node}
 use Rattle.acl_tree.specs.Files.{PathOf, Files, IsInOrder}
@@ -33,8 +33,9 @@ pub any-map : {A B : Type 0} (p : B → Bool) (f : A → B) (xs : List A) → li
 any-map p f [] = refl
 any-map p f (x ∷ xs) = ap (λ b. p (f x) || b) (any-map p f xs)
 
-pub when_true : (b : Bool) (p : PathOf) (x y : Node) → b ≡ true → (let r : PathOf × Node = (p, x) in r ≡ (p, if b then x else y))
-when_true b p x y is = ap (λ c. let r : PathOf × Node = (p, if c then x else y) in r) (sym is)
-
-pub when_false : (b : Bool) (p : PathOf) (x y : Node) → b ≡ false → (let r : PathOf × Node = (p, y) in r ≡ (p, if b then x else y))
-when_false b p x y is = ap (λ c. let r : PathOf × Node = (p, if c then x else y) in r) (sym is)
+-- some files more
+pub edited_more : (test : PathOf → Bool) (g : Node → Node) (es fs edited new : Files) → new ≡ edit_files test g es → edited ≡ edit_files test g fs → new ++ edited ≡ edit_files test g (es ++ fs)
+edited_more test g es fs edited new is made =
+    ap (λ l. l ++ edited) is
+    ∙ ap (λ l. edit_files test g es ++ l) made
+    ∙ sym (map-append (λ (y : PathOf × Node). let z : PathOf × Node = (y.0, if test y.0 then g y.1 else y.1) in z) es fs)

@@ -121,6 +121,6 @@ module _ (s new : State) (sound : IsSoundTree s.tree) where
   step_keeps (Chmod paths mode recursive) h = chmod_keeps (first_missing paths s.tree.files) paths mode recursive h
 
 -- what is staged keeps the facts
-pub stages_sound : (s : State) (command : Command) (result : Result State TreeFault) → Stages (λ x. x) result (step s command) → IfOk result (λ staged. IsSoundTree s.tree → IsSoundTree staged.tree)
-stages_sound s command (Ok new) h = λ sound. step_keeps s new sound command h
-stages_sound s command (Err fault) h = tt
+pub stages_sound : {A : Type 0} (view : A → State) (s : State) (command : Command) (result : Result A TreeFault) → Stages view result (step s command) → IfOk result (λ staged. IsSoundTree s.tree → IsSoundTree (view staged).tree)
+stages_sound view s command (Ok new) h = λ sound. step_keeps s (view new) sound command h
+stages_sound view s command (Err fault) h = tt

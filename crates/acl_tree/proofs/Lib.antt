@@ -7,5 +7,7 @@ pub mod Edited
 pub mod Follows
 pub mod Loaded
 pub mod Kept
-pub mod Meant
 pub mod Listed
+pub mod Changes
+pub mod Told
+pub mod Parts

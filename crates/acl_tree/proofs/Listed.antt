@@ -1,14 +1,13 @@
 -- The files of a command, each by the file that follows it.
-use Rattle.std.proofs.Common.{◌≡◌, ℕ, suc, ◌-◌, ◌<◌, Bool, true, false, if◌then◌else◌, List, [], ◌∷◌, ◌++◌, length, filter, get_or, take, drop, take_all, refl, sym, ap, subst, ◌∙◌, arith, append_assoc, append-nil}
+use Rattle.std.proofs.Common.{◌≡◌, ℕ, suc, ◌<◌, Bool, true, false, if◌then◌else◌, List, [], ◌∷◌, ◌++◌, length, filter, get_or, refl, sym, ap, subst, ◌∙◌, arith, append_assoc, append-nil}
 use Rattle.std.specs.List.{flat_map}
 use Rattle.acl_edit.specs.declared.node.Node.{Node}
 use Rattle.acl_tree.specs.Files.{PathOf, Files, IsInOrder}
 use Rattle.acl_tree.specs.Found.{FoundFile, found_file, found_in, next_file_below, found_by_next}
 use Rattle.acl_tree.specs.Below.{is_below}
-use Rattle.acl_tree.specs.Operands.{is_file, is_near}
+use Rattle.acl_tree.specs.Operands.{is_file}
 use Rattle.acl_tree.specs.Sound.{holds_below}
 use Rattle.acl_tree.proofs.Follows.{told_by_next}
-use Rattle.acl_tree.proofs.Near.{NotAfter, near_same, after_first, before_last}
 
 -- one file of a list that is filtered on the way
 one : (b : Bool) (f : FoundFile) (all es : Files) (e : PathOf × Node) (more : List FoundFile) → f ≡ found_file (holds_below all e.0) e → more ≡ found_in all es
@@ -34,20 +33,11 @@ found-append test (e ∷ es) rest after =
     ∙ sym (append_assoc here (found_by_next test es (rest ++ after)) (found_by_next test rest after))
 
 -- tests that agree at the files
-found_alike : (test other : PathOf → Bool) (es after : Files) → ((j : ℕ) (d : PathOf × Node) → j < length es → test (get_or es j d).0 ≡ other (get_or es j d).0) → found_by_next test es after ≡ found_by_next other es after
+pub found_alike : (test other : PathOf → Bool) (es after : Files) → ((j : ℕ) (d : PathOf × Node) → j < length es → test (get_or es j d).0 ≡ other (get_or es j d).0) → found_by_next test es after ≡ found_by_next other es after
 found_alike test other [] after agree = refl
 found_alike test other (e ∷ es) after agree =
     ap (λ b. (if b then found_file (next_file_below e.0 (es ++ after)) e ∷ [] else []) ++ found_by_next test es after) (agree 0 e (omega arith))
     ∙ ap (λ l. (if other e.0 then found_file (next_file_below e.0 (es ++ after)) e ∷ [] else []) ++ l) (found_alike test other es after (λ j d lt. agree (suc j) d (omega arith)))
-
--- the files of a chunk, by the operands that are near
-pub found_near : (recursive : Bool) (ps : List PathOf) (es after : Files) (first last : PathOf) → IsInOrder es
-    → ((d : PathOf × Node) → first ≡ (get_or es 0 d).0) → ((d : PathOf × Node) → last ≡ (get_or es (length es - 1) d).0)
-    → found_by_next (is_file recursive (filter (is_near first last) ps)) es after ≡ found_by_next (is_file recursive ps) es after
-found_near recursive ps es after first last h from to =
-    found_alike (is_file recursive (filter (is_near first last) ps)) (is_file recursive ps) es after (λ j d lt. near_same recursive first last (get_or es j d).0 ps
-    (subst (λ x. NotAfter x (get_or es j d).0) (sym (from d)) (after_first es h j d lt))
-    (subst (λ x. NotAfter (get_or es j d).0 x) (sym (to d)) (before_last es h j d lt)))
 
 pub found_none : (recursive : Bool) (es after : Files) → found_by_next (is_file recursive []) es after ≡ []
 found_none recursive [] after = refl
@@ -62,10 +52,3 @@ module _ {A : Type 0} (f : A → Files) where
       by : (es : Files) → f c ≡ es → 0 < length es → ((d : PathOf × Node) → q ≡ (get_or es 0 d).0) → next_file_below p (es ++ flat_map f parts) ≡ is_below p q
       by [] same filled first = absurd (omega arith)
       by (e ∷ es) same filled first = ap (λ r. is_below p r) (sym (first e))
-
-  -- the files of the first part, and those after them
-  pub first_part : (parts : List A) (c : A) → 0 < length parts → c ≡ get_or parts 0 c → flat_map f parts ≡ f c ++ flat_map f (take (length parts - 1) (drop 1 parts))
-  first_part [] c some is = absurd (omega arith)
-  first_part (x ∷ parts) c some is =
-      ap (λ y. f y ++ flat_map f parts) (sym is)
-      ∙ ap (λ l. f c ++ flat_map f l) (sym (take_all (length (x ∷ parts) - 1) parts (omega arith)))

@@ -84,7 +84,7 @@ near_same recursive first last q (p ∷ ps) from to =
         none false m = m
 
 -- tests that agree at the files give the same edit
-edit_alike : (test other : PathOf → Bool) (g : Node → Node) (es : Files) → ((j : ℕ) (d : PathOf × Node) → j < length es → test (get_or es j d).0 ≡ other (get_or es j d).0) → edit_files test g es ≡ edit_files other g es
+pub edit_alike : (test other : PathOf → Bool) (g : Node → Node) (es : Files) → ((j : ℕ) (d : PathOf × Node) → j < length es → test (get_or es j d).0 ≡ other (get_or es j d).0) → edit_files test g es ≡ edit_files other g es
 edit_alike test other g [] agree = refl
 edit_alike test other g (e ∷ es) agree =
     ap (λ b. (e.0, if b then g e.1 else e.1) ∷ edit_files test g es) (agree 0 e (omega arith))
@@ -101,15 +101,6 @@ before_last es h j d lt =
       | true ↦ λ is. ap is_gt (rises es h j (length es - 1) d (ltb-true _ _ is) (omega arith))
       | false ↦ λ is. let same : j ≡ length es - 1 = omega (arith, ltb-false _ _ is) in subst (λ k. NotAfter (get_or es j d).0 (get_or es k d).0) same (ap is_gt (tied_itself path_total _))
     ] refl
-
--- an edit of files in order, by the operands that are near
-pub edit_near : (recursive : Bool) (ps : List PathOf) (g : Node → Node) (es : Files) (first last : PathOf) → IsInOrder es
-    → ((d : PathOf × Node) → first ≡ (get_or es 0 d).0) → ((d : PathOf × Node) → last ≡ (get_or es (length es - 1) d).0)
-    → edit_files (is_file recursive (filter (is_near first last) ps)) g es ≡ edit_files (is_file recursive ps) g es
-edit_near recursive ps g es first last h from to =
-    edit_alike _ (is_file recursive ps) g es (λ j d lt. near_same recursive first last (get_or es j d).0 ps
-    (subst (λ x. NotAfter x (get_or es j d).0) (sym (from d)) (after_first es h j d lt))
-    (subst (λ x. NotAfter (get_or es j d).0 x) (sym (to d)) (before_last es h j d lt)))
 
 -- no operand means no file
 pub edit_none : (recursive : Bool) (g : Node → Node) (es : Files) → edit_files (is_file recursive []) g es ≡ es

@@ -1,14 +1,14 @@
 -- What a vector of shared records is seen as.
-use Rattle.std.proofs.Common.{◌≡◌, ℕ, zero, suc, ◌<◌, Bool, true, false, T, List, [], ◌∷◌, ◌++◌, map, set, get_or, take, drop, Some, refl, ap, sym, subst, ◌∙◌, true≢false}
+use Rattle.std.proofs.Common.{◌≡◌, ℕ, zero, suc, ◌<◌, Bool, true, false, T, List, [], ◌∷◌, ◌++◌, map, get_or, take, drop, Some, refl, ap, sym, subst, ◌∙◌, true≢false}
 use Rattle.std.specs.List.{AllZip, insert, flat_map}
 use Rattle.std.specs.FinMap.{find, put}
 use Rattle.std.specs.FinMap.Entries.{is_sorted-put}
-use Rattle.std.proofs.lemmas.List.{get_or-map, length-map, map-set, map-append, take-append-drop}
+use Rattle.std.proofs.lemmas.List.{get_or-map, length-map, map-append, take-append-drop}
 use Rattle.acl_names.specs.Paths.{path_cmp}
 use Rattle.acl_names.proofs.PathOrder.{path_total}
 use Rattle.acl_edit.specs.declared.node.Node.{Node}
 use Rattle.acl_tree.specs.Files.{PathOf, Files, IsInOrder, IsAt, IsGapFor}
-use Rattle.acl_tree.proofs.Places.{find_at, put_at, put_gap}
+use Rattle.acl_tree.proofs.Places.{find_at}
 
 pub to_true : (b : Bool) → T b → b ≡ true
 to_true true h = refl
@@ -35,12 +35,6 @@ module _ {A : Type 0} (f : A → PathOf × Node) where
   pub at_seen : (xs ys : List A) (p : PathOf) (i : ℕ) → ys ≡ xs → IsAt (map f ys) p i → IsAt (map f xs) p i
   at_seen xs ys p i is at = subst (λ l. IsAt (map f l) p i) is at
 
-  pub at_seen_of : (xs ys : List A) (p q : PathOf) (i : ℕ) → ys ≡ xs → q ≡ p → IsAt (map f ys) q i → IsAt (map f xs) p i
-  at_seen_of xs ys p q i is same at = at_seen xs ys p i is (subst (λ r. IsAt (map f ys) r i) same at)
-
-  pub gap_seen_of : (xs ys : List A) (p q : PathOf) (i : ℕ) → ys ≡ xs → q ≡ p → IsGapFor (map f ys) q i → IsGapFor (map f xs) p i
-  gap_seen_of xs ys p q i is same gap = subst (λ l. IsGapFor (map f l) p i) is (subst (λ r. IsGapFor (map f ys) r i) same gap)
-
   pub gap_seen : (xs ys : List A) (p : PathOf) (i : ℕ) → ys ≡ xs → IsGapFor (map f ys) p i → IsGapFor (map f xs) p i
   gap_seen xs ys p i is gap = subst (λ l. IsGapFor (map f l) p i) is gap
 
@@ -48,15 +42,6 @@ module _ {A : Type 0} (f : A → PathOf × Node) where
   pub found_seen : (xs : List A) → IsInOrder (map f xs) → (p : PathOf) (i : ℕ) → IsAt (map f xs) p i → (x : A) → x ≡ get_or xs i x → find path_cmp p (map f xs) ≡ Some (f x).1
   found_seen xs h p i at x is =
       find_at (map f xs) h p i at (f x) ∙ ap (λ e. Some e.1) (get_or-map f xs i x (f x) (subst (λ n. i < n) (length-map xs f) at.in_range) ∙ ap f (sym is))
-
-  pub path_seen : (xs : List A) (p : PathOf) (i : ℕ) → IsAt (map f xs) p i → (x : A) → x ≡ get_or xs i x → {e : PathOf × Node} → e ≡ f x → e.0 ≡ p
-  path_seen xs p i at x is {e} same = ap (λ y. y.0) (same ∙ ap f is ∙ sym (get_or-map f xs i x (f x) (subst (λ n. i < n) (length-map xs f) at.in_range))) ∙ at.has_path (f x)
-
-  pub set_seen : (xs : List A) → IsInOrder (map f xs) → (x : A) (i : ℕ) → IsAt (map f xs) (f x).0 i → map f (set xs i x) ≡ put path_cmp (f x).0 (f x).1 (map f xs)
-  set_seen xs h x i at = map-set f xs i x ∙ sym (put_at (map f xs) h (f x) i at)
-
-  pub insert_seen : (xs : List A) (x : A) (i : ℕ) → IsGapFor (map f xs) (f x).0 i → map f (insert xs i x) ≡ put path_cmp (f x).0 (f x).1 (map f xs)
-  insert_seen xs x i gap = map-insert f xs i x ∙ sym (put_gap (map f xs) (f x) i gap)
 
 pub in_order-put : (p : PathOf) (n : Node) (es : Files) → IsInOrder es → IsInOrder (put path_cmp p n es)
 in_order-put p n es h = to_true _ (is_sorted-put path_cmp path_total p n es (from_true _ h))

@@ -6,3 +6,5 @@ pub mod Places
 pub mod Step
 pub mod Sound
 pub mod Found
+pub mod Changed
+pub mod Tells

@@ -97,6 +97,7 @@ impl Chunk {
 
     /// The last file's path.
     pub fn last(&self) -> &Path
+        ensures some { 0 < length self.now }
         ensures path { (d : PathOf × node_types.Node) → result.now ≡ (slice_index_or self.now (length self.now - 1) d).0 }
     {
         self.records[self.records.len() - 1].path()

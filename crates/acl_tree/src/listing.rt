@@ -1,7 +1,8 @@
 //! The files of a command, for those who list them.
 
-ghost use Rattle.std.specs.Prelude.{◌≡◌, ◌≢◌, ◌++◌, ◌∷◌, [], map, None, IfOk, IfErr, OnOk, if◌then◌else◌};
+ghost use Rattle.std.specs.Prelude.{◌≡◌, ◌≢◌, ◌≤◌, ◌++◌, length, take, drop, ◌∷◌, [], map, None, IfOk, IfErr, OnOk, if◌then◌else◌};
 ghost use Rattle.std.specs.List.{flat_map};
+ghost use Rattle.acl_tree.specs.Files.{IsInOrder};
 ghost use Rattle.acl_tree.specs.Found.{files_found, found_file, next_file_below, found_by_next};
 ghost use Rattle.acl_tree.specs.Operands.{is_file, first_missing, IsMissing};
 ghost use Rattle.acl_tree.specs.declared.command.TreeFault.TheVariants.{NoMemory};
@@ -11,7 +12,7 @@ use crate::changing::look_up;
 use crate::chunk::Chunk;
 use crate::command::{Paths, TreeFault};
 use crate::found::Found;
-use crate::operands::{is_file, near};
+use crate::operands::{all_operands, is_file, near_chunks};
 use crate::record::Record;
 use crate::tree::Tree;
 use acl_names::Path;
@@ -72,22 +73,39 @@ fn add_records(
     Ok(())
 }
 
-fn add_chunk(
+/// Adds the files of the first chunks. Where no operand is near there are none; else each half is looked at by
+/// itself.
+fn add_chunks(
     alloc: Global,
     files: &mut Vec<Found>,
-    chunk: &Chunk,
-    after: &[Rc<Chunk>],
-    operands: &[Path],
+    chunks: &[Rc<Chunk>],
+    count: usize,
+    operands: &[&Path],
     recursive: bool,
 ) -> Result<(), AllocError>
-    ensures { OnOk result (files.new.items ≡ files.old.items ++ found_by_next (is_file recursive operands.now) chunk.now (flat_map (λ c. c.value) after.now)) }
+    requires order { IsInOrder (flat_map (λ c. c.value) chunks.now) }
+    requires in_range { count ≤ length chunks.now }
+    ensures { OnOk result (files.new.items ≡ files.old.items ++ found_by_next (is_file recursive (map (λ p. p.now) operands.now)) (flat_map (λ c. c.value) (take count chunks.now)) (flat_map (λ c. c.value) (drop count chunks.now))) }
 {
-    let near = near(alloc, operands, chunk.first(), chunk.last())?;
+    let (part, after) = chunks.split_at(count);
+    let near = near_chunks(alloc, operands, part)?;
     if near.is_empty() {
         return Ok(());
     }
-    add_records(files, chunk.records(), after, &near, recursive)?;
-    Ok(())
+    match part {
+        [] => Ok(()),
+        [chunk] => {
+            add_records(files, chunk.records(), after, &near, recursive)?;
+            Ok(())
+        }
+        _ => {
+            let half = count / 2;
+            let (_left, right) = chunks.split_at(half);
+            add_chunks(alloc, files, chunks, half, &near, recursive)?;
+            add_chunks(alloc, files, right, count - half, &near, recursive)?;
+            Ok(())
+        }
+    }
 }
 
 fn files_found(
@@ -98,12 +116,17 @@ fn files_found(
 ) -> Result<Vec<Found>, AllocError>
     ensures { IfOk result (λ files. files.items ≡ files_found recursive operands.now tree.now.files) }
 {
+    let operands = all_operands(alloc, operands)?;
     let mut files = Vec::new(alloc);
-    let mut rest = tree.chunks();
-    while let [chunk, after @ ..] = rest {
-        add_chunk(alloc, &mut files, chunk, after, operands, recursive)?;
-        rest = after;
-    }
+    let chunks = tree.chunks();
+    add_chunks(
+        alloc,
+        &mut files,
+        chunks,
+        chunks.len(),
+        &operands,
+        recursive,
+    )?;
     Ok(files)
 }
 

@@ -1,15 +1,18 @@
 //! A dump as a tree.
 
-ghost use Rattle.std.specs.Prelude.{◌≡◌, ◌≢◌, ◌<◌, length, true, map, IfOk, unwrap_or};
+ghost use Rattle.std.specs.Prelude.{◌≡◌, ◌≢◌, ◌<◌, [], length, true, map, IfOk, unwrap_or};
 ghost use Rattle.std.specs.List.{flat_map};
 ghost use Rattle.std.specs.BTreeMap.{values};
 ghost use Rattle.acl_tree.specs.Files.{IsInOrder};
 ghost use Rattle.acl_tree.specs.Loading.{in_path_order, is_directory, node_of, next_below, files_from, files_of};
 ghost use Rattle.acl_tree.specs.Step.{load_dump, Stages};
+ghost use Rattle.acl_tree.specs.Tells.{Tells};
+ghost use Rattle.acl_tree.specs.declared.moved.UsersMove.TheVariants.{Same};
 
 use crate::below::is_below;
 use crate::chunk::{Chunk, MOST_RECORDS};
 use crate::command::TreeFault;
+use crate::moved::UsersMove;
 use crate::record::Record;
 use crate::staged::Staged;
 use crate::tree::Tree;
@@ -149,13 +152,21 @@ fn text_fault(fault: TextFault) -> TreeFault
     }
 }
 
-fn tree_of(alloc: Global, records: &[DumpRecord]) -> Result<Tree, AllocError>
-    ensures { IfOk result (λ tree. tree ≡ record { files = files_of records.now; loaded = true }) }
+/// The files of a dump's records.
+fn files_of(alloc: Global, records: &[DumpRecord]) -> Result<Vec<Rc<Record>>, AllocError>
+    ensures { IfOk result (λ files. map (λ r. r.value) files.items ≡ files_of records.now) }
 {
     let places = places_of(alloc, records)?;
     let sorted = in_order(alloc, &places)?;
-    let files = files_from(alloc, &sorted)?;
-    Ok(Tree::of(chunks_of(alloc, &files)?, true))
+    files_from(alloc, &sorted)
+}
+
+/// The files of a dump as a tree.
+fn tree_of(alloc: Global, files: &[Rc<Record>]) -> Result<Tree, AllocError>
+    requires { IsInOrder (map (λ r. r.value) files.now) }
+    ensures { IfOk result (λ tree. tree ≡ record { files = map (λ r. r.value) files.now; loaded = true }) }
+{
+    Ok(Tree::of(chunks_of(alloc, files)?, true))
 }
 
 impl Tree {
@@ -165,7 +176,9 @@ impl Tree {
         people: &People,
         bytes: &[u8],
     ) -> Result<Staged, TreeFault>
-        ensures { Stages (λ s. s) result (load_dump (record { tree = self.now; people = people.now }) bytes.now) }
+        ensures made { Stages (λ s. s.state) result (load_dump (record { tree = self.now; people = people.now }) bytes.now) }
+        ensures tells { IfOk result (λ staged. self.now.files ≡ [] → Tells (record { tree = self.now; people = people.now }) staged) }
+        ensures moved { IfOk result (λ staged. staged.moved ≡ Same) }
     {
         let records = match read_dump(alloc, bytes, DumpUse::Load, people) {
             Ok(records) => records,
@@ -174,7 +187,14 @@ impl Tree {
         if records.len() > MOST_FILES {
             return Err(TreeFault::TooMany);
         }
-        let tree = tree_of(alloc, &records)?;
-        Ok(Staged::of(tree, people.share()?))
+        let files = files_of(alloc, &records)?;
+        let tree = tree_of(alloc, &files)?;
+        Ok(Staged::of(
+            tree,
+            people.share()?,
+            files,
+            Vec::new(alloc),
+            UsersMove::Same,
+        ))
     }
 }

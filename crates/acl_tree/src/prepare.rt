@@ -1,13 +1,17 @@
 //! Commands on the whole state: each is prepared whole, or refused.
 
-ghost use Rattle.std.specs.Prelude.{◌≡◌, IfOk, IfErr, OnOk, Err};
+ghost use Rattle.std.specs.Prelude.{◌≡◌, [], IfOk, IfErr, OnOk, Err};
 ghost use Rattle.acl_tree.specs.Step.{chmod_all, or_missing, tree_fault, load, step, Stages};
 ghost use Rattle.acl_tree.specs.declared.command.TreeFault.TheVariants.{NoMemory};
+ghost use Rattle.acl_people.specs.Registers.{Register};
 ghost use Rattle.acl_tree.specs.Operands.{first_missing};
 ghost use Rattle.acl_tree.specs.Sound.{IsSoundTree};
+ghost use Rattle.acl_tree.specs.Tells.{users_move, load_moves, Tells};
+ghost use Rattle.acl_tree.specs.declared.moved.UsersMove.TheVariants.{Same, Loaded};
 
 use crate::changing::{chmod_files, look_up};
 use crate::command::{Command, Paths, Table, TreeFault};
+use crate::moved::UsersMove;
 use crate::staged::Staged;
 use crate::tree::Tree;
 use acl_people::{LoadFault, People};
@@ -38,8 +42,10 @@ impl Tree {
         people: &People,
         command: &Command,
     ) -> Result<Staged, TreeFault>
-        ensures made { Stages (λ s. s) result (step (record { tree = self.now; people = people.now }) command.now) }
-        ensures sound { IfOk result (λ staged. IsSoundTree self.now → IsSoundTree staged.tree) }
+        ensures made { Stages (λ s. s.state) result (step (record { tree = self.now; people = people.now }) command.now) }
+        ensures sound { IfOk result (λ staged. IsSoundTree self.now → IsSoundTree staged.state.tree) }
+        ensures tells { IfOk result (λ staged. IsSoundTree self.now → Tells (record { tree = self.now; people = people.now }) staged) }
+        ensures moved { IfOk result (λ staged. staged.moved ≡ users_move command.now) }
     {
         match command {
             Command::Load { which, bytes } => self.load(alloc, people, *which, bytes),
@@ -58,25 +64,39 @@ impl Tree {
         which: Table,
         bytes: &[u8],
     ) -> Result<Staged, TreeFault>
-        ensures { Stages (λ s. s) result (load (record { tree = self.now; people = people.now }) which bytes.now) }
+        ensures made { Stages (λ s. s.state) result (load (record { tree = self.now; people = people.now }) which bytes.now) }
+        ensures tells { IfOk result (λ staged. IsSoundTree self.now → Tells (record { tree = self.now; people = people.now }) staged) }
+        ensures moved { IfOk result (λ staged. staged.moved ≡ load_moves which) }
     {
         if self.is_loaded() {
             return Err(TreeFault::AlreadyLoaded);
         }
         match which {
-            Table::Passwd => self.with_people(people.load_passwd(alloc, bytes)),
-            Table::Group => self.with_people(people.load_group(alloc, bytes)),
+            Table::Passwd => self.with_people(alloc, people.load_passwd(alloc, bytes)),
+            Table::Group => self.with_people(alloc, people.load_group(alloc, bytes)),
             Table::Dump => self.load_dump(alloc, people, bytes),
         }
     }
 
-    fn with_people(&self, loaded: Result<People, LoadFault>) -> Result<Staged, TreeFault>
-        ensures ok { IfOk loaded (λ people. IfOk result (λ staged. staged ≡ record { tree = self.now; people = people })) }
+    fn with_people(
+        &self,
+        alloc: Global,
+        loaded: Result<People, LoadFault>,
+    ) -> Result<Staged, TreeFault>
+        ensures ok { IfOk loaded (λ people. IfOk result (λ staged. staged ≡ record { state = record { tree = self.now; people = people }; changed = []; gone = []; moved = Loaded })) }
+        ensures moved { IfOk result (λ staged. staged.moved ≡ Loaded) }
+        ensures tells { IfOk result (λ staged. (people : Register) → self.now.files ≡ [] → Tells (record { tree = self.now; people = people }) staged) }
         ensures err { IfErr loaded (λ fault. result ≡ Err (tree_fault fault)) }
         ensures memory { OnOk loaded (IfErr result (λ fault. fault ≡ NoMemory)) }
     {
         match loaded {
-            Ok(people) => Ok(Staged::of(self.share()?, people)),
+            Ok(people) => Ok(Staged::of(
+                self.share()?,
+                people,
+                Vec::new(alloc),
+                Vec::new(alloc),
+                UsersMove::Loaded,
+            )),
             Err(fault) => Err(load_fault(fault)),
         }
     }
@@ -89,10 +109,19 @@ impl Tree {
         mode: u16,
         recursive: bool,
     ) -> Result<Staged, TreeFault>
-        ensures { Stages (λ s. s) result (or_missing (first_missing paths.now self.now.files) (record { tree = chmod_all recursive paths.now mode self.now; people = people.now })) }
+        ensures made { Stages (λ s. s.state) result (or_missing (first_missing paths.now self.now.files) (record { tree = chmod_all recursive paths.now mode self.now; people = people.now })) }
+        ensures tells { IfOk result (λ staged. Tells (record { tree = self.now; people = people.now }) staged) }
+        ensures moved { IfOk result (λ staged. staged.moved ≡ Same) }
     {
         look_up(self, alloc, paths.as_slice())?;
-        let tree = chmod_files(self, alloc, paths.as_slice(), mode, recursive)?;
-        Ok(Staged::of(tree, people.share()?))
+        let mut changed = Vec::new(alloc);
+        let tree = chmod_files(self, alloc, &mut changed, paths.as_slice(), mode, recursive)?;
+        Ok(Staged::of(
+            tree,
+            people.share()?,
+            changed,
+            Vec::new(alloc),
+            UsersMove::Same,
+        ))
     }
 }

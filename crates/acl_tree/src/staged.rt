@@ -1,47 +1,88 @@
 //! A command that is prepared: the state after it, before it stands.
 
-ghost use Rattle.std.specs.Prelude.{◌≡◌};
+ghost use Rattle.std.specs.Prelude.{◌≡◌, map};
 
+use crate::moved::UsersMove;
+use crate::record::Record;
 use crate::tree::Tree;
 use acl_people::People;
 use std::marker::Model;
+use std::rc::Rc;
 
-/// The whole state after a command. It is put in place by [`Tree::commit`], or given up: one of these has to
-/// be done with it.
+/// The whole state after a command, and what it changes. It is put in place by [`Tree::commit`], or given up:
+/// one of these has to be done with it.
 pub struct Staged {
     tree: Tree,
     people: People,
+    changed: Vec<Rc<Record>>,
+    gone: Vec<Rc<Record>>,
+    moved: UsersMove,
 }
 
 impl Model for Staged {
-    ghost use Rattle.acl_tree.specs.Step.{State, coded_state};
+    ghost use Rattle.std.specs.Prelude.{map};
+    ghost use Rattle.acl_tree.specs.Tells.{StagedState, coded_staged};
 
-    ghost Value = { State };
+    ghost Value = { StagedState };
 
-    ghost coded = { coded_state };
+    ghost coded = { coded_staged };
 
-    ghost view = { λ s. record { tree = s.tree; people = s.people } };
+    ghost view = { λ s. record { state = record { tree = s.tree; people = s.people }; changed = map (λ r. r.value) s.changed.items; gone = map (λ r. r.value) s.gone.items; moved = s.moved } };
 }
 
 impl Staged {
-    pub(crate) fn of(tree: Tree, people: People) -> Staged
-        ensures { result ≡ record { tree = tree; people = people } }
+    pub(crate) fn of(
+        tree: Tree,
+        people: People,
+        changed: Vec<Rc<Record>>,
+        gone: Vec<Rc<Record>>,
+        moved: UsersMove,
+    ) -> Staged
+        ensures { result ≡ record { state = record { tree = tree; people = people }; changed = map (λ r. r.value) changed.items; gone = map (λ r. r.value) gone.items; moved = moved } }
     {
-        Staged { tree, people }
+        Staged {
+            tree,
+            people,
+            changed,
+            gone,
+            moved,
+        }
     }
 
     /// The tree after the command.
     pub fn tree(&self) -> &Tree
-        ensures { result.now ≡ self.now.tree }
+        ensures { result.now ≡ self.now.state.tree }
     {
         &self.tree
     }
 
     /// The people after the command.
     pub fn people(&self) -> &People
-        ensures { result.now ≡ self.now.people }
+        ensures { result.now ≡ self.now.state.people }
     {
         &self.people
+    }
+
+    /// The files after the command that are new, or whose owner, group or access list is another than
+    /// before, in path order. It takes no memory.
+    pub fn changed(&self) -> &[Rc<Record>]
+        ensures { map (λ r. r.value) result.now ≡ self.now.changed }
+    {
+        &self.changed
+    }
+
+    /// The files before the command that are recorded no more, in path order. It takes no memory.
+    pub fn gone(&self) -> &[Rc<Record>]
+        ensures { map (λ r. r.value) result.now ≡ self.now.gone }
+    {
+        &self.gone
+    }
+
+    /// How the users moved. It takes no memory.
+    pub fn moved(&self) -> &UsersMove
+        ensures { result.now ≡ self.now.moved }
+    {
+        &self.moved
     }
 
     /// Leaves the state as it is. It takes no memory.
@@ -49,6 +90,9 @@ impl Staged {
         let Staged {
             tree: _tree,
             people: _people,
+            changed: _changed,
+            gone: _gone,
+            moved: _moved,
         } = self;
     }
 }
@@ -56,12 +100,15 @@ impl Staged {
 impl Tree {
     /// Puts the state after a command in place of the one that stands. It takes no memory and succeeds.
     pub fn commit(&mut self, people: &mut People, staged: Staged)
-        ensures tree { self.new ≡ staged.tree }
-        ensures people { people.new ≡ staged.people }
+        ensures tree { self.new ≡ staged.state.tree }
+        ensures people { people.new ≡ staged.state.people }
     {
         let Staged {
             tree,
             people: next_people,
+            changed: _changed,
+            gone: _gone,
+            moved: _moved,
         } = staged;
         *self = tree;
         *people = next_people;

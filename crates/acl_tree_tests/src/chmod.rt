@@ -41,7 +41,8 @@ fn a_refused_command_changes_nothing(rt: HostRuntime) -> Result<(), Fail> {
     let alloc = rt.alloc();
     let (mut tree, mut people) = setup(&rt, alloc)?;
     let command = chmod(&rt, alloc, 0o777, false, &[b"f", b"d/nosuch", b"nosuch"])?;
-    match run(alloc, &mut tree, &mut people, &command) {
+    let refused = run(alloc, &mut tree, &mut people, &command);
+    match &refused {
         Some(TreeFault::NoSuchFile { path }) => {
             assert_eq!(rt; path.components().len(), 2, "the first that isn't recorded");
         }

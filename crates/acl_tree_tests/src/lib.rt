@@ -9,3 +9,5 @@ mod chmod;
 mod loads;
 #[cfg(test)]
 mod made;
+#[cfg(test)]
+mod told;

@@ -35,7 +35,7 @@ printed s out = record { state = s; out = out }
 -- the reply of a line that does this at a state
 abbrev pub left : State → Effect → Reply
 left s (Prints out) = printed s out.items
-left s (Changes staged) = record { state = staged; out = [] }
+left s (Changes staged) = record { state = staged.state; out = [] }
 
 -- A call gives what is to be given, or tells exactly the fault, unless memory ran out.
 abbrev pub Gives : {A B : Type 0} → (A → B) → Result A LineFault → Result B LineFault → Type 0

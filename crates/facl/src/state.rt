@@ -38,7 +38,7 @@ impl State {
 
     /// Puts a state that is prepared in place of this one. It takes no memory.
     pub fn commit(&mut self, staged: Staged)
-        ensures { self.new ≡ staged }
+        ensures { self.new ≡ staged.state }
     {
         self.tree.commit(&mut self.people, staged);
     }

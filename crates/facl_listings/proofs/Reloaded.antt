@@ -1,10 +1,9 @@
 -- What is printed of all files is loaded as these files.
-use Rattle.std.proofs.Common.{◌≡◌, ℕ, suc, ◌+◌, ◌<◌, ◌≤◌, Bool, true, false, not, cond, IsTrue, ◌&&◌, ◌||◌, List, [], ◌∷◌, ◌++◌, length, map, Option, Some, None, Result, Ok, Err, refl, sym, ap, subst, ◌∙◌, append_assoc, arith, nat_lt}
+use Rattle.std.proofs.Common.{◌≡◌, ℕ, suc, ◌+◌, ◌≤◌, Bool, true, false, not, cond, ◌&&◌, ◌||◌, List, [], ◌∷◌, ◌++◌, length, map, Option, Some, None, Result, Ok, Err, refl, sym, ap, subst, ◌∙◌, append_assoc, arith, nat_lt}
 use Rattle.std.specs.Prelude.{filter, is_some, unwrap_or, ◌==◌}
-use Rattle.std.specs.List.{list_any, list_all, AllByRecursion}
+use Rattle.std.specs.List.{list_any, AllByRecursion}
 use Rattle.std.specs.Ordering.{is_eq}
 use Rattle.std.proofs.lemmas.Cmp.{tied_itself}
-use Rattle.std.proofs.lemmas.List.Folds.{list_any-append}
 use Rattle.acl_entry.specs.Lists.{KeyMap}
 use Rattle.acl_names.specs.Paths.{path_cmp}
 use Rattle.acl_names.proofs.PathOrder.{path_total}
@@ -16,21 +15,19 @@ use Rattle.acl_people.specs.Registers.{Register}
 use Rattle.acl_dump.specs.declared.record.DumpRecord.{DumpRecord}
 use Rattle.acl_dump.specs.declared.record.DumpUse.TheVariants.{Load}
 use Rattle.acl_dump.specs.Writing.{record_text}
-use Rattle.acl_dump.specs.Records.{dump_of}
 use Rattle.acl_dump.specs.Again.{AreApart, AreFlags, IsReadable, paths, placed, dump_text, line_count}
 use Rattle.acl_dump.proofs.WrittenRecords.{dump_again}
-use Rattle.acl_tree.specs.declared.command.Table.TheVariants.{Dump}
 use Rattle.acl_tree.specs.declared.command.TreeFault.{TreeFault}
 use Rattle.acl_tree.specs.declared.command.TreeFault.TheVariants.{TooMany}
-use Rattle.acl_tree.specs.Files.{PathOf, Files, Recorded, IsInOrder, no_files}
+use Rattle.acl_tree.specs.Files.{PathOf, Files, IsInOrder, no_files}
 use Rattle.acl_tree.specs.Below.{is_below}
-use Rattle.acl_tree.specs.Loading.{is_directory, node_of, has_below, as_files, files_of, in_path_order}
-use Rattle.acl_tree.specs.Operands.{is_file, files_meant}
+use Rattle.acl_tree.specs.Loading.{node_of, has_below, as_files, files_of}
+use Rattle.acl_tree.specs.Operands.{is_file}
 use Rattle.acl_tree.specs.Sound.{holds_below, IsPlaced, ArePlaced}
 use Rattle.acl_tree.specs.Found.{FoundFile, found_in, files_found}
-use Rattle.acl_tree.specs.Step.{State, load, with_records}
-use Rattle.facl_listings.specs.Listings.{listing, plain, has_slash, flags_told, is_listed, file_text}
-use Rattle.facl_listings.specs.Again.{user_id, group_id, user_name, group_name, IsReadAgain, whole_listing}
+use Rattle.acl_tree.specs.Step.{State, with_records}
+use Rattle.facl_listings.specs.Listings.{listing, plain, has_slash, flags_told}
+use Rattle.facl_listings.specs.Again.{user_id, group_id, user_name, group_name, IsReadAgain, IsLoadedAs, listing_of, all_paths_listing, root_listing}
 use Rattle.facl_listings.proofs.Rising.{Rising, paths_of, rising, apart, in_order_already}
 
 -- the record that is printed of a file
@@ -69,6 +66,13 @@ all_meant pre (e ∷ es) =
 
 found_all : (es : Files) → files_found false (paths_of es) es ≡ found_in es es
 found_all es = ap (λ l. found_in es l) (all_meant [] es)
+
+all_below_root : (es : Files) → filter (λ e. is_file true ([] ∷ []) e.0) es ≡ es
+all_below_root [] = refl
+all_below_root (e ∷ es) = ap (λ (l : Files). e ∷ l) (all_below_root es)
+
+found_root : (es : Files) → files_found true ([] ∷ []) es ≡ found_in es es
+found_root es = ap (λ l. found_in es l) (all_below_root es)
 
 -- ---- one file
 
@@ -137,30 +141,39 @@ as_many all (e ∷ es) at = ap suc (as_many all es (at + line_count (record_of (
 
 readable : (known : Register) (all es : Files) → AllByRecursion (IsReadAgain known) es → AllByRecursion (IsReadable (user_id known) (group_id known) (user_name known) (group_name known) Load) (records_of all es)
 readable known all [] again = tt
-readable known all (e ∷ es) again =
-    (record { path = again.0.path; headers = (refl, refl); owner = again.0.owner; group = again.0.group; flags = three_flags e.1.flags again.0.flags; access = again.0.access; dacl = again.0.dacl },
-    readable known all es again.1)
+readable known all (e ∷ es) again = (
+  record { path = again.0.path; headers = (refl, refl); owner = again.0.owner; group = again.0.group; flags = three_flags e.1.flags again.0.flags; access = again.0.access; dacl = again.0.dacl },
+  readable known all es again.1,
+)
 
 few : (n : ℕ) → n ≤ 1048576 → nat_lt 1048576 n ≡ false
 few n h = grind arith
 
 -- what is printed of all files is loaded as these files
-pub loaded_again : (known : Register) (es : Files) → IsInOrder es → ArePlaced es es → AllByRecursion (IsReadAgain known) es → length es ≤ 1048576
-    → load (record { tree = no_files; people = known }) Dump (whole_listing known es) ≡ Ok (record { tree = record { files = es; loaded = true }; people = known })
-loaded_again known es order are again within =
-    let empty : State = record { tree = no_files; people = known } in
-    let after : Files → Result State TreeFault = λ files. Ok (record { tree = record { files = files; loaded = true }; people = known }) in
-    let rs = records_of es es in
-    let read = placed 1 rs in
-    let text : whole_listing known es ≡ dump_text (user_name known) (group_name known) rs =
-    ap (λ fs. listing (user_name known) (group_name known) plain fs) (found_all es) ∙ printed (user_name known) (group_name known) (found_in es es)
-    in
-    let apart_rs = subst (λ ps. AreApart [] ps) (sym (paths_same es es)) (apart [] (paths_of es) (rising es order)) in
-    let rises = subst (λ ps. Rising [] ps) (sym (paths_placed es es 1)) (rising es order) in
-    let files : files_of read ≡ es =
-    ap (λ (l : List DumpRecord). as_files l l) (in_order_already read rises) ∙ files_again known es read (below_same es es 1) 1 es are again
-    in
-    ap (λ bytes. load empty Dump bytes) text
-    ∙ (ap (with_records empty) (dump_again Load (user_id known) (group_id known) (user_name known) (group_name known) rs (readable known es es again) apart_rs)
-    ∙ (ap (λ b. cond b (Err TooMany) (after (files_of read))) (few (length read) (subst (λ n. n ≤ 1048576) (sym (as_many es es 1)) within))
-    ∙ ap after files))
+module _ (known : Register) (es : Files) (order : IsInOrder es) (are : ArePlaced es es) (again : AllByRecursion (IsReadAgain known) es) (within : length es ≤ 1048576) where
+  dump_loaded : IsLoadedAs known (dump_text (user_name known) (group_name known) (records_of es es)) es
+  dump_loaded =
+      let empty : State = record { tree = no_files; people = known } in
+      let after : Files → Result State TreeFault = λ files. Ok (record { tree = record { files = files; loaded = true }; people = known }) in
+      let rs = records_of es es in
+      let read = placed 1 rs in
+      let rises = rising es order in
+      let files : files_of read ≡ es =
+      ap (λ (l : List DumpRecord). as_files l l) (in_order_already read (subst (λ ps. Rising [] ps) (sym (paths_placed es es 1)) rises)) ∙ files_again known es read (below_same es es 1) 1 es are again
+      in
+      ap (with_records empty)
+      (dump_again Load (user_id known) (group_id known) (user_name known) (group_name known) rs (readable known es es again)
+      (subst (λ ps. AreApart [] ps) (sym (paths_same es es)) (apart [] (paths_of es) rises)))
+      ∙ (ap (λ b. cond b (Err TooMany) (after (files_of read))) (few (length read) (subst (λ n. n ≤ 1048576) (sym (as_many es es 1)) within))
+      ∙ ap after files)
+
+  listing_loaded : (fs : List FoundFile) → fs ≡ found_in es es → IsLoadedAs known (listing_of known fs) es
+  listing_loaded fs is =
+      subst (λ text. IsLoadedAs known text es)
+      (sym (ap (listing_of known) is ∙ printed (user_name known) (group_name known) (found_in es es))) dump_loaded
+
+  pub all_paths_loaded : IsLoadedAs known (all_paths_listing known es) es
+  all_paths_loaded = listing_loaded (files_found false (paths_of es) es) (found_all es)
+
+  pub root_loaded : IsLoadedAs known (root_listing known es) es
+  root_loaded = listing_loaded (files_found true ([] ∷ []) es) (found_root es)

@@ -1,5 +1,5 @@
 -- Where what getfacl(1) prints of all files is loaded as these files.
-use Rattle.std.specs.Prelude.{◌≡◌, ℕ, List, map, length, true, false, Option}
+use Rattle.std.specs.Prelude.{◌≡◌, ℕ, List, [], ◌∷◌, map, length, true, false, Option, Ok}
 use Rattle.std.specs.List.{list_all}
 use Rattle.acl_entry.specs.Lists.{KeyMap}
 use Rattle.acl_names.specs.Paths.{is_component}
@@ -7,8 +7,10 @@ use Rattle.acl_edit.specs.declared.node.Node.{Node}
 use Rattle.acl_people.specs.Rolls.{id_named, name_shown}
 use Rattle.acl_people.specs.Registers.{Register, users_of, groups_of}
 use Rattle.acl_dump.specs.Again.{IsFound, IsList, IsListIf}
-use Rattle.acl_tree.specs.Files.{PathOf, Files}
-use Rattle.acl_tree.specs.Found.{files_found}
+use Rattle.acl_tree.specs.Files.{PathOf, Files, no_files}
+use Rattle.acl_tree.specs.Found.{FoundFile, files_found}
+use Rattle.acl_tree.specs.Step.{load}
+use Rattle.acl_tree.specs.declared.command.Table.TheVariants.{Dump}
 use Rattle.facl_listings.specs.Listings.{listing, plain}
 
 -- who is called what, by the rows that are known
@@ -38,6 +40,19 @@ pub record IsReadAgain (known : Register) (e : PathOf × Node) : Type 0 where
   pub access : IsListAgain known e.1.label.acl
   pub dacl : IsListIf (user_id known) (group_id known) (user_name known) (group_name known) e.1.dacl
 
--- what getfacl prints without options, where its operands are all paths
-abbrev pub whole_listing : Register → Files → List ℕ
-whole_listing known es = listing (user_name known) (group_name known) plain (files_found false (map (λ e. e.0) es) es)
+-- what getfacl prints without options
+abbrev pub listing_of : Register → List FoundFile → List ℕ
+listing_of known files = listing (user_name known) (group_name known) plain files
+
+-- its operands are all paths
+abbrev pub all_paths_listing : Register → Files → List ℕ
+all_paths_listing known es = listing_of known (files_found false (map (λ e. e.0) es) es)
+
+-- its operand is the root, with all below it
+abbrev pub root_listing : Register → Files → List ℕ
+root_listing known es = listing_of known (files_found true ([] ∷ []) es)
+
+-- Where no dump is loaded, the text is loaded as a dump of these files. The people stay.
+abbrev pub IsLoadedAs : Register → List ℕ → Files → Type 0
+IsLoadedAs known text es =
+    load (record { tree = no_files; people = known }) Dump text ≡ Ok (record { tree = record { files = es; loaded = true }; people = known })

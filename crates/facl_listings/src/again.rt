@@ -13,13 +13,13 @@ use acl_people::People;
 use acl_text::Names;
 use acl_tree::{Record, Tree};
 
-fn is_made_of_bytes(name: &[u8])
+fn name_is_bytes(name: &[u8])
     ensures { list_all is_byte name.now ≡ true }
 {
     let _bytes = name;
 }
 
-fn are_three(flags: [bool; 3])
+fn flags_are_three(flags: [bool; 3])
     ensures { length flags ≡ 3 }
 {
     let _flags = flags;
@@ -31,7 +31,7 @@ fn user_is_found(people: &People, id: Id)
     people.naming_is_read_back();
     let _number = id.number();
     if let Some(name) = people.user_name(id) {
-        is_made_of_bytes(name);
+        name_is_bytes(name);
     }
 }
 
@@ -41,7 +41,7 @@ fn group_is_found(people: &People, id: Id)
     people.naming_is_read_back();
     let _number = id.number();
     if let Some(name) = people.group_name(id) {
-        is_made_of_bytes(name);
+        name_is_bytes(name);
     }
 }
 
@@ -68,7 +68,7 @@ fn file_is_read_again(people: &People, file: &Record)
 {
     let _components = file.path().components();
     let node = file.node();
-    are_three(node.flags);
+    flags_are_three(node.flags);
     user_is_found(people, node.label.owner);
     group_is_found(people, node.label.group);
     list_is_read_again(people, &node.label.acl);

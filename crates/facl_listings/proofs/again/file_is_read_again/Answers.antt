@@ -1,7 +1,6 @@
-use Rattle.std.proofs.Common.{◌≡◌, Bool, List, Option, Some, None, length, true, sym, ap, subst, ◌∙◌}
+use Rattle.std.proofs.Common.{◌≡◌, length, true, sym, subst}
 use Rattle.std.specs.List.{list_all}
 use Rattle.acl_names.specs.Paths.{is_component}
-use Rattle.acl_entry.specs.Lists.{KeyMap}
 use Rattle.acl_dump.specs.Again.{IsListIf}
 use Rattle.acl_edit.specs.declared.node.Node.{Node}
 use Rattle.acl_tree.specs.Files.{PathOf}
@@ -15,7 +14,7 @@ returns-in-Some c =
     let p : PathOf = c.path.result.now in
     let n : Node = c.node-node.result.now in
     let path : list_all is_component p ≡ true = c.components-components.ensures.valid in
-    let three : length n.flags ≡ 3 = c.are_three.ensures in
+    let three : length n.flags ≡ 3 = c.flags_are_three.ensures in
     let dacl : IsListIf (user_id known) (group_id known) (user_name known) (group_name known) n.dacl =
     subst (IsListIf (user_id known) (group_id known) (user_name known) (group_name known)) (sym c.in-Some.is) c.list_is_read_again-in-Some.ensures
     in

@@ -1,0 +1,50 @@
+-- What a command that is prepared tells of the state after it.
+use Rattle.std.specs.Prelude.{◌≡◌, [], refl}
+use Rattle.std.specs.Coded.{Coded, code_by, coded×, coded_ℕ, coded_list}
+use Rattle.acl_edit.specs.contracts.node.Node as node_contracts
+use Rattle.acl_tree.specs.declared.moved.UsersMove.{UsersMove}
+use Rattle.acl_tree.specs.declared.moved.UsersMove.TheVariants.{Same, Loaded}
+use Rattle.acl_tree.specs.contracts.moved.UsersMove as moved_contracts
+use Rattle.acl_tree.specs.declared.command.Command.{Command}
+use Rattle.acl_tree.specs.declared.command.Command.TheVariants.{Load, Chmod}
+use Rattle.acl_tree.specs.declared.command.Table.{Table}
+use Rattle.acl_tree.specs.declared.command.Table.TheVariants.{Passwd, Group, Dump}
+use Rattle.acl_tree.specs.Files.{Files}
+use Rattle.acl_tree.specs.Changed.{changed_between, gone_between}
+use Rattle.acl_tree.specs.Step.{State, coded_state}
+
+-- the state after a command, the files that it changed, those that are gone, and how the users moved
+pub record StagedState : Type 0 where
+  pub state : State
+  pub changed : Files
+  pub gone : Files
+  pub moved : UsersMove
+
+abbrev pub coded_files : Coded Files
+coded_files = coded_list (coded× (coded_list (coded_list coded_ℕ)) node_contracts.the_row.coded)
+
+abbrev pub coded_staged : Coded StagedState
+coded_staged =
+    code_by (State × (Files × (Files × UsersMove))) (coded× coded_state (coded× coded_files (coded× coded_files moved_contracts.the_row.coded)))
+    (λ s. (s.state, (s.changed, (s.gone, s.moved)))) (λ p. record { state = p.0; changed = p.1.0; gone = p.1.1.0; moved = p.1.1.1 }) (λ _. refl)
+
+abbrev pub load_moves : Table → UsersMove
+load_moves Passwd = Loaded
+load_moves Group = Loaded
+load_moves Dump = Same
+
+-- how a command moves the users
+abbrev pub users_move : Command → UsersMove
+users_move (Load which bytes) = load_moves which
+users_move (Chmod paths mode recursive) = Same
+
+-- no user has other groups, or there is no file whose check could differ
+abbrev pub UsersMoved : State → State → UsersMove → Type 0
+UsersMoved old new Same = new.people ≡ old.people
+UsersMoved old new Loaded = new.tree.files ≡ []
+
+-- exactly what differs between the state that stood and the one that is staged
+pub record Tells (old : State) (staged : StagedState) : Type 0 where
+  pub changed : staged.changed ≡ changed_between old.tree.files staged.state.tree.files
+  pub gone : staged.gone ≡ gone_between old.tree.files staged.state.tree.files
+  pub users : UsersMoved old staged.state staged.moved

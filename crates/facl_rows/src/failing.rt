@@ -1,0 +1,98 @@
+//! Runs over a reader and writers that fail.
+
+use crate::devices::{FailingReader, FailingWriter};
+use crate::texts::WHOLE;
+use facl::{RunFault, Status, StdFeed, StdSink, run};
+use std::test::Fail;
+
+/// Two listings.
+const SCRIPT: &[u8] = b"getfacl -c f\ngetfacl -c log\n";
+
+/// What they print.
+const OUT: &[u8] = b"user::rw-\ngroup::r--\nother::---\n\nuser::rw-\ngroup::r--\nother::---\n\n";
+
+/// Where a writer fails: how many bytes it takes, and whether it takes nothing then, in place of an error.
+const WRITES: [(usize, bool); 7] = [
+    (0, false),
+    (0, true),
+    (32, false),
+    (33, true),
+    (34, false),
+    (65, false),
+    (66, true),
+];
+
+#[test]
+fn stops_where_out_fails(rt: HostRuntime) -> Result<(), Fail> {
+    for (left, takes_nothing) in WRITES {
+        let mut out = FailingWriter {
+            held: Vec::new(rt.alloc()),
+            left,
+            takes_nothing,
+        };
+        let ended = run(
+            rt.alloc(),
+            &WHOLE,
+            &mut StdFeed::new(SCRIPT),
+            &mut StdSink::new(&mut out),
+            &mut StdSink::new(&mut Vec::new(rt.alloc())),
+        );
+        let is_told = match ended {
+            Ok(status) => left == OUT.len() && status == Status::Accepted,
+            Err(fault) => left < OUT.len() && matches!(fault, RunFault::Write),
+        };
+        assert!(rt; is_told, "at {left}");
+        assert!(rt; out.held.as_slice() == &OUT[..left], "at {left}");
+    }
+    Ok(())
+}
+
+/// The message of the first line of the script below.
+const ERR: &[u8] = b"line 1: facl: unknown tool\n";
+
+#[test]
+fn stops_where_err_fails(rt: HostRuntime) -> Result<(), Fail> {
+    for left in [0, 13, 26] {
+        let mut out = Vec::new(rt.alloc());
+        let mut err = FailingWriter {
+            held: Vec::new(rt.alloc()),
+            left,
+            takes_nothing: false,
+        };
+        let ended = run(
+            rt.alloc(),
+            &WHOLE,
+            &mut StdFeed::new(b"frob\ngetfacl f\n".as_slice()),
+            &mut StdSink::new(&mut out),
+            &mut StdSink::new(&mut err),
+        );
+        assert!(rt; matches!(ended, Err(RunFault::Write)), "at {left}");
+        assert!(rt; out.is_empty(), "at {left}");
+        assert!(rt; err.held.as_slice() == &ERR[..left], "at {left}");
+    }
+    Ok(())
+}
+
+/// Where the reader fails, and how many bytes were printed by then: those of the lines whose line feed was read.
+const READS: [(usize, usize); 6] = [(0, 0), (12, 0), (13, 33), (14, 33), (27, 33), (28, 66)];
+
+#[test]
+fn stops_where_the_reader_fails(rt: HostRuntime) -> Result<(), Fail> {
+    for (left, printed) in READS {
+        let mut reader = FailingReader {
+            bytes: SCRIPT,
+            left,
+        };
+        let mut out = Vec::new(rt.alloc());
+        let ended = run(
+            rt.alloc(),
+            &WHOLE,
+            &mut StdFeed::new(&mut reader),
+            &mut StdSink::new(&mut out),
+            &mut StdSink::new(&mut Vec::new(rt.alloc())),
+        );
+        assert!(rt; matches!(ended, Err(RunFault::Read)), "at {left}");
+        assert!(rt; out.as_slice() == &OUT[..printed], "at {left}");
+    }
+    Ok(())
+}

@@ -1,0 +1,21 @@
+//! Scripts with what they print, and runs over devices that fail. Expected bytes come from the formats and from getfacl(1).
+//!
+//! They stand apart from `facl`, since a crate with tests is proved twice.
+#![tactic(auto)]
+
+#[cfg(test)]
+mod devices;
+#[cfg(test)]
+mod failing;
+#[cfg(test)]
+mod listings;
+#[cfg(test)]
+mod loads;
+#[cfg(test)]
+mod modes;
+#[cfg(test)]
+mod rows;
+#[cfg(test)]
+mod setups;
+#[cfg(test)]
+mod texts;

@@ -1,0 +1,37 @@
+//! A script with what it prints.
+
+use facl::{Setup, Status, StdFeed, StdSink, run};
+use std::process::Abort;
+use std::test::Fail;
+
+/// A script, what is loaded before it, and what it prints.
+pub struct Row {
+    pub name: &'static str,
+    pub setup: Setup<'static>,
+    pub script: &'static [u8],
+    pub out: &'static [u8],
+    pub err: &'static [u8],
+    pub status: Status,
+}
+
+/// Runs each script, and compares all that it prints.
+pub fn check(rt: &(impl Abort + AllocGlobal), rows: &[Row]) -> Result<(), Fail> {
+    for row in rows {
+        let mut out = Vec::new(rt.alloc());
+        let mut err = Vec::new(rt.alloc());
+        let status = run(
+            rt.alloc(),
+            &row.setup,
+            &mut StdFeed::new(row.script),
+            &mut StdSink::new(&mut out),
+            &mut StdSink::new(&mut err),
+        );
+        let said = (status.ok(), out.as_slice(), err.as_slice());
+        assert!(rt;
+            said == (Some(row.status), row.out, row.err),
+            "{}",
+            row.name
+        );
+    }
+    Ok(())
+}

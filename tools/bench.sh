@@ -1,0 +1,57 @@
+#!/bin/bash
+# Measures the program as the kit's LLVM builds it, on trees of several sizes, beside getfacl(1) and setfacl(1) where
+# those are installed and the temporary folder takes lists.
+#
+# usage: tools/bench.sh [--program FILE] [--runs N] [--users N] [FILES..]
+#
+#   --program FILE    a program that is built already; else `rt run` proves and builds crates/facl_cli
+#   --runs N          the best of N runs is taken (3)
+#   --users N         users of passwd, and a tenth as many groups (1000)
+#   FILES             sizes of trees (10000 100000 1000000; the limit is 1048576)
+set -eu
+here=$(cd "$(dirname "$0")" && pwd)
+program= runs=3 users=1000 sizes=()
+while [ $# -gt 0 ]; do
+    case $1 in
+    --program) program=$2 && shift 2 ;;
+    --runs) runs=$2 && shift 2 ;;
+    --users) users=$2 && shift 2 ;;
+    -*) sed -n '2,11s/^# \{0,1\}//p' "$0" >&2 && exit 2 ;;
+    *) sizes+=("$1") && shift ;;
+    esac
+done
+[ ${#sizes[@]} -gt 0 ] || sizes=(10000 100000 1000000)
+if [ -z "$program" ]; then
+    (cd "$here/../crates/facl_cli" && rt run </dev/null >/dev/null)
+    program=$here/../crates/facl_cli/out/facl_cli
+fi
+python3 "$here/measure.py" "$program" "$runs" "$users" "${sizes[@]}"
+
+# The same work by the real tools, at real files.
+files=10000
+if ! command -v getfacl >/dev/null || ! command -v setfacl >/dev/null; then
+    echo && echo "getfacl(1) and setfacl(1) are not installed here: nothing is compared." && exit 0
+fi
+folder=$(mktemp -d)
+trap 'rm -rf "$folder"' EXIT
+if ! setfacl -m u:1001:r "$folder" 2>/dev/null; then
+    echo && echo "The temporary folder takes no lists: nothing is compared." && exit 0
+fi
+python3 "$here/make_tree.py" "$folder" $files 100
+mkdir "$folder/tree" && cd "$folder/tree"
+# Ids in place of names, since the system does not know these users; no owners, which only root may set.
+sed -E 's/(user|group):[ug]([0-9]+):/\1:10\2:/; /^# (owner|group):/d' ../dump >../restored
+sed -n 's/^# file: \(.*\)\/$/\1/p' ../dump | xargs mkdir -p
+sed -n 's/^# file: \(.*[^/.]\)$/\1/p' ../dump | xargs touch
+seconds() {
+    local begun=$EPOCHREALTIME
+    "$@" >/dev/null 2>&1
+    echo "$EPOCHREALTIME $begun" | awk -v n=$files '{ printf "%.2f us", ($1 - $2) / n * 1e6 }'
+}
+echo
+echo "| Real tools, $files files | a file |"
+echo "|---|---|"
+echo "| \`setfacl --restore\` | $(seconds setfacl --restore=../restored) |"
+echo "| \`getfacl -R .\` | $(seconds getfacl -R .) |"
+echo "| \`getfacl -R -n .\`, which looks up no names | $(seconds getfacl -R -n .) |"
+echo "| \`chmod -R 750 .\` | $(seconds chmod -R 750 .) |"
