@@ -9,7 +9,7 @@ use Rattle.facl_messages.specs.Faults.{run_fault_of_script}
 use Rattle.facl_messages.specs.declared.fault.RunFault.{RunFault}
 use Rattle.facl.specs.Tools.{Verdict}
 use Rattle.facl.specs.Units.{answered}
-use Rattle.facl.specs.Runs.{Stops, EndsBy}
+use Rattle.facl.specs.Runs.{EndsBy}
 
 pub ends_by : (fault : ScriptFault) (verdict : Verdict) (begun : Result State RunFault) (start state : State) (remaining remaining' out out' err err' : Option (List ℕ))
     → begun ≡ Ok start → IfSome remaining (λ script. StopsWith fault (answered verdict) start script state 0 0 remaining' out out' err err')

@@ -1,5 +1,5 @@
 -- A mode of up to four octal digits fits.
-use Rattle.std.proofs.Common.{◌≡◌, ◌<◌, ◌≤◌, ◌+◌, ◌*◌, ◌-◌, ℕ, ◌/◌, Bool, ◌&&◌, List, [], ◌∷◌, length, nat_le, nat_lt, IsTrue, true, false, refl, rules, arith}
+use Rattle.std.proofs.Common.{◌≡◌, ◌<◌, ◌≤◌, ℕ, ◌/◌, Bool, ◌&&◌, List, [], ◌∷◌, length, nat_le, nat_lt, IsTrue, true, false, refl, rules, arith}
 use Rattle.std.proofs.lemmas.Bool.{and_parts}
 use Rattle.std.specs.List.{list_all, slice_index_or}
 use Rattle.facl_words.specs.Forms.{is_octal_digit, is_mode}

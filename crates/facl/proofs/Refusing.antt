@@ -1,8 +1,8 @@
 -- Lines that are refused before their words are known, and what a session says of a unit.
-use Rattle.std.proofs.Common.{◌≡◌, ◌≢◌, ◌≤◌, ◌+◌, ◌∙◌, ℕ, Bool, true, false, [], Result, Err, ap, sym, refl, subst, arith, true≢false}
+use Rattle.std.proofs.Common.{◌≡◌, ◌≢◌, ◌∙◌, ℕ, Bool, true, false, [], Err, ap, sym, refl, arith, true≢false}
 use Rattle.acl_entry.specs.Check.{rights}
 use Rattle.acl_tree.specs.Step.{State}
-use Rattle.facl_script.specs.Play.{Answer, quiet}
+use Rattle.facl_script.specs.Play.{Answer}
 use Rattle.facl_script.specs.Run.{IsAnswer}
 use Rattle.facl_script.specs.Units.{ScriptUnit}
 use Rattle.facl_messages.specs.declared.fault.LineFault.{LineFault}

@@ -1,5 +1,5 @@
 -- Steps of a reply, one after another.
-use Rattle.std.proofs.Common.{◌≡◌, Result, Ok, Err, subst, sym}
+use Rattle.std.proofs.Common.{◌≡◌, Result, Ok, subst, sym}
 use Rattle.facl_messages.specs.declared.fault.LineFault.{LineFault}
 use Rattle.facl.specs.Replies.{Gives, after}
 

@@ -1,5 +1,5 @@
 -- What a contract sees of a session: its state, and what the last line says.
-use Rattle.std.specs.Prelude.{◌≡◌, ℕ, Bool, true, false, if◌then◌else◌, List, []}
+use Rattle.std.specs.Prelude.{◌≡◌, ℕ, Bool, false, if◌then◌else◌, List, []}
 use Rattle.acl_tree.specs.Step.{State}
 use Rattle.facl_script.specs.Play.{Answer}
 use Rattle.facl.specs.declared.session.Facl.{Facl}

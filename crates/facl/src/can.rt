@@ -16,12 +16,7 @@ use facl_words::places::can::{FILE, USER};
 use std::alloc::Global;
 
 /// What a user may do with the file of a path.
-fn can_user(
-    alloc: Global,
-    state: &State,
-    path: Path,
-    user: &Subject,
-) -> Result<Effect, LineFault>
+fn can_user(alloc: Global, state: &State, path: Path, user: &Subject) -> Result<Effect, LineFault>
     ensures { Gives (left state.now) result (can_user rights state.now path user.now) }
 {
     let node = file_at(&state.tree, path)?;

@@ -10,11 +10,7 @@ use facl_messages::LineFault;
 use std::alloc::Global;
 
 /// The state after a command, prepared. The state that stands is left as it is.
-pub(crate) fn prepare(
-    alloc: Global,
-    state: &State,
-    command: &Command,
-) -> Result<Effect, LineFault>
+pub(crate) fn prepare(alloc: Global, state: &State, command: &Command) -> Result<Effect, LineFault>
     ensures { Gives (left state.now) result (changed (step state.now command.now)) }
 {
     let staged = state.tree.prepare(alloc, &state.people, command)?;

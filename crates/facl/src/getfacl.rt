@@ -46,9 +46,7 @@ pub(crate) fn getfacl(alloc: Global, state: &State, words: &Words) -> Result<Eff
     ensures { Gives (left state.now) result (getfacl_line state.now words.now) }
 {
     let paths = paths_of(alloc, words.operands.starting_at(FILES))?;
-    let files = state
-        .tree
-        .files(alloc, &paths, words.flags.has(RECURSIVE))?;
+    let files = state.tree.files(alloc, &paths, words.flags.has(RECURSIVE))?;
     let mut out = Vec::new(alloc);
     append_listing(&mut out, &state.people, &options_of(words), &files)?;
     Ok(Effect::Prints(out))

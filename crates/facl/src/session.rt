@@ -81,13 +81,7 @@ impl Facl {
     }
 
     /// Answers a line by its words, and tells whether it is refused.
-    fn answer_words(
-        &mut self,
-        number: u64,
-        found: TextFound,
-        text: &[u8],
-        words: &[String],
-    ) -> bool
+    fn answer_words(&mut self, number: u64, found: TextFound, text: &[u8], words: &[String]) -> bool
         requires { IsQuiet self.old }
         ensures { (said : UnitText) → IsTextFound found text.now said
             → Says (unless_wanting (wants_memory self.new) number (state_of self.old)

@@ -1,4 +1,4 @@
-use Rattle.std.proofs.Common.{◌≡◌, ◌∙◌, Ok, ap, sym, subst, codes}
+use Rattle.std.proofs.Common.{◌∙◌, ap, sym, subst, codes}
 use Rattle.acl_entry.specs.Check.{rights}
 use Rattle.facl_words.specs.Places.{operand}
 use Rattle.facl_words.specs.declared.tool.Tool.TheVariants as tools

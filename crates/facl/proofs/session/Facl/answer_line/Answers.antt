@@ -1,5 +1,4 @@
-use Rattle.std.proofs.Common.{◌≡◌, ◌≢◌, ◌∙◌, Ok, Err, true, List, ℕ, sym, subst, map, string_bytes}
-use Rattle.facl_messages.specs.declared.fault.LineFault.TheVariants.{NoMemory}
+use Rattle.std.proofs.Common.{true, subst, map, string_bytes}
 use Rattle.facl.specs.Replies.{Gives}
 use Rattle.facl.specs.Sessions.{state_of, wants_memory, Says}
 use Rattle.facl.specs.Units.{words_said}

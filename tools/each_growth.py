@@ -1,0 +1,174 @@
+#!/usr/bin/env python3
+"""Refuses growth 1, 2, .. of a program's memory until a run meets no refusal, and checks each run.
+
+A run whose setup or line buffer found no memory prints the units before in full, then `facl: no memory`, and ends with 2.
+Any other run has one message `line N: facl: no memory` at most; all else is as if the lines of that unit were empty, or,
+where there is none (a growth that the program can do without), as in the run that meets no refusal.
+"""
+
+import os
+import subprocess
+import sys
+import tempfile
+
+PASSWD = """lisa:x:1001:50:Lisa:/home/lisa:/bin/sh
+joe:x:1000:100:Joe:/home/joe:/bin/sh
+ann:x:1002:100:Ann:/home/ann:/bin/sh
+"""
+GROUP = """staff:x:50:
+users:x:100:
+cool:x:60:lisa
+adm:x:70:
+"""
+DUMP = """# file: .
+# owner: lisa
+# group: staff
+user::rwx
+group::r-x
+other::r-x
+
+# file: f
+# owner: lisa
+# group: staff
+user::rw-
+group::r--
+other::---
+
+# file: pub/
+# owner: ann
+# group: users
+user::rwx
+user:joe:rwx
+group::r-x
+group:adm:rwx
+mask::rwx
+other::r-x
+default:user::rwx
+default:user:joe:r-x
+default:group::r-x
+default:mask::r-x
+default:other::---
+"""
+
+# Each unit: the lines that it takes.
+QUESTIONS = [
+    ["getfacl -R ."],
+    ["can joe f"],
+    ["# a comment"],
+    ["chmod 4750 f pub"],
+    ["getfacl -e -n pub f"],
+    ["chmod -R 640 ."],
+    ["can 'lisa' pub"],
+    ["getfacl -c nosuch"],
+    ["getfacl a/../b"],
+    ["frob -", "a text", "."],
+    ["load dump", "a text", "."],
+    ["can nobody f"],
+    ["chmod 9 f"],
+    ["getfacl -s -a -E -R ."],
+]
+LOADS = [
+    ["load passwd"] + PASSWD.splitlines() + ["."],
+    ["load group"] + GROUP.splitlines() + ["."],
+    ["load dump"] + DUMP.splitlines() + ["."],
+]
+
+
+def script_of(units):
+    return "".join(line + "\n" for unit in units for line in unit).encode()
+
+
+def first_line(units, at):
+    return 1 + sum(len(unit) for unit in units[:at])
+
+
+class Program:
+    def __init__(self, program, preloaded, files):
+        self.program = program
+        self.preloaded = preloaded
+        self.files = files
+
+    def run(self, units, refuse=0):
+        """What a run writes and ends with, and whether the growth was refused."""
+        told_read, told_write = os.pipe()
+        environment = {"LD_PRELOAD": self.preloaded, "REFUSE": str(refuse)}
+
+        def ready():
+            os.dup2(told_write, 9)
+
+        done = subprocess.run(
+            [self.program] + self.files,
+            input=script_of(units),
+            capture_output=True,
+            env=environment,
+            preexec_fn=ready,
+            pass_fds=(9, told_write),
+        )
+        os.close(told_write)
+        told = os.read(told_read, 64)
+        os.close(told_read)
+        return done.stdout, done.stderr, done.returncode, bool(told)
+
+
+def emptied(units, at):
+    return units[:at] + [[""] * len(units[at])] + units[at + 1 :]
+
+
+def check(program, units, n, run, whole):
+    """What kind of run this is; raises where it is none that may be."""
+    out, err, status, _ = run
+    if run[:3] == whole[:3]:
+        return "unharmed"
+    if err.endswith(b"facl: no memory\n") and status == 2:
+        for k in range(len(units) + 1):
+            before = program.run(units[:k])
+            if (before[0], before[1] + b"facl: no memory\n") == (out, err):
+                return "stopped"
+        raise SystemExit(f"growth {n}: what was written is no beginning of the session: {run}")
+    wanting = [line for line in err.split(b"\n") if line.endswith(b": facl: no memory")]
+    if len(wanting) != 1:
+        raise SystemExit(f"growth {n}: {len(wanting)} lines want memory: {run}")
+    number = int(wanting[0].split(b" ")[1].rstrip(b":"))
+    at = [i for i in range(len(units)) if first_line(units, i) == number]
+    if not at:
+        raise SystemExit(f"growth {n}: line {number} begins no unit: {run}")
+    other = program.run(emptied(units, at[0]))
+    message = wanting[0] + b"\n"
+    place = err.index(message)
+    rest = err[:place] + err[place + len(message) :]
+    before = [l for l in rest.splitlines() if int(l.split(b" ")[1].rstrip(b":")) < number]
+    if (out, rest, status) != (other[0], other[1], 1) or sum(len(l) + 1 for l in before) != place:
+        raise SystemExit(f"growth {n}: the other lines are not as without line {number}: {run} {other}")
+    return "refused"
+
+
+def sweep(name, program, units):
+    whole = program.run(units)
+    kinds = {"stopped": 0, "refused": 0, "unharmed": 0}
+    n = 1
+    while True:
+        run = program.run(units, n)
+        if not run[3]:
+            if run[:3] != whole[:3]:
+                raise SystemExit(f"{name}: the run that meets no refusal differs: {run}")
+            break
+        kinds[check(program, units, n, run, whole)] += 1
+        n += 1
+    print(f"{name}: {n - 1} growths refused in turn: {kinds['stopped']} runs stopped, {kinds['refused']} lines refused, {kinds['unharmed']} as without")
+
+
+def main():
+    program, preloaded = sys.argv[1:]
+    with tempfile.TemporaryDirectory() as folder:
+        files = []
+        for option, text in (("passwd", PASSWD), ("group", GROUP), ("dump", DUMP)):
+            path = os.path.join(folder, option)
+            with open(path, "w", encoding="ascii") as file:
+                file.write(text)
+            files += ["--" + option, path]
+        sweep("texts as files", Program(program, preloaded, files), QUESTIONS)
+        sweep("texts by load", Program(program, preloaded, []), LOADS + QUESTIONS)
+
+
+if __name__ == "__main__":
+    main()

@@ -1,0 +1,38 @@
+/* A malloc that refuses one growth: the one with the number REFUSE, counted from 1. It tells on descriptor 9, if that is
+   open, that it did. Preloaded by tools/each_growth.sh under the built program; no part of facl. */
+#define _GNU_SOURCE
+#include <dlfcn.h>
+#include <stddef.h>
+#include <stdlib.h>
+#include <unistd.h>
+
+static long growths;
+
+static int refused(void) {
+    static long wanted = -1;
+    if (wanted < 0) {
+        const char *text = getenv("REFUSE");
+        wanted = text ? atol(text) : 0;
+    }
+    if (++growths != wanted) return 0;
+    (void)!write(9, "refused\n", 8);
+    return 1;
+}
+
+void *malloc(size_t bytes) {
+    static void *(*next)(size_t);
+    if (!next) next = (void *(*)(size_t))dlsym(RTLD_NEXT, "malloc");
+    return refused() ? NULL : next(bytes);
+}
+
+void *realloc(void *old, size_t bytes) {
+    static void *(*next)(void *, size_t);
+    if (!next) next = (void *(*)(void *, size_t))dlsym(RTLD_NEXT, "realloc");
+    return refused() ? NULL : next(old, bytes);
+}
+
+void *aligned_alloc(size_t alignment, size_t bytes) {
+    static void *(*next)(size_t, size_t);
+    if (!next) next = (void *(*)(size_t, size_t))dlsym(RTLD_NEXT, "aligned_alloc");
+    return refused() ? NULL : next(alignment, bytes);
+}
