@@ -7,7 +7,7 @@
 #   --program FILE    a program that is built already; else `rt run` proves and builds crates/facl_cli
 #   --runs N          the best of N runs is taken (3)
 #   --users N         users of passwd, and a tenth as many groups (1000)
-#   FILES             sizes of trees (10000 100000 1000000; the limit is 1048576)
+#   FILES             sizes of trees, from 102 to 1048576 (10000 100000 1000000)
 set -eu
 here=$(cd "$(dirname "$0")" && pwd)
 program= runs=3 users=1000 sizes=()

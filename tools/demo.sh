@@ -16,5 +16,5 @@ if [ $# -eq 0 ]; then
         exit 2
     }
 fi
-cd "$top/demo"
-exec "$program" --passwd passwd --group group --dump dump <script
+demo=$top/demo
+exec "$program" --passwd "$demo/passwd" --group "$demo/group" --dump "$demo/dump" <"$demo/script"

@@ -3,12 +3,15 @@
 #
 # usage: tools/each_growth.sh [PROGRAM]      PROGRAM: one that is built already
 #
-# It stands outside the gate, which has no way to refuse a growth.
+# It needs python3 and a C compiler, and stands outside the gate, which has no way to refuse a growth.
 set -eu
 top=$(cd "$(dirname "$0")/.." && pwd)
 program=${1:-$top/crates/facl_cli/out/facl_cli}
 if [ $# -eq 0 ]; then
-    (cd "$top/crates/facl_cli" && rt run </dev/null >/dev/null 2>&1)
+    (cd "$top/crates/facl_cli" && rt run </dev/null >/dev/null) || {
+        echo "tools/each_growth.sh: facl is not built" >&2
+        exit 2
+    }
 fi
 work=$(mktemp -d)
 trap 'rm -rf "$work"' EXIT

@@ -79,6 +79,7 @@ pub enum TreeFault {
     AlreadyLoaded,
     /// The text's first fault, which is not want of memory.
     Text(TextFault),
+    /// A growth of memory was refused.
     NoMemory,
 }
 

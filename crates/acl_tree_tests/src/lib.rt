@@ -10,4 +10,6 @@ mod loads;
 #[cfg(test)]
 mod made;
 #[cfg(test)]
+mod refusals;
+#[cfg(test)]
 mod told;

@@ -44,7 +44,7 @@ user_or_fault known name = or_fault (faults.Tree (NoSuchUser name)) (user_of kno
 abbrev pub file_or_fault : Files → PathOf → Result Node LineFault
 file_or_fault files path = or_fault (faults.Tree (NoSuchFile path)) (find path_cmp path files)
 
--- the paths are all recorded
+-- this, where no path is missing; else the fault of the first that is
 abbrev pub recorded_or_fault : Option PathOf → {A : Type 0} → A → Result A LineFault
 recorded_or_fault None a = Ok a
 recorded_or_fault (Some path) a = Err (faults.Tree (NoSuchFile path))

@@ -1,4 +1,5 @@
-//! A script of access control list tools over a tree of files: what is printed, and what it says of each line.
+//! A script of access control list tools over a tree of files: what each line prints, and what is told of each that is
+//! refused.
 //!
 //! [`run`] loads three texts, answers a script line by line, and writes what each line prints. Its contract is the
 //! whole: what is written are the bytes of a session made from scratch.

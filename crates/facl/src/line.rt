@@ -16,7 +16,7 @@ use facl_script::{TextFound, says_nothing, split_words};
 use facl_words::{Tool, read_words};
 use std::alloc::Global;
 
-/// Whether a line is blank or a comment.
+/// Whether a line within the limit is blank or a comment.
 pub(crate) fn is_silent(is_too_long: bool, line: &[u8]) -> bool
     ensures { (said : Option (List ℕ)) → IsLineFound is_too_long line.now said → result ≡ is_silent said }
 {

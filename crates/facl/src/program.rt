@@ -17,12 +17,14 @@ use std::alloc::Global;
 ///
 /// What is written are the bytes of the session made from scratch: the definition of each accepted line replayed on the
 /// loaded texts, every question judged by acl(5)'s check. A refused line changes nothing, and its message names its
-/// first fault.
+/// first fault. This is said of a reader and of writers that tell their bytes, as those over memory do; of the streams
+/// of a system no contract can say what they give or take.
 ///
 /// # Errors
 ///
 /// `Setup` tells the first text that is refused: nothing is read or written then. `Read`, `Write` and `ScriptTooLong`
-/// tell why the script was not answered to its end, `NoMemory` that the setup or a line found no memory. What was
+/// tell why the script was not answered to its end, `NoMemory` that no memory was there for the setup, for the room of
+/// the `no memory` message, or for a line while it was read (a line whose answer finds none is refused alone). What was
 /// written by then is the beginning of the session.
 pub fn run<R: Feed, O: Sink, E: Sink>(
     alloc: Global,

@@ -9,8 +9,8 @@ pub struct Options {
     pub access_only: bool,
     /// No header lines (`-c`).
     pub omit_header: bool,
-    /// Where the effective permissions are told: at each entry of a group class with a mask (`-e`), or
-    /// nowhere (`-E`).
+    /// Where effective permissions are told: where the mask takes something from an entry, at each entry of
+    /// the group class of a list with a mask (`-e`), or nowhere (`-E`).
     pub effective: Effective,
     /// Leaves out the files that have the three base entries alone and no default list (`-s`).
     pub skip_base: bool,

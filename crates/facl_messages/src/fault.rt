@@ -7,7 +7,7 @@ use thiserror::Error;
 /// Where a faulty entry, line or operand stands.
 #[derive(Clone, Copy, Debug, PartialEq, Eq)]
 pub enum Source {
-    /// In the entries that an option or chacl(1)'s first word gives.
+    /// In the entries of an option, or of chacl(1)'s access list.
     Entry,
     /// In the entries of chacl(1)'s default list.
     DefaultEntry,
