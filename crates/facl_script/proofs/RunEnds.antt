@@ -7,7 +7,7 @@ use Rattle.std.proofs.KnownBytes.{Appends-trans}
 use Rattle.facl_script.specs.declared.fault.ScriptFault.{ScriptFault}
 use Rattle.facl_script.specs.declared.fault.ScriptFault.TheVariants.{Read, Write, TooLong, NoMemory}
 use Rattle.facl_script.specs.declared.source.Source.{Source}
-use Rattle.facl_script.specs.declared.source.TheConstants.{SCRIPT_LIMIT, CHUNK}
+use Rattle.facl_script.specs.Limits.{script_limit, chunk_limit}
 use Rattle.facl_script.specs.declared.unit.Script.{Script}
 use Rattle.facl_script.specs.Source.{pending, taken_count, StopsAfter}
 use Rattle.facl_script.specs.Script.{script_taken, ScriptStopsAfter}
@@ -36,7 +36,7 @@ Keeps-refl (Some x) = refl
 pub gives_same : {S : Type 0} (a b : Answer S) (state : S) (spent spent' : ℕ) (o o' e e' : Option (List ℕ)) → a ≡ b → Gives a state spent spent' o o' e e' → Gives b state spent spent' o o' e e'
 gives_same a b state spent spent' o o' e e' h g = subst (λ (x : Answer _). Gives x state spent spent' o o' e e') h g
 
-pending_short : (s : Source) → length (pending s) ≤ CHUNK
+pending_short : (s : Source) → length (pending s) ≤ chunk_limit
 pending_short s = omega (arith, s.in_chunk, length-take (s.end - s.start) (drop s.start s.chunk))
 
 told_units : {S : Type 0} (answered : Bool → ScriptUnit → S → Answer S) (start state : S) (spent spent' : ℕ) (o o' e e' : Option (List ℕ)) (taken : List ℕ) (number : ℕ) (told : Answer S) → Progress answered start taken number false told
@@ -53,8 +53,8 @@ stops_known answered start state spent spent' TooLong script None o o' e e' s fa
 stops_known answered start state spent spent' TooLong script (Some rest) o o' e e' s failed taken number told p tail none stop count g =
     let more = stop.0.0 in
     let all : script ≡ (taken ++ tail) ++ (more ++ rest) = stop.0.2 ∙ append_assoc (taken ++ tail) more rest in
-    let len : length (taken ++ tail) ≡ SCRIPT_LIMIT = sym count ∙ stop.2 in
-    let front : take SCRIPT_LIMIT script ≡ taken ++ tail = ap (λ l. take SCRIPT_LIMIT l) all ∙ ap (λ n. take n ((taken ++ tail) ++ (more ++ rest))) (sym len) ∙ take-append_seam (taken ++ tail) (more ++ rest) in
+    let len : length (taken ++ tail) ≡ script_limit = sym count ∙ stop.2 in
+    let front : take script_limit script ≡ taken ++ tail = ap (λ l. take script_limit l) all ∙ ap (λ n. take n ((taken ++ tail) ++ (more ++ rest))) (sym len) ∙ take-append_seam (taken ++ tail) (more ++ rest) in
     (more, stop.0.1, rw front stop.0.2, omega (arith, len, stop.0.1, ap length all, length-append (taken ++ tail) (more ++ rest), length-append more rest), rw front (told_units answered start state spent spent' o o' e e' taken number told p tail none g))
 stops_known answered start state spent spent' NoMemory script None o o' e e' s failed taken number told p tail none stop count g = absurd stop
 stops_known answered start state spent spent' NoMemory script (Some rest) o o' e e' s failed taken number told p tail none stop count g =
@@ -109,7 +109,7 @@ fails_writing answered start state state' spent spent' spent'' (Some script) r a
 
 -- nothing is left
 pub ends_here : {S : Type 0} (answered : Bool → ScriptUnit → S → Answer S) (start state : S) (spent spent' : ℕ) (a mid after o o' e e' : Option (List ℕ)) (taken : List ℕ) (number : ℕ) (over : Bool) (told : Answer S)
-    → Progress answered start taken number over told → Consumes a mid taken → Keeps mid after → IsAtEnd after → length taken ≤ SCRIPT_LIMIT → Gives told state spent spent' o o' e e' → (refused : Bool) → refused ≡ told.refused
+    → Progress answered start taken number over told → Consumes a mid taken → Keeps mid after → IsAtEnd after → length taken ≤ script_limit → Gives told state spent spent' o o' e e' → (refused : Bool) → refused ≡ told.refused
     → IfSome a (λ script. Ends answered start script refused state spent spent' o o' e e')
 ends_here answered start state spent spent' None mid after o o' e e' taken number over told p c k last short g refused same = tt
 ends_here answered start state spent spent' (Some script) None after o o' e e' taken number over told p c k last short g refused same = absurd c

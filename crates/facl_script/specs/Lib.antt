@@ -1,3 +1,4 @@
+pub mod Limits
 pub mod Devices
 pub mod StdDevices
 pub mod Lines

@@ -1,6 +1,6 @@
 -- The lines of a script.
 use Rattle.std.specs.Prelude.{◌≡◌, ◌<◌, ◌≤◌, ℕ, Bool, true, false, ◌==◌, if◌then◌else◌, List, [], ◌∷◌, ◌++◌, length}
-use Rattle.facl_script.specs.declared.source.TheConstants.{LINE_LIMIT}
+use Rattle.facl_script.specs.Limits.{line_limit}
 
 -- a line without its LF, and whether it has one
 pub record Line : Type 0 where
@@ -28,5 +28,5 @@ spelled text false = text
 
 -- of a line that begins with this text the code holds these bytes: all of it, or just that it is too long
 abbrev pub Held : Bool → List ℕ → List ℕ → Type 0
-Held true held text = LINE_LIMIT < length text
-Held false held text = (held ≡ text) × (length text ≤ LINE_LIMIT)
+Held true held text = line_limit < length text
+Held false held text = (held ≡ text) × (length text ≤ line_limit)

@@ -3,7 +3,7 @@ use Rattle.std.specs.Prelude.{◌≡◌, ◌<◌, ◌≤◌, ◌+◌, ℕ, Bool,
 use Rattle.std.specs.Io.KnownBytes.{Consumes}
 use Rattle.facl_script.specs.declared.fault.ScriptFault.{ScriptFault}
 use Rattle.facl_script.specs.declared.fault.ScriptFault.TheVariants.{Read, Write, TooLong, NoMemory}
-use Rattle.facl_script.specs.declared.source.TheConstants.{SCRIPT_LIMIT, CHUNK}
+use Rattle.facl_script.specs.Limits.{script_limit, chunk_limit}
 use Rattle.facl_script.specs.Units.{ScriptUnit, units_of, full_units}
 use Rattle.facl_script.specs.Play.{Answer, play, session}
 use Rattle.facl_script.specs.Write.{Writes, WritesPart}
@@ -31,7 +31,7 @@ pub record Breaks {S : Type 0} (a : Answer S) (state : S) (spent spent' : ℕ) (
 -- The whole script was answered. It was within the limit.
 pub record Ends {S : Type 0} (answered : Bool → ScriptUnit → S → Answer S) (start : S) (script : List ℕ) (refused : Bool) (state : S) (spent spent' : ℕ) (out out' err err' : Option (List ℕ)) : Type 0 where
   pub m : ℕ → Bool
-  pub within : length script ≤ SCRIPT_LIMIT
+  pub within : length script ≤ script_limit
   pub gives : Gives (session answered m script start) state spent spent' out out' err err'
   pub refused_is : refused ≡ (session answered m script start).refused
 
@@ -61,8 +61,8 @@ StopsWith Read answered start script state spent spent' remaining out out' err e
     (read : List ℕ) × Consumes (Some script) remaining read × Told answered start (full_units (units_of read)) state spent spent' out out' err err'
 -- the units whose last LF is within the limit, past which one byte was read
 StopsWith TooLong answered start script state spent spent' remaining out out' err err' =
-    (more : List ℕ) × (length more ≡ 1) × Consumes (Some script) remaining (take SCRIPT_LIMIT script ++ more) × (SCRIPT_LIMIT < length script) × Told answered start (full_units (units_of (take SCRIPT_LIMIT script))) state spent spent' out out' err err'
+    (more : List ℕ) × (length more ≡ 1) × Consumes (Some script) remaining (take script_limit script ++ more) × (script_limit < length script) × Told answered start (full_units (units_of (take script_limit script))) state spent spent' out out' err err'
 -- the units whose last LF came before the line that found no room; past what was looked at then, at most a chunk was read
 StopsWith NoMemory answered start script state spent spent' remaining out out' err err' =
-    (read : List ℕ) × (pending : List ℕ) × Consumes (Some script) remaining (read ++ pending) × (length pending ≤ CHUNK) × Told answered start (full_units (units_of read)) state spent spent' out out' err err'
+    (read : List ℕ) × (pending : List ℕ) × Consumes (Some script) remaining (read ++ pending) × (length pending ≤ chunk_limit) × Told answered start (full_units (units_of read)) state spent spent' out out' err err'
 StopsWith Write answered start script state spent spent' remaining out out' err err' = FailsAt answered start script state spent spent' out out' err err'

@@ -5,7 +5,7 @@ use Rattle.facl_script.specs.declared.fault.ScriptFault.{ScriptFault}
 use Rattle.facl_script.specs.declared.fault.ScriptFault.TheVariants.{Read, Write, TooLong, NoMemory}
 use Rattle.facl_script.specs.declared.source.Source.{Source}
 use Rattle.facl_script.specs.declared.source.Found.{Found}
-use Rattle.facl_script.specs.declared.source.TheConstants.{SCRIPT_LIMIT}
+use Rattle.facl_script.specs.Limits.{script_limit}
 use Rattle.facl_script.specs.Lines.{HasNoLineFeed, Held, spelled}
 
 -- what was read and not yet handed out
@@ -23,7 +23,7 @@ unread s remaining = prepend_known (pending s) remaining
 -- The source handed out the text and then stopped with this fault.
 abbrev pub StopsAfter : ScriptFault → Option (List ℕ) → Source → Option (List ℕ) → Bool → List ℕ → Type 0
 StopsAfter Read before s remaining failed text = Consumes before remaining text × (pending s ≡ []) × (failed ≡ true)
-StopsAfter TooLong before s remaining failed text = ((more : List ℕ) × (length more ≡ 1) × Consumes before remaining (text ++ more)) × (pending s ≡ []) × (taken_count s ≡ SCRIPT_LIMIT)
+StopsAfter TooLong before s remaining failed text = ((more : List ℕ) × (length more ≡ 1) × Consumes before remaining (text ++ more)) × (pending s ≡ []) × (taken_count s ≡ script_limit)
 StopsAfter NoMemory before s remaining failed text = Consumes before (unread s remaining) text
 StopsAfter Write before s remaining failed text = ⊥
 

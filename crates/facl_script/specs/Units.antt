@@ -1,6 +1,6 @@
 -- The units of a script: each line, with its text if it takes one.
 use Rattle.std.specs.Prelude.{◌≡◌, ◌+◌, ◌==◌, ℕ, Bool, false, if◌then◌else◌, nat_le, List, [], ◌∷◌, ◌++◌, length, filter, Option, None, Some}
-use Rattle.facl_script.specs.declared.source.TheConstants.{LINE_LIMIT}
+use Rattle.facl_script.specs.Limits.{line_limit}
 use Rattle.facl_script.specs.Lines.{Line, lines_of}
 use Rattle.facl_script.specs.Words.{takes_text}
 
@@ -21,7 +21,7 @@ pub record ScriptUnit : Type 0 where
 
 -- a line, if it is within the limit
 abbrev pub within_limit : List ℕ → Option (List ℕ)
-within_limit line = if nat_le (length line) LINE_LIMIT then Some line else None
+within_limit line = if nat_le (length line) line_limit then Some line else None
 
 -- the line `.`, which ends a text
 abbrev pub is_end : List ℕ → Bool
@@ -32,7 +32,7 @@ is_end (b ∷ c ∷ bs) = false
 -- a text and one more line of it; there is none from a line over the limit on
 abbrev pub more_text : Option (List ℕ) → List ℕ → Option (List ℕ)
 more_text None line = None
-more_text (Some text) line = if nat_le (length line) LINE_LIMIT then Some (text ++ (line ++ 10 ∷ [])) else None
+more_text (Some text) line = if nat_le (length line) line_limit then Some (text ++ (line ++ 10 ∷ [])) else None
 
 abbrev pub ended_text : Option (List ℕ) → UnitText
 ended_text None = too_long

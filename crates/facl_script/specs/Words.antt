@@ -7,7 +7,7 @@ use Rattle.facl_script.specs.declared.place.Place.{Place}
 use Rattle.facl_script.specs.declared.place.Place.TheVariants.{Between, Within, Quoted}
 use Rattle.facl_script.specs.declared.words.SplitFault.{SplitFault}
 use Rattle.facl_script.specs.declared.words.SplitFault.TheVariants.{NotUtf8, OpenQuote}
-use Rattle.facl_script.specs.declared.source.TheConstants.{LINE_LIMIT}
+use Rattle.facl_script.specs.Limits.{line_limit}
 use Rattle.facl_script.specs.TextWords.{is_text_word}
 
 -- white space is a space or a tab
@@ -65,4 +65,4 @@ ask_for_text (tool ∷ words) = asks_for_text true tool || list_any (asks_for_te
 
 -- The lines after this one are its text. None takes a text that is over the limit, says nothing or has an open quote.
 abbrev pub takes_text : List ℕ → Bool
-takes_text line = nat_le (length line) LINE_LIMIT && not (says_nothing line) && option_map_or ask_for_text (words_of line) false
+takes_text line = nat_le (length line) line_limit && not (says_nothing line) && option_map_or ask_for_text (words_of line) false

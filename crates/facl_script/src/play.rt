@@ -4,7 +4,7 @@ ghost use Rattle.facl_script.specs.Units.{ScriptUnit};
 ghost use Rattle.facl_script.specs.ReadUnit.{IsUnitFound};
 ghost use Rattle.facl_script.specs.Script.{line_held, text_held};
 ghost use Rattle.facl_script.specs.Play.{Answer};
-ghost use Rattle.facl_script.specs.declared.source.TheConstants.{SCRIPT_LIMIT};
+ghost use Rattle.facl_script.specs.Limits.{script_limit};
 ghost use Rattle.facl_script.specs.Run.{IsAnswer, Gives, Breaks, Ends, StopsWith};
 
 use crate::devices::{Feed, Sink};
@@ -44,7 +44,7 @@ pub trait Session {
             → (wants : Bool)
             × IsAnswer (answered wants u (state self.old)) (state self.new) (spent self.old) (spent self.new)
             (to_out self.new) (to_err self.new) result }
-        ensures ready { (n : ℕ) → unit.now.number < n → n ≤ SCRIPT_LIMIT + 1 → is_ready n self.new };
+        ensures ready { (n : ℕ) → unit.now.number < n → n ≤ script_limit + 1 → is_ready n self.new };
 
     /// What the last unit writes to the output.
     fn out(&self) -> &[u8]
@@ -82,7 +82,7 @@ fn answer_unit<S: Session, O: Sink, E: Sink>(
         (O.contents out.old) (O.contents out.new) (E.contents err.old) (E.contents err.new)) }
     ensures failed { OnErr result ((O.has_failed out.new ≡ true) ⊎ (E.has_failed err.new ≡ true)) }
     ensures which { IfErr result (λ e. e ≡ ScriptFault.Write) }
-    ensures ready { (n : ℕ) → unit.now.number < n → n ≤ SCRIPT_LIMIT + 1 → S.is_ready n session.new }
+    ensures ready { (n : ℕ) → unit.now.number < n → n ≤ script_limit + 1 → S.is_ready n session.new }
 {
     let is_refused = session.answer(unit, script.line(), script.text());
     say(out, err, session.out(), session.err())?;

@@ -2,7 +2,7 @@
 ghost use Rattle.std.specs.Prelude.{◌≡◌, ◌≤◌, ◌<◌, ◌+◌, ◌-◌, ℕ, true, false, List, [], ◌∷◌, ◌++◌, take, drop, length, vec_len, slice_range, IfOk, IfErr, OnOk, OnErr, MatchOption};
 ghost use Rattle.std.specs.Io.KnownBytes.{Keeps, Consumes, IsAtEnd};
 ghost use Rattle.facl_script.specs.Lines.{HasNoLineFeed, Held, spelled};
-ghost use Rattle.facl_script.specs.declared.source.TheConstants.{CHUNK, SCRIPT_LIMIT};
+ghost use Rattle.facl_script.specs.Limits.{chunk_limit, script_limit};
 
 use crate::devices::Feed;
 use crate::fault::ScriptFault;
@@ -75,8 +75,8 @@ pub struct Source {
     end: usize,
     taken: u64,
     ghost in_order: { start ≤ end },
-    ghost in_chunk: { end ≤ CHUNK },
-    ghost within: { taken + (end - start) ≤ SCRIPT_LIMIT },
+    ghost in_chunk: { end ≤ chunk_limit },
+    ghost within: { taken + (end - start) ≤ script_limit },
 }
 
 impl Source {

@@ -4,7 +4,7 @@ ghost use Rattle.facl_script.specs.Lines.{Held};
 ghost use Rattle.facl_script.specs.Words.{takes_text as takes_text_after};
 ghost use Rattle.facl_script.specs.Units.{HasNoUnit};
 ghost use Rattle.facl_script.specs.Source.{taken_count};
-ghost use Rattle.facl_script.specs.declared.source.TheConstants.{SCRIPT_LIMIT};
+ghost use Rattle.facl_script.specs.Limits.{script_limit};
 
 use crate::devices::Feed;
 use crate::fault::ScriptFault;
@@ -148,7 +148,7 @@ impl Script {
             (R.remaining reader.new) (R.has_failed reader.new) tail
             × (script_taken self.new ≡ script_taken self.old + length tail)) }
         ensures over { is_over self.old ≡ true → (result ≡ Ok None) × (self.new ≡ self.old) × (reader.new ≡ reader.old) }
-        ensures within { script_taken self.new ≤ SCRIPT_LIMIT }
+        ensures within { script_taken self.new ≤ script_limit }
     {
         if self.is_over {
             return Ok(None);
