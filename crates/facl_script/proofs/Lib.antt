@@ -6,3 +6,7 @@ pub mod TextLemmas
 pub mod UnitLemmas
 pub mod ProgressLemmas
 pub mod RunEnds
+pub mod WrittenLemmas
+pub mod QuoteLemmas
+pub mod PieceLemmas
+pub mod PieceCuts

@@ -5,9 +5,11 @@ pub mod Lines
 pub mod Source
 pub mod TextWords
 pub mod Words
+pub mod Written
 pub mod Steps
 pub mod Beginning
 pub mod Units
+pub mod Pieces
 pub mod ReadText
 pub mod Script
 pub mod ReadUnit
