@@ -4,6 +4,7 @@ pub mod WordLemmas
 pub mod TextWordLemmas
 pub mod TextLemmas
 pub mod UnitLemmas
+pub mod Progress
 pub mod ProgressLemmas
 pub mod RunEnds
 pub mod WrittenLemmas

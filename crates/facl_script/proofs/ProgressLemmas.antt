@@ -6,7 +6,7 @@ use Rattle.facl_script.specs.Lines.{lines_of}
 use Rattle.facl_script.specs.Units.{ScriptUnit, outside, cut, units_of, full_units, HasNoUnit}
 use Rattle.facl_script.specs.ReadUnit.{IsNextUnit}
 use Rattle.facl_script.specs.Play.{Answer, quiet, joined, play}
-use Rattle.facl_script.specs.Progress.{Progress, AgreesBelow}
+use Rattle.facl_script.proofs.Progress.{Progress, AgreesBelow}
 
 or_assoc : (a b c : Bool) → ((a || b) || c) ≡ (a || (b || c))
 or_assoc true b c = refl

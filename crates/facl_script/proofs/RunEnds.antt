@@ -17,7 +17,7 @@ use Rattle.facl_script.specs.ReadUnit.{IsNextUnit}
 use Rattle.facl_script.specs.Play.{Answer, joined, play, session}
 use Rattle.facl_script.specs.Write.{Writes}
 use Rattle.facl_script.specs.Run.{Gives, Breaks, Ends, Told, StopsWith}
-use Rattle.facl_script.specs.Progress.{Progress}
+use Rattle.facl_script.proofs.Progress.{Progress}
 use Rattle.facl_script.proofs.SourceLemmas.{stops_later}
 use Rattle.facl_script.proofs.ProgressLemmas.{told_full, next_splits, updated, updated_at, updated_agrees}
 

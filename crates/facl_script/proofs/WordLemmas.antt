@@ -11,7 +11,16 @@ use Rattle.facl_script.specs.declared.place.Place.TheVariants.{Between, Within, 
 use Rattle.facl_script.specs.declared.place.Effect.{Effect}
 use Rattle.facl_script.specs.declared.place.Effect.TheVariants.{Skips, Joins, Ends}
 use Rattle.facl_script.specs.Words.{is_white, is_quote, onto_word, words_at, words_of, says_nothing, line_words}
-use Rattle.facl_script.specs.Steps.{effect_of, place_after, onto_first, words_seen}
+use Rattle.facl_script.specs.Steps.{effect_of, place_after}
+
+-- these bytes go to the front of the first word
+abbrev pub onto_first : List ℕ → List (List ℕ) → List (List ℕ)
+onto_first [] words = words
+onto_first (b ∷ bs) words = onto_word b (onto_first bs words)
+
+-- the words of a line of which some are done, one is begun, and the rest is read from this place on
+abbrev pub words_seen : List (List ℕ) → List ℕ → Place → List ℕ → Option (List (List ℕ))
+words_seen done begun place rest = option_map (λ words. done ++ onto_first begun words) (words_at place rest)
 
 -- an empty word before the rest is the word as it was begun
 pub onto_first_word : (begun : List ℕ) (words : List (List ℕ)) → onto_first begun ([] ∷ words) ≡ begun ∷ words

@@ -7,8 +7,7 @@ use Rattle.std.proofs.lemmas.Option.{none-some}
 use Rattle.facl_script.specs.declared.place.Place.{Place}
 use Rattle.facl_script.specs.declared.place.Place.TheVariants.{Between, Within, Quoted}
 use Rattle.facl_script.specs.Words.{is_white, is_quote, onto_word, words_at, words_of}
-use Rattle.facl_script.specs.Steps.{words_seen}
-use Rattle.facl_script.proofs.WordLemmas.{seen_step, begins, onto_first_word as first_word}
+use Rattle.facl_script.proofs.WordLemmas.{words_seen, seen_step, begins, onto_first_word as first_word}
 use Rattle.facl_script.specs.Written.{Part, bare, quoted, written, said, IsPart, IsWhiteSpace, Word, word_written, word_said, AreWords, Spells}
 
 -- what is left of a line from within a word on: the rest of that word, white space, and words

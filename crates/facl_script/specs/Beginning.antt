@@ -1,4 +1,4 @@
--- The first bytes of a word, as they are kept.
+-- The first bytes of a word, as they are kept. It is for inner functions: no contract of a public one names it.
 use Rattle.std.specs.Prelude.{ℕ, List, take}
 use Rattle.facl_script.specs.declared.text_words.Beginning.{Beginning}
 

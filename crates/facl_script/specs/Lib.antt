@@ -16,4 +16,3 @@ pub mod ReadUnit
 pub mod Write
 pub mod Play
 pub mod Run
-pub mod Progress

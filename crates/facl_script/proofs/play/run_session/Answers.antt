@@ -3,7 +3,7 @@ use Rattle.std.proofs.KnownBytes.{Appends-nil, Consumes-trans}
 use Rattle.std.proofs.lemmas.Result.{err_from_is_err_and}
 use Rattle.facl_script.specs.Script.{script_left, next_number, is_over}
 use Rattle.facl_script.specs.Play.{quiet, joined}
-use Rattle.facl_script.specs.Progress.{Progress}
+use Rattle.facl_script.proofs.Progress.{Progress}
 use Rattle.facl_script.proofs.ProgressLemmas.{begins, goes_on}
 use Rattle.facl_script.proofs.RunEnds.{left_consumes, ends_here, at_end, not_over, stops_reading, fails_writing, none_of, not_full, Gives-joined, GivesAt, BreaksAt}
 use Rattle.facl_script.proofs.play.run_session.Goals as goal

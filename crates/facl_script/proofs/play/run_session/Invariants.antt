@@ -4,7 +4,7 @@ use Rattle.facl_script.specs.declared.source.TheConstants.{SCRIPT_LIMIT}
 use Rattle.facl_script.specs.Script.{script_left, script_taken, next_number, is_over}
 use Rattle.facl_script.specs.Play.{Answer}
 use Rattle.facl_script.specs.Run.{Gives}
-use Rattle.facl_script.specs.Progress.{Progress}
+use Rattle.facl_script.proofs.Progress.{Progress}
 use Rattle.facl_script.proofs.play.run_session.Given as goal
 
 abbrev pub invariant-loop-script : goal.invariant-loop-script
