@@ -1,32 +1,21 @@
--- A step keeps the facts of a tree.
-use Rattle.std.proofs.Common.{◌≡◌, ℕ, Bool, true, false, ◌||◌, eqb, List, [], ◌∷◌, length, Option, Some, None, is_some, Result, Ok, Err, if◌then◌else◌, refl, sym, ap, subst, ◌∙◌}
-use Rattle.std.specs.Prelude.{IfOk, nat_lt}
+-- What an edit of a sound tree and what a load of a dump leave is a sound tree.
+use Rattle.std.proofs.Common.{◌≡◌, ℕ, suc, ◌+◌, ◌≤◌, Bool, true, false, ◌||◌, eqb, List, [], ◌∷◌, length, Option, Some, None, is_some, if◌then◌else◌, Ordering, Less, Equal, Greater, refl, sym, ap, subst, ◌∙◌, arith}
+use Rattle.std.specs.Prelude.{fold}
+use Rattle.std.specs.FinMap.Entries.{by_order}
+use Rattle.std.proofs.lemmas.List.{length-map}
 use Rattle.acl_entry.specs.Lists.{KeyMap}
-use Rattle.acl_text.specs.declared.fault.TextFault.{TextFault}
+use Rattle.acl_names.specs.Paths.{path_cmp}
 use Rattle.acl_dump.specs.declared.record.DumpRecord.{DumpRecord}
 use Rattle.acl_edit.specs.Nodes as nodes
 use Rattle.acl_edit.specs.declared.node.Node.{Node}
 use Rattle.acl_edit.specs.declared.node.Kind.TheVariants.{Plain, Directory}
-use Rattle.acl_people.specs.declared.fault.LoadFault.{LoadFault}
-use Rattle.acl_people.specs.Registers.{Register, load_passwd, load_group}
-use Rattle.acl_tree.specs.declared.command.Command.{Command}
-use Rattle.acl_tree.specs.declared.command.Command.TheVariants.{Load, Chmod}
-use Rattle.acl_tree.specs.declared.command.Table.TheVariants.{Passwd, Group, Dump}
-use Rattle.acl_tree.specs.declared.command.TreeFault.{TreeFault}
-use Rattle.acl_tree.specs.declared.command.TreeFault.TheVariants.{AlreadyLoaded, TooMany}
-use Rattle.acl_tree.specs.Files.{PathOf, Files}
+use Rattle.acl_tree.specs.Files.{PathOf, Files, Recorded}
 use Rattle.acl_tree.specs.Below.{is_below}
-use Rattle.acl_tree.specs.Operands.{is_file, first_missing, edit_files}
-use Rattle.acl_tree.specs.Loading.{is_directory, node_of, has_below, as_files, files_of, in_path_order}
+use Rattle.acl_tree.specs.Operands.{edit_files}
+use Rattle.acl_tree.specs.Loading.{insert_record, is_directory, node_of, has_below, as_files, files_of, in_path_order}
 use Rattle.acl_tree.specs.Sound.{holds_below, IsPlaced, ArePlaced, IsSoundTree}
-use Rattle.acl_tree.specs.Step.{State, chmod_all, or_missing, with_people, with_records, dump_records, load_dump, step, Stages}
-use Rattle.acl_tree.proofs.Edited.{any-map}
-
-err_is_not_ok : (e : TreeFault) (s : State) → Err e ≡ Ok s → ⊥
-err_is_not_ok e s h = cc
-
-ok_same : (a b : State) → (let r : Result State TreeFault = Ok a in r ≡ Ok b) → a ≡ b
-ok_same a b h = cc
+use Rattle.acl_tree.proofs.Edited.{any-map, in_order-edited}
+use Rattle.acl_tree.proofs.Loaded.{files_in_order}
 
 -- ---- chmod
 
@@ -48,6 +37,14 @@ module _ (test : PathOf → Bool) (mode : ℕ) where
   edited_placed : (all es : Files) → ArePlaced all es → ArePlaced (edit_files test (λ n. nodes.chmod n mode) all) (edit_files test (λ n. nodes.chmod n mode) es)
   edited_placed all [] h = tt
   edited_placed all (e ∷ es) h = (chosen all e (test e.0) h.0, edited_placed all es h.1)
+
+  pub edited_sound : (t : Recorded) → IsSoundTree t → IsSoundTree (record t { files = edit_files test (λ n. nodes.chmod n mode) t.files })
+  edited_sound t sound = record {
+    order = in_order-edited test (λ n. nodes.chmod n mode) t.files sound.order;
+    few = subst (λ n. n ≤ 1048576) (sym (length-map t.files (λ e. (e.0, if test e.0 then nodes.chmod e.1 mode else e.1)))) sound.few;
+    unloaded = λ none. ap (λ es. edit_files test (λ n. nodes.chmod n mode) es) (sound.unloaded none);
+    placed = edited_placed t.files t.files sound.placed;
+  }
 
 -- ---- a dump
 
@@ -81,46 +78,33 @@ loaded_placed all (r ∷ rs) = (
   loaded_placed all rs,
 )
 
-true_is_not_false : true ≡ false → ⊥
-true_is_not_false e = cc
+one_more : (r : DumpRecord) (rs : List DumpRecord) → length (insert_record r rs) ≤ suc (length rs)
+one_more r [] = omega arith
+one_more r (s ∷ rs) = by (path_cmp r.path s.path) (one_more r rs)
+  where
+    by : (o : Ordering) → length (insert_record r rs) ≤ suc (length rs) → length (by_order o (r ∷ s ∷ rs) (r ∷ rs) (s ∷ insert_record r rs)) ≤ suc (suc (length rs))
+    by Less h = omega arith
+    by Equal h = omega arith
+    by Greater h = omega arith
 
-loaded_sound : (records : List DumpRecord) → IsSoundTree (record { files = files_of records; loaded = true })
-loaded_sound records = record { unloaded = λ h. absurd (true_is_not_false h); placed = loaded_placed (in_path_order records) (in_path_order records) }
+as_many : (rs done : List DumpRecord) → length (fold (λ sorted r. insert_record r sorted) done rs) ≤ length done + length rs
+as_many [] done = omega arith
+as_many (r ∷ rs) done = omega (arith, as_many rs (insert_record r done), one_more r done)
 
--- ---- steps
+-- there are no more files than records
+no_more : (records : List DumpRecord) → length (files_of records) ≤ length records
+no_more records =
+    let sorted = in_path_order records in
+    let within : length sorted ≤ length records = omega (arith, as_many records []) in
+    subst (λ n. n ≤ length records) (sym (length-map sorted (λ r. (r.path, node_of (has_below sorted r.path) r)))) within
 
-module _ (s new : State) (sound : IsSoundTree s.tree) where
-  people_keep : (r : Result Register LoadFault) → with_people s r ≡ Ok new → IsSoundTree new.tree
-  people_keep (Ok people) h = subst (λ (x : State). IsSoundTree x.tree) (ok_same (record s { people = people }) new h) sound
-  people_keep (Err fault) h = absurd (err_is_not_ok _ new h)
-
-  records_keep : (r : Result (List DumpRecord) TextFault) → with_records s r ≡ Ok new → IsSoundTree new.tree
-  records_keep (Err fault) h = absurd (err_is_not_ok _ new h)
-  records_keep (Ok records) h = by (nat_lt 1048576 (length records)) h
-    where
-      by : (b : Bool) → (if b then Err TooMany else Ok (record s { tree = record { files = files_of records; loaded = true } })) ≡ Ok new → IsSoundTree new.tree
-      by true e = absurd (err_is_not_ok _ new e)
-      by false e = subst (λ (x : State). IsSoundTree x.tree) (ok_same (record s { tree = record { files = files_of records; loaded = true } }) new e) (loaded_sound records)
-
-  unless_loaded : (b : Bool) (r : Result State TreeFault) → (r ≡ Ok new → IsSoundTree new.tree) → (if b then Err AlreadyLoaded else r) ≡ Ok new → IsSoundTree new.tree
-  unless_loaded true r keeps h = absurd (err_is_not_ok _ new h)
-  unless_loaded false r keeps h = keeps h
-
-  chmod_keeps : (missing : Option PathOf) (paths : List PathOf) (mode : ℕ) (recursive : Bool) → or_missing missing (record s { tree = chmod_all recursive paths mode s.tree }) ≡ Ok new → IsSoundTree new.tree
-  chmod_keeps (Some p) paths mode recursive h = absurd (err_is_not_ok _ new h)
-  chmod_keeps None paths mode recursive h =
-      subst (λ (x : State). IsSoundTree x.tree) (ok_same (record s { tree = chmod_all recursive paths mode s.tree }) new h) (record {
-        unloaded = λ none. ap (λ es. edit_files (is_file recursive paths) (λ n. nodes.chmod n mode) es) (sound.unloaded none);
-        placed = edited_placed (is_file recursive paths) mode s.tree.files s.tree.files sound.placed;
-      })
-
-  step_keeps : (command : Command) → step s command ≡ Ok new → IsSoundTree new.tree
-  step_keeps (Load Passwd bytes) h = unless_loaded s.tree.loaded (with_people s (load_passwd s.people bytes.items)) (people_keep (load_passwd s.people bytes.items)) h
-  step_keeps (Load Group bytes) h = unless_loaded s.tree.loaded (with_people s (load_group s.people bytes.items)) (people_keep (load_group s.people bytes.items)) h
-  step_keeps (Load Dump bytes) h = unless_loaded s.tree.loaded (load_dump s bytes.items) (λ e. records_keep (dump_records s.people bytes.items) e) h
-  step_keeps (Chmod paths mode recursive) h = chmod_keeps (first_missing paths s.tree.files) paths mode recursive h
-
--- what is staged keeps the facts
-pub stages_sound : {A : Type 0} (view : A → State) (s : State) (command : Command) (result : Result A TreeFault) → Stages view result (step s command) → IfOk result (λ staged. IsSoundTree s.tree → IsSoundTree (view staged).tree)
-stages_sound view s command (Ok new) h = λ sound. step_keeps s (view new) sound command h
-stages_sound view s command (Err fault) h = tt
+pub loaded_sound : (records : List DumpRecord) → length records ≤ 1048576 → IsSoundTree (record { files = files_of records; loaded = true })
+loaded_sound records within = record {
+  order = files_in_order records;
+  few = omega (arith, no_more records);
+  unloaded = λ h. absurd (true_is_not_false h);
+  placed = loaded_placed (in_path_order records) (in_path_order records);
+}
+  where
+    true_is_not_false : true ≡ false → ⊥
+    true_is_not_false e = cc

@@ -1,10 +1,10 @@
--- The facts that every command keeps. That each list is valid is a fact of every list, by its type.
-use Rattle.std.specs.Prelude.{◌≡◌, ⊤, [], ◌∷◌, length, Bool, true, false, ◌||◌, ◌==◌}
+-- The facts of every tree. That each list is valid is a fact of every list, by its type.
+use Rattle.std.specs.Prelude.{◌≡◌, ◌≤◌, ⊤, [], ◌∷◌, length, Bool, true, false, ◌||◌, ◌==◌}
 use Rattle.std.specs.List.{list_any}
 use Rattle.acl_edit.specs.Nodes as nodes
 use Rattle.acl_edit.specs.declared.node.Node.{Node}
 use Rattle.acl_edit.specs.declared.node.Kind.TheVariants.{Directory}
-use Rattle.acl_tree.specs.Files.{PathOf, Files, Recorded}
+use Rattle.acl_tree.specs.Files.{PathOf, Files, IsInOrder, Recorded}
 use Rattle.acl_tree.specs.Below.{is_below}
 
 -- whether a file lies below a path
@@ -20,7 +20,9 @@ abbrev pub ArePlaced : Files → Files → Type 0
 ArePlaced all [] = ⊤
 ArePlaced all (e ∷ es) = IsPlaced all e × ArePlaced all es
 
--- no file stands before a dump is loaded, and each file is placed
+-- the files stand in path order, there are not too many, none stands before a dump is loaded, and each is placed
 pub record IsSoundTree (t : Recorded) : Type 0 where
+  pub order : IsInOrder t.files
+  pub few : length t.files ≤ 1048576
   pub unloaded : t.loaded ≡ false → t.files ≡ []
   pub placed : ArePlaced t.files t.files

@@ -5,6 +5,7 @@ ghost use Rattle.std.specs.List.{flat_map};
 ghost use Rattle.std.specs.BTreeMap.{values};
 ghost use Rattle.acl_tree.specs.Files.{IsInOrder};
 ghost use Rattle.acl_tree.specs.Loading.{in_path_order, is_directory, node_of, next_below, files_from, files_of};
+ghost use Rattle.acl_tree.specs.Sound.{IsSoundTree};
 ghost use Rattle.acl_tree.specs.Step.{load_dump, Stages};
 ghost use Rattle.acl_tree.specs.Tells.{Tells};
 ghost use Rattle.acl_tree.specs.declared.moved.UsersMove.TheVariants.{Same};
@@ -163,7 +164,7 @@ fn files_of(alloc: Global, records: &[DumpRecord]) -> Result<Vec<Rc<Record>>, Al
 
 /// The files of a dump as a tree.
 fn tree_of(alloc: Global, files: &[Rc<Record>]) -> Result<Tree, AllocError>
-    requires { IsInOrder (map (λ r. r.value) files.now) }
+    requires { IsSoundTree (record { files = map (λ r. r.value) files.now; loaded = true }) }
     ensures { IfOk result (λ tree. tree ≡ record { files = map (λ r. r.value) files.now; loaded = true }) }
 {
     Ok(Tree::of(chunks_of(alloc, files)?, true))
@@ -177,6 +178,7 @@ impl Tree {
         bytes: &[u8],
     ) -> Result<Staged, TreeFault>
         ensures made { Stages (λ s. s.state) result (load_dump (record { tree = self.now; people = people.now }) bytes.now) }
+        ensures sound { IfOk result (λ staged. IsSoundTree staged.state.tree) }
         ensures tells { IfOk result (λ staged. self.now.files ≡ [] → Tells (record { tree = self.now; people = people.now }) staged) }
         ensures moved { IfOk result (λ staged. staged.moved ≡ Same) }
     {

@@ -43,8 +43,8 @@ impl Tree {
         command: &Command,
     ) -> Result<Staged, TreeFault>
         ensures made { Stages (λ s. s.state) result (step (record { tree = self.now; people = people.now }) command.now) }
-        ensures sound { IfOk result (λ staged. IsSoundTree self.now → IsSoundTree staged.state.tree) }
-        ensures tells { IfOk result (λ staged. IsSoundTree self.now → Tells (record { tree = self.now; people = people.now }) staged) }
+        ensures sound { IfOk result (λ staged. IsSoundTree staged.state.tree) }
+        ensures tells { IfOk result (λ staged. Tells (record { tree = self.now; people = people.now }) staged) }
         ensures moved { IfOk result (λ staged. staged.moved ≡ users_move command.now) }
     {
         match command {
@@ -65,9 +65,11 @@ impl Tree {
         bytes: &[u8],
     ) -> Result<Staged, TreeFault>
         ensures made { Stages (λ s. s.state) result (load (record { tree = self.now; people = people.now }) which bytes.now) }
-        ensures tells { IfOk result (λ staged. IsSoundTree self.now → Tells (record { tree = self.now; people = people.now }) staged) }
+        ensures sound { IfOk result (λ staged. IsSoundTree staged.state.tree) }
+        ensures tells { IfOk result (λ staged. Tells (record { tree = self.now; people = people.now }) staged) }
         ensures moved { IfOk result (λ staged. staged.moved ≡ load_moves which) }
     {
+        self.is_sound();
         if self.is_loaded() {
             return Err(TreeFault::AlreadyLoaded);
         }
@@ -85,6 +87,7 @@ impl Tree {
     ) -> Result<Staged, TreeFault>
         ensures ok { IfOk loaded (λ people. IfOk result (λ staged. staged ≡ record { state = record { tree = self.now; people = people }; changed = []; gone = []; moved = Loaded })) }
         ensures moved { IfOk result (λ staged. staged.moved ≡ Loaded) }
+        ensures sound { IfOk result (λ staged. IsSoundTree staged.state.tree) }
         ensures tells { IfOk result (λ staged. (people : Register) → self.now.files ≡ [] → Tells (record { tree = self.now; people = people }) staged) }
         ensures err { IfErr loaded (λ fault. result ≡ Err (tree_fault fault)) }
         ensures memory { OnOk loaded (IfErr result (λ fault. fault ≡ NoMemory)) }
@@ -110,6 +113,7 @@ impl Tree {
         recursive: bool,
     ) -> Result<Staged, TreeFault>
         ensures made { Stages (λ s. s.state) result (or_missing (first_missing paths.now self.now.files) (record { tree = chmod_all recursive paths.now mode self.now; people = people.now })) }
+        ensures sound { IfOk result (λ staged. IsSoundTree staged.state.tree) }
         ensures tells { IfOk result (λ staged. Tells (record { tree = self.now; people = people.now }) staged) }
         ensures moved { IfOk result (λ staged. staged.moved ≡ Same) }
     {

@@ -1,6 +1,7 @@
 //! A command that is prepared: the state after it, before it stands.
 
 ghost use Rattle.std.specs.Prelude.{◌≡◌, map};
+ghost use Rattle.acl_tree.specs.Sound.{IsSoundTree};
 
 use crate::moved::UsersMove;
 use crate::record::Record;
@@ -38,8 +39,10 @@ impl Staged {
         gone: Vec<Rc<Record>>,
         moved: UsersMove,
     ) -> Staged
-        ensures { result ≡ record { state = record { tree = tree; people = people }; changed = map (λ r. r.value) changed.items; gone = map (λ r. r.value) gone.items; moved = moved } }
+        ensures all { result ≡ record { state = record { tree = tree; people = people }; changed = map (λ r. r.value) changed.items; gone = map (λ r. r.value) gone.items; moved = moved } }
+        ensures sound { IsSoundTree tree }
     {
+        tree.is_sound();
         Staged {
             tree,
             people,

@@ -6,6 +6,7 @@ ghost use Rattle.std.specs.FinMap.{find};
 ghost use Rattle.std.specs.List.{flat_map};
 ghost use Rattle.acl_names.specs.Paths.{path_cmp};
 ghost use Rattle.acl_tree.specs.Files.{IsInOrder, no_files, IsBegun};
+ghost use Rattle.acl_tree.specs.Sound.{IsSoundTree};
 
 use crate::chunk::Chunk;
 use acl_edit::Node;
@@ -16,7 +17,7 @@ use std::marker::Model;
 use std::rc::Rc;
 
 /// The files that a dump recorded, in path order. Trees that came from one another share the files that
-/// are alike, by chunks.
+/// are alike, by chunks. What is true of every tree is lent by [`Tree::is_sound`].
 #[derive(Drop)]
 pub struct Tree {
     chunks: Vec<Rc<Chunk>>,
@@ -25,7 +26,8 @@ pub struct Tree {
 
 impl Model for Tree {
     ghost use Rattle.std.specs.List.{flat_map};
-    ghost use Rattle.acl_tree.specs.Files.{Recorded, coded_recorded, IsInOrder};
+    ghost use Rattle.acl_tree.specs.Files.{Recorded, coded_recorded};
+    ghost use Rattle.acl_tree.specs.Sound.{IsSoundTree};
 
     ghost Value = { Recorded };
 
@@ -33,7 +35,7 @@ impl Model for Tree {
 
     ghost view = { λ t. record { files = flat_map (λ c. c.value) t.chunks.items; loaded = t.loaded } };
 
-    ghost invariant = { λ t. IsInOrder (flat_map (λ c. c.value) t.chunks.items) };
+    ghost invariant = { λ t. IsSoundTree (record { files = flat_map (λ c. c.value) t.chunks.items; loaded = t.loaded }) };
 }
 
 /// How many chunks begin at a path or before it.
@@ -63,9 +65,9 @@ impl Tree {
         }
     }
 
-    /// The tree of these chunks, whose files follow one another in path order.
+    /// The tree of these chunks.
     pub(crate) fn of(chunks: Vec<Rc<Chunk>>, loaded: bool) -> Tree
-        requires { IsInOrder (flat_map (λ c. c.value) chunks.items) }
+        requires { IsSoundTree (record { files = flat_map (λ c. c.value) chunks.items; loaded = loaded }) }
         ensures { result ≡ record { files = flat_map (λ c. c.value) chunks.items; loaded = loaded } }
     {
         Tree { chunks, loaded }
@@ -85,13 +87,16 @@ impl Tree {
     pub(crate) fn chunks(&self) -> &[Rc<Chunk>]
         ensures all { flat_map (λ c. c.value) result.now ≡ self.now.files }
         ensures order { IsInOrder self.now.files }
+        ensures sound { IsSoundTree self.now }
     {
         &self.chunks
     }
 
-    /// Nothing is done: the files stand in path order, each path once.
-    pub fn files_are_in_order(&self)
-        ensures { IsInOrder self.now.files }
+    /// Nothing is done. The files stand in path order, each path once, and there are at most 1,048,576; none
+    /// stands before a dump is loaded; the root and what has a file below it are directories, and only
+    /// directories have default lists.
+    pub fn is_sound(&self)
+        ensures { IsSoundTree self.now }
     {
         let _chunks = self.chunks();
     }

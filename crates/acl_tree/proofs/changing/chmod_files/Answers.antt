@@ -1,10 +1,11 @@
 use Rattle.std.proofs.Common.{◌≡◌, ◌++◌, map, sym, ap, subst, ◌∙◌}
 use Rattle.std.specs.List.{flat_map}
 use Rattle.acl_edit.specs.Nodes as nodes
-use Rattle.acl_tree.specs.Files.{IsInOrder}
+use Rattle.acl_tree.specs.Files.{Recorded}
+use Rattle.acl_tree.specs.Sound.{IsSoundTree}
 use Rattle.acl_tree.specs.Changed.{changed_by, changed_between, gone_between}
 use Rattle.acl_tree.specs.Operands.{is_file, edit_files}
-use Rattle.acl_tree.proofs.Edited.{in_order-edited}
+use Rattle.acl_tree.proofs.Kept.{edited_sound}
 use Rattle.acl_tree.proofs.Changes.{changed-edited, gone-edited}
 use Rattle.acl_tree.proofs.changing.chmod_files.Goals as goal
 
@@ -16,7 +17,8 @@ of-requires c =
     ∙ ap (λ ps. edit_files (is_file c.args.recursive ps) (λ n. nodes.chmod n c.args.mode) (flat_map (λ c. c.value) c.chunks-2.result.now)) (ap (λ l. map (λ p. p.now) l) c.deref.ensures.value ∙ c.in_ok-operands.ensures)
     ∙ ap (λ es. edit_files (is_file c.args.recursive c.args.operands.now) (λ n. nodes.chmod n c.args.mode) es) c.chunks-2.ensures.all
     in
-    subst IsInOrder (sym new) (in_order-edited (is_file c.args.recursive c.args.operands.now) (λ n. nodes.chmod n c.args.mode) c.args.tree.now.files c.chunks.ensures.order)
+    subst (λ (t : Recorded). IsSoundTree t) (λ i. record { files = sym new i; loaded = sym c.is_loaded.ensures i })
+    (edited_sound (is_file c.args.recursive c.args.operands.now) c.args.mode c.args.tree.now c.chunks.ensures.sound)
 
 pub returns-clause-new : goal.returns-clause-new
 returns-clause-new c =

@@ -13,7 +13,7 @@ returns-clause-made c =
     let staged : State = record { tree = tree; people = c.args.people.now } in
     let changed : c.in_ok-tree.tree ≡ tree = c.in_ok-tree.ensures.new ∙ ap (λ ps. chmod_all c.args.recursive ps c.args.mode c.args.self.now) c.as_slice-2.ensures in
     let is : c.of.result.state ≡ staged =
-    ap (λ s. s.state) c.of.ensures
+    ap (λ s. s.state) c.of.ensures.all
     ∙ ap (λ (t : Recorded). record { tree = t; people = c.in_ok-share.field-0 }) changed
     ∙ ap (λ (p : Register). record { tree = tree; people = p }) c.in_ok-share.ensures
     in
@@ -24,8 +24,8 @@ pub returns-clause-tells : goal.returns-clause-tells
 returns-clause-tells c =
     let old : State = record { tree = c.args.self.now; people = c.args.people.now } in
     told_change old c.of.result c.in_ok-tree.tree.files
-    (ap (λ s. s.state.tree.files) c.of.ensures)
-    (ap (λ s. s.changed) c.of.ensures ∙ c.in_ok-tree.ensures.told ∙ ap (λ l. map (λ r. r.value) l ++ changed_between c.args.self.now.files c.in_ok-tree.tree.files) c.new-changed.ensures.items)
-    (ap (λ s. s.gone) c.of.ensures ∙ ap (λ l. map (λ r. r.value) l) c.new.ensures.items ∙ sym c.in_ok-tree.ensures.gone)
-    (ap (λ s. s.moved) c.of.ensures)
-    (ap (λ s. s.state.people) c.of.ensures ∙ c.in_ok-share.ensures)
+    (ap (λ s. s.state.tree.files) c.of.ensures.all)
+    (ap (λ s. s.changed) c.of.ensures.all ∙ c.in_ok-tree.ensures.told ∙ ap (λ l. map (λ r. r.value) l ++ changed_between c.args.self.now.files c.in_ok-tree.tree.files) c.new-changed.ensures.items)
+    (ap (λ s. s.gone) c.of.ensures.all ∙ ap (λ l. map (λ r. r.value) l) c.new.ensures.items ∙ sym c.in_ok-tree.ensures.gone)
+    (ap (λ s. s.moved) c.of.ensures.all)
+    (ap (λ s. s.state.people) c.of.ensures.all ∙ c.in_ok-share.ensures)

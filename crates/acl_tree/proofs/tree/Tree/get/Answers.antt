@@ -18,7 +18,7 @@ returns-in_err-at c =
     subst (λ n. IsBegun value c.self.inside.chunks.items c.args.path.now n) none (subst (λ l. IsBegun value l c.args.path.now c.begun.result) c.deref.ensures.value c.begun.ensures)
     in
     ap (λ o. option_copied o) c.from_residual.ensures
-    ∙ sym (find_nowhere value c.self.inside.chunks.items c.args.path.now c.self.invariant begun)
+    ∙ sym (find_nowhere value c.self.inside.chunks.items c.args.path.now c.self.invariant.order begun)
     ∙ ap (λ t. find path_cmp c.args.path.now t.files) c.self.view_is
 
 pub returns : goal.returns
@@ -29,5 +29,5 @@ returns c =
     in
     c.get.ensures
     ∙ ap (λ es. find path_cmp c.args.path.now es) c.deref-2.ensures
-    ∙ sym (find_in_part value c.self.inside.chunks.items c.args.path.now c.in_ok-at.at c.index.result.now c.self.invariant begun c.index.ensures)
+    ∙ sym (find_in_part value c.self.inside.chunks.items c.args.path.now c.in_ok-at.at c.index.result.now c.self.invariant.order begun c.index.ensures)
     ∙ ap (λ t. find path_cmp c.args.path.now t.files) c.self.view_is

@@ -1,19 +1,21 @@
-use Rattle.std.proofs.Common.{map, sym, ap, subst, ◌∙◌}
-use Rattle.acl_tree.specs.Files.{IsInOrder}
+use Rattle.std.proofs.Common.{true, length, arith, map, sym, ap, subst, ◌∙◌}
+use Rattle.acl_tree.specs.Files.{Files}
+use Rattle.acl_tree.specs.Sound.{IsSoundTree}
 use Rattle.acl_tree.specs.Step.{State}
-use Rattle.acl_tree.proofs.Loaded.{files_in_order}
+use Rattle.acl_tree.proofs.Kept.{loaded_sound}
 use Rattle.acl_tree.proofs.Told.{told_load}
 use Rattle.acl_tree.proofs.tree.Tree.load_dump.Goals as goal
 
 pub tree_of-requires : goal.tree_of-requires
 tree_of-requires c =
-    subst IsInOrder (sym (ap (λ l. map (λ r. r.value) l) c.deref-2.ensures.value ∙ c.in_ok-files.ensures)) (files_in_order c.deref.result.now)
+    subst (λ (files : Files). IsSoundTree (record { files = files; loaded = true })) (sym (ap (λ l. map (λ r. r.value) l) c.deref-2.ensures.value ∙ c.in_ok-files.ensures))
+    (loaded_sound c.deref.result.now (omega (arith, c.if-len-gt-MOST_FILES.false, c.len.ensures, ap length c.deref.ensures.value)))
 
 pub returns-clause-tells : goal.returns-clause-tells
 returns-clause-tells c = λ none.
     let old : State = record { tree = c.args.self.now; people = c.args.people.now } in
     told_load old c.of.result none
-    (ap (λ s. s.changed) c.of.ensures ∙ sym (ap (λ s. s.state.tree.files) c.of.ensures ∙ ap (λ t. t.files) c.in_ok-tree.ensures ∙ ap (λ l. map (λ r. r.value) l) c.deref-2.ensures.value))
-    (ap (λ s. s.gone) c.of.ensures ∙ ap (λ l. map (λ r. r.value) l) c.new.ensures.items)
-    (ap (λ s. s.moved) c.of.ensures)
-    (ap (λ s. s.state.people) c.of.ensures ∙ c.in_ok-share.ensures)
+    (ap (λ s. s.changed) c.of.ensures.all ∙ sym (ap (λ s. s.state.tree.files) c.of.ensures.all ∙ ap (λ t. t.files) c.in_ok-tree.ensures ∙ ap (λ l. map (λ r. r.value) l) c.deref-2.ensures.value))
+    (ap (λ s. s.gone) c.of.ensures.all ∙ ap (λ l. map (λ r. r.value) l) c.new.ensures.items)
+    (ap (λ s. s.moved) c.of.ensures.all)
+    (ap (λ s. s.state.people) c.of.ensures.all ∙ c.in_ok-share.ensures)
