@@ -18,7 +18,8 @@ use Rattle.acl_names.specs.Paths.{path_cmp}
 use Rattle.acl_names.proofs.PathOrder.{path_total}
 use Rattle.acl_edit.specs.declared.node.Node.{Node}
 use Rattle.acl_tree.specs.Files.{PathOf, Files, IsInOrder}
-use Rattle.acl_tree.specs.Changed.{same_entry, same_entries, same_label, is_changed, changed_between, gone_between, changed_one, changed_by}
+use Rattle.acl_tree.specs.Changed.{same_entry, same_entries, same_label, is_changed, changed_between, gone_between}
+use Rattle.acl_tree.specs.Inner.{changed_one, changed_by}
 use Rattle.acl_tree.specs.Operands.{is_file, edit_files}
 use Rattle.acl_tree.proofs.Places.{above}
 

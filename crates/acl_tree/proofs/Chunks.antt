@@ -10,7 +10,8 @@ use Rattle.std.proofs.lemmas.List.{get_or_append_left, get_or-append-add, take-a
 use Rattle.acl_names.specs.Paths.{path_cmp}
 use Rattle.acl_names.proofs.PathOrder.{path_total, exact_paths}
 use Rattle.acl_edit.specs.declared.node.Node.{Node}
-use Rattle.acl_tree.specs.Files.{PathOf, Files, IsInOrder, BeginsBy, BeginsAfter, IsBegun}
+use Rattle.acl_tree.specs.Files.{PathOf, Files, IsInOrder}
+use Rattle.acl_tree.specs.Inner.{BeginsBy, BeginsAfter, IsBegun}
 use Rattle.acl_tree.proofs.Places.{rises, below_later, find_gap}
 
 find-append : (p : PathOf) (xs ys : Files) → find path_cmp p (xs ++ ys) ≡ option_or (find path_cmp p xs) (find path_cmp p ys)

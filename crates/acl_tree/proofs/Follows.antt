@@ -13,7 +13,7 @@ use Rattle.acl_edit.specs.declared.node.Node.{Node}
 use Rattle.acl_tree.specs.Files.{PathOf, Files, IsInOrder}
 use Rattle.acl_tree.specs.Below.{is_within, is_below}
 use Rattle.acl_tree.specs.Sound.{holds_below}
-use Rattle.acl_tree.specs.Found.{next_file_below}
+use Rattle.acl_tree.specs.Inner.{next_file_below}
 use Rattle.acl_tree.proofs.Places.{above}
 use Rattle.acl_tree.proofs.Within.{convex}
 

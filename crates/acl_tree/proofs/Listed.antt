@@ -3,7 +3,8 @@ use Rattle.std.proofs.Common.{◌≡◌, ℕ, suc, ◌<◌, Bool, true, false, i
 use Rattle.std.specs.List.{flat_map}
 use Rattle.acl_edit.specs.declared.node.Node.{Node}
 use Rattle.acl_tree.specs.Files.{PathOf, Files, IsInOrder}
-use Rattle.acl_tree.specs.Found.{FoundFile, found_file, found_in, next_file_below, found_by_next}
+use Rattle.acl_tree.specs.Found.{FoundFile, found_file, found_in}
+use Rattle.acl_tree.specs.Inner.{next_file_below, found_by_next}
 use Rattle.acl_tree.specs.Below.{is_below}
 use Rattle.acl_tree.specs.Operands.{is_file}
 use Rattle.acl_tree.specs.Sound.{holds_below}

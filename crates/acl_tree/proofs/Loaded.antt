@@ -15,10 +15,9 @@ use Rattle.acl_dump.specs.declared.record.DumpRecord.{DumpRecord}
 use Rattle.acl_edit.specs.declared.node.Node.{Node}
 use Rattle.acl_tree.specs.Files.{PathOf, Files, IsInOrder}
 use Rattle.acl_tree.specs.Below.{is_below}
-use Rattle.acl_tree.specs.Loading.{insert_record, in_path_order, node_of, has_below, as_files, files_of, next_below, files_from}
-use Rattle.acl_tree.specs.Places.{Place, Keyed}
+use Rattle.acl_tree.specs.Loading.{insert_record, in_path_order, node_of, has_below, as_files, files_of}
 use Rattle.acl_tree.specs.Sound.{holds_below}
-use Rattle.acl_tree.specs.Found.{next_file_below}
+use Rattle.acl_tree.specs.Inner.{next_below, files_from, next_file_below}
 use Rattle.acl_tree.proofs.Shared.{in_order-put}
 use Rattle.acl_tree.proofs.Edited.{any-map}
 use Rattle.acl_tree.proofs.Follows.{told_by_next}
@@ -30,6 +29,14 @@ Key = Bor (List (Vec ℕ Global))
 
 abbrev path_of : Key → PathOf
 path_of k = map (λ v. v.items) k.now
+
+abbrev pub Place : Type 0
+Place = Key × Bor DumpRecord
+
+-- each record stands under its path
+abbrev pub Keyed : List Place → Type 0
+Keyed [] = Unit {0}
+Keyed (e ∷ es) = (path_of e.0 ≡ e.1.now.path) × Keyed es
 
 module _ (cmp : Key → Key → Ordering) (agrees : (a b : Key) → cmp a b ≡ path_cmp (path_of a) (path_of b)) (k : Key) (v : Bor DumpRecord) (named : path_of k ≡ v.now.path) where
   compared : (e : Place) → path_of e.0 ≡ e.1.now.path → cmp k e.0 ≡ path_cmp v.now.path e.1.now.path

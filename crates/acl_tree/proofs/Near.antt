@@ -7,7 +7,8 @@ use Rattle.acl_names.proofs.PathOrder.{path_total, exact_paths}
 use Rattle.acl_edit.specs.declared.node.Node.{Node}
 use Rattle.acl_tree.specs.Files.{PathOf, Files, IsInOrder}
 use Rattle.acl_tree.specs.Below.{is_within}
-use Rattle.acl_tree.specs.Operands.{means, is_file, edit_files, is_near}
+use Rattle.acl_tree.specs.Operands.{means, is_file, edit_files}
+use Rattle.acl_tree.specs.Inner.{is_near}
 use Rattle.acl_tree.proofs.Places.{rises}
 use Rattle.acl_tree.proofs.Within.{convex, not_before}
 

@@ -5,9 +5,8 @@ use Rattle.std.proofs.lemmas.List.{get_or_append_left, get_or-append-add, drop-d
 use Rattle.std.proofs.Math.Seq.{take-add}
 use Rattle.acl_edit.specs.declared.node.Node.{Node}
 use Rattle.acl_tree.specs.Files.{PathOf, Files, IsInOrder}
-use Rattle.acl_tree.specs.Changed.{changed_by}
-use Rattle.acl_tree.specs.Found.{found_by_next}
-use Rattle.acl_tree.specs.Operands.{is_file, is_near, edit_files, AgreeAt}
+use Rattle.acl_tree.specs.Operands.{is_file, edit_files}
+use Rattle.acl_tree.specs.Inner.{changed_by, found_by_next, is_near, AgreeAt}
 use Rattle.acl_tree.proofs.Changes.{told_alike, told_none, told_more}
 use Rattle.acl_tree.proofs.Edited.{edited_more}
 use Rattle.acl_tree.proofs.Listed.{found_alike, found_none, found-append}

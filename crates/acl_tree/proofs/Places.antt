@@ -9,7 +9,8 @@ use Rattle.std.proofs.lemmas.Cmp.{tied_itself}
 use Rattle.acl_names.specs.Paths.{path_cmp}
 use Rattle.acl_names.proofs.PathOrder.{path_total}
 use Rattle.acl_edit.specs.declared.node.Node.{Node}
-use Rattle.acl_tree.specs.Files.{PathOf, Files, IsInOrder, IsAt, IsGapFor}
+use Rattle.acl_tree.specs.Files.{PathOf, Files, IsInOrder}
+use Rattle.acl_tree.specs.Inner.{IsAt, IsGapFor}
 
 less : (o : Ordering) → is_lt o ≡ true → o ≡ Less
 less Less h = refl

@@ -7,7 +7,8 @@ use Rattle.std.proofs.lemmas.List.{get_or-map, length-map, map-append, take-appe
 use Rattle.acl_names.specs.Paths.{path_cmp}
 use Rattle.acl_names.proofs.PathOrder.{path_total}
 use Rattle.acl_edit.specs.declared.node.Node.{Node}
-use Rattle.acl_tree.specs.Files.{PathOf, Files, IsInOrder, IsAt, IsGapFor}
+use Rattle.acl_tree.specs.Files.{PathOf, Files, IsInOrder}
+use Rattle.acl_tree.specs.Inner.{IsAt, IsGapFor}
 use Rattle.acl_tree.proofs.Places.{find_at}
 
 pub to_true : (b : Bool) → T b → b ≡ true

@@ -1,5 +1,5 @@
 -- What changed from one list of files to another: what the check of access may answer anew.
-use Rattle.std.specs.Prelude.{List, [], ◌∷◌, ◌++◌, Bool, true, false, ◌==◌, ◌&&◌, not, is_some, if◌then◌else◌, filter}
+use Rattle.std.specs.Prelude.{List, [], ◌∷◌, Bool, true, false, ◌==◌, ◌&&◌, not, is_some, filter}
 use Rattle.std.specs.Option.{option_map_or}
 use Rattle.std.specs.FinMap.{find}
 use Rattle.acl_entry.specs.Keys.{same_key}
@@ -35,12 +35,3 @@ changed_between old new = filter (is_changed old) new
 -- the old files that are recorded no more
 abbrev pub gone_between : Files → Files → Files
 gone_between old new = filter (λ e. not (is_some (find path_cmp e.0 new))) old
-
--- a file as an edit leaves it, if that changes it
-abbrev pub changed_one : Bool → (Node → Node) → PathOf × Node → Files
-changed_one edited edit e = if edited && not (same_label e.1.label (edit e.1).label) then (e.0, edit e.1) ∷ [] else []
-
--- the files that an edit of those that pass a test changes
-abbrev pub changed_by : (PathOf → Bool) → (Node → Node) → Files → Files
-changed_by test edit [] = []
-changed_by test edit (e ∷ es) = changed_one (test e.0) edit e ++ changed_by test edit es

@@ -1,10 +1,9 @@
 -- A file of a command, as those see it who list it.
-use Rattle.std.specs.Prelude.{List, [], ◌∷◌, ◌++◌, Bool, false, if◌then◌else◌, map, refl}
+use Rattle.std.specs.Prelude.{List, Bool, map, refl}
 use Rattle.std.specs.Coded.{Coded, code_by, coded×, coded_ℕ, coded_list, coded_bool}
 use Rattle.acl_edit.specs.declared.node.Node.{Node}
 use Rattle.acl_edit.specs.contracts.node.Node as node_contracts
 use Rattle.acl_tree.specs.Files.{PathOf, Files}
-use Rattle.acl_tree.specs.Below.{is_below}
 use Rattle.acl_tree.specs.Sound.{holds_below}
 use Rattle.acl_tree.specs.Operands.{files_meant}
 
@@ -28,14 +27,3 @@ found_in all es = map (λ e. found_file (holds_below all e.0) e) es
 -- the files of a command in path order, each once: its operands, and with `recursive` all files below them
 abbrev pub files_found : Bool → List PathOf → Files → List FoundFile
 files_found recursive paths t = found_in t (files_meant recursive paths t)
-
--- whether the first of the files that follow lies below a path
-abbrev pub next_file_below : PathOf → Files → Bool
-next_file_below p [] = false
-next_file_below p (e ∷ es) = is_below p e.0
-
--- the files that pass a test, each by the one that follows it; others stand after them
-abbrev pub found_by_next : (PathOf → Bool) → Files → Files → List FoundFile
-found_by_next test [] after = []
-found_by_next test (e ∷ es) after =
-    (if test e.0 then found_file (next_file_below e.0 (es ++ after)) e ∷ [] else []) ++ found_by_next test es after

@@ -2,9 +2,9 @@ pub mod Files
 pub mod Below
 pub mod Operands
 pub mod Loading
-pub mod Places
 pub mod Step
 pub mod Sound
 pub mod Found
 pub mod Changed
 pub mod Tells
+pub mod Inner

@@ -42,13 +42,3 @@ as_files all records = map (λ r. (r.path, node_of (has_below all r.path) r)) re
 -- the files of a dump's records, in path order
 abbrev pub files_of : List DumpRecord → Files
 files_of records = as_files (in_path_order records) (in_path_order records)
-
--- whether the first of the records that follow lies below a path
-abbrev pub next_below : PathOf → List DumpRecord → Bool
-next_below p [] = false
-next_below p (r ∷ rs) = is_below p r.path
-
--- the files of records in path order, each by the one that follows it
-abbrev pub files_from : List DumpRecord → Files
-files_from [] = []
-files_from (r ∷ rs) = (r.path, node_of (next_below r.path rs) r) ∷ files_from rs

@@ -1,7 +1,7 @@
 -- The files of a command: its operands, and with `recursive` all files below them.
-use Rattle.std.specs.Prelude.{◌≡◌, ℕ, ◌<◌, length, slice_index_or, List, [], ◌∷◌, Bool, ◌&&◌, ◌||◌, not, if◌then◌else◌, Option, Some, None, is_some, option_map, map, filter}
+use Rattle.std.specs.Prelude.{◌≡◌, List, [], ◌∷◌, Bool, if◌then◌else◌, Option, Some, None, is_some, option_map, map, filter}
 use Rattle.std.specs.List.{list_any}
-use Rattle.std.specs.Ordering.{eq_by_cmp, is_gt, is_lt}
+use Rattle.std.specs.Ordering.{eq_by_cmp}
 use Rattle.std.specs.FinMap.{find}
 use Rattle.acl_names.specs.Paths.{path_cmp}
 use Rattle.acl_edit.specs.declared.node.Node.{Node}
@@ -26,14 +26,6 @@ first_missing (p ∷ ps) t = if is_some (find path_cmp p t) then first_missing p
 -- an edit of the files that pass a test
 abbrev pub edit_files : (PathOf → Bool) → (Node → Node) → Files → Files
 edit_files test edit t = map (λ e. (e.0, if test e.0 then edit e.1 else e.1)) t
-
--- an operand may mean a file from one path to another
-abbrev pub is_near : PathOf → PathOf → PathOf → Bool
-is_near first last p = not (is_gt (path_cmp p last)) && (not (is_lt (path_cmp p first)) || is_within p first)
-
--- two tests agree at each of the files
-abbrev pub AgreeAt : Files → (PathOf → Bool) → (PathOf → Bool) → Type 0
-AgreeAt es test other = (j : ℕ) (d : PathOf × Node) → j < length es → test (slice_index_or es j d).0 ≡ other (slice_index_or es j d).0
 
 -- the fault names that operand
 abbrev pub IsMissing : TreeFault → Option PathOf → Type 0

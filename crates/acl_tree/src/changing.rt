@@ -4,7 +4,8 @@ ghost use Rattle.std.specs.Prelude.{◌≡◌, ◌≢◌, ◌++◌, [], ◌↔�
 ghost use Rattle.std.specs.List.{flat_map};
 ghost use Rattle.acl_edit.specs.Nodes as nodes;
 ghost use Rattle.acl_tree.specs.Files.{IsInOrder};
-ghost use Rattle.acl_tree.specs.Changed.{same_label, changed_one, changed_by, changed_between, gone_between};
+ghost use Rattle.acl_tree.specs.Changed.{same_label, changed_between, gone_between};
+ghost use Rattle.acl_tree.specs.Inner.{changed_one, changed_by};
 ghost use Rattle.acl_tree.specs.Operands.{is_file, first_missing, edit_files, IsMissing};
 ghost use Rattle.acl_tree.specs.declared.command.TreeFault.TheVariants.{NoMemory};
 

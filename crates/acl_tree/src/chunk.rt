@@ -4,7 +4,8 @@ ghost use Rattle.std.specs.Prelude.{◌≡◌, ◌<◌, ◌-◌, map, length, sl
 ghost use Rattle.std.specs.Option.{option_copied};
 ghost use Rattle.std.specs.FinMap.{find};
 ghost use Rattle.acl_names.specs.Paths.{path_cmp};
-ghost use Rattle.acl_tree.specs.Files.{PathOf, IsInOrder, IsAt, IsGapFor};
+ghost use Rattle.acl_tree.specs.Files.{PathOf, IsInOrder};
+ghost use Rattle.acl_tree.specs.Inner.{IsAt, IsGapFor};
 ghost use Rattle.acl_edit.specs.declared.node.Node as node_types;
 
 use crate::record::Record;

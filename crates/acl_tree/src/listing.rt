@@ -3,7 +3,8 @@
 ghost use Rattle.std.specs.Prelude.{◌≡◌, ◌≢◌, ◌≤◌, ◌++◌, length, take, drop, ◌∷◌, [], map, None, IfOk, IfErr, OnOk, if◌then◌else◌};
 ghost use Rattle.std.specs.List.{flat_map};
 ghost use Rattle.acl_tree.specs.Files.{IsInOrder};
-ghost use Rattle.acl_tree.specs.Found.{files_found, found_file, next_file_below, found_by_next};
+ghost use Rattle.acl_tree.specs.Found.{files_found, found_file};
+ghost use Rattle.acl_tree.specs.Inner.{next_file_below, found_by_next};
 ghost use Rattle.acl_tree.specs.Operands.{is_file, first_missing, IsMissing};
 ghost use Rattle.acl_tree.specs.declared.command.TreeFault.TheVariants.{NoMemory};
 

@@ -4,7 +4,8 @@ ghost use Rattle.std.specs.Prelude.{◌≡◌, ◌≢◌, ◌<◌, [], length, t
 ghost use Rattle.std.specs.List.{flat_map};
 ghost use Rattle.std.specs.BTreeMap.{values};
 ghost use Rattle.acl_tree.specs.Files.{IsInOrder};
-ghost use Rattle.acl_tree.specs.Loading.{in_path_order, is_directory, node_of, next_below, files_from, files_of};
+ghost use Rattle.acl_tree.specs.Loading.{in_path_order, is_directory, node_of, files_of};
+ghost use Rattle.acl_tree.specs.Inner.{next_below, files_from};
 ghost use Rattle.acl_tree.specs.Sound.{IsSoundTree};
 ghost use Rattle.acl_tree.specs.Step.{load_dump, Stages};
 ghost use Rattle.acl_tree.specs.Tells.{Tells};

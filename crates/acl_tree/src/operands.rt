@@ -3,7 +3,8 @@
 ghost use Rattle.std.specs.Prelude.{◌≡◌, Bool, map, filter, IfOk};
 ghost use Rattle.std.specs.List.{flat_map};
 ghost use Rattle.acl_tree.specs.Files.{IsInOrder};
-ghost use Rattle.acl_tree.specs.Operands.{means, is_file, is_near, AgreeAt};
+ghost use Rattle.acl_tree.specs.Operands.{means, is_file};
+ghost use Rattle.acl_tree.specs.Inner.{is_near, AgreeAt};
 
 use crate::below::is_within;
 use crate::chunk::Chunk;

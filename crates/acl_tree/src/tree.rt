@@ -5,7 +5,8 @@ ghost use Rattle.std.specs.Option.{option_copied};
 ghost use Rattle.std.specs.FinMap.{find};
 ghost use Rattle.std.specs.List.{flat_map};
 ghost use Rattle.acl_names.specs.Paths.{path_cmp};
-ghost use Rattle.acl_tree.specs.Files.{IsInOrder, no_files, IsBegun};
+ghost use Rattle.acl_tree.specs.Files.{IsInOrder, no_files};
+ghost use Rattle.acl_tree.specs.Inner.{IsBegun};
 ghost use Rattle.acl_tree.specs.Sound.{IsSoundTree};
 
 use crate::chunk::Chunk;

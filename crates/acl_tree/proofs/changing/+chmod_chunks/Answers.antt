@@ -4,8 +4,8 @@ use Rattle.std.proofs.lemmas.List.{nil_from_length}
 use Rattle.std.proofs.lemmas.Grind.{common_steps}
 use Rattle.acl_edit.specs.Nodes as nodes
 use Rattle.acl_tree.specs.Files.{Files}
-use Rattle.acl_tree.specs.Changed.{changed_by}
-use Rattle.acl_tree.specs.Operands.{is_file, edit_files, AgreeAt}
+use Rattle.acl_tree.specs.Operands.{is_file, edit_files}
+use Rattle.acl_tree.specs.Inner.{changed_by, AgreeAt}
 use Rattle.acl_tree.proofs.Near.{edit_alike}
 use Rattle.acl_tree.proofs.Changes.{told_alike}
 use Rattle.acl_tree.proofs.Chunks.{part_pushed}

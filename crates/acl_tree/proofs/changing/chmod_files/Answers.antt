@@ -3,7 +3,8 @@ use Rattle.std.specs.List.{flat_map}
 use Rattle.acl_edit.specs.Nodes as nodes
 use Rattle.acl_tree.specs.Files.{Recorded}
 use Rattle.acl_tree.specs.Sound.{IsSoundTree}
-use Rattle.acl_tree.specs.Changed.{changed_by, changed_between, gone_between}
+use Rattle.acl_tree.specs.Changed.{changed_between, gone_between}
+use Rattle.acl_tree.specs.Inner.{changed_by}
 use Rattle.acl_tree.specs.Operands.{is_file, edit_files}
 use Rattle.acl_tree.proofs.Kept.{edited_sound}
 use Rattle.acl_tree.proofs.Changes.{changed-edited, gone-edited}

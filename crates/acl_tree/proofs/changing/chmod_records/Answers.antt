@@ -2,7 +2,7 @@ use Rattle.std.proofs.Common.{◌≡◌, ◌+◌, ◌++◌, ◌∷◌, [], map, 
 use Rattle.std.proofs.lemmas.List.{map_push, map_more}
 use Rattle.acl_edit.specs.Nodes as nodes
 use Rattle.acl_tree.specs.Files.{Files}
-use Rattle.acl_tree.specs.Changed.{changed_by}
+use Rattle.acl_tree.specs.Inner.{changed_by}
 use Rattle.acl_tree.specs.Operands.{is_file, edit_files}
 use Rattle.acl_tree.proofs.Edited.{edited_push}
 use Rattle.acl_tree.proofs.Changes.{told_push}

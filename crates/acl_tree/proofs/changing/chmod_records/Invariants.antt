@@ -1,6 +1,6 @@
 use Rattle.std.proofs.Common.{◌≡◌, ◌++◌, map, take}
 use Rattle.acl_edit.specs.Nodes as nodes
-use Rattle.acl_tree.specs.Changed.{changed_by}
+use Rattle.acl_tree.specs.Inner.{changed_by}
 use Rattle.acl_tree.specs.Operands.{is_file, edit_files}
 use Rattle.acl_tree.proofs.changing.chmod_records.Given as goal
 

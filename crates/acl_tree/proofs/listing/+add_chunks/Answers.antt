@@ -3,8 +3,8 @@ use Rattle.std.specs.List.{flat_map}
 use Rattle.std.proofs.lemmas.List.{nil_from_length}
 use Rattle.std.proofs.lemmas.Grind.{common_steps}
 use Rattle.acl_tree.specs.Files.{Files}
-use Rattle.acl_tree.specs.Found.{found_by_next}
-use Rattle.acl_tree.specs.Operands.{is_file, AgreeAt}
+use Rattle.acl_tree.specs.Operands.{is_file}
+use Rattle.acl_tree.specs.Inner.{found_by_next, AgreeAt}
 use Rattle.acl_tree.proofs.Listed.{found_alike}
 use Rattle.acl_tree.proofs.Parts.{found_far, found_joined, one_part, order_of_front, order_of_back}
 use Rattle.acl_tree.proofs.listing.+add_chunks.Goals as goal

@@ -1,7 +1,7 @@
 use Rattle.std.proofs.Common.{◌≡◌, ◌++◌, map, length}
 use Rattle.std.specs.List.{flat_map}
 use Rattle.acl_tree.specs.Operands.{is_file}
-use Rattle.acl_tree.specs.Found.{found_by_next}
+use Rattle.acl_tree.specs.Inner.{found_by_next}
 use Rattle.acl_tree.proofs.listing.add_records.Given as goal
 
 abbrev pub invariant-loop-rest : goal.invariant-loop-rest

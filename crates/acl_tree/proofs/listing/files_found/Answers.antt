@@ -2,7 +2,7 @@ use Rattle.std.proofs.Common.{◌++◌, [], map, length, take, drop, ap, ◌∙�
 use Rattle.std.specs.List.{flat_map}
 use Rattle.std.proofs.lemmas.List.{take_all, drop_all}
 use Rattle.acl_tree.specs.Files.{Files}
-use Rattle.acl_tree.specs.Found.{found_by_next}
+use Rattle.acl_tree.specs.Inner.{found_by_next}
 use Rattle.acl_tree.specs.Operands.{is_file}
 use Rattle.acl_tree.proofs.Listed.{found_are}
 use Rattle.acl_tree.proofs.listing.files_found.Goals as goal

@@ -1,5 +1,5 @@
 use Rattle.std.proofs.Common.{◌≡◌, ◌++◌, map, length}
-use Rattle.acl_tree.specs.Loading.{files_from}
+use Rattle.acl_tree.specs.Inner.{files_from}
 use Rattle.acl_tree.proofs.load.files_from.Given as goal
 
 abbrev pub invariant-loop-rest : goal.invariant-loop-rest

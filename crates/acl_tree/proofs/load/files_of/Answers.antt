@@ -1,6 +1,6 @@
 use Rattle.std.proofs.Common.{map, ap, ◌∙◌}
 use Rattle.std.proofs.lemmas.Result.{IfOk-weaker}
-use Rattle.acl_tree.specs.Loading.{files_from}
+use Rattle.acl_tree.specs.Inner.{files_from}
 use Rattle.acl_tree.proofs.Loaded.{files_are, values_seen}
 use Rattle.acl_tree.proofs.load.files_of.Goals as goal
 

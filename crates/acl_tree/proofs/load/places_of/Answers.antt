@@ -5,8 +5,7 @@ use Rattle.std.specs.Cmp.Lexicographic.{slice_cmp}
 use Rattle.acl_names.specs.Paths.{path_cmp}
 use Rattle.acl_names.proofs.PathOrder.{slice_cmp_on}
 use Rattle.acl_tree.specs.Loading.{insert_record, in_path_order}
-use Rattle.acl_tree.specs.Places.{Keyed}
-use Rattle.acl_tree.proofs.Loaded.{inserted, keyed-inserted, order_more}
+use Rattle.acl_tree.proofs.Loaded.{Keyed, inserted, keyed-inserted, order_more}
 use Rattle.acl_tree.proofs.load.places_of.Goals as goal
 
 pub loop-entry-preserved : goal.loop-entry-preserved

@@ -1,6 +1,6 @@
 use Rattle.std.proofs.Common.{◌≡◌, map, take}
 use Rattle.acl_tree.specs.Loading.{in_path_order}
-use Rattle.acl_tree.specs.Places.{Keyed}
+use Rattle.acl_tree.proofs.Loaded.{Keyed}
 use Rattle.acl_tree.proofs.load.places_of.Given as goal
 
 abbrev pub invariant-loop-entry : goal.invariant-loop-entry

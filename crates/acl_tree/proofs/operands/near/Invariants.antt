@@ -1,5 +1,5 @@
 use Rattle.std.proofs.Common.{◌≡◌, map, filter, take}
-use Rattle.acl_tree.specs.Operands.{is_near}
+use Rattle.acl_tree.specs.Inner.{is_near}
 use Rattle.acl_tree.proofs.operands.near.Given as goal
 
 abbrev pub invariant-loop-operand : goal.invariant-loop-operand

@@ -3,7 +3,8 @@ use Rattle.std.specs.List.{flat_map}
 use Rattle.std.proofs.lemmas.Result.{IfOk-weaker}
 use Rattle.std.proofs.lemmas.Grind.{common_steps}
 use Rattle.acl_tree.specs.Files.{Files}
-use Rattle.acl_tree.specs.Operands.{is_file, AgreeAt}
+use Rattle.acl_tree.specs.Operands.{is_file}
+use Rattle.acl_tree.specs.Inner.{AgreeAt}
 use Rattle.acl_tree.proofs.Parts.{near_agree, first_of_parts, last_of_parts}
 use Rattle.acl_tree.proofs.operands.near_chunks.Goals as goal
 

@@ -1,7 +1,7 @@
 use Rattle.std.proofs.Common.{◌-◌, ◌<◌, ◌≤◌, Global, length, get_or}
 use Rattle.std.specs.declared.rc.Rc.{Rc}
 use Rattle.acl_tree.specs.declared.chunk.Chunk.{Chunk}
-use Rattle.acl_tree.specs.Files.{BeginsBy, BeginsAfter}
+use Rattle.acl_tree.specs.Inner.{BeginsBy, BeginsAfter}
 use Rattle.acl_tree.proofs.tree.begun.Given as goal
 
 abbrev pub invariant-loop-low : goal.invariant-loop-low

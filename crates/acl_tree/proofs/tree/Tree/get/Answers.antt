@@ -4,7 +4,8 @@ use Rattle.std.specs.Option.{option_copied}
 use Rattle.std.specs.FinMap.{find}
 use Rattle.acl_names.specs.Paths.{path_cmp}
 use Rattle.acl_tree.specs.declared.chunk.Chunk.{Chunk}
-use Rattle.acl_tree.specs.Files.{Files, IsBegun}
+use Rattle.acl_tree.specs.Files.{Files}
+use Rattle.acl_tree.specs.Inner.{IsBegun}
 use Rattle.acl_tree.proofs.Chunks.{find_nowhere, find_in_part}
 use Rattle.acl_tree.proofs.tree.Tree.get.Goals as goal
 
