@@ -46,6 +46,14 @@ missing_base ks = find (λ k. not (is_among k ks)) (Owner ∷ OwningGroup ∷ Ot
 abbrev pub unmasked : List Key → Option ℕ
 unmasked ks = if is_among Mask ks then None else position_from is_named 1 ks
 
+-- the most entries that a list may have
+abbrev pub most_entries : ℕ
+most_entries = 4096
+
+-- the most entries that a list keeps with no allocation
+abbrev pub inline_entries : ℕ
+inline_entries = 8
+
 -- the first thing that is wrong with the keys of a list, if anything is
 abbrev pub fault_of_keys : List Key → Option ListFault
 fault_of_keys ks =

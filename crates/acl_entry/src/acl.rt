@@ -27,6 +27,13 @@ pub const MOST_ENTRIES: usize = 4096;
 /// The most entries that a list keeps with no allocation.
 pub const INLINE_ENTRIES: usize = 8;
 
+/// Nothing is done: these are the most entries of a list, and how many of them it keeps with no
+/// allocation.
+pub fn limits_are_as_told()
+    ensures most { MOST_ENTRIES ≡ lists.most_entries }
+    ensures inline { INLINE_ENTRIES ≡ lists.inline_entries }
+{}
+
 /// A valid access control list, seen by contracts as the map from keys to permission sets.
 ///
 /// It has the owner, the owning group and the others once each, no key twice, and a mask where it

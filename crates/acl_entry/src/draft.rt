@@ -1,5 +1,5 @@
 //! A list in the making.
-ghost use Rattle.std.specs.Prelude.{◌≡◌, ◌≤◌, None, Some, IfOk, IfErr, IsOk, OnOk, OnErr, length};
+ghost use Rattle.std.specs.Prelude.{◌≡◌, ◌<◌, ◌≤◌, true, None, Some, IfOk, IfErr, IsOk, OnOk, OnErr, length};
 ghost use Rattle.std.specs.FinMap as maps;
 ghost use Rattle.acl_entry.specs.Lists as lists;
 ghost use Rattle.acl_entry.specs.Lists.{HasIds, IsValid};
@@ -68,11 +68,16 @@ impl Draft {
     ///
     /// # Errors
     ///
-    /// Want of memory; the draft is then as it was.
+    /// Want of memory; the draft is then as it was. Never where the key stands, or where there are fewer
+    /// than [`INLINE_ENTRIES`] entries.
     pub fn insert(&mut self, key: Key, perm: Perm) -> Result<(), AllocError>
         ensures ok { OnOk result (self.new ≡ maps.insert self.old key perm) }
         ensures err { OnErr result (self.new ≡ self.old) }
+        ensures inline { length (lists.entries self.old) < INLINE_ENTRIES → IsOk result }
+        ensures stands { maps.contains_key self.old key ≡ true → IsOk result }
     {
+        // How many entries have room inline is known once the capacity is read.
+        let _capacity = self.entries.capacity();
         match place(&self.entries, &key) {
             Ok(_) => set_perm(&mut self.entries, &key, perm),
             Err(at) => self.entries.insert(at, Entry { key, perm })?,

@@ -11,7 +11,13 @@ pub struct Entry {
     pub perm: Perm,
 }
 
+// What an unused place of a list holds. No list shows it.
 impl Default for Entry {
+    ghost use Rattle.acl_entry.specs.Perms.{none};
+    ghost use Rattle.acl_entry.specs.declared.key.Key.TheVariants.{Owner};
+
+    ghost is_default = { λ entry. entry ≡ record { key = Owner; perm = none } };
+
     fn default() -> Entry {
         Entry {
             key: Key::Owner,

@@ -1,6 +1,8 @@
 //! Lists: what is refused, list order, the mode.
 use crate::made::{ADM, JOE, entry, group, id, list, perm, user};
-use acl_entry::{Acl, Draft, Entry, Key, ListFault, MOST_ENTRIES};
+use acl_entry::{
+    Acl, Draft, Entry, INLINE_ENTRIES, Key, ListFault, MOST_ENTRIES, limits_are_as_told,
+};
 use std::alloc::Global;
 use std::process::Abort;
 use std::test::Fail;
@@ -89,6 +91,8 @@ fn a_mask_is_missing(rt: HostRuntime) -> Result<(), Fail> {
 
 #[test]
 fn keeps_eight_and_nine_entries(rt: HostRuntime) -> Result<(), Fail> {
+    limits_are_as_told();
+    assert_eq!(rt; INLINE_ENTRIES, 8);
     for named in [4, 5] {
         let entries = with_users(&rt, rt.alloc(), named)?;
         let acl = list(&rt, rt.alloc(), &entries);

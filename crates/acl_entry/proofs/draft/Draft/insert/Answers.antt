@@ -1,12 +1,13 @@
-use Rattle.std.proofs.Common.{◌≡◌, refl, sym, ap, subst, ◌∙◌}
+use Rattle.std.proofs.Common.{◌≡◌, false, is_some, length, refl, sym, ap, subst, ◌∙◌, arith}
+use mathlib.Core.Bool.{false≢true}
 use Rattle.std.specs.FinMap as maps
 use Rattle.std.specs.FinMap.{put}
 use Rattle.acl_entry.specs.Keys.{key_cmp}
-use Rattle.acl_entry.specs.Lists.{pairs, keys, map_of, is_among, IsAt, IsGapFor, IsInOrder, HasIds}
-use Rattle.acl_entry.proofs.Placed.{put_gap}
+use Rattle.acl_entry.specs.Lists.{pairs, keys, map_of, entries, is_among, IsAt, IsGapFor, IsInOrder, HasIds}
+use Rattle.acl_entry.proofs.Placed.{put_gap, find_gap}
 use Rattle.acl_entry.specs.declared.entry.Entry.{Entry}
 use Rattle.acl_entry.proofs.Ids.{HasIds-keys, HasIds-insert}
-use Rattle.acl_entry.proofs.Maps.{in_order-insert, in_order-put, map_of-put, refill-keys}
+use Rattle.acl_entry.proofs.Maps.{in_order-insert, in_order-put, map_of-put, refill-keys, entries-map_of, get-map_of}
 use Rattle.acl_entry.proofs.Faults.{among_at}
 use Rattle.acl_entry.proofs.draft.Draft.insert.Goals as goal
 
@@ -50,3 +51,19 @@ returns-in_ok-insert-in-Err-clause-ok c =
     let gap : IsGapFor es c.args.key c.in-Err.at = subst (λ l. IsGapFor l c.args.key c.in-Err.at) c.deref.ensures c.in-Err.ensures.absent in
     map_of-put es c.insert.new.self.items c.args.key c.args.perm (ap pairs c.in_ok-insert-in-Err.ensures.ok ∙ sym (put_gap es c.args.key c.args.perm c.in-Err.at gap))
     ∙ ap (λ m. maps.insert m c.args.key c.args.perm) c.self.view_is
+
+-- there is room for one entry more
+pub returns-in_err-insert-in-Err-clause-inline : goal.returns-in_err-insert-in-Err-clause-inline
+returns-in_err-insert-in-Err-clause-inline c short =
+    let es = c.self.inside.entries.items in
+    let same = ap length (sym (entries-map_of es c.self.invariant.in_order) ∙ ap entries c.self.view_is) in
+    absurd (false≢true (c.in_err-insert-in-Err.ensures.succeeds (omega (arith, c.capacity-capacity.ensures.at_least_inline, c.capacity-capacity.ensures.value))))
+
+-- the key does not stand
+pub returns-in_err-insert-in-Err-clause-stands : goal.returns-in_err-insert-in-Err-clause-stands
+returns-in_err-insert-in-Err-clause-stands c stands =
+    let es = c.self.inside.entries.items in
+    let gap : IsGapFor es c.args.key c.in-Err.at = subst (λ l. IsGapFor l c.args.key c.in-Err.at) c.deref.ensures c.in-Err.ensures.absent in
+    let apart : maps.contains_key c.args.self.now c.args.key ≡ false =
+    ap (λ m. maps.contains_key m c.args.key) (sym c.self.view_is) ∙ ap is_some (get-map_of es c.args.key ∙ find_gap es c.args.key c.in-Err.at gap) in
+    absurd (false≢true (sym apart ∙ stands))
