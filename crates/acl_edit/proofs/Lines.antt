@@ -71,7 +71,7 @@ module _ (n : Node) (c : Change) (acl : KeyMap) (dacl : Option KeyMap) (made : c
   access_is = checked_is Access _ acl made
 
   kept_default : (k : Kind) → changed_default k n c acl ≡ Ok dacl → HasValidLists n → (c.strip || c.drop_default) ≡ false → names (part c Default) ≡ false → dacl ≡ n.dacl
-  kept_default Plain h valid keeps unnamed = cc
+  kept_default Plain h valid keeps unnamed = let kept : ◌≡◌ {A = Result (Option KeyMap) EditFault} (Ok n.dacl) (Ok dacl) = subst (λ b. ◌≡◌ {A = Result (Option KeyMap) EditFault} (Ok (if b then None else n.dacl)) (Ok dacl)) keeps h in cc
   kept_default Directory h valid keeps unnamed = by_list n.dacl refl
     where
       before : default_after c (gives_execute n) acl (default_before c n.dacl) ≡ unwrap_or n.dacl maps.empty
@@ -197,7 +197,8 @@ module _ (n : Node) (c : Change) (acl : KeyMap) (dacl : Option KeyMap) (made : c
   -- ---- default lists of plain files
 
   pub stays_sound : IsSound n → IsSound (with_lists n acl dacl)
-  stays_sound sound plain =
-      let kept : changed_default Plain n c acl ≡ Ok dacl = subst (λ k. changed_default k n c acl ≡ Ok dacl) plain made_default in
-      let none = sound plain in
-      cc
+  stays_sound sound plain = by_drop (c.strip || c.drop_default) (subst (λ k. changed_default k n c acl ≡ Ok dacl) plain made_default)
+    where
+      by_drop : (b : Bool) → ◌≡◌ {A = Result (Option KeyMap) EditFault} (Ok (if b then None else n.dacl)) (Ok dacl) → dacl ≡ None
+      by_drop true h = cc
+      by_drop false h = let none = sound plain in cc

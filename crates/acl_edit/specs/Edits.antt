@@ -61,9 +61,9 @@ default_before c o = if c.strip || c.drop_default then maps.empty else unwrap_or
 abbrev pub changed_access : Node → Change → Result KeyMap EditFault
 changed_access n c = checked Access (access_after c (gives_execute n) (access_before c n.label.acl))
 
--- only directories have default lists
+-- only directories have default lists: entries for one skip every other file, and -b and -k leave it none
 abbrev pub changed_default : Kind → Node → Change → KeyMap → Result (Option KeyMap) EditFault
-changed_default Plain n c acl = Ok n.dacl
+changed_default Plain n c acl = Ok (if c.strip || c.drop_default then None else n.dacl)
 changed_default Directory n c acl = checked_default (default_after c (gives_execute n) acl (default_before c n.dacl))
 
 -- default entries for a file that is no directory are refused, and skipped in a recursion

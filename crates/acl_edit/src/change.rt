@@ -1,5 +1,5 @@
 //! What a setfacl(1) line leaves of a file's lists.
-ghost use Rattle.std.specs.Prelude.{◌≡◌, ◌≢◌, Ok, Err, IfOk, IfErr, OnOk};
+ghost use Rattle.std.specs.Prelude.{◌≡◌, ◌≢◌, ◌||◌, None, Ok, Err, IfOk, IfErr, OnOk, if◌then◌else◌};
 ghost use Rattle.acl_edit.specs.Parts.{part};
 ghost use Rattle.acl_edit.specs.Masks.{takes_mask};
 ghost use Rattle.acl_edit.specs.Steps as steps;
@@ -88,6 +88,16 @@ impl Change {
         }
     }
 
+    // The default list of a file that is no directory, if there is one: -b and -k leave none.
+    fn kept_default(&self, alloc: Global, dacl: &Option<Acl>) -> Result<Option<Acl>, AllocError>
+        ensures { IfOk result (λ kept. kept ≡ (if self.now.strip || self.now.drop_default then None else dacl.now)) }
+    {
+        if self.strip || self.drop_default {
+            return Ok(None);
+        }
+        clone_of(alloc, dacl)
+    }
+
     // The default list that the steps begin with.
     fn default_before(&self, alloc: Global, dacl: &Option<Acl>) -> Result<Draft, AllocError>
         ensures { IfOk result (λ draft. draft ≡ default_before self.now dacl.now) }
@@ -143,7 +153,7 @@ fn changed_default(
     ensures told { IfErr result (λ fault. fault ≢ NoMemory → changed_default node.now.kind node.now change.now acl.now ≡ Err fault) }
 {
     if node.kind == Kind::Plain {
-        return Ok(clone_of(alloc, &node.dacl)?);
+        return Ok(change.kept_default(alloc, &node.dacl)?);
     }
     let mut draft = change.default_before(alloc, &node.dacl)?;
     change.edit_default(alloc, x, acl, &mut draft)?;
