@@ -11,7 +11,7 @@ use Rattle.acl_text.specs.declared.entries.Spec.{Spec}
 use Rattle.acl_edit.specs.Parts.{Part, is_given, is_mask, names, puts}
 use Rattle.acl_edit.specs.Steps.{perms_of, remove, replace, modify, put_some, fill_one, fill_from}
 use Rattle.acl_edit.specs.Masks.{has_mask, has_named, add_mask, recalculate, is_recalculated, with_mask}
-use Rattle.acl_edit.specs.Laws.{last_for, given, has_entry}
+use Rattle.acl_edit.specs.Laws.{last_for, given, has_entry, left_at}
 use Rattle.acl_edit.proofs.Shown.{tied}
 use Rattle.acl_edit.specs.declared.edit.Change.{Change}
 
@@ -136,7 +136,7 @@ gone_once true true o = refl
 gone_once true false o = refl
 gone_once false more o = refl
 
-get-remove : (specs : List Spec) (m : KeyMap) (k : Key) → maps.get (remove specs m) k ≡ (if has_entry k specs then None else maps.get m k)
+pub get-remove : (specs : List Spec) (m : KeyMap) (k : Key) → maps.get (remove specs m) k ≡ (if has_entry k specs then None else maps.get m k)
 get-remove [] m k = refl
 get-remove (s ∷ specs) m k =
     get-remove specs (maps.remove m s.key) k
@@ -177,7 +177,7 @@ or_left : (a b : Bool) → (a || b) ≡ false → a ≡ false
 or_left true b h = cc
 or_left false b h = refl
 
-or_right : (a b : Bool) → (a || b) ≡ false → b ≡ false
+pub or_right : (a b : Bool) → (a || b) ≡ false → b ≡ false
 or_right true b h = cc
 or_right false b h = h
 
@@ -187,3 +187,11 @@ unnamed_key x p m k h =
     let removed = none_given p.remove (or_left (is_given p.remove) (puts p) h) in
     let modified = none_given p.modify (or_right (is_given p.set) (is_given p.modify) (or_right (is_given p.remove) (puts p) h)) in
     λ i. or_else (given x k (sym modified i)) (if has_entry k (sym removed i) then None else maps.get m k)
+
+pub unnamed_left : (x : Bool) (p : Part) (k : Key) (had : Option Perms) → names p ≡ false → had ≡ left_at x p k had
+unnamed_left x p k had h =
+    let put = or_right (is_given p.remove) (puts p) h in
+    let removed = none_given p.remove (or_left (is_given p.remove) (puts p) h) in
+    let set = none_given p.set (or_left (is_given p.set) (is_given p.modify) put) in
+    let modified = none_given p.modify (or_right (is_given p.set) (is_given p.modify) put) in
+    λ i. or_else (given x k (sym modified i)) (if has_entry k (sym removed i) then None else if is_given (sym set i) then given x k (sym set i) else had)

@@ -2,5 +2,6 @@ pub mod Kept
 pub mod Shown
 pub mod Stripped
 pub mod Given
+pub mod ByKey
 pub mod Lines
 pub mod Restored

@@ -1,17 +1,18 @@
 -- What edits keep, in words of lists and modes.
-use Rattle.std.specs.Prelude.{◌≡◌, Bool, true, false, List, [], ◌∷◌, Option, Some, None, option_and_then, option_map, Ok, ◌&&◌, ◌||◌, if◌then◌else◌}
+use Rattle.std.specs.Prelude.{◌≡◌, Bool, true, false, not, List, [], ◌∷◌, Option, Some, None, is_some, option_and_then, option_map, Ok, ◌&&◌, ◌||◌, if◌then◌else◌}
 use Rattle.std.specs.Option.{ForSome}
 use Rattle.std.specs.List.{list_any}
 use Rattle.std.specs.FinMap as maps
 use Rattle.acl_entry.specs.Perms.{Perms}
 use Rattle.acl_entry.specs.Keys.{same_key, is_base}
-use Rattle.acl_entry.specs.Lists.{KeyMap, effective, or_else}
+use Rattle.acl_entry.specs.Lists.{KeyMap, effective, class_union, or_else}
 use Rattle.acl_entry.specs.declared.key.Key.{Key}
+use Rattle.acl_entry.specs.declared.key.Key.TheVariants.{OwningGroup, Mask}
 use Rattle.acl_text.specs.declared.fault.Which.TheVariants.{Access, Default}
-use Rattle.acl_edit.specs.Parts.{part, names, is_given, is_mask}
+use Rattle.acl_edit.specs.Parts.{Part, part, names, puts, is_given, is_mask}
 use Rattle.acl_edit.specs.Steps.{perms_of, gives_execute}
 use Rattle.acl_text.specs.declared.entries.Spec.{Spec}
-use Rattle.acl_edit.specs.Masks.{is_recalculated}
+use Rattle.acl_edit.specs.Masks.{has_named, is_recalculated}
 use Rattle.acl_edit.specs.Edits.{edit}
 use Rattle.acl_edit.specs.declared.edit.Change.{Change}
 use Rattle.acl_edit.specs.declared.edit.Edit.{Edit}
@@ -34,6 +35,44 @@ given x k specs = option_map (λ (s : Spec). perms_of x s.perm) (last_for k spec
 
 abbrev pub has_entry : Key → List Spec → Bool
 has_entry k specs = list_any (λ s. same_key k s.key) specs
+
+-- ---- a list key by key
+
+-- what is at a key once the line has set the list, if it does, where had is what was there
+abbrev pub set_at : Bool → Part → Key → Option Perms → Option Perms
+set_at x p k had = if is_given p.set then given x k p.set else had
+
+-- what the line's entries leave at a key: a modified key has what it is given, and a removed one is gone
+abbrev pub left_at : Bool → Part → Key → Option Perms → Option Perms
+left_at x p k had = or_else (given x k p.modify) (if has_entry k p.remove then None else set_at x p k had)
+
+-- the line takes a mask out
+abbrev pub loses_mask : Bool → Part → Option Perms → Bool
+loses_mask x p had = is_some (set_at x p Mask had) && has_entry Mask p.remove
+
+-- the mask that the line's entries leave, or one with the permissions of the owning group, where named entries stand and the line took
+-- no mask out
+abbrev pub mask_made : Bool → Part → Option Perms → KeyMap → Option Perms
+mask_made x p had new =
+    or_else (left_at x p Mask had) (if has_named new && not (loses_mask x p had) then maps.get new OwningGroup else None)
+
+-- a mask that is recalculated is the union of the group class
+abbrev pub mask_after : Bool → Change → Part → Option Perms → KeyMap → Option Perms
+mask_after x c p had new =
+    if is_recalculated c p then option_map (λ _. class_union new) (mask_made x p had new) else mask_made x p had new
+
+-- what an access list has at a key before the line's entries: under -b a base entry has what it granted, and no other stands
+abbrev pub had_access : Node → Change → Key → Option Perms
+had_access old c k =
+    if c.strip then (if is_base k then effective old.label.acl k else None) else maps.get old.label.acl k
+
+-- what a file's default list has at a key, if there is one
+abbrev pub default_at : Node → Key → Option Perms
+default_at n k = option_and_then (λ d. maps.get d k) n.dacl
+
+-- what a default list has at a key before the line's entries: under -b and -k nothing
+abbrev pub had_default : Node → Change → Key → Option Perms
+had_default old c k = if c.strip || c.drop_default then None else default_at old k
 
 module _ (old : Node) (c : Change) (new : Node) where
   -- a list that the line neither strips nor drops, and of which it names no entry, stays
@@ -64,6 +103,28 @@ module _ (old : Node) (c : Change) (new : Node) where
     pub access : c.strip ≡ false → is_given (part c Access).set ≡ false → (k : Key) → is_mask k ≡ false
         → maps.get new.label.acl k
         ≡ or_else (given (gives_execute old) k (part c Access).modify) (if has_entry k (part c Access).remove then None else maps.get old.label.acl k)
+
+  -- each list goes key by key, but for the mask and for what is copied
+  pub record LeavesByKey : Type 0 where
+    pub access : (k : Key) → is_mask k ≡ false → maps.get new.label.acl k ≡ left_at (gives_execute old) (part c Access) k (had_access old c k)
+    pub dacl : new.kind ≡ Directory → (k : Key) → is_mask k ≡ false → (puts (part c Default) && is_base k) ≡ false
+        → default_at new k ≡ left_at (gives_execute old) (part c Default) k (had_default old c k)
+
+  -- a default list into which the line puts entries gets each base entry that it lacks from the access list that the line leaves
+  pub record CopiesBase : Type 0 where
+    pub dacl : new.kind ≡ Directory → puts (part c Default) ≡ true → (k : Key) → is_base k ≡ true
+        → default_at new k ≡ or_else (left_at (gives_execute old) (part c Default) k (had_default old c k)) (maps.get new.label.acl k)
+
+  -- a list that the line names has this mask
+  pub record MakesMask : Type 0 where
+    pub access : names (part c Access) ≡ true
+        → maps.get new.label.acl Mask ≡ mask_after (gives_execute old) c (part c Access) (had_access old c Mask) new.label.acl
+    pub dacl : new.kind ≡ Directory → names (part c Default) ≡ true
+        → ForSome new.dacl (λ d. maps.get d Mask ≡ mask_after (gives_execute old) c (part c Default) (had_default old c Mask) d)
+
+  -- -b and -k leave no default list where the line names no entry of one
+  pub record DropsDefault : Type 0 where
+    pub dacl : (c.strip || c.drop_default) ≡ true → names (part c Default) ≡ false → new.dacl ≡ None
 
 -- a fact of the line that an edit is, if it is one
 abbrev pub OfLine : Edit → (Change → Type 0) → Type 0

@@ -6,7 +6,7 @@ ghost use Rattle.acl_edit.specs.Steps as steps;
 ghost use Rattle.acl_edit.specs.Edits as edits;
 ghost use Rattle.acl_edit.specs.Edits.{worked, access_after, default_after, access_before, default_before, changed_access, changed_default, is_misplaced};
 ghost use Rattle.acl_edit.specs.Nodes.{IsSound};
-ghost use Rattle.acl_edit.specs.Laws.{LeavesUnnamed, ShowsRecalculated, KeepsGranted, GivesModified, GoesByKey};
+ghost use Rattle.acl_edit.specs.Laws.{LeavesUnnamed, ShowsRecalculated, KeepsGranted, GivesModified, GoesByKey, LeavesByKey, CopiesBase, MakesMask, DropsDefault};
 ghost use Rattle.acl_edit.specs.declared.edit.EditFault.TheVariants.{NoMemory};
 
 use crate::masks::{complete_mask, has_mask};
@@ -192,6 +192,10 @@ pub(crate) fn change(
     ensures granted { IfOk result (KeepsGranted node.now line.now) }
     ensures modified { IfOk result (GivesModified node.now line.now) }
     ensures by_key { IfOk result (GoesByKey node.now line.now) }
+    ensures every_key { IfOk result (LeavesByKey node.now line.now) }
+    ensures copied { IfOk result (CopiesBase node.now line.now) }
+    ensures masked { IfOk result (MakesMask node.now line.now) }
+    ensures dropped { IfOk result (DropsDefault node.now line.now) }
     ensures sound { IsSound node.now → IfOk result IsSound }
 {
     node.lists_are_valid();

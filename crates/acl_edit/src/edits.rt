@@ -3,7 +3,7 @@ ghost use Rattle.std.specs.Prelude.{◌≡◌, ◌≢◌, None, Ok, Err, IfOk, I
 ghost use Rattle.acl_edit.specs.Edits as edits;
 ghost use Rattle.acl_edit.specs.Edits.{allowed};
 ghost use Rattle.acl_edit.specs.Nodes.{IsSound, HasValidLists};
-ghost use Rattle.acl_edit.specs.Laws.{LeavesUnnamed, ShowsRecalculated, KeepsGranted, GivesModified, GoesByKey, OfLine, GivesBack};
+ghost use Rattle.acl_edit.specs.Laws.{LeavesUnnamed, ShowsRecalculated, KeepsGranted, GivesModified, GoesByKey, LeavesByKey, CopiesBase, MakesMask, DropsDefault, OfLine, GivesBack};
 ghost use Rattle.acl_edit.specs.declared.edit.EditFault.TheVariants.{NoMemory};
 
 use crate::change::{change, clone_of};
@@ -33,6 +33,10 @@ pub fn apply(alloc: Global, node: &Node, edit: &Edit, in_recursion: bool) -> Res
     ensures granted { IfOk result (λ n. OfLine edit.now (λ c. KeepsGranted node.now c n)) }
     ensures modified { IfOk result (λ n. OfLine edit.now (λ c. GivesModified node.now c n)) }
     ensures by_key { IfOk result (λ n. OfLine edit.now (λ c. GoesByKey node.now c n)) }
+    ensures every_key { IfOk result (λ n. OfLine edit.now (λ c. LeavesByKey node.now c n)) }
+    ensures copied { IfOk result (λ n. OfLine edit.now (λ c. CopiesBase node.now c n)) }
+    ensures masked { IfOk result (λ n. OfLine edit.now (λ c. MakesMask node.now c n)) }
+    ensures dropped { IfOk result (λ n. OfLine edit.now (λ c. DropsDefault node.now c n)) }
 {
     let edited = match edit {
         Edit::Change(line) => change(alloc, node, line, in_recursion)?,

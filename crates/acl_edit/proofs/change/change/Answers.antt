@@ -1,7 +1,7 @@
-use Rattle.acl_edit.proofs.Lines.{leaves_unnamed, shows_recalculated, keeps_granted, gives_modified, goes_by_key, stays_sound}
+use Rattle.acl_edit.proofs.Lines.{leaves_unnamed, shows_recalculated, keeps_granted, gives_modified, goes_by_key, leaves_by_key, copies_base, makes_mask, drops_default, stays_sound}
 use Rattle.std.proofs.Common.{sym, subst}
 use Rattle.acl_edit.specs.Nodes.{IsSound}
-use Rattle.acl_edit.specs.Laws.{LeavesUnnamed, ShowsRecalculated, KeepsGranted, GivesModified, GoesByKey}
+use Rattle.acl_edit.specs.Laws.{LeavesUnnamed, ShowsRecalculated, KeepsGranted, GivesModified, GoesByKey, LeavesByKey, CopiesBase, MakesMask, DropsDefault}
 use Rattle.acl_edit.proofs.change.change.Goals as goal
 
 pub returns-clause-unnamed : goal.returns-clause-unnamed
@@ -28,6 +28,26 @@ pub returns-clause-by_key : goal.returns-clause-by_key
 returns-clause-by_key c =
     subst (GoesByKey c.args.node.now c.args.line.now) (sym c.with_lists.ensures)
     (goes_by_key c.args.node.now c.args.line.now c.in_ok-acl.acl c.in_ok-dacl.dacl c.in_ok-acl.ensures.made c.in_ok-dacl.ensures.made)
+
+pub returns-clause-every_key : goal.returns-clause-every_key
+returns-clause-every_key c =
+    subst (LeavesByKey c.args.node.now c.args.line.now) (sym c.with_lists.ensures)
+    (leaves_by_key c.args.node.now c.args.line.now c.in_ok-acl.acl c.in_ok-dacl.dacl c.in_ok-acl.ensures.made c.in_ok-dacl.ensures.made)
+
+pub returns-clause-copied : goal.returns-clause-copied
+returns-clause-copied c =
+    subst (CopiesBase c.args.node.now c.args.line.now) (sym c.with_lists.ensures)
+    (copies_base c.args.node.now c.args.line.now c.in_ok-acl.acl c.in_ok-dacl.dacl c.in_ok-acl.ensures.made c.in_ok-dacl.ensures.made)
+
+pub returns-clause-masked : goal.returns-clause-masked
+returns-clause-masked c =
+    subst (MakesMask c.args.node.now c.args.line.now) (sym c.with_lists.ensures)
+    (makes_mask c.args.node.now c.args.line.now c.in_ok-acl.acl c.in_ok-dacl.dacl c.in_ok-acl.ensures.made c.in_ok-dacl.ensures.made)
+
+pub returns-clause-dropped : goal.returns-clause-dropped
+returns-clause-dropped c =
+    subst (DropsDefault c.args.node.now c.args.line.now) (sym c.with_lists.ensures)
+    (drops_default c.args.node.now c.args.line.now c.in_ok-acl.acl c.in_ok-dacl.dacl c.in_ok-acl.ensures.made c.in_ok-dacl.ensures.made)
 
 pub returns-clause-sound : goal.returns-clause-sound
 returns-clause-sound c = λ sound.
