@@ -1,9 +1,12 @@
 -- The names that ids print as are found under these ids.
-use Rattle.std.proofs.Common.{◌≡◌, ℕ, ◌<◌, Bool, true, false, not, ◌&&◌, eqb, List, length, get_or, slice_get, position, Option, Some, None, option_map, option_and_then, refl, sym, ap, subst, ◌∙◌}
+use Rattle.std.proofs.Common.{◌≡◌, ℕ, ◌<◌, Bool, true, false, not, ◌&&◌, eqb, List, length, get_or, slice_get, position, find, Option, Some, None, option_map, option_and_then, refl, sym, ap, subst, ◌∙◌}
+use Rattle.std.specs.List.{list_all}
 use Rattle.std.proofs.lemmas.Bool.{eqb-true}
 use Rattle.std.proofs.lemmas.List.Quantifiers.{position-Some}
 use Rattle.std.proofs.lemmas.Option.{get_or_from_slice_get}
+use Rattle.acl_names.specs.Pieces.{is_byte}
 use Rattle.acl_text.specs.Ids.{is_number}
+use Rattle.acl_text.specs.Writing.{IsNamed, IsFoundAs}
 use Rattle.acl_people.specs.Rolls.{Named, is_name, prints, id_named, name_shown, AreNames, IsNaming}
 use Rattle.acl_people.proofs.Places.{find-position}
 
@@ -47,19 +50,24 @@ both true false h = (refl, refl)
 both true true h = cc
 both false b h = cc
 
+is_found : (es : List Named) → AreNames es → (id : ℕ) (name : List ℕ) → name_shown id es ≡ Some name → IsFoundAs (λ n. id_named n es) id name
+is_found es names id name is =
+    let s = shown es id name is in
+    let at : get_or es s.at s.row ≡ s.row = get_or_from_slice_get es s.at s.row s.row s.stands in
+    let named : (get_or es s.at s.row).0 ≡ name = ap (λ e. e.0) at ∙ s.named in
+    let first : position (is_name name) es ≡ Some s.at = ap (λ n. position (is_name n) es) (sym named) ∙ names.once s.at s.row s.within in
+    let passes = both (eqb s.row.1 id) (is_number s.row.0) s.passes in
+    let found : find (is_name name) es ≡ Some s.row = find-position (is_name name) es ∙ ap (λ o. option_and_then (λ i. slice_get es i) o) first ∙ s.stands in
+    record {
+      made_of_bytes = ap (λ n. list_all is_byte n) (sym named) ∙ names.made_of_bytes s.at s.row s.within;
+      not_empty = subst (λ n. 0 < length n) named (names.filled s.at s.row s.within);
+      no_number = ap (λ n. is_number n) (sym s.named) ∙ passes.1;
+      found = ap (λ o. option_map (λ e. e.1) o) found ∙ ap (λ n. Some n) (eqb-true s.row.1 id passes.0);
+    }
+
 pub is_naming : (es : List Named) → AreNames es → IsNaming (λ name. id_named name es) (λ id. name_shown id es)
-is_naming es names = record {
-  found = λ id name is.
-      let s = shown es id name is in
-      let at : get_or es s.at s.row ≡ s.row = get_or_from_slice_get es s.at s.row s.row s.stands in
-      let first : position (is_name name) es ≡ Some s.at = ap (λ n. position (is_name n) es) (sym (ap (λ e. e.0) at ∙ s.named)) ∙ names.once s.at s.row s.within in
-      let id_is : s.row.1 ≡ id = eqb-true s.row.1 id (both (eqb s.row.1 id) (is_number s.row.0) s.passes).0 in
-      ap (λ o. option_map (λ e. e.1) o) (find-position (is_name name) es ∙ ap (λ o. option_and_then (λ i. slice_get es i) o) first ∙ s.stands) ∙ ap (λ n. Some n) id_is;
-  filled = λ id name is.
-      let s = shown es id name is in
-      let at : get_or es s.at s.row ≡ s.row = get_or_from_slice_get es s.at s.row s.row s.stands in
-      subst (λ n. 0 < length n) (ap (λ e. e.0) at ∙ s.named) (names.filled s.at s.row s.within);
-  no_number = λ id name is.
-      let s = shown es id name is in
-      ap (λ n. is_number n) (sym s.named) ∙ (both (eqb s.row.1 id) (is_number s.row.0) s.passes).1;
-}
+is_naming es names id = by (name_shown id es) refl
+  where
+    by : (o : Option (List ℕ)) → name_shown id es ≡ o → IsNamed (λ n. id_named n es) id o
+    by None is = tt
+    by (Some name) is = is_found es names id name is

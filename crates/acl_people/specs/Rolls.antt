@@ -1,7 +1,10 @@
 -- Names with their ids, in the order of their rows.
-use Rattle.std.specs.Prelude.{◌≡◌, ◌<◌, ℕ, List, length, slice_index_or, Bool, false, not, ◌&&◌, ◌==◌, Option, Some, option_map, option_and_then, find, position, if◌then◌else◌}
+use Rattle.std.specs.Prelude.{◌≡◌, ◌<◌, ℕ, List, length, slice_index_or, Bool, true, not, ◌&&◌, ◌==◌, Option, Some, option_map, option_and_then, find, position, if◌then◌else◌}
+use Rattle.std.specs.List.{list_all}
 use Rattle.std.specs.Str.{bytes_eq}
+use Rattle.acl_names.specs.Pieces.{is_byte}
 use Rattle.acl_text.specs.Ids.{is_number, id_of}
+use Rattle.acl_text.specs.Writing.{IsNamed}
 
 -- a name and its id
 abbrev pub Named : Type 0
@@ -31,13 +34,12 @@ place_of_word word es =
     if is_number word then option_and_then (λ id. position (is_id id) es) (id_of word)
     else position (is_name word) es
 
--- each name stands in one row, and is not empty
+-- each name stands in one row, is not empty, and is made of bytes
 pub record AreNames (es : List Named) : Type 0 where
   pub once : (i : ℕ) (d : Named) → i < length es → position (is_name (slice_index_or es i d).0) es ≡ Some i
   pub filled : (i : ℕ) (d : Named) → i < length es → 0 < length (slice_index_or es i d).0
+  pub made_of_bytes : (i : ℕ) (d : Named) → i < length es → list_all is_byte (slice_index_or es i d).0 ≡ true
 
--- Each name that an id prints as is found under that id, is not empty, and is not digits alone.
-pub record IsNaming (id_of : List ℕ → Option ℕ) (name_of : ℕ → Option (List ℕ)) : Type 0 where
-  pub found : (id : ℕ) (name : List ℕ) → name_of id ≡ Some name → id_of name ≡ Some id
-  pub filled : (id : ℕ) (name : List ℕ) → name_of id ≡ Some name → 0 < length name
-  pub no_number : (id : ℕ) (name : List ℕ) → name_of id ≡ Some name → is_number name ≡ false
+-- Each name that an id prints as is found under that id, is made of bytes, is not empty, and is not digits alone.
+abbrev pub IsNaming : (List ℕ → Option ℕ) → (ℕ → Option (List ℕ)) → Type 0
+IsNaming look_up name_of = (id : ℕ) → IsNamed look_up id (name_of id)

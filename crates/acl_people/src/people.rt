@@ -161,8 +161,8 @@ impl People {
         })
     }
 
-    /// Nothing is done: the names that ids print as are found under these ids, are not empty, and are not
-    /// digits alone.
+    /// Nothing is done: the names that ids print as are found under these ids, are made of bytes, are not
+    /// empty, and are not digits alone.
     pub fn naming_is_read_back(&self)
         ensures users { IsNaming (λ name. id_named name (users_of self.now)) (λ id. name_shown id (users_of self.now)) }
         ensures groups { IsNaming (λ name. id_named name (groups_of self.now)) (λ id. name_shown id (groups_of self.now)) }

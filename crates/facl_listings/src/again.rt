@@ -1,23 +1,15 @@
 //! What is known of the files of a tree and of those who are known: that files are read again as they are
 //! written.
 
-ghost use Rattle.std.specs.Prelude.{◌≡◌, length, true};
-ghost use Rattle.std.specs.List.{list_all, AllByRecursion};
-ghost use Rattle.acl_names.specs.Pieces.{is_byte};
+ghost use Rattle.std.specs.Prelude.{◌≡◌, length};
+ghost use Rattle.std.specs.List.{AllByRecursion};
 ghost use Rattle.acl_text.specs.Writing.{IsKeyNamed};
 ghost use Rattle.acl_dump.specs.Again.{IsFound};
 ghost use Rattle.facl_listings.specs.Again.{user_id, group_id, user_name, group_name, IsListAgain, IsReadAgain};
 
 use acl_entry::{Acl, Id, Key};
 use acl_people::People;
-use acl_text::Names;
 use acl_tree::{Record, Tree};
-
-fn name_is_bytes(name: &[u8])
-    ensures { list_all is_byte name.now ≡ true }
-{
-    let _bytes = name;
-}
 
 fn flags_are_three(flags: [bool; 3])
     ensures { length flags ≡ 3 }
@@ -30,9 +22,6 @@ fn user_is_found(people: &People, id: Id)
 {
     people.naming_is_read_back();
     let _number = id.number();
-    if let Some(name) = people.user_name(id) {
-        name_is_bytes(name);
-    }
 }
 
 fn group_is_found(people: &People, id: Id)
@@ -40,9 +29,6 @@ fn group_is_found(people: &People, id: Id)
 {
     people.naming_is_read_back();
     let _number = id.number();
-    if let Some(name) = people.group_name(id) {
-        name_is_bytes(name);
-    }
 }
 
 fn key_is_found(people: &People, key: &Key)

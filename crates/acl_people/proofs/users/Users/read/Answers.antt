@@ -1,4 +1,5 @@
 use Rattle.std.proofs.Common.{map, position, sym, ap, subst, ◌∙◌, take_all}
+use Rattle.acl_names.proofs.Bytes.{all_bytes}
 use Rattle.acl_text.specs.Rows.{passwd_name}
 use Rattle.acl_people.specs.Rolls.{AreNames, is_name}
 use Rattle.acl_people.specs.Entries.{user_entry}
@@ -8,7 +9,7 @@ use Rattle.acl_people.proofs.users.Users.read.Goals as goal
 
 pub with-requires : goal.with-requires
 with-requires c =
-    let names : AreNames (map user_entry c.deref-row-items.result.now) = subst (λ rows. AreNames (map user_entry rows)) (sym c.deref-row-items.ensures.value) (passwd_names c.args.bytes.now c.in_ok-rows.rows.items c.in_ok-rows.ensures) in
+    let names : AreNames (map user_entry c.deref-row-items.result.now) = subst (λ rows. AreNames (map user_entry rows)) (sym c.deref-row-items.ensures.value) (passwd_names c.args.bytes.now c.in_ok-rows.rows.items (all_bytes c.args.bytes.now c.type_inv.bytes) c.in_ok-rows.ensures) in
     ap (λ n. position (is_name n) c.loop-row.roll) c.as_bytes.ensures
     ∙ ap (λ es. position (is_name c.row-item.result.name) es) c.loop-row.invariant
     ∙ fresh passwd_name (λ row. row.uid) c.deref-row-items.result.now c.loop-row.row-index c.row-item.result names c.loop-row-test.true c.row-item.is
@@ -17,5 +18,5 @@ pub invariant_of-result : goal.invariant_of-result
 invariant_of-result c = (
   c.loop-row.invariant
       ∙ ap (λ rows. map user_entry rows) (take_all c.loop-row.row-index c.deref-row-items.result.now c.loop-row-test.false ∙ c.deref-row-items.ensures.value),
-  passwd_names c.args.bytes.now c.in_ok-rows.rows.items c.in_ok-rows.ensures,
+  passwd_names c.args.bytes.now c.in_ok-rows.rows.items (all_bytes c.args.bytes.now c.type_inv.bytes) c.in_ok-rows.ensures,
 )
