@@ -1,4 +1,6 @@
 pub mod SeenPaths
+pub mod FirstFaults
+pub mod DumpFaults
 pub mod Streams
 pub mod WrittenEntries
 pub mod WrittenNames

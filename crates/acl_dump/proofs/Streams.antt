@@ -3,7 +3,7 @@ use Rattle.std.proofs.Common.{◌≡◌, List, [], ◌∷◌, Bool, true, false,
 use Rattle.acl_text.specs.declared.fault.TextFault.{TextFault}
 use Rattle.acl_dump.specs.Groups.{next, in_turn, grouped, put_front, group_of, by_groups, streamed}
 
-next_assoc : {A B C : Type 0} (r : Result A TextFault) (f : A → Result B TextFault) (g : B → Result C TextFault) → next (next r f) g ≡ next r (λ x. next (f x) g)
+pub next_assoc : {A B C : Type 0} (r : Result A TextFault) (f : A → Result B TextFault) (g : B → Result C TextFault) → next (next r f) g ≡ next r (λ x. next (f x) g)
 next_assoc (Ok x) f g = refl
 next_assoc (Err e) f g = refl
 

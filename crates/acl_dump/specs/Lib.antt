@@ -1,6 +1,7 @@
 pub mod Groups
 pub mod Lines
 pub mod Records
+pub mod Faults
 pub mod Seen
 pub mod Writing
 pub mod Again

@@ -1,11 +1,22 @@
 //! Laws of the definitions, each proved as the contract of a function that does nothing.
 
-ghost use Rattle.std.specs.Prelude.{◌≡◌, ℕ, List, [], Option, Ok};
+ghost use Rattle.std.specs.Prelude.{◌≡◌, ◌↔◌, ℕ, List, [], Option, Ok, Err};
 ghost use Rattle.std.specs.List.{AllByRecursion};
 ghost use Rattle.acl_dump.specs.declared.record.DumpUse.{DumpUse};
 ghost use Rattle.acl_dump.specs.declared.record.DumpRecord.{DumpRecord};
-ghost use Rattle.acl_dump.specs.Records.{dump_of};
+ghost use Rattle.acl_text.specs.declared.fault.TextFault.{TextFault};
+ghost use Rattle.acl_dump.specs.Records.{lines_of, dump_of};
+ghost use Rattle.acl_dump.specs.Faults.{IsFirstFault};
 ghost use Rattle.acl_dump.specs.Again.{IsReadable, AreApart, paths, placed, dump_text};
+
+/// The fault of a dump is that of the first faulty record: the lines before the record are a dump without a
+/// fault. Where its `# file:` line is not faulty, it is that of the record's first faulty line, and where
+/// none of its lines is faulty that of the record as a whole, whatever comes behind it. A fault of a line
+/// before the first record goes before all these.
+pub fn dump_fault_is_first()
+    ensures { (user_id group_id : List ℕ → Option ℕ) (dump_use : DumpUse) (bytes : List ℕ) (fault : TextFault) →
+        (dump_of user_id group_id dump_use bytes ≡ Err fault) ↔ IsFirstFault user_id group_id dump_use (lines_of bytes) fault }
+{}
 
 /// The texts of records, put one after another, are read as those records, each at its line: where their
 /// names are found again under the ids that they are written for, no path stands twice, and records that

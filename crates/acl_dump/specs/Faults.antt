@@ -1,0 +1,76 @@
+-- The first fault of a dump, by its lines.
+use Rattle.std.specs.Prelude.{◌≡◌, ℕ, ◌⊎◌, List, [], ◌∷◌, ◌++◌, true, false, Option, None, Result, Ok, Err}
+use Rattle.std.specs.List.{AllByRecursion}
+use Rattle.acl_text.specs.declared.fault.TextFault.{TextFault}
+use Rattle.acl_dump.specs.declared.record.DumpUse.{DumpUse}
+use Rattle.acl_dump.specs.declared.record.DumpRecord.{DumpRecord}
+use Rattle.acl_dump.specs.declared.draft.Draft.{Draft}
+use Rattle.acl_dump.specs.Groups.{in_turn, grouped, by_groups}
+use Rattle.acl_dump.specs.Records.{Numbered, begins, line_in, begin, close}
+
+-- lines none of which begins a record
+abbrev pub BeginNone : List Numbered → Type 0
+BeginNone ls = AllByRecursion (λ l. begins l ≡ false) ls
+
+-- a record ends with the dump, or where the next one begins
+abbrev pub EndARecord : List Numbered → Type 0
+EndARecord [] = Unit {0}
+EndARecord (l ∷ ls) = begins l ≡ true
+
+module _ (user_id group_id : List ℕ → Option ℕ) where
+  -- lines that begin no record, each added to the one that is begun
+  abbrev pub added : Option Draft → List Numbered → Result (Option Draft) TextFault
+  added draft ls = in_turn (line_in user_id group_id) draft ls
+
+  -- One of the lines behind has the fault; those before it belong to the same record, or to none, and are not faulty.
+  pub record IsOfALine (draft : Option Draft) (ls : List Numbered) (fault : TextFault) : Type 0 where
+    pub before : List Numbered
+    pub line : Numbered
+    pub after : List Numbered
+    pub parts : ls ≡ before ++ line ∷ after
+    pub same_record : BeginNone before
+    pub begins_none : begins line ≡ false
+    pub so_far : Option Draft
+    pub no_fault_before : added draft before ≡ Ok so_far
+    pub faulty : line_in user_id group_id so_far line ≡ Err fault
+
+  module _ (dump_use : DumpUse) where
+    -- A record has the fault as a whole; all its lines are not faulty, and what comes behind it is not looked at.
+    pub record IsOfTheWhole (records : List DumpRecord) (draft : Option Draft) (ls : List Numbered) (fault : TextFault) : Type 0 where
+      pub others : List Numbered
+      pub after : List Numbered
+      pub parts : ls ≡ others ++ after
+      pub same_record : BeginNone others
+      pub ended : EndARecord after
+      pub so_far : Option Draft
+      pub no_faulty_line : added draft others ≡ Ok so_far
+      pub faulty : close dump_use records so_far ≡ Err fault
+
+    -- the record that is begun has the fault, in one of the lines behind or as a whole
+    abbrev pub IsOfTheRecord : List DumpRecord → Option Draft → List Numbered → TextFault → Type 0
+    IsOfTheRecord records draft ls fault = IsOfALine draft ls fault ⊎ IsOfTheWhole records draft ls fault
+
+    -- a `file:` line is not faulty, and the record that it begins has the fault
+    pub record IsBehind (records : List DumpRecord) (file : Numbered) (ls : List Numbered) (fault : TextFault) : Type 0 where
+      pub draft : Option Draft
+      pub no_fault : begin records file ≡ Ok draft
+      pub behind : IsOfTheRecord records draft ls fault
+
+    -- the records of these lines, or the first fault
+    abbrev pub records_in : List Numbered → Result (List DumpRecord) TextFault
+    records_in ls = by_groups begins begin (line_in user_id group_id) (close dump_use) [] None (grouped begins ls)
+
+    -- A record has the fault, in its `file:` line or behind it; the lines before it are a dump without a fault.
+    pub record IsOfALaterRecord (ls : List Numbered) (fault : TextFault) : Type 0 where
+      pub before : List Numbered
+      pub file : Numbered
+      pub behind : List Numbered
+      pub parts : ls ≡ before ++ file ∷ behind
+      pub begins_one : begins file ≡ true
+      pub records : List DumpRecord
+      pub no_fault_before : records_in before ≡ Ok records
+      pub faulty : (begin records file ≡ Err fault) ⊎ IsBehind records file behind fault
+
+    -- The first fault: of a line before the first record, or of the first faulty record.
+    abbrev pub IsFirstFault : List Numbered → TextFault → Type 0
+    IsFirstFault ls fault = IsOfALine None ls fault ⊎ IsOfALaterRecord ls fault
