@@ -1,2 +1,4 @@
 pub mod Chunks
 pub mod ReadAgain
+pub mod Numbers
+pub mod ReadBack

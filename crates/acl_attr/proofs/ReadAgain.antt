@@ -31,7 +31,7 @@ use Rattle.acl_attr.specs.Attr.{tag_of, written_id, entry_bytes, attr_bytes, id_
 
 -- ---- one entry
 
-perm_again : (r w x : Bool) → perm_of (number (record { read = r; write = w; execute = x })) ≡ Some (record { read = r; write = w; execute = x })
+pub perm_again : (r w x : Bool) → perm_of (number (record { read = r; write = w; execute = x })) ≡ Some (record { read = r; write = w; execute = x })
 perm_again true true true = refl
 perm_again true true false = refl
 perm_again true false true = refl
@@ -143,11 +143,11 @@ TagsRise tag es = AllByRecursion (λ e. tag ≤ tag_of e.key) es
 pairs-append : (xs ys : List Entry) → pairs (xs ++ ys) ≡ pairs xs ++ pairs ys
 pairs-append xs ys = map-append (λ (e : Entry). (e.key, e.perm)) xs ys
 
-one_more : (done : List Entry) (e : Entry) → maps.find key_cmp e.key (pairs done) ≡ None → maps.insert (map_of done) e.key e.perm ≡ map_of (done ++ e ∷ [])
+pub one_more : (done : List Entry) (e : Entry) → maps.find key_cmp e.key (pairs done) ≡ None → maps.insert (map_of done) e.key e.perm ≡ map_of (done ++ e ∷ [])
 one_more done e none = sym (ap maps.from_entries (pairs-append done (e ∷ [])) ∙ maps.from_entries_push key_total exact_keys (pairs done) e.key e.perm none)
 
 -- the tag of the last entry
-abbrev lasting : ℕ → List Entry → ℕ
+abbrev pub lasting : ℕ → List Entry → ℕ
 lasting tag [] = tag
 lasting tag (e ∷ es) = lasting (tag_of e.key) es
 

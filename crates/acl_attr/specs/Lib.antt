@@ -1,1 +1,2 @@
 pub mod Attr
+pub mod Said

@@ -5,6 +5,8 @@
 mod decode;
 mod encode;
 mod fields;
+mod laws;
 
 pub use decode::decode_attr;
 pub use encode::encode_attr;
+pub use laws::attribute_says_its_entries;

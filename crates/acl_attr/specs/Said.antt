@@ -1,0 +1,47 @@
+-- What an attribute says, entry by entry.
+use Rattle.std.specs.Prelude.{◌≡◌, ℕ, ◌≤◌, ◌<◌, List, [], ◌∷◌, drop, length, true, Option, Some, None}
+use Rattle.std.specs.List.{flat_map}
+use Rattle.acl_entry.specs.declared.entry.Entry.{Entry}
+use Rattle.acl_entry.specs.Keys.{named_id}
+use Rattle.acl_entry.specs.Lists.{KeyMap, IsValid, keys, repeated, map_of}
+use Rattle.acl_entry.specs.Perms.{number}
+use Rattle.byteorder.specs.Endian.{little_number}
+use Rattle.acl_attr.specs.Attr.{tag_of, has_head}
+
+-- an id is named where the entry names one, and may be any where it names none
+abbrev pub IsIdOf : Option ℕ → ℕ → Type 0
+IsIdOf None n = Unit {0}
+IsIdOf (Some id) n = (n ≡ id) × (id < 4294967295)
+
+-- eight bytes read as an entry's tag, its permissions and its id
+pub record Says (bytes : List ℕ) (e : Entry) : Type 0 where
+  pub eight : length bytes ≡ 8
+  pub tag : little_number 2 bytes ≡ tag_of e.key
+  pub perm : little_number 2 (drop 2 bytes) ≡ number e.perm
+  pub id : IsIdOf (named_id e.key) (little_number 4 (drop 4 bytes))
+
+-- each piece says the entry at its place
+abbrev pub SayEach : List (List ℕ) → List Entry → Type 0
+SayEach [] [] = Unit {0}
+SayEach (piece ∷ pieces) (e ∷ es) = Says piece e × SayEach pieces es
+SayEach [] (e ∷ es) = ⊥
+SayEach (piece ∷ pieces) [] = ⊥
+
+-- tags never fall, from a tag on
+abbrev pub TagsRise : ℕ → List Entry → Type 0
+TagsRise tag [] = Unit {0}
+TagsRise tag (e ∷ es) = (tag ≤ tag_of e.key) × TagsRise (tag_of e.key) es
+
+-- An attribute of a list: behind the number 2 each eight bytes say an entry, their tags never fall, no key comes
+-- twice, and the entries are the list, which is valid.
+pub record IsAttribute (bytes : List ℕ) (acl : KeyMap) : Type 0 where
+  pub head : has_head bytes ≡ true
+  pub pieces : List (List ℕ)
+  pub entries : List Entry
+  pub parts : drop 4 bytes ≡ flat_map (λ piece. piece) pieces
+  pub said : SayEach pieces entries
+  pub few : length entries ≤ 4096
+  pub tags : TagsRise 0 entries
+  pub once : repeated (keys entries) ≡ None
+  pub list : map_of entries ≡ acl
+  pub valid : IsValid acl
