@@ -1,16 +1,17 @@
 -- How a run ends, from how far it has come.
-use Rattle.std.proofs.Common.{◌≡◌, ◌≤◌, ◌+◌, ◌-◌, ℕ, Bool, true, false, not, List, [], ◌∷◌, ◌++◌, length, length-append, length-take, take, drop, Option, None, Some, refl, sym, ap, ◌∙◌, subst, arith, append_assoc, append-nil}
+use Rattle.std.proofs.Common.{◌≡◌, ◌≤◌, ◌+◌, ◌-◌, ℕ, Bool, true, false, not, List, [], ◌∷◌, ◌++◌, length, length-append, length-take, take, drop, Option, None, Some, Result, Ok, Err, refl, sym, ap, ◌∙◌, subst, arith, append_assoc, append-nil}
 use Rattle.std.specs.Prelude.{IfSome}
 use lib.Seq.{take-append_seam}
 use Rattle.std.specs.Io.KnownBytes.{Consumes, Keeps, IsAtEnd, prepend_known}
 use Rattle.std.proofs.KnownBytes.{Appends-trans}
+use Rattle.std.proofs.lemmas.Option.{none-some}
 use Rattle.facl_script.specs.declared.fault.ScriptFault.{ScriptFault}
 use Rattle.facl_script.specs.declared.fault.ScriptFault.TheVariants.{Read, Write, TooLong, NoMemory}
 use Rattle.facl_script.specs.declared.source.Source.{Source}
 use Rattle.facl_script.specs.Limits.{script_limit, chunk_limit}
 use Rattle.facl_script.specs.declared.unit.Script.{Script}
 use Rattle.facl_script.specs.Source.{pending, taken_count, StopsAfter}
-use Rattle.facl_script.specs.Script.{script_taken, ScriptStopsAfter}
+use Rattle.facl_script.specs.Script.{script_left, script_taken, ScriptStopsAfter}
 use Rattle.facl_script.specs.Lines.{lines_of}
 use Rattle.facl_script.specs.Units.{ScriptUnit, outside, cut, units_of, full_units, HasNoUnit}
 use Rattle.facl_script.specs.ReadUnit.{IsNextUnit}
@@ -75,21 +76,27 @@ Writes-joined o o' o'' e e' e'' a_out a_err b_out b_err v w = record {
   err_grows = Appends-trans e e' e'' a_err b_err v.err_grows w.err_grows;
 }
 
-fails_known : {S : Type 0} (answered : Bool → ScriptUnit → S → Answer S) (start state state' : S) (spent spent' spent'' : ℕ) (script : List ℕ) (r after o o' o'' e e' e'' : Option (List ℕ)) (taken : List ℕ) (number number' : ℕ) (told : Answer S)
-    → Progress answered start taken number false told → (before : Option (List ℕ)) (old new : ℕ) (piece : List ℕ) (u : ScriptUnit) → IsNextUnit before after old new number number' piece u
-    → Consumes (Some script) after (taken ++ piece) → Gives told state spent spent' o o' e e' → (wants : Bool) → Breaks (answered wants u told.state) state' spent' spent'' o' o'' e' e''
+fails_known : {S : Type 0} (answered : Bool → ScriptUnit → S → Answer S) (start state state' : S) (spent spent' spent'' : ℕ) (script : List ℕ) (r : Option (List ℕ)) (s : Script) (o o' o'' e e' e'' : Option (List ℕ)) (taken : List ℕ) (number number' : ℕ) (told : Answer S)
+    → Progress answered start taken number false told → (before : Option (List ℕ)) (old new : ℕ) (piece : List ℕ) (u : ScriptUnit) → IsNextUnit before (script_left s r) old new number number' piece u
+    → Consumes (Some script) (script_left s r) (taken ++ piece) → Gives told state spent spent' o o' e e' → (wants : Bool) → Breaks (answered wants u told.state) state' spent' spent'' o' o'' e' e''
     → StopsWith Write answered start script state' spent spent'' r o o'' e e''
-fails_known answered start state state' spent spent' spent'' script r None o o' o'' e e' e'' taken number number' told p before old new piece u next c g wants h = absurd c
-fails_known answered start state state' spent spent' spent'' script r (Some rest) o o' o'' e e' e'' taken number number' told p before old new piece u next c g wants h =
+fails_known answered start state state' spent spent' spent'' script None s o o' o'' e e' e'' taken number number' told p before old new piece u next c g wants h = absurd c
+fails_known answered start state state' spent spent' spent'' script (Some rest) s o o' o'' e e' e'' taken number number' told p before old new piece u next c g wants h =
     let m = updated number wants p.m in
     let played : play answered m p.done start ≡ told = p.plays m (updated_agrees number wants p.m) in
+    let left : List ℕ = pending s.source ++ rest in
     let wanted : m u.number ≡ wants = ap m next.numbered ∙ updated_at number wants p.m in
     record {
       m = m;
       before = p.done;
       unit = u;
-      after = cut outside number' (lines_of rest);
-      units = ap units_of c ∙ next_splits answered start taken number number' told p before (Some rest) old new piece u next rest next.last ∙ append_assoc p.done (u ∷ []) (cut outside number' (lines_of rest));
+      after = cut outside number' (lines_of left);
+      units = ap units_of c ∙ next_splits answered start taken number number' told p before (Some left) old new piece u next left next.last ∙ append_assoc p.done (u ∷ []) (cut outside number' (lines_of left));
+      read = taken ++ piece;
+      pending = pending s.source;
+      consumes = c ∙ sym (append_assoc (taken ++ piece) (pending s.source) rest);
+      near = pending_short s.source;
+      units_read = sym (ap units_of (append-nil (taken ++ piece))) ∙ next_splits answered start taken number number' told p before (Some left) old new piece u next [] (λ f. refl) ∙ append-nil (p.done ++ u ∷ []);
       out_now = o';
       err_now = e';
       spent_now = spent';
@@ -99,13 +106,13 @@ fails_known answered start state state' spent spent' spent'' script r (Some rest
     }
 
 -- a writer failed in the midst of the unit that was found
-pub fails_writing : {S : Type 0} (answered : Bool → ScriptUnit → S → Answer S) (start state state' : S) (spent spent' spent'' : ℕ) (a r after o o' o'' e e' e'' : Option (List ℕ)) (taken : List ℕ) (number number' : ℕ) (told : Answer S)
-    → Progress answered start taken number false told → (before : Option (List ℕ)) (old new : ℕ) (piece : List ℕ) (u : ScriptUnit) → IsNextUnit before after old new number number' piece u
-    → Consumes a after (taken ++ piece) → Gives told state spent spent' o o' e e' → (wants : Bool) → Breaks (answered wants u told.state) state' spent' spent'' o' o'' e' e''
+pub fails_writing : {S : Type 0} (answered : Bool → ScriptUnit → S → Answer S) (start state state' : S) (spent spent' spent'' : ℕ) (a r : Option (List ℕ)) (s : Script) (o o' o'' e e' e'' : Option (List ℕ)) (taken : List ℕ) (number number' : ℕ) (told : Answer S)
+    → Progress answered start taken number false told → (before : Option (List ℕ)) (old new : ℕ) (piece : List ℕ) (u : ScriptUnit) → IsNextUnit before (script_left s r) old new number number' piece u
+    → Consumes a (script_left s r) (taken ++ piece) → Gives told state spent spent' o o' e e' → (wants : Bool) → Breaks (answered wants u told.state) state' spent' spent'' o' o'' e' e''
     → IfSome a (λ script. StopsWith Write answered start script state' spent spent'' r o o'' e e'')
-fails_writing answered start state state' spent spent' spent'' None r after o o' o'' e e' e'' taken number number' told p before old new piece u next c g wants h = tt
-fails_writing answered start state state' spent spent' spent'' (Some script) r after o o' o'' e e' e'' taken number number' told p before old new piece u next c g wants h =
-    fails_known answered start state state' spent spent' spent'' script r after o o' o'' e e' e'' taken number number' told p before old new piece u next c g wants h
+fails_writing answered start state state' spent spent' spent'' None r s o o' o'' e e' e'' taken number number' told p before old new piece u next c g wants h = tt
+fails_writing answered start state state' spent spent' spent'' (Some script) r s o o' o'' e e' e'' taken number number' told p before old new piece u next c g wants h =
+    fails_known answered start state state' spent spent' spent'' script r s o o' o'' e e' e'' taken number number' told p before old new piece u next c g wants h
 
 -- nothing is left
 pub ends_here : {S : Type 0} (answered : Bool → ScriptUnit → S → Answer S) (start state : S) (spent spent' : ℕ) (a mid after o o' e e' : Option (List ℕ)) (taken : List ℕ) (number : ℕ) (over : Bool) (told : Answer S)
@@ -130,6 +137,12 @@ pub at_end : (over : Bool) (mid after : Option (List ℕ)) → (over ≡ true �
 at_end true mid after h k = let e = h refl in rw e.0 (Keeps-refl mid, e.1)
 at_end false mid after h k = k refl
 
+-- where nothing is pending or left, the reader is at its end
+pub reader_ended : (more : List ℕ) (r : Option (List ℕ)) → IsAtEnd (prepend_known more r) → IsAtEnd r
+reader_ended more None h = tt
+reader_ended [] (Some x) h = h
+reader_ended (b ∷ more) (Some x) h = absurd (omega (arith, ap length h))
+
 pub not_over : (over : Bool) → (over ≡ true → ⊥) → over ≡ false
 not_over true h = absurd (h refl)
 not_over false h = refl
@@ -137,6 +150,15 @@ not_over false h = refl
 pub none_of : {A : Type 0} (o : Option A) → ((x : A) → o ≡ Some x → ⊥) → o ≡ None
 none_of None h = refl
 none_of (Some x) h = absurd (h x refl)
+
+-- an answer that is there is not the end
+of_ok : {A E : Type 0} → Result (Option A) E → Option A
+of_ok (Ok o) = o
+of_ok (Err e) = None
+
+pub not_end : {A E : Type 0} (o : Option A) (x : A) → o ≡ Some x → (r : Result (Option A) E) → r ≡ Ok None → r ≡ Ok o → ⊥
+unfolding of_ok
+not_end o x some r end ok = none-some x (sym (ap of_ok (sym ok ∙ end)) ∙ some)
 
 pub not_full : (b : Bool) → not b ≡ true → b ≡ false
 not_full true h = sym h

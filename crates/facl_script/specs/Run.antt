@@ -1,5 +1,5 @@
 -- How a run over a script ends.
-use Rattle.std.specs.Prelude.{◌≡◌, ◌<◌, ◌≤◌, ◌+◌, ℕ, Bool, List, ◌∷◌, ◌++◌, length, take, Option, Some}
+use Rattle.std.specs.Prelude.{◌≡◌, ◌<◌, ◌≤◌, ◌+◌, ℕ, Bool, List, [], ◌∷◌, ◌++◌, length, take, Option, Some}
 use Rattle.std.specs.Io.KnownBytes.{Consumes}
 use Rattle.facl_script.specs.declared.fault.ScriptFault.{ScriptFault}
 use Rattle.facl_script.specs.declared.fault.ScriptFault.TheVariants.{Read, Write, TooLong, NoMemory}
@@ -40,13 +40,18 @@ pub record Told {S : Type 0} (answered : Bool → ScriptUnit → S → Answer S)
   pub m : ℕ → Bool
   pub gives : Gives (play answered m units start) state spent spent' out out' err err'
 
--- All units before one were answered, and a writer failed in the midst of that one.
-pub record FailsAt {S : Type 0} (answered : Bool → ScriptUnit → S → Answer S) (start : S) (script : List ℕ) (state : S) (spent spent' : ℕ) (out out' err err' : Option (List ℕ)) : Type 0 where
+-- All units before one were answered, and a writer failed in the midst of that one. Past it, at most a chunk was read.
+pub record FailsAt {S : Type 0} (answered : Bool → ScriptUnit → S → Answer S) (start : S) (script : List ℕ) (state : S) (spent spent' : ℕ) (remaining out out' err err' : Option (List ℕ)) : Type 0 where
   pub m : ℕ → Bool
   pub before : List ScriptUnit
   pub unit : ScriptUnit
   pub after : List ScriptUnit
   pub units : units_of script ≡ before ++ unit ∷ after
+  pub read : List ℕ
+  pub pending : List ℕ
+  pub consumes : Consumes (Some script) remaining (read ++ pending)
+  pub near : length pending ≤ chunk_limit
+  pub units_read : units_of read ≡ before ++ unit ∷ []
   pub out_now : Option (List ℕ)
   pub err_now : Option (List ℕ)
   pub spent_now : ℕ
@@ -65,4 +70,4 @@ StopsWith TooLong answered start script state spent spent' remaining out out' er
 -- the units whose last LF came before the line that found no room; past what was looked at then, at most a chunk was read
 StopsWith NoMemory answered start script state spent spent' remaining out out' err err' =
     (read : List ℕ) × (pending : List ℕ) × Consumes (Some script) remaining (read ++ pending) × (length pending ≤ chunk_limit) × Told answered start (full_units (units_of read)) state spent spent' out out' err err'
-StopsWith Write answered start script state spent spent' remaining out out' err err' = FailsAt answered start script state spent spent' out out' err err'
+StopsWith Write answered start script state spent spent' remaining out out' err err' = FailsAt answered start script state spent spent' remaining out out' err err'

@@ -1,5 +1,6 @@
 //! A run over a whole script: each unit is answered, and what it says is written before the next is read.
 ghost use Rattle.std.specs.Prelude.{◌≡◌, ◌⊎◌, ◌<◌, ◌≤◌, ◌+◌, ℕ, Bool, List, true, false, IfOk, IfErr, IfSome, OnOk, OnErr};
+ghost use Rattle.std.specs.Io.KnownBytes.{IsAtEnd};
 ghost use Rattle.facl_script.specs.Units.{ScriptUnit};
 ghost use Rattle.facl_script.specs.ReadUnit.{IsUnitFound};
 ghost use Rattle.facl_script.specs.Script.{line_held, text_held};
@@ -114,6 +115,9 @@ pub fn run_session<S: Session, R: Feed, O: Sink, E: Sink>(
         StopsWith fault S.answered (S.state session.old) script (S.state session.new)
         (S.spent session.old) (S.spent session.new) (R.remaining reader.new)
         (O.contents out.old) (O.contents out.new) (E.contents err.old) (E.contents err.new))) }
+
+    // An answer comes only once the reader is at its end.
+    ensures end { OnOk result (IsAtEnd (R.remaining reader.new)) }
 
     // A fault of a device is told only where that device has failed.
     ensures works { OnOk result ((R.has_failed reader.new ≡ false)

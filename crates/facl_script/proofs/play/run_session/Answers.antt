@@ -1,11 +1,12 @@
 use Rattle.std.proofs.Common.{◌≡◌, ℕ, Bool, List, true, not, [], ◌++◌, length-append, refl, sym, ap, ◌∙◌, subst, arith, true≢false}
 use Rattle.std.proofs.KnownBytes.{Appends-nil, Consumes-trans}
 use Rattle.std.proofs.lemmas.Result.{err_from_is_err_and}
+use Rattle.facl_script.specs.Source.{pending}
 use Rattle.facl_script.specs.Script.{script_left, next_number, is_over}
 use Rattle.facl_script.specs.Play.{quiet, joined}
 use Rattle.facl_script.proofs.Progress.{Progress}
 use Rattle.facl_script.proofs.ProgressLemmas.{begins, goes_on}
-use Rattle.facl_script.proofs.RunEnds.{left_consumes, ends_here, at_end, not_over, stops_reading, fails_writing, none_of, not_full, Gives-joined, GivesAt, BreaksAt}
+use Rattle.facl_script.proofs.RunEnds.{left_consumes, ends_here, at_end, reader_ended, not_over, stops_reading, fails_writing, none_of, not_end, not_full, Gives-joined, GivesAt, BreaksAt}
 use Rattle.facl_script.proofs.play.run_session.Goals as goal
 
 pub loop-script-init : goal.loop-script-init
@@ -38,6 +39,17 @@ returns-clause-ok g c =
     inv.taken (next_number c.loop-script.script) (is_over c.loop-script.script) inv.told inv.progress inv.consumes ended.0 ended.1
     (omega (arith, inv.count, c.loop-script.script.source.within)) inv.gives c.loop-script.is_refused inv.refused
 
+pub returns-clause-end : goal.returns-clause-end
+returns-clause-end g c =
+    let inv = c.loop-script.invariant in
+    let before = script_left c.loop-script.script (g.R.Feed.remaining c.loop-script.reader) in
+    let after = script_left c.next_unit.new.self (g.R.Feed.remaining c.next_unit.new.reader) in
+    let found = rw (none_of c.in_ok-unit.field-0 c.in_default.not-Some) at c.in_ok-unit.ensures.ok in
+    let same : is_over c.loop-script.script ≡ true → after ≡ before =
+    λ e. ap (λ s. script_left s (g.R.Feed.remaining c.next_unit.new.reader)) (c.in_ok-unit.ensures.over e).1 ∙ ap (λ r. script_left c.loop-script.script (g.R.Feed.remaining r)) (c.in_ok-unit.ensures.over e).2 in
+    let ended = at_end (is_over c.loop-script.script) before after (λ e. (same e, inv.last e)) (λ e. ((found e).0, (found e).1)) in
+    reader_ended (pending c.next_unit.new.self.source) (g.R.Feed.remaining c.next_unit.new.reader) ended.1
+
 pub returns-in_err-unit-clause-fault : goal.returns-in_err-unit-clause-fault
 returns-in_err-unit-clause-fault g c =
     let inv = c.loop-script.invariant in
@@ -56,7 +68,7 @@ returns-in_err-unit-clause-fault g c =
 pub answer_unit-requires-clause-ready : goal.answer_unit-requires-clause-ready
 answer_unit-requires-clause-ready g c =
     let inv = c.loop-script.invariant in
-    let going = not_over (is_over c.loop-script.script) (λ e. let o = (c.in_ok-unit.ensures.over e).0 in let s = c.in-Some.is in cc) in
+    let going = not_over (is_over c.loop-script.script) (λ e. not_end _ _ c.in-Some.is _ (c.in_ok-unit.ensures.over e).0 refl) in
     let found = (rw c.in-Some.is at c.in_ok-unit.ensures.ok) going in
     rw (sym found.3.number ∙ found.2.numbered) inv.ready
 
@@ -66,7 +78,7 @@ returns-in_err-is_refused-clause-fault g c =
     let p = err_from_is_err_and c.from_residual-in_err-is_refused.result c.from_residual-in_err-is_refused.ensures.1 in
     let start = g.S.Session.state c.args.session.now in
     let number = next_number c.loop-script.script in
-    let going = not_over (is_over c.loop-script.script) (λ e. let o = (c.in_ok-unit.ensures.over e).0 in let s = c.in-Some.is in cc) in
+    let going = not_over (is_over c.loop-script.script) (λ e. not_end _ _ c.in-Some.is _ (c.in_ok-unit.ensures.over e).0 refl) in
     let progress = subst (λ (b : Bool). Progress g.S.Session.answered start inv.taken number b inv.told) going inv.progress in
     let found = (rw c.in-Some.is at c.in_ok-unit.ensures.ok) going in
     let piece : List ℕ = found.0 in
@@ -79,7 +91,7 @@ returns-in_err-is_refused-clause-fault g c =
     rw (p.1, p.2, c.in_err-is_refused.ensures.which)
     (fails_writing g.S.Session.answered start (g.S.Session.state c.loop-script.session) (g.S.Session.state c.answer_unit.new.session)
     (g.S.Session.spent c.args.session.now) (g.S.Session.spent c.loop-script.session) (g.S.Session.spent c.answer_unit.new.session)
-    a (g.R.Feed.remaining c.next_unit.new.reader) after
+    a (g.R.Feed.remaining c.next_unit.new.reader) c.next_unit.new.self
     (g.O.Sink.contents c.args.out.now) (g.O.Sink.contents c.loop-script.out) (g.O.Sink.contents c.answer_unit.new.out)
     (g.E.Sink.contents c.args.err.now) (g.E.Sink.contents c.loop-script.err) (g.E.Sink.contents c.answer_unit.new.err)
     inv.taken number (next_number c.next_unit.new.self) inv.told progress before _ _ piece unit found.2
@@ -90,7 +102,7 @@ loop-script-preserved g c =
     let inv = c.loop-script.invariant in
     let start = g.S.Session.state c.args.session.now in
     let number = next_number c.loop-script.script in
-    let going = not_over (is_over c.loop-script.script) (λ e. let o = (c.in_ok-unit.ensures.over e).0 in let s = c.in-Some.is in cc) in
+    let going = not_over (is_over c.loop-script.script) (λ e. not_end _ _ c.in-Some.is _ (c.in_ok-unit.ensures.over e).0 refl) in
     let progress = subst (λ (b : Bool). Progress g.S.Session.answered start inv.taken number b inv.told) going inv.progress in
     let found = (rw c.in-Some.is at c.in_ok-unit.ensures.ok) going in
     let piece : List ℕ = found.0 in

@@ -1,6 +1,6 @@
 use Rattle.std.proofs.Common.{◌≡◌, ◌-◌, ℕ, true, false, List, length}
 use Rattle.std.specs.Io.KnownBytes.{Consumes, IsAtEnd}
-use Rattle.facl_script.specs.declared.source.TheConstants.{SCRIPT_LIMIT}
+use Rattle.facl_script.specs.Limits.{script_limit}
 use Rattle.facl_script.specs.Script.{script_left, script_taken, next_number, is_over}
 use Rattle.facl_script.specs.Play.{Answer}
 use Rattle.facl_script.specs.Run.{Gives}
@@ -24,4 +24,4 @@ invariant-loop-script g l = record {
 }
 
 abbrev pub decreases-loop-script : goal.decreases-loop-script
-decreases-loop-script g l = SCRIPT_LIMIT - script_taken l.script
+decreases-loop-script g l = script_limit - script_taken l.script
