@@ -1,12 +1,12 @@
 -- A script that units spell is cut into these units.
-use Rattle.std.proofs.Common.{◌≡◌, ◌<◌, ◌+◌, ◌⊎◌, inl, inr, ℕ, Bool, true, false, List, [], ◌∷◌, ◌++◌, length, Option, Some, refl, sym, ap, ◌∙◌, subst, append_assoc, append-nil, arith, add-zero}
+use Rattle.std.proofs.Common.{cond, length-append, true≢false, ◌≡◌, ◌<◌, ◌+◌, ◌⊎◌, inl, inr, ℕ, Bool, true, false, List, [], ◌∷◌, ◌++◌, length, Option, Some, refl, sym, ap, ◌∙◌, subst, append_assoc, append-nil, arith, add-zero}
 use Rattle.facl_script.specs.Lines.{lines_of, HasNoLineFeed, spelled}
 use Rattle.facl_script.specs.Words.{takes_text}
-use Rattle.facl_script.specs.Units.{ScriptUnit, UnitText, none, unended, within_limit, is_end, ended_text, Open, opened, closed, outside, within, cut, units_of}
+use Rattle.facl_script.specs.Units.{full_units, ScriptUnit, UnitText, none, unended, within_limit, is_end, ended_text, Open, opened, closed, outside, within, cut, units_of}
 use Rattle.facl_script.proofs.TextLemmas.{begun, text_line, text_end, text_breaks}
 use Rattle.facl_script.proofs.UnitLemmas.{unit_alone, unit_opens, unit_breaks}
 use Rattle.facl_script.specs.Pieces.{end_line, with_line_feeds, AreTextLines, IsLine, IsLineWithText, IsTextWithoutEnd, IsLineWithoutEnd, IsPiece, line_feeds, AreUnits}
-use Rattle.facl_script.proofs.PieceLemmas.{feeds_append, feeds_line, feeds_lines, is_end_line, content, content_ended, content_more}
+use Rattle.facl_script.proofs.PieceLemmas.{are_units, feeds_append, feeds_line, feeds_lines, is_end_line, content, content_ended, content_more}
 
 end_is_no : (line : List ℕ) → (line ≡ end_line → ⊥) → is_end line ≡ false
 end_is_no line h = by_test (is_end line) refl
@@ -109,3 +109,28 @@ units_cut (u ∷ us) n bytes h =
 
 pub no_others : (us : List ScriptUnit) (script : List ℕ) → AreUnits 1 us script → us ≡ units_of script
 no_others us script h = units_cut us 1 script h
+
+-- The full units of the front of a script come first.
+
+none_of_nothing : (us : List ScriptUnit) (n : ℕ) → AreUnits n us [] → us ≡ []
+none_of_nothing [] n h = refl
+none_of_nothing (u ∷ us) n h = absurd (omega (arith, h.3, ap length h.2, length-append h.0 h.1))
+
+full_first : (us : List ScriptUnit) (n : ℕ) (front rest : List ℕ) → AreUnits n us front → (more : List ScriptUnit) × (cut outside n (lines_of (front ++ rest)) ≡ full_units us ++ more)
+full_first [] n front rest h = (cut outside n (lines_of rest), ap (λ l. cut outside n (lines_of (l ++ rest))) h)
+full_first (u ∷ us) n front rest h = by_test u.is_full refl (full_first us (n + line_feeds h.0) h.1 rest h.7)
+  where
+    by_test : (t : Bool) → u.is_full ≡ t → (more : List ScriptUnit) × (cut outside (n + line_feeds h.0) (lines_of (h.1 ++ rest)) ≡ full_units us ++ more)
+        → (more : List ScriptUnit) × (cut outside n (lines_of (front ++ rest)) ≡ full_units (u ∷ us) ++ more)
+    by_test true e ih = (
+      ih.0,
+      ap (λ l. cut outside n (lines_of (l ++ rest))) h.2 ∙ ap (λ l. cut outside n (lines_of l)) (append_assoc h.0 h.1 rest)
+          ∙ piece_cut u n h.0 (h.1 ++ rest) h.6 h.5 h.3 (λ f. absurd (true≢false (sym e ∙ f))) ∙ ap (λ vs. u ∷ vs) ih.1
+          ∙ ap (λ l. l ++ ih.0) (sym (ap (λ (b : Bool). cond b (u ∷ full_units us) (full_units us)) e)),
+    )
+    by_test false e ih =
+        let last : us ≡ [] = none_of_nothing us (n + line_feeds h.0) (subst (λ (l : List ℕ). AreUnits (n + line_feeds h.0) us l) (h.4 e) h.7) in
+        (cut outside n (lines_of (front ++ rest)), ap (λ l. l ++ cut outside n (lines_of (front ++ rest))) (sym (ap (λ (b : Bool). cond b (u ∷ full_units us) (full_units us)) e ∙ ap full_units last)))
+
+pub full_units_first : (front rest : List ℕ) → (more : List ScriptUnit) × (units_of (front ++ rest) ≡ full_units (units_of front) ++ more)
+full_units_first front rest = full_first (units_of front) 1 front rest (are_units front)

@@ -26,7 +26,7 @@ abbrev pub spelled : List ℕ → Bool → List ℕ
 spelled text true = text ++ 10 ∷ []
 spelled text false = text
 
--- of a line that begins with this text the code holds these bytes: all of it, or just that it is too long
+-- of a line that begins with this text the code holds these bytes: all of it, or just that it is too long (for inner functions)
 abbrev pub Held : Bool → List ℕ → List ℕ → Type 0
 Held true held text = line_limit < length text
 Held false held text = (held ≡ text) × (length text ≤ line_limit)

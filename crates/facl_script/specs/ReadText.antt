@@ -7,7 +7,7 @@ use Rattle.facl_script.specs.declared.text.TextRead.{TextRead}
 use Rattle.facl_script.specs.declared.text.TextFound.{TextFound}
 use Rattle.facl_script.specs.declared.text.TextFound.TheVariants.{Absent, Whole, TooLong, Unended, Lost}
 
--- of the lines of a text so far the code holds these bytes, or knows that one is over the limit, or has lost them
+-- of the lines of a text so far the code holds these bytes, or knows that one is over the limit, or has lost them (for inner functions)
 abbrev pub HoldsText : TextFound → List ℕ → Option (List ℕ) → Type 0
 HoldsText Whole held content = content ≡ Some held
 HoldsText TooLong held content = content ≡ None
@@ -23,7 +23,7 @@ IsTextFound TooLong held text = text ≡ too_long
 IsTextFound Unended held text = text ≡ unended
 IsTextFound Lost held text = Unit {0}
 
--- This piece ends the unit whose text it begins: its lines are the text's, up to the line `.` or the script's end.
+-- This piece ends the unit whose text it begins: its lines are the text's, up to the line `.` or the script's end (for inner functions).
 pub record IsText (found : TextRead) (before after : Option (List ℕ)) (held : List ℕ) (old new : ℕ) (piece : List ℕ) (text : UnitText) : Type 0 where
   pub consumes : Consumes before after piece
   pub splits : (number : ℕ) (line : List ℕ) (n : ℕ) (rest : List ℕ) → (found.is_full ≡ false → rest ≡ [])

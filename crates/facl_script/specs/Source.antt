@@ -27,7 +27,7 @@ StopsAfter TooLong before s remaining failed text = ((more : List ℕ) × (lengt
 StopsAfter NoMemory before s remaining failed text = Consumes before (unread s remaining) text
 StopsAfter Write before s remaining failed text = ⊥
 
--- This text is the next line. It has an LF or is the last.
+-- This text is the next line. It has an LF or is the last (for inner functions).
 pub record IsNextLine (found : Found) (before after : Option (List ℕ)) (kept : List ℕ) (old new : ℕ) (text : List ℕ) : Type 0 where
   pub no_line_feed : HasNoLineFeed text
   pub consumes : Consumes before after (spelled text found.is_ended)

@@ -79,6 +79,6 @@ full_units units = filter (λ u. u.is_full) units
 abbrev pub HasNoUnit : List ℕ → Type 0
 HasNoUnit tail = (n : ℕ) → full_units (cut outside n (lines_of tail)) ≡ []
 
--- nor do these from the beginning of a text on
+-- nor do these from the beginning of a text on (for inner functions)
 abbrev pub HasNoUnitWithin : List ℕ → Type 0
 HasNoUnitWithin tail = (number : ℕ) (line : List ℕ) (n : ℕ) → full_units (cut (within (opened number line)) n (lines_of tail)) ≡ []

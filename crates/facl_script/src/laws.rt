@@ -1,9 +1,9 @@
 //! Laws of the definitions, each proved as the contract of a function that does nothing.
 
-ghost use Rattle.std.specs.Prelude.{◌≡◌, ◌↔◌, ◌%◌, ℕ, List, length, map, filter, Some, None};
+ghost use Rattle.std.specs.Prelude.{◌≡◌, ◌↔◌, ◌%◌, ◌++◌, ℕ, List, length, map, filter, Some, None};
 ghost use Rattle.std.specs.List.{AllByRecursion, join_with_byte};
 ghost use Rattle.facl_script.specs.Words.{is_quote, words_of};
-ghost use Rattle.facl_script.specs.Units.{ScriptUnit, units_of};
+ghost use Rattle.facl_script.specs.Units.{ScriptUnit, units_of, full_units};
 ghost use Rattle.facl_script.specs.Pieces.{AreUnits};
 ghost use Rattle.facl_script.specs.Written.{Part, IsPart, written, said, Spells};
 
@@ -27,4 +27,10 @@ pub fn quote_is_open_where_odd()
 /// none of its bytes is lost or belongs to two units. A unit's number is 1 and the LFs before it.
 pub fn script_has_units_as_spelled()
     ensures { (script : List ℕ) (units : List ScriptUnit) → (units_of script ≡ units) ↔ AreUnits 1 units script }
+{}
+
+/// The full units of the front of a script are the first units of the script, whatever comes after it. So what a run has answered
+/// that stops with a fault are the first units of its script.
+pub fn full_units_come_first()
+    ensures { (front rest : List ℕ) → (more : List ScriptUnit) × (units_of (front ++ rest) ≡ full_units (units_of front) ++ more) }
 {}

@@ -16,8 +16,8 @@ mod write;
 pub use devices::{Feed, Sink, StdFeed, StdSink};
 pub use fault::ScriptFault;
 pub use laws::{
-    line_has_words_as_written, quote_is_open_where_odd, script_has_units_as_spelled,
-    words_joined_by_spaces_are_split_again,
+    full_units_come_first, line_has_words_as_written, quote_is_open_where_odd,
+    script_has_units_as_spelled, words_joined_by_spaces_are_split_again,
 };
 pub use play::{Session, run_session};
 pub use source::{LINE_LIMIT, SCRIPT_LIMIT};
