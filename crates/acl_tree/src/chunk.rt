@@ -1,6 +1,6 @@
 //! Some files that follow one another in path order, shared by the trees that hold them.
 
-ghost use Rattle.std.specs.Prelude.{◌≡◌, ◌<◌, ◌-◌, map, length, slice_index_or, IfOk, IfErr, option_map};
+ghost use Rattle.std.specs.Prelude.{◌≡◌, ◌<◌, ◌≤◌, ◌-◌, map, length, slice_index_or, IfOk, IfErr, option_map};
 ghost use Rattle.std.specs.Option.{option_copied};
 ghost use Rattle.std.specs.FinMap.{find};
 ghost use Rattle.acl_names.specs.Paths.{path_cmp};
@@ -18,14 +18,14 @@ use std::rc::Rc;
 /// The most files of a chunk.
 pub(crate) const MOST_RECORDS: usize = 256;
 
-/// Files in path order, at least one.
+/// Files in path order, at least one and at most 256.
 #[derive(Drop)]
 pub struct Chunk {
     records: Vec<Rc<Record>>,
 }
 
 impl Model for Chunk {
-    ghost use Rattle.std.specs.Prelude.{◌<◌, map, length};
+    ghost use Rattle.std.specs.Prelude.{◌<◌, ◌≤◌, map, length};
     ghost use Rattle.acl_tree.specs.Files.{Files, IsInOrder};
     ghost use Rattle.std.specs.Coded.{coded_ℕ, coded_list, coded×};
     ghost use Rattle.acl_edit.specs.contracts.node.Node as node_contracts;
@@ -36,7 +36,7 @@ impl Model for Chunk {
 
     ghost view = { λ c. map (λ r. r.value) c.records.items };
 
-    ghost invariant = { λ c. IsInOrder (map (λ r. r.value) c.records.items) × (0 < length c.records.items) };
+    ghost invariant = { λ c. IsInOrder (map (λ r. r.value) c.records.items) × (0 < length c.records.items) × (length c.records.items ≤ 256) };
 }
 
 /// Where a path stands, or where it would.
@@ -63,6 +63,7 @@ impl Chunk {
     pub fn new(records: Vec<Rc<Record>>) -> Chunk
         requires order { IsInOrder (map (λ r. r.value) records.items) }
         requires some { 0 < length records.items }
+        requires few { length records.items ≤ 256 }
         ensures { result ≡ map (λ r. r.value) records.items }
     {
         Chunk { records }
@@ -73,6 +74,7 @@ impl Chunk {
         ensures all { map (λ r. r.value) result.now ≡ self.now }
         ensures order { IsInOrder self.now }
         ensures some { 0 < length result.now }
+        ensures few { length result.now ≤ 256 }
     {
         &self.records
     }

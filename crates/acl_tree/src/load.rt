@@ -1,6 +1,6 @@
 //! A dump as a tree.
 
-ghost use Rattle.std.specs.Prelude.{◌≡◌, ◌≢◌, ◌<◌, [], length, true, map, IfOk, unwrap_or};
+ghost use Rattle.std.specs.Prelude.{◌≡◌, ◌≢◌, ◌<◌, ◌≤◌, [], length, true, map, IfOk, unwrap_or};
 ghost use Rattle.std.specs.List.{flat_map};
 ghost use Rattle.std.specs.BTreeMap.{values};
 ghost use Rattle.acl_tree.specs.Files.{IsInOrder};
@@ -121,6 +121,7 @@ fn files_from(alloc: Global, sorted: &[&DumpRecord]) -> Result<Vec<Rc<Record>>, 
 fn chunk_of(alloc: Global, files: &[Rc<Record>]) -> Result<Rc<Chunk>, AllocError>
     requires order { IsInOrder (map (λ r. r.value) files.now) }
     requires some { 0 < length files.now }
+    requires few { length files.now ≤ 256 }
     ensures { IfOk result (λ chunk. chunk.value ≡ map (λ r. r.value) files.now) }
 {
     Ok(Rc::new(alloc, Chunk::new(files.to_vec(alloc)?))?)
