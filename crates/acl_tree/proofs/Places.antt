@@ -1,9 +1,8 @@
 -- Files in path order: where a path stands, or where it would.
-use Rattle.std.proofs.Common.{◌≡◌, ℕ, zero, suc, ◌<◌, ◌≤◌, true, false, cond, IsTrue, [], ◌∷◌, length, get_or, set, Some, None, Ordering, Less, Equal, Greater, refl, sym, ap, subst, ◌∙◌, arith, nat_lt, ltb-true, ltb-false}
-use Rattle.std.specs.List.{insert}
+use Rattle.std.proofs.Common.{◌≡◌, ℕ, zero, suc, ◌<◌, ◌≤◌, true, false, cond, IsTrue, [], ◌∷◌, length, get_or, Some, None, Ordering, Less, Equal, Greater, refl, sym, ap, subst, ◌∙◌, arith, nat_lt, ltb-true, ltb-false}
 use Rattle.std.specs.Ordering.{is_lt, is_eq, ordering_reverse}
-use Rattle.std.specs.FinMap.{find, put}
-use Rattle.std.specs.FinMap.Entries.{below_all, by_order}
+use Rattle.std.specs.FinMap.{find}
+use Rattle.std.specs.FinMap.Entries.{below_all}
 use Rattle.std.proofs.lemmas.Bool.{and_parts}
 use Rattle.std.proofs.lemmas.Cmp.{tied_itself}
 use Rattle.acl_names.specs.Paths.{path_cmp}
@@ -84,23 +83,3 @@ find_gap (e ∷ es) p zero gap = found_later p e es Less (gap.higher_after 0 e (
   higher_after = λ j d le lt. gap.higher_after (suc j) d (omega arith) (omega arith);
 })
 find_gap (e ∷ es) p (suc i) gap = found_later p e es Greater (gap.lower_before 0 e (omega arith)) refl ∙ find_gap es p i (tail_gap e es p i gap)
-
--- a new path goes into its gap
-pub put_gap : (es : Files) (e : PathOf × Node) (i : ℕ) → IsGapFor es e.0 i → put path_cmp e.0 e.1 es ≡ insert es i e
-put_gap [] e zero gap = refl
-put_gap [] e (suc i) gap = absurd (omega (arith, gap.in_range))
-put_gap (f ∷ es) e zero gap =
-    ap (λ r. by_order r ((e.0, e.1) ∷ f ∷ es) ((f.0, e.1) ∷ es) (f ∷ put path_cmp e.0 e.1 es)) (gap.higher_after 0 f (omega arith) (omega arith))
-put_gap (f ∷ es) e (suc i) gap =
-    ap (λ r. by_order r ((e.0, e.1) ∷ f ∷ es) ((f.0, e.1) ∷ es) (f ∷ put path_cmp e.0 e.1 es)) (gap.lower_before 0 f (omega arith))
-    ∙ ap (λ z. f ∷ z) (put_gap es e i (tail_gap f es e.0 i gap))
-
--- a path that stands keeps its place
-pub put_at : (es : Files) → IsInOrder es → (e : PathOf × Node) (i : ℕ) → IsAt es e.0 i → put path_cmp e.0 e.1 es ≡ set es i e
-put_at [] h e i at = absurd (omega (arith, at.in_range))
-put_at (f ∷ es) h e zero at =
-    ap (λ r. by_order r ((e.0, e.1) ∷ f ∷ es) ((f.0, e.1) ∷ es) (f ∷ put path_cmp e.0 e.1 es)) (subst (λ q. path_cmp e.0 q ≡ Equal) (sym (at.has_path f)) (tied_itself path_total e.0))
-    ∙ ap (λ q. (q, e.1) ∷ es) (at.has_path f)
-put_at (f ∷ es) h e (suc i) at =
-    ap (λ r. by_order r ((e.0, e.1) ∷ f ∷ es) ((f.0, e.1) ∷ es) (f ∷ put path_cmp e.0 e.1 es)) (before_at f es e.0 i h at)
-    ∙ ap (λ z. f ∷ z) (put_at es (and_parts _ _ h).1 e i (tail_at f es e.0 i at))

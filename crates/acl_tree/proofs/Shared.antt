@@ -1,6 +1,6 @@
 -- What a vector of shared records is seen as.
-use Rattle.std.proofs.Common.{◌≡◌, ℕ, zero, suc, ◌<◌, Bool, true, false, T, List, [], ◌∷◌, ◌++◌, map, get_or, take, drop, Some, refl, ap, sym, subst, ◌∙◌, true≢false}
-use Rattle.std.specs.List.{AllZip, insert, flat_map}
+use Rattle.std.proofs.Common.{◌≡◌, ℕ, ◌<◌, Bool, true, false, T, List, [], ◌∷◌, ◌++◌, map, get_or, take, drop, Some, refl, ap, sym, subst, ◌∙◌, true≢false}
+use Rattle.std.specs.List.{AllZip, flat_map}
 use Rattle.std.specs.FinMap.{find, put}
 use Rattle.std.specs.FinMap.Entries.{is_sorted-put}
 use Rattle.std.proofs.lemmas.List.{get_or-map, length-map, map-append, take-append-drop}
@@ -25,12 +25,6 @@ same_values f [] [] h = refl
 same_values f [] (y ∷ ys) h = absurd h
 same_values f (x ∷ xs) [] h = absurd h
 same_values f (x ∷ xs) (y ∷ ys) h = λ i. h.0 i ∷ same_values f xs ys h.1 i
-
-pub map-insert : {A B : Type 0} (f : A → B) (xs : List A) (i : ℕ) (y : A) → map f (insert xs i y) ≡ insert (map f xs) i (f y)
-map-insert f [] zero y = refl
-map-insert f [] (suc i) y = refl
-map-insert f (x ∷ xs) zero y = refl
-map-insert f (x ∷ xs) (suc i) y = ap (λ z. f x ∷ z) (map-insert f xs i y)
 
 module _ {A : Type 0} (f : A → PathOf × Node) where
   pub at_seen : (xs ys : List A) (p : PathOf) (i : ℕ) → ys ≡ xs → IsAt (map f ys) p i → IsAt (map f xs) p i
