@@ -6,6 +6,7 @@ pub mod Near
 pub mod Edited
 pub mod Follows
 pub mod Loaded
+pub mod Mapped
 pub mod Kept
 pub mod Listed
 pub mod Changes

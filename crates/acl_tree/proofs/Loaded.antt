@@ -63,10 +63,10 @@ module _ (cmp : Key → Key → Ordering) (agrees : (a b : Key) → cmp a b ≡ 
 
 -- ---- path order
 
-abbrev seen : (DumpRecord → Node) → List DumpRecord → Files
+abbrev pub seen : (DumpRecord → Node) → List DumpRecord → Files
 seen h rs = map (λ s. (s.path, h s)) rs
 
-put_insert : (h : DumpRecord → Node) (r : DumpRecord) (rs : List DumpRecord) → seen h (insert_record r rs) ≡ put path_cmp r.path (h r) (seen h rs)
+pub put_insert : (h : DumpRecord → Node) (r : DumpRecord) (rs : List DumpRecord) → seen h (insert_record r rs) ≡ put path_cmp r.path (h r) (seen h rs)
 put_insert h r [] = refl
 put_insert h r (s ∷ rs) = by (path_cmp r.path s.path) refl (put_insert h r rs)
   where

@@ -1,6 +1,8 @@
 -- The records of a dump as files.
-use Rattle.std.specs.Prelude.{List, [], ◌∷◌, length, fold, map, Bool, false, ◌||◌, ◌==◌, if◌then◌else◌, is_some, unwrap_or}
+use Rattle.std.specs.Prelude.{List, [], ◌∷◌, length, fold, map, Bool, false, ◌||◌, ◌==◌, if◌then◌else◌, Option, Some, None, is_some, option_map, unwrap_or}
 use Rattle.std.specs.List.{list_any}
+use Rattle.std.specs.Option.{option_or}
+use Rattle.std.specs.Ordering.{eq_by_cmp}
 use Rattle.std.specs.FinMap.Entries.{by_order}
 use Rattle.acl_names.specs.Paths.{path_cmp}
 use Rattle.acl_dump.specs.declared.record.DumpRecord.{DumpRecord}
@@ -42,3 +44,12 @@ as_files all records = map (λ r. (r.path, node_of (has_below all r.path) r)) re
 -- the files of a dump's records, in path order
 abbrev pub files_of : List DumpRecord → Files
 files_of records = as_files (in_path_order records) (in_path_order records)
+
+-- the record of a path: the last one, if it is repeated
+abbrev pub record_at : PathOf → List DumpRecord → Option DumpRecord
+record_at p [] = None
+record_at p (r ∷ rs) = option_or (record_at p rs) (if eq_by_cmp path_cmp p r.path then Some r else None)
+
+-- the file of a path, where a record has that path: what lies below it is looked for among all records
+abbrev pub loaded_at : PathOf → List DumpRecord → Option Node
+loaded_at p records = option_map (λ r. node_of (has_below records r.path) r) (record_at p records)
