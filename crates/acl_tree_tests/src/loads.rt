@@ -3,7 +3,7 @@ use crate::made::{GROUP, PASSWD, kind, load, path, run, setup};
 use acl_edit::Kind;
 use acl_people::People;
 use acl_text::{FaultKind, TextFault};
-use acl_tree::{Paths, Table, Tree, TreeFault};
+use acl_tree::{Paths, Table, Tree, TreeFault, each_record_is_a_file};
 use std::alloc::Global;
 use std::test::Fail;
 
@@ -109,6 +109,8 @@ fn texts_are_loaded_once_and_people_first(rt: HostRuntime) -> Result<(), Fail> {
 #[test]
 fn files_come_in_path_order(rt: HostRuntime) -> Result<(), Fail> {
     let (tree, _people) = setup(&rt, rt.alloc())?;
+    tree.is_sound();
+    each_record_is_a_file();
     let mut files = tree.iter();
     let root = files.next().expect(&rt, "the root");
     assert_eq!(rt; root.path().components().len(), 0);
