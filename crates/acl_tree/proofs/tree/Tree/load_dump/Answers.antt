@@ -1,4 +1,4 @@
-use Rattle.std.proofs.Common.{true, length, arith, map, sym, ap, subst, ◌∙◌}
+use Rattle.std.proofs.Common.{true, arith, map, sym, ap, subst, ◌∙◌}
 use Rattle.acl_tree.specs.Files.{Files}
 use Rattle.acl_tree.specs.Sound.{IsSoundTree}
 use Rattle.acl_tree.specs.Step.{State}
@@ -9,7 +9,7 @@ use Rattle.acl_tree.proofs.tree.Tree.load_dump.Goals as goal
 pub tree_of-requires : goal.tree_of-requires
 tree_of-requires c =
     subst (λ (files : Files). IsSoundTree (record { files = files; loaded = true })) (sym (ap (λ l. map (λ r. r.value) l) c.deref-2.ensures.value ∙ c.in_ok-files.ensures))
-    (loaded_sound c.deref.result.now (omega (arith, c.if-len-gt-MOST_FILES.false, c.len.ensures, ap length c.deref.ensures.value)))
+    (loaded_sound c.deref.result.now (omega arith))
 
 pub returns-clause-tells : goal.returns-clause-tells
 returns-clause-tells c = λ none.
