@@ -7,7 +7,7 @@ ghost use Rattle.acl_edit.specs.Edits as edits;
 ghost use Rattle.acl_edit.specs.Edits.{worked, access_after, default_after, access_before, default_before, changed_access, changed_default, is_misplaced};
 ghost use Rattle.acl_edit.specs.Nodes.{IsSound};
 ghost use Rattle.acl_edit.specs.Laws.{LeavesUnnamed, ShowsRecalculated, KeepsGranted, GivesModified, GoesByKey, LeavesByKey, CopiesBase, MakesMask, DropsDefault};
-ghost use Rattle.acl_edit.specs.declared.edit.EditFault.TheVariants.{NoMemory};
+ghost use Rattle.acl_edit.specs.declared.edit.EditFault.TheVariants.{DefaultOnFile, NoMemory};
 
 use crate::masks::{complete_mask, has_mask};
 use crate::steps::{fill_from, gives_execute, modify, remove, replace, strip};
@@ -187,6 +187,7 @@ pub(crate) fn change(
 ) -> Result<Node, EditFault>
     ensures made { IfOk result (λ n. edits.change node.now line.now in_recursion ≡ Ok n) }
     ensures told { IfErr result (λ fault. fault ≢ NoMemory → edits.change node.now line.now in_recursion ≡ Err fault) }
+    ensures misplaced { edits.change node.now line.now in_recursion ≡ Err DefaultOnFile → result ≡ Err DefaultOnFile }
     ensures unnamed { IfOk result (LeavesUnnamed node.now line.now) }
     ensures shown { IfOk result (ShowsRecalculated node.now line.now) }
     ensures granted { IfOk result (KeepsGranted node.now line.now) }

@@ -4,7 +4,7 @@ ghost use Rattle.acl_edit.specs.Edits as edits;
 ghost use Rattle.acl_edit.specs.Edits.{allowed};
 ghost use Rattle.acl_edit.specs.Nodes.{IsSound, HasValidLists};
 ghost use Rattle.acl_edit.specs.Laws.{LeavesUnnamed, ShowsRecalculated, KeepsGranted, GivesModified, GoesByKey, LeavesByKey, CopiesBase, MakesMask, DropsDefault, OfLine, GivesBack};
-ghost use Rattle.acl_edit.specs.declared.edit.EditFault.TheVariants.{NoMemory};
+ghost use Rattle.acl_edit.specs.declared.edit.EditFault.TheVariants.{DefaultOnFile, NoMemory};
 
 use crate::change::{change, clone_of};
 use crate::{Edit, EditFault, Kind, Node};
@@ -17,12 +17,13 @@ use std::alloc::{AllocError, Global};
 ///
 /// # Errors
 ///
-/// Default entries or a default list for a file that is no directory, but in a recursion; a resulting
-/// list that is none; want of memory.
+/// Default entries or a default list for a file that is no directory, but in a recursion, which takes no
+/// memory to tell; a resulting list that is none; want of memory.
 #[tactic(auto, unfolding(crate::specs::Edits::restore))]
 pub fn apply(alloc: Global, node: &Node, edit: &Edit, in_recursion: bool) -> Result<Node, EditFault>
     ensures made { IfOk result (λ n. edits.edit node.now edit.now in_recursion ≡ Ok n) }
     ensures told { IfErr result (λ fault. fault ≢ NoMemory → edits.edit node.now edit.now in_recursion ≡ Err fault) }
+    ensures misplaced { edits.edit node.now edit.now in_recursion ≡ Err DefaultOnFile → result ≡ Err DefaultOnFile }
 
     ensures valid { IfOk result HasValidLists }
     ensures sound { IsSound node.now → IfOk result IsSound }
@@ -75,6 +76,7 @@ fn allowed(
 ) -> Result<Option<Acl>, EditFault>
     ensures made { IfOk result (λ d. allowed kind in_recursion dacl.now ≡ Ok d) }
     ensures told { IfErr result (λ fault. fault ≢ NoMemory → allowed kind in_recursion dacl.now ≡ Err fault) }
+    ensures misplaced { allowed kind in_recursion dacl.now ≡ Err DefaultOnFile → result ≡ Err DefaultOnFile }
     ensures sound { kind ≡ Kind.Plain → IfOk result (λ d. d ≡ None) }
 {
     match kind {
@@ -95,6 +97,7 @@ fn put(
 ) -> Result<Node, EditFault>
     ensures made { IfOk result (λ n. edits.put node.now access.now dacl.now in_recursion ≡ Ok n) }
     ensures told { IfErr result (λ fault. fault ≢ NoMemory → edits.put node.now access.now dacl.now in_recursion ≡ Err fault) }
+    ensures misplaced { edits.put node.now access.now dacl.now in_recursion ≡ Err DefaultOnFile → result ≡ Err DefaultOnFile }
     ensures sound { IsSound node.now → IfOk result IsSound }
 {
     let given = allowed(alloc, node.kind, in_recursion, dacl)?;
