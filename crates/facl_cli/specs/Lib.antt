@@ -1,2 +1,4 @@
 pub mod Files
 pub mod Lines
+pub mod Words
+pub mod Program

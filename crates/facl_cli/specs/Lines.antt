@@ -1,5 +1,9 @@
--- The line that the program prints of a fault.
-use Rattle.std.specs.Prelude.{ℕ, List, [], ◌∷◌, ◌++◌, codes, string_bytes}
+-- The faults of the program, the line that it prints of each, and the status that it ends with.
+use Rattle.std.specs.Prelude.{ℕ, Bool, true, false, List, [], ◌∷◌, ◌++◌, Result, Ok, Err, codes, string_bytes, if◌then◌else◌}
+use Rattle.std.specs.declared.io.ErrorKind.{ErrorKind}
+use Rattle.std.specs.declared.io.ErrorKind.TheVariants.{OutOfMemory}
+use Rattle.facl.specs.Runs.{has_refused}
+use Rattle.facl.specs.declared.status.Status.{Status}
 use Rattle.facl_messages.specs.Messages.{run_fault_text}
 use Rattle.facl_words.specs.declared.fault.WordsFault.{WordsFault}
 use Rattle.facl_words.specs.declared.fault.WordsFault.TheVariants as words
@@ -11,6 +15,11 @@ abbrev pub fault_by_words : WordsFault → ProgramFault
 fault_by_words words.Usage = Usage
 fault_by_words words.NoMemory = NoMemory
 
+-- the system had no memory
+abbrev pub wants_memory : ErrorKind → Bool
+wants_memory OutOfMemory = true
+wants_memory kind = false
+
 abbrev pub fault_text : ProgramFault → List ℕ
 fault_text Usage = codes "usage"
 fault_text (CannotRead file) = string_bytes file ++ codes ": cannot read"
@@ -19,3 +28,8 @@ fault_text NoMemory = codes "no memory"
 
 abbrev pub fault_line : ProgramFault → List ℕ
 fault_line fault = codes "facl: " ++ fault_text fault ++ 10 ∷ []
+
+-- 1 where a line was refused, 2 at a fault of the program, else 0
+abbrev pub status_of : Result Status ProgramFault → ℕ
+status_of (Ok status) = if has_refused status then 1 else 0
+status_of (Err fault) = 2

@@ -1,25 +1,58 @@
 //! The program's own words.
 
+ghost use Rattle.std.specs.Prelude.{◌≡◌, ◌⊎◌, MatchResult, None, Some, map, string_bytes, if◌then◌else◌};
+ghost use Rattle.std.specs.IoError.{error_kind};
+ghost use Rattle.facl_cli.specs.declared.fault.ProgramFault.TheVariants as faults;
+ghost use Rattle.facl_cli.specs.Lines.{wants_memory};
+ghost use Rattle.facl_cli.specs.Words.{files_named, names_of};
+
 use crate::fault::ProgramFault;
 use facl::read_args;
+use std::alloc::Global;
 use std::env::Env;
 use std::io::ErrorKind;
 use std::{env, io};
 
 /// The fault of words that cannot be had: one of them is no text, or there is no memory.
-fn words_fault(error: &io::Error) -> ProgramFault {
+fn words_fault(error: &io::Error) -> ProgramFault
+    ensures { result ≡ if wants_memory (error_kind error.now) then faults.NoMemory else faults.Usage }
+{
     match error.kind() {
         ErrorKind::OutOfMemory => ProgramFault::NoMemory,
         _ => ProgramFault::Usage,
     }
 }
 
-/// The files of `--passwd`, `--group` and `--dump`, in this order; none for an absent option.
-pub fn files_given(rt: &(impl Env + AllocGlobal)) -> Result<[Option<String>; 3], ProgramFault> {
-    let words: Vec<String> = match env::args(rt) {
-        Ok(words) => words.collect(rt.alloc())?,
-        Err(error) => return Err(words_fault(&error)),
-    };
+/// The words of the program, its name first. What they are is the system's to say.
+pub fn words_given(rt: &(impl Env + AllocGlobal)) -> Result<Vec<String>, ProgramFault> {
+    match env::args(rt) {
+        Ok(words) => Ok(words.collect(rt.alloc())?),
+        Err(error) => Err(words_fault(&error)),
+    }
+}
+
+/// The files that are loaded before the script, each if it is given.
+#[derive(Drop)]
+pub struct Files {
+    /// Of `--passwd`.
+    pub passwd: Option<String>,
+    /// Of `--group`.
+    pub group: Option<String>,
+    /// Of `--dump`.
+    pub dump: Option<String>,
+}
+
+/// The files that the words name. The first of the words is the program's name.
+pub fn files_named(alloc: Global, words: &[String]) -> Result<Files, ProgramFault>
+    ensures { MatchResult result
+        (λ files. files_named (map string_bytes words.now) ≡ Some (names_of files))
+        (λ fault. (fault ≡ faults.NoMemory) ⊎ ((fault ≡ faults.Usage) × (files_named (map string_bytes words.now) ≡ None))) }
+{
     let after_name = words.get(1..).unwrap_or(&[]);
-    Ok(read_args(rt.alloc(), after_name)?)
+    let [passwd, group, dump] = read_args(alloc, after_name)?;
+    Ok(Files {
+        passwd,
+        group,
+        dump,
+    })
 }
