@@ -43,10 +43,13 @@ mkdir "$folder/tree" && cd "$folder/tree"
 sed -E 's/(user|group):[ug]([0-9]+):/\1:10\2:/; /^# (owner|group):/d' ../dump >../restored
 sed -n 's/^# file: \(.*\)\/$/\1/p' ../dump | xargs mkdir -p
 sed -n 's/^# file: \(.*[^/.]\)$/\1/p' ../dump | xargs touch
+# What a command takes, a file; a command that fails is told and not measured.
 seconds() {
-    local begun=$EPOCHREALTIME
-    "$@" >/dev/null 2>&1
-    echo "$EPOCHREALTIME $begun" | awk -v n=$files '{ printf "%.2f us", ($1 - $2) / n * 1e6 }'
+    local begun=$EPOCHREALTIME ended status=0
+    "$@" >/dev/null 2>&1 || status=$?
+    ended=$EPOCHREALTIME
+    [ $status -eq 0 ] || { echo "failed with status $status" && return; }
+    echo "$ended $begun" | awk -v n=$files '{ printf "%.2f us", ($1 - $2) / n * 1e6 }'
 }
 echo
 echo "| Real tools, $files files | a file |"
