@@ -1,5 +1,6 @@
 -- The faults of the program, the line that it prints of each, and the status that it ends with.
-use Rattle.std.specs.Prelude.{ℕ, Bool, true, false, List, [], ◌∷◌, ◌++◌, Result, Ok, Err, codes, string_bytes, if◌then◌else◌}
+use Rattle.std.specs.Prelude.{◌≡◌, ◌⊎◌, ℕ, Bool, true, false, List, [], ◌∷◌, ◌++◌, Option, Result, Ok, Err, codes, string_bytes, if◌then◌else◌}
+use Rattle.std.specs.Io.KnownBytes.{Appends}
 use Rattle.std.specs.declared.io.ErrorKind.{ErrorKind}
 use Rattle.std.specs.declared.io.ErrorKind.TheVariants.{OutOfMemory}
 use Rattle.facl.specs.Runs.{has_refused}
@@ -33,3 +34,8 @@ fault_line fault = codes "facl: " ++ fault_text fault ++ 10 ∷ []
 abbrev pub status_of : Result Status ProgramFault → ℕ
 status_of (Ok status) = if has_refused status then 1 else 0
 status_of (Err fault) = 2
+
+-- At a fault its line is added, or that of want of memory, or the writer has failed; else nothing is.
+abbrev pub IsTold : Result Status ProgramFault → (err err' : Option (List ℕ)) → Bool → Type 0
+IsTold (Ok status) err err' failed = err' ≡ err
+IsTold (Err fault) err err' failed = (Appends err err' (fault_line fault) ⊎ Appends err err' (fault_line NoMemory)) ⊎ (failed ≡ true)

@@ -11,7 +11,7 @@ mod program;
 
 use crate::args::words_given;
 use crate::fault::ProgramFault;
-use crate::program::{answer_words, ending, tell};
+use crate::program::{answer_words, end};
 use facl::{Status, StdFeed, StdSink};
 use std::process::ExitCode;
 
@@ -26,9 +26,5 @@ fn answer(rt: &HostRuntime) -> Result<Status, ProgramFault> {
 
 fn main(rt: HostRuntime) -> ExitCode {
     let outcome = answer(&rt);
-    if let Err(fault) = &outcome {
-        // A fault of standard error itself cannot be told.
-        let _ = tell(rt.alloc(), fault, &mut rt.stderr());
-    }
-    ending(&outcome)
+    end(rt.alloc(), &outcome, &mut StdSink::new(rt.stderr()))
 }

@@ -1,10 +1,10 @@
 //! The program over any words, files and devices: how its parts are joined.
 
-ghost use Rattle.std.specs.Prelude.{◌≡◌, ◌⊎◌, false, IfErr, IfOk, IfSome, OnOk, map, string_bytes};
+ghost use Rattle.std.specs.Prelude.{◌≡◌, ◌⊎◌, false, IfErr, IfOk, IfSome, OnErr, OnOk, true, map, string_bytes};
 ghost use Rattle.std.specs.Io.KnownBytes.{Appends};
 ghost use Rattle.std.specs.Process.{exit_status};
 ghost use Rattle.facl_cli.specs.Files.{texts_of};
-ghost use Rattle.facl_cli.specs.Lines.{fault_line, status_of};
+ghost use Rattle.facl_cli.specs.Lines.{IsTold, fault_line, status_of};
 ghost use Rattle.facl_cli.specs.Program.{FailsBy, HaveTexts, IsUnloaded, Ran};
 ghost use Rattle.facl_cli.specs.declared.fault.ProgramFault.TheVariants as faults;
 
@@ -12,9 +12,8 @@ use crate::args::files_named;
 use crate::fault::{ProgramFault, fault_line};
 use crate::files::{Shelf, Texts, read_texts};
 use facl::{Feed, Sink, Status, run};
+use facl_script::{ScriptFault, write_whole};
 use std::alloc::Global;
-use std::io;
-use std::io::Write;
 use std::process::ExitCode;
 
 /// What the program ends with at a fault.
@@ -56,23 +55,31 @@ pub fn answer_words<S: Shelf, R: Feed, O: Sink, E: Sink>(
 }
 
 /// Prints the line of a fault, or that of want of memory where there is none for it.
-pub fn tell<W: Write>(alloc: Global, fault: &ProgramFault, err: &mut W) -> io::Result<()>
-    ensures { OnOk result (
-        Appends (W.contents err.old) (W.contents err.new) (fault_line fault.now)
-        ⊎ Appends (W.contents err.old) (W.contents err.new) (fault_line faults.NoMemory)) }
+fn tell<E: Sink>(alloc: Global, fault: &ProgramFault, err: &mut E) -> Result<(), ScriptFault>
+    requires { E.has_failed err.old ≡ false }
+    ensures ok { OnOk result (
+        Appends (E.contents err.old) (E.contents err.new) (fault_line fault.now)
+        ⊎ Appends (E.contents err.old) (E.contents err.new) (fault_line faults.NoMemory)) }
+    ensures err { OnErr result (E.has_failed err.new ≡ true) }
 {
     match fault_line(alloc, fault) {
-        Ok(line) => err.write_all(&line),
-        Err(_) => err.write_all(b"facl: no memory\n"),
+        Ok(line) => write_whole(err, &line),
+        Err(_) => write_whole(err, b"facl: no memory\n"),
     }
 }
 
-/// What the program ends with: 0 where every line was accepted, 1 where some line was refused, 2 at a fault.
-pub fn ending(outcome: &Result<Status, ProgramFault>) -> ExitCode
-    ensures { exit_status result ≡ status_of outcome.now }
+/// Tells a fault, and says what the program ends with: 0 where every line was accepted, 1 where some line was refused, 2 at
+/// a fault. A fault of standard error itself cannot be told.
+pub fn end<E: Sink>(alloc: Global, outcome: &Result<Status, ProgramFault>, err: &mut E) -> ExitCode
+    requires { E.has_failed err.old ≡ false }
+    ensures status { exit_status result ≡ status_of outcome.now }
+    ensures told { IsTold outcome.now (E.contents err.old) (E.contents err.new) (E.has_failed err.new) }
 {
     match outcome {
         Ok(status) => ExitCode::from(status.code()),
-        Err(_) => ExitCode::from(FAULT_STATUS),
+        Err(fault) => {
+            let _ = tell(alloc, fault, err);
+            ExitCode::from(FAULT_STATUS)
+        }
     }
 }
