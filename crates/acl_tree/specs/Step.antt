@@ -1,5 +1,5 @@
 -- The whole state, and what a command makes of it.
-use Rattle.std.specs.Prelude.{◌≡◌, ◌≢◌, ℕ, List, length, Bool, true, nat_lt, if◌then◌else◌, Option, Some, None, Result, Ok, Err, MatchResult, refl}
+use Rattle.std.specs.Prelude.{◌≡◌, ◌≢◌, ℕ, List, length, Bool, true, false, nat_lt, if◌then◌else◌, Option, Some, None, Result, Ok, Err, MatchResult, refl}
 use Rattle.std.specs.Coded.{Coded, code_by, coded×}
 use Rattle.acl_text.specs.declared.fault.TextFault.{TextFault}
 use Rattle.acl_dump.specs.declared.record.DumpRecord.{DumpRecord}
@@ -70,6 +70,11 @@ load s Group bytes = if s.tree.loaded then Err AlreadyLoaded else with_people s 
 load s Dump bytes = if s.tree.loaded then Err AlreadyLoaded else load_dump s bytes
 
 -- ---- all commands
+
+-- whether a command loads a text
+abbrev pub is_load : Command → Bool
+is_load (Load which bytes) = true
+is_load (Chmod paths mode recursive) = false
 
 -- the state after a command, or its first fault
 abbrev pub step : State → Command → Result State TreeFault

@@ -1,8 +1,8 @@
 //! Commands on the whole state: each is prepared whole, or refused.
 
-ghost use Rattle.std.specs.Prelude.{◌≡◌, [], IfOk, IfErr, OnOk, Err};
-ghost use Rattle.acl_tree.specs.Step.{chmod_all, or_missing, tree_fault, load, step, Stages};
-ghost use Rattle.acl_tree.specs.declared.command.TreeFault.TheVariants.{NoMemory};
+ghost use Rattle.std.specs.Prelude.{◌≡◌, [], true, IfOk, IfErr, OnOk, Err};
+ghost use Rattle.acl_tree.specs.Step.{chmod_all, or_missing, tree_fault, load, is_load, step, Stages};
+ghost use Rattle.acl_tree.specs.declared.command.TreeFault.TheVariants.{AlreadyLoaded, NoMemory};
 ghost use Rattle.acl_people.specs.Registers.{Register};
 ghost use Rattle.acl_tree.specs.Operands.{first_missing};
 ghost use Rattle.acl_tree.specs.Sound.{IsSoundTree};
@@ -35,7 +35,7 @@ impl Tree {
     ///
     /// The command's first fault. A load tells `AlreadyLoaded` before any look at the text, then the text's
     /// first fault, then `TooMany`; a chmod tells `NoSuchFile` of the first operand that is not recorded. Or
-    /// `NoMemory`.
+    /// `NoMemory`; after a dump every load is told `AlreadyLoaded`, whatever memory there is.
     pub fn prepare(
         &self,
         alloc: Global,
@@ -43,6 +43,7 @@ impl Tree {
         command: &Command,
     ) -> Result<Staged, TreeFault>
         ensures made { Stages (λ s. s.state) result (step (record { tree = self.now; people = people.now }) command.now) }
+        ensures loaded { self.now.loaded ≡ true → is_load command.now ≡ true → result ≡ Err AlreadyLoaded }
         ensures sound { IfOk result (λ staged. IsSoundTree staged.state.tree) }
         ensures tells { IfOk result (λ staged. Tells (record { tree = self.now; people = people.now }) staged) }
         ensures moved { IfOk result (λ staged. staged.moved ≡ users_move command.now) }
@@ -65,6 +66,7 @@ impl Tree {
         bytes: &[u8],
     ) -> Result<Staged, TreeFault>
         ensures made { Stages (λ s. s.state) result (load (record { tree = self.now; people = people.now }) which bytes.now) }
+        ensures loaded { self.now.loaded ≡ true → result ≡ Err AlreadyLoaded }
         ensures sound { IfOk result (λ staged. IsSoundTree staged.state.tree) }
         ensures tells { IfOk result (λ staged. Tells (record { tree = self.now; people = people.now }) staged) }
         ensures moved { IfOk result (λ staged. staged.moved ≡ load_moves which) }
