@@ -5,3 +5,4 @@ pub mod Given
 pub mod ByKey
 pub mod Lines
 pub mod Restored
+pub mod Sizes

@@ -1,11 +1,13 @@
 //! What a setfacl(1) line leaves of a file's lists.
-ghost use Rattle.std.specs.Prelude.{◌≡◌, ◌≢◌, ◌||◌, None, Ok, Err, IfOk, IfErr, OnOk, if◌then◌else◌};
+ghost use Rattle.std.specs.Prelude.{◌≡◌, ◌≢◌, ◌+◌, ◌||◌, None, Ok, Err, IfOk, IfErr, IsOk, OnOk, if◌then◌else◌};
 ghost use Rattle.acl_edit.specs.Parts.{part};
 ghost use Rattle.acl_edit.specs.Masks.{takes_mask};
 ghost use Rattle.acl_edit.specs.Steps as steps;
 ghost use Rattle.acl_edit.specs.Edits as edits;
 ghost use Rattle.acl_edit.specs.Edits.{worked, access_after, default_after, access_before, default_before, changed_access, changed_default, is_misplaced};
 ghost use Rattle.acl_edit.specs.Nodes.{IsSound};
+ghost use Rattle.acl_edit.specs.Rooms.{Fits, HasRoom, size, size_of, puts_of};
+ghost use Rattle.acl_text.specs.declared.fault.Which.TheVariants.{Access, Default};
 ghost use Rattle.acl_edit.specs.Laws.{LeavesUnnamed, ShowsRecalculated, KeepsGranted, GivesModified, GoesByKey, LeavesByKey, CopiesBase, MakesMask, DropsDefault};
 ghost use Rattle.acl_edit.specs.declared.edit.EditFault.TheVariants.{DefaultOnFile, NoMemory};
 
@@ -35,6 +37,7 @@ impl Change {
     ) -> Result<bool, AllocError>
         ensures list { OnOk result (draft.new ≡ worked x (part self.now which) draft.old) }
         ensures lost { IfOk result (λ lost. lost ≡ takes_mask (part self.now which) (steps.replace x (part self.now which).set draft.old)) }
+        ensures room { Fits (size draft.old + puts_of (part self.now which)) → IsOk result }
     {
         let scope = self.scope(which);
         replace(alloc, draft, scope, x, self.set.as_slice())?;
@@ -47,7 +50,8 @@ impl Change {
     // The line's steps on an access list.
     #[tactic(auto, unfolding(crate::specs::Edits::access_after))]
     fn edit_access(&self, alloc: Global, x: bool, draft: &mut Draft) -> Result<(), AllocError>
-        ensures { OnOk result (draft.new ≡ access_after self.now x draft.old) }
+        ensures edited { OnOk result (draft.new ≡ access_after self.now x draft.old) }
+        ensures room { Fits (size draft.old + puts_of (part self.now Access) + 1) → IsOk result }
     {
         if self.names(Which::Access) {
             let lost = self.work(alloc, Which::Access, x, draft)?;
@@ -65,7 +69,8 @@ impl Change {
         acl: &Acl,
         draft: &mut Draft,
     ) -> Result<(), AllocError>
-        ensures { OnOk result (draft.new ≡ default_after self.now x acl.now draft.old) }
+        ensures edited { OnOk result (draft.new ≡ default_after self.now x acl.now draft.old) }
+        ensures room { Fits (size draft.old + puts_of (part self.now Default) + 4) → IsOk result }
     {
         if self.names(Which::Default) {
             let lost = self.work(alloc, Which::Default, x, draft)?;
@@ -79,7 +84,8 @@ impl Change {
 
     // The access list that the steps begin with.
     fn access_before(&self, alloc: Global, acl: &Acl) -> Result<Draft, AllocError>
-        ensures { IfOk result (λ draft. draft ≡ access_before self.now acl.now) }
+        ensures begun { IfOk result (λ draft. draft ≡ access_before self.now acl.now) }
+        ensures room { Fits (size (access_before self.now acl.now)) → IsOk result }
     {
         if self.strip {
             strip(alloc, acl)
@@ -90,7 +96,8 @@ impl Change {
 
     // The default list of a file that is no directory, if there is one: -b and -k leave none.
     fn kept_default(&self, alloc: Global, dacl: &Option<Acl>) -> Result<Option<Acl>, AllocError>
-        ensures { IfOk result (λ kept. kept ≡ (if self.now.strip || self.now.drop_default then None else dacl.now)) }
+        ensures kept { IfOk result (λ kept. kept ≡ (if self.now.strip || self.now.drop_default then None else dacl.now)) }
+        ensures room { Fits (size_of dacl.now) → IsOk result }
     {
         if self.strip || self.drop_default {
             return Ok(None);
@@ -100,7 +107,8 @@ impl Change {
 
     // The default list that the steps begin with.
     fn default_before(&self, alloc: Global, dacl: &Option<Acl>) -> Result<Draft, AllocError>
-        ensures { IfOk result (λ draft. draft ≡ default_before self.now dacl.now) }
+        ensures begun { IfOk result (λ draft. draft ≡ default_before self.now dacl.now) }
+        ensures room { Fits (size (default_before self.now dacl.now)) → IsOk result }
     {
         match dacl {
             Some(acl) if !self.strip && !self.drop_default => Draft::of(alloc, acl),
@@ -113,6 +121,7 @@ impl Change {
 fn checked(which: Which, draft: Draft) -> Result<Acl, EditFault>
     ensures made { IfOk result (λ acl. edits.checked which draft ≡ Ok acl) }
     ensures told { IfErr result (λ fault. edits.checked which draft ≡ Err fault) }
+    ensures memory { result ≢ Err NoMemory }
 {
     match draft.finish() {
         Ok(acl) => Ok(acl),
@@ -124,6 +133,7 @@ fn checked(which: Which, draft: Draft) -> Result<Acl, EditFault>
 fn checked_default(draft: Draft) -> Result<Option<Acl>, EditFault>
     ensures made { IfOk result (λ dacl. edits.checked_default draft ≡ Ok dacl) }
     ensures told { IfErr result (λ fault. edits.checked_default draft ≡ Err fault) }
+    ensures memory { result ≢ Err NoMemory }
 {
     if draft.entries().is_empty() {
         return Ok(None);
@@ -135,6 +145,7 @@ fn changed_access(alloc: Global, node: &Node, change: &Change, x: bool) -> Resul
     requires { x ≡ steps.gives_execute node.now }
     ensures made { IfOk result (λ acl. changed_access node.now change.now ≡ Ok acl) }
     ensures told { IfErr result (λ fault. fault ≢ NoMemory → changed_access node.now change.now ≡ Err fault) }
+    ensures room { HasRoom node.now change.now → result ≢ Err NoMemory }
 {
     let mut draft = change.access_before(alloc, &node.label.acl)?;
     change.edit_access(alloc, x, &mut draft)?;
@@ -151,6 +162,7 @@ fn changed_default(
     requires { x ≡ steps.gives_execute node.now }
     ensures made { IfOk result (λ dacl. changed_default node.now.kind node.now change.now acl.now ≡ Ok dacl) }
     ensures told { IfErr result (λ fault. fault ≢ NoMemory → changed_default node.now.kind node.now change.now acl.now ≡ Err fault) }
+    ensures room { HasRoom node.now change.now → result ≢ Err NoMemory }
 {
     if node.kind == Kind::Plain {
         return Ok(change.kept_default(alloc, &node.dacl)?);
@@ -162,7 +174,8 @@ fn changed_default(
 
 // The same list again, if there is one.
 pub(crate) fn clone_of(alloc: Global, acl: &Option<Acl>) -> Result<Option<Acl>, AllocError>
-    ensures { IfOk result (λ clone. clone ≡ acl.now) }
+    ensures same { IfOk result (λ clone. clone ≡ acl.now) }
+    ensures room { Fits (size_of acl.now) → IsOk result }
 {
     match acl {
         Some(acl) => Ok(Some(acl.try_clone(alloc)?)),
@@ -188,6 +201,7 @@ pub(crate) fn change(
     ensures made { IfOk result (λ n. edits.change node.now line.now in_recursion ≡ Ok n) }
     ensures told { IfErr result (λ fault. fault ≢ NoMemory → edits.change node.now line.now in_recursion ≡ Err fault) }
     ensures misplaced { edits.change node.now line.now in_recursion ≡ Err DefaultOnFile → result ≡ Err DefaultOnFile }
+    ensures room { HasRoom node.now line.now → result ≢ Err NoMemory }
     ensures unnamed { IfOk result (LeavesUnnamed node.now line.now) }
     ensures shown { IfOk result (ShowsRecalculated node.now line.now) }
     ensures granted { IfOk result (KeepsGranted node.now line.now) }

@@ -1,6 +1,7 @@
 //! New files: acl(5), "OBJECT CREATION AND DEFAULT ACLs".
-ghost use Rattle.std.specs.Prelude.{◌≡◌, IfOk, IfErr};
+ghost use Rattle.std.specs.Prelude.{◌≡◌, IfOk, IfErr, IsOk};
 ghost use Rattle.acl_edit.specs.Nodes.{IsSound, HasValidLists};
+ghost use Rattle.acl_edit.specs.Rooms.{Fits, size_of};
 ghost use Rattle.acl_edit.specs.Creation.{inherit, inherited_access};
 ghost use Rattle.acl_edit.specs.declared.edit.EditFault.TheVariants.{NoMemory};
 
@@ -18,7 +19,7 @@ use std::alloc::{AllocError, Global};
 ///
 /// # Errors
 ///
-/// Want of memory.
+/// Want of memory, never where the directory's default list has at most eight entries.
 pub fn create(
     alloc: Global,
     parent: &Node,
@@ -32,6 +33,7 @@ pub fn create(
     ensures valid { IfOk result HasValidLists }
     ensures sound { IfOk result IsSound }
     ensures told { IfErr result (λ fault. fault ≡ NoMemory) }
+    ensures room { Fits (size_of parent.now.dacl) → IsOk result }
 {
     let node = inherit(alloc, parent, kind, mode, umask, owner, group)?;
     node.lists_are_valid();
@@ -48,7 +50,8 @@ fn inherit(
     owner: Id,
     group: Id,
 ) -> Result<Node, AllocError>
-    ensures { IfOk result (λ node. node ≡ inherit parent.now kind mode umask owner group) }
+    ensures made { IfOk result (λ node. node ≡ inherit parent.now kind mode umask owner group) }
+    ensures room { Fits (size_of parent.now.dacl) → IsOk result }
 {
     let [_setuid, setgid, _sticky] = parent.flags;
     let acl = inherited_access(alloc, &parent.dacl, mode, umask)?;
@@ -77,7 +80,8 @@ fn inherited_access(
     mode: u16,
     umask: u16,
 ) -> Result<Acl, AllocError>
-    ensures { IfOk result (λ acl. acl ≡ inherited_access dacl.now mode umask) }
+    ensures made { IfOk result (λ acl. acl ≡ inherited_access dacl.now mode umask) }
+    ensures room { Fits (size_of dacl.now) → IsOk result }
 {
     match dacl {
         Some(dacl) => {

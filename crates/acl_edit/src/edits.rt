@@ -1,8 +1,9 @@
 //! Edits of one file.
-ghost use Rattle.std.specs.Prelude.{◌≡◌, ◌≢◌, None, Ok, Err, IfOk, IfErr};
+ghost use Rattle.std.specs.Prelude.{◌≡◌, ◌≢◌, None, Ok, Err, IfOk, IfErr, IsOk};
 ghost use Rattle.acl_edit.specs.Edits as edits;
 ghost use Rattle.acl_edit.specs.Edits.{allowed};
 ghost use Rattle.acl_edit.specs.Nodes.{IsSound, HasValidLists};
+ghost use Rattle.acl_edit.specs.Rooms.{Fits, HasShortLists, IsSmall, size_of};
 ghost use Rattle.acl_edit.specs.Laws.{LeavesUnnamed, ShowsRecalculated, KeepsGranted, GivesModified, GoesByKey, LeavesByKey, CopiesBase, MakesMask, DropsDefault, OfLine, GivesBack};
 ghost use Rattle.acl_edit.specs.declared.edit.EditFault.TheVariants.{DefaultOnFile, NoMemory};
 
@@ -18,12 +19,14 @@ use std::alloc::{AllocError, Global};
 /// # Errors
 ///
 /// Default entries or a default list for a file that is no directory, but in a recursion, which takes no
-/// memory to tell; a resulting list that is none; want of memory.
+/// memory to tell; a resulting list that is none; want of memory, never where the file's lists and those
+/// of the edit have a few entries: eight, with all that a setfacl(1) line puts into one.
 #[tactic(auto, unfolding(crate::specs::Edits::restore))]
 pub fn apply(alloc: Global, node: &Node, edit: &Edit, in_recursion: bool) -> Result<Node, EditFault>
     ensures made { IfOk result (λ n. edits.edit node.now edit.now in_recursion ≡ Ok n) }
     ensures told { IfErr result (λ fault. fault ≢ NoMemory → edits.edit node.now edit.now in_recursion ≡ Err fault) }
     ensures misplaced { edits.edit node.now edit.now in_recursion ≡ Err DefaultOnFile → result ≡ Err DefaultOnFile }
+    ensures room { IsSmall node.now edit.now → result ≢ Err NoMemory }
 
     ensures valid { IfOk result HasValidLists }
     ensures sound { IsSound node.now → IfOk result IsSound }
@@ -77,6 +80,7 @@ fn allowed(
     ensures made { IfOk result (λ d. allowed kind in_recursion dacl.now ≡ Ok d) }
     ensures told { IfErr result (λ fault. fault ≢ NoMemory → allowed kind in_recursion dacl.now ≡ Err fault) }
     ensures misplaced { allowed kind in_recursion dacl.now ≡ Err DefaultOnFile → result ≡ Err DefaultOnFile }
+    ensures room { Fits (size_of dacl.now) → result ≢ Err NoMemory }
     ensures sound { kind ≡ Kind.Plain → IfOk result (λ d. d ≡ None) }
 {
     match kind {
@@ -98,6 +102,7 @@ fn put(
     ensures made { IfOk result (λ n. edits.put node.now access.now dacl.now in_recursion ≡ Ok n) }
     ensures told { IfErr result (λ fault. fault ≢ NoMemory → edits.put node.now access.now dacl.now in_recursion ≡ Err fault) }
     ensures misplaced { edits.put node.now access.now dacl.now in_recursion ≡ Err DefaultOnFile → result ≡ Err DefaultOnFile }
+    ensures room { HasShortLists node.now → Fits (size_of access.now) → Fits (size_of dacl.now) → result ≢ Err NoMemory }
     ensures sound { IsSound node.now → IfOk result IsSound }
 {
     let given = allowed(alloc, node.kind, in_recursion, dacl)?;
@@ -116,6 +121,7 @@ fn put(
 #[tactic(auto, unfolding(crate::specs::Edits::flatten))]
 fn flatten(alloc: Global, node: &Node, access: bool, dacl: bool) -> Result<Node, AllocError>
     ensures made { IfOk result (λ n. n ≡ edits.flatten node.now access dacl) }
+    ensures room { HasShortLists node.now → IsOk result }
     ensures sound { IsSound node.now → IfOk result IsSound }
 {
     let acl = if access {
@@ -139,7 +145,8 @@ impl Edit {
     ///
     /// Want of memory.
     pub fn restoring(alloc: Global, node: &Node) -> Result<Edit, AllocError>
-        ensures { IsSound node.now → IfOk result (GivesBack node.now) }
+        ensures gives_back { IsSound node.now → IfOk result (GivesBack node.now) }
+        ensures room { HasShortLists node.now → IsOk result }
     {
         Ok(Edit::Restore {
             access: node.label.acl.try_clone(alloc)?,

@@ -1,6 +1,7 @@
 //! The mask that a setfacl(1) line leaves in a list that it names.
-ghost use Rattle.std.specs.Prelude.{◌≡◌, OnOk, map, filter};
-ghost use Rattle.acl_entry.specs.Lists.{union_all, in_class, perm_of_entry};
+ghost use Rattle.std.specs.Prelude.{◌≡◌, ◌<◌, IsOk, OnOk, map, filter};
+ghost use Rattle.acl_entry.specs.Lists.{union_all, in_class, perm_of_entry, inline_entries};
+ghost use Rattle.acl_edit.specs.Rooms.{size};
 ghost use Rattle.acl_edit.specs.Parts.{part};
 ghost use Rattle.acl_edit.specs.Masks as masks;
 ghost use Rattle.acl_edit.specs.Masks.{has_mask, has_named, is_recalculated};
@@ -38,7 +39,8 @@ fn class_union(entries: &[Entry]) -> Perm
 
 // Gives a list with named entries and without a mask one that is equal to the owning group.
 fn add_mask(draft: &mut Draft) -> Result<(), AllocError>
-    ensures { OnOk result (draft.new ≡ masks.add_mask draft.old) }
+    ensures added { OnOk result (draft.new ≡ masks.add_mask draft.old) }
+    ensures room { size draft.old < inline_entries → IsOk result }
 {
     if has_named(draft) && !has_mask(draft) {
         if let Some(perm) = draft.get(Key::OwningGroup) {
@@ -50,7 +52,8 @@ fn add_mask(draft: &mut Draft) -> Result<(), AllocError>
 
 // Makes a mask that stands all that the group class has.
 fn recalculate(draft: &mut Draft) -> Result<(), AllocError>
-    ensures { OnOk result (draft.new ≡ masks.recalculate draft.old) }
+    ensures recalculated { OnOk result (draft.new ≡ masks.recalculate draft.old) }
+    ensures room { IsOk result }
 {
     if has_mask(draft) {
         let all = class_union(draft.entries());
@@ -72,7 +75,8 @@ pub(crate) fn complete_mask(
     which: Which,
     lost: bool,
 ) -> Result<(), AllocError>
-    ensures { OnOk result (draft.new ≡ masks.with_mask change.now (part change.now which) lost draft.old) }
+    ensures completed { OnOk result (draft.new ≡ masks.with_mask change.now (part change.now which) lost draft.old) }
+    ensures room { size draft.old < inline_entries → IsOk result }
 {
     if !lost {
         add_mask(draft)?;

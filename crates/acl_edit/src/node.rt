@@ -1,6 +1,7 @@
 //! One file, and chmod(1).
-ghost use Rattle.std.specs.Prelude.{◌≡◌, ◌<◌, IfOk, IsTrue, ◌↔◌};
+ghost use Rattle.std.specs.Prelude.{◌≡◌, ◌<◌, IfOk, IsOk, IsTrue, ◌↔◌};
 ghost use Rattle.acl_edit.specs.Nodes as nodes;
+ghost use Rattle.acl_edit.specs.Rooms.{HasShortLists};
 ghost use Rattle.acl_edit.specs.Nodes.{IsSound, HasValidLists, has_bit, chmod_flags};
 
 use acl_entry::{Acl, Label};
@@ -32,9 +33,10 @@ impl Node {
     ///
     /// # Errors
     ///
-    /// Want of memory.
+    /// Want of memory, never where its lists have at most eight entries each.
     pub fn try_clone(&self, alloc: Global) -> Result<Node, AllocError>
-        ensures { IfOk result (λ node. node ≡ self.now) }
+        ensures same { IfOk result (λ node. node ≡ self.now) }
+        ensures room { HasShortLists self.now → IsOk result }
     {
         let acl = self.label.acl.try_clone(alloc)?;
         let dacl = match &self.dacl {

@@ -1,7 +1,9 @@
 //! The steps of a setfacl(1) line on one list.
-ghost use Rattle.std.specs.Prelude.{◌≡◌, IfOk, OnOk, filter};
+ghost use Rattle.std.specs.Prelude.{◌≡◌, ◌<◌, ◌+◌, length, IfOk, IsOk, OnOk, filter};
 ghost use Rattle.std.specs.List.{list_any};
 ghost use Rattle.acl_edit.specs.Parts.{speaks_of};
+ghost use Rattle.acl_entry.specs.Lists.{inline_entries};
+ghost use Rattle.acl_edit.specs.Rooms.{Fits, size};
 ghost use Rattle.acl_edit.specs.Steps as steps;
 ghost use Rattle.acl_edit.specs.Steps.{execute, gives_execute, perms_of, may_execute};
 
@@ -51,7 +53,8 @@ fn perms_of(x: bool, perm: &Option<PermSpec>) -> Perm
 
 // Puts an entry, if there is one.
 pub(crate) fn put_some(draft: &mut Draft, key: &Key, perm: Option<Perm>) -> Result<(), AllocError>
-    ensures { OnOk result (draft.new ≡ steps.put_some draft.old key.now perm) }
+    ensures put { OnOk result (draft.new ≡ steps.put_some draft.old key.now perm) }
+    ensures room { size draft.old < inline_entries → IsOk result }
 {
     if let Some(perm) = perm {
         draft.insert(*key, perm)?;
@@ -61,7 +64,8 @@ pub(crate) fn put_some(draft: &mut Draft, key: &Key, perm: Option<Perm>) -> Resu
 
 /// The base entries of a list alone, with what they grant: `-b`.
 pub(crate) fn strip(alloc: Global, acl: &Acl) -> Result<Draft, AllocError>
-    ensures { IfOk result (λ draft. draft ≡ steps.strip acl.now) }
+    ensures stripped { IfOk result (λ draft. draft ≡ steps.strip acl.now) }
+    ensures room { IsOk result }
 {
     let mut kept = Draft::new(alloc);
     put_some(&mut kept, &Key::Owner, acl.effective(Key::Owner))?;
@@ -92,7 +96,8 @@ pub(crate) fn modify(
     x: bool,
     specs: &[Spec],
 ) -> Result<(), AllocError>
-    ensures { OnOk result (draft.new ≡ steps.modify x (filter (speaks_of scope.as_default scope.which) specs.now) draft.old) }
+    ensures put { OnOk result (draft.new ≡ steps.modify x (filter (speaks_of scope.as_default scope.which) specs.now) draft.old) }
+    ensures room { Fits (size draft.old + length (filter (speaks_of scope.as_default scope.which) specs.now)) → IsOk result }
 {
     for spec in specs {
         if scope.takes(spec) {
@@ -110,7 +115,8 @@ pub(crate) fn replace(
     x: bool,
     specs: &[Spec],
 ) -> Result<(), AllocError>
-    ensures { OnOk result (draft.new ≡ steps.replace x (filter (speaks_of scope.as_default scope.which) specs.now) draft.old) }
+    ensures put { OnOk result (draft.new ≡ steps.replace x (filter (speaks_of scope.as_default scope.which) specs.now) draft.old) }
+    ensures room { Fits (size draft.old + length (filter (speaks_of scope.as_default scope.which) specs.now)) → IsOk result }
 {
     if scope.takes_some(specs) {
         *draft = Draft::new(alloc);
@@ -121,7 +127,8 @@ pub(crate) fn replace(
 
 /// Copies the base entries that a list lacks from another.
 pub(crate) fn fill_from(draft: &mut Draft, other: &Acl) -> Result<(), AllocError>
-    ensures { OnOk result (draft.new ≡ steps.fill_from other.now draft.old) }
+    ensures filled { OnOk result (draft.new ≡ steps.fill_from other.now draft.old) }
+    ensures room { Fits (size draft.old + 3) → IsOk result }
 {
     fill_one(draft, &Key::Owner, other)?;
     fill_one(draft, &Key::OwningGroup, other)?;
@@ -130,7 +137,8 @@ pub(crate) fn fill_from(draft: &mut Draft, other: &Acl) -> Result<(), AllocError
 
 // Copies one entry, if the list lacks it.
 fn fill_one(draft: &mut Draft, key: &Key, other: &Acl) -> Result<(), AllocError>
-    ensures { OnOk result (draft.new ≡ steps.fill_one other.now draft.old key.now) }
+    ensures filled { OnOk result (draft.new ≡ steps.fill_one other.now draft.old key.now) }
+    ensures room { size draft.old < inline_entries → IsOk result }
 {
     if draft.get(*key).is_some() {
         return Ok(());
