@@ -1,18 +1,18 @@
 -- What a line leaves at each key of a list that it names.
-use Rattle.std.proofs.Common.{◌≡◌, Bool, true, false, cond, if◌then◌else◌, not, ◌&&◌, ◌||◌, List, [], ◌∷◌, map, filter, Option, Some, None, is_some, option_map, Ordering, Less, Equal, Greater, refl, sym, ap, subst, ◌∙◌}
+use Rattle.std.proofs.Common.{◌≡◌, Bool, true, false, cond, if◌then◌else◌, not, ◌&&◌, ◌||◌, List, [], ◌∷◌, map, filter, Option, Some, None, is_some, option_map, Ordering, Less, Equal, Greater, refl, sym, ap, ◌∙◌}
 use Rattle.std.specs.List.{list_any}
 use Rattle.std.specs.FinMap as maps
 use Rattle.std.specs.FinMap.Entries.{by_order}
 use Rattle.acl_entry.specs.Perms.{Perms}
 use Rattle.acl_entry.specs.Keys.{key_cmp, same_key, is_base, is_named, is_class}
-use Rattle.acl_entry.specs.Lists.{KeyMap, entries, class_union, in_class, perm_of_entry, union_all, or_else}
+use Rattle.acl_entry.specs.Lists.{KeyMap, class_union, in_class, perm_of_entry, union_all, or_else}
 use Rattle.acl_entry.specs.declared.key.Key.{Key}
 use Rattle.acl_entry.specs.declared.key.Key.TheVariants.{Owner, User, OwningGroup, Group, Mask, Other}
 use Rattle.acl_entry.specs.declared.entry.Entry.{Entry}
 use Rattle.acl_entry.proofs.KeyLaws.{key_total, exact_keys}
 use Rattle.acl_text.specs.declared.entries.Spec.{Spec}
-use Rattle.acl_edit.specs.Parts.{Part, is_given, is_mask, is_of_mask, names, puts}
-use Rattle.acl_edit.specs.Steps.{remove, replace, modify, put_some, fill_one, fill_from}
+use Rattle.acl_edit.specs.Parts.{Part, is_given, is_mask}
+use Rattle.acl_edit.specs.Steps.{remove, replace, put_some, fill_one, fill_from}
 use Rattle.acl_edit.specs.Masks.{has_mask, has_named, add_mask, recalculate, is_recalculated, takes_mask, with_mask}
 use Rattle.acl_edit.specs.Edits.{worked}
 use Rattle.acl_edit.specs.Laws.{given, has_entry, set_at, left_at, loses_mask, mask_after}

@@ -1,15 +1,15 @@
 -- How many entries the steps add.
-use Rattle.std.proofs.Common.{◌≡◌, ℕ, ◌+◌, ◌-◌, ◌≤◌, Bool, true, false, cond, if◌then◌else◌, not, ◌&&◌, List, [], ◌∷◌, length, Option, Some, None, refl, sym, ap, ◌∙◌, arith}
+use Rattle.std.proofs.Common.{◌≡◌, ℕ, ◌+◌, ◌-◌, ◌≤◌, Bool, true, false, cond, if◌then◌else◌, not, ◌&&◌, List, [], ◌∷◌, length, Option, Some, None, sym, ◌∙◌, arith}
 use Rattle.std.proofs.lemmas.List.{length-map}
 use Rattle.std.specs.FinMap as maps
 use Rattle.acl_entry.specs.Perms.{Perms}
 use Rattle.acl_entry.specs.Keys.{key_cmp}
-use Rattle.acl_entry.specs.Lists.{KeyMap, effective, class_union}
+use Rattle.acl_entry.specs.Lists.{KeyMap}
 use Rattle.acl_entry.specs.declared.key.Key.{Key}
 use Rattle.acl_entry.specs.declared.key.Key.TheVariants.{Owner, OwningGroup, Mask, Other}
 use Rattle.acl_entry.proofs.KeyLaws.{key_total}
 use Rattle.acl_text.specs.declared.entries.Spec.{Spec}
-use Rattle.acl_edit.specs.Steps.{perms_of, put_some, strip, remove, modify, replace, fill_one, fill_from}
+use Rattle.acl_edit.specs.Steps.{perms_of, put_some, remove, modify, replace, fill_one, fill_from}
 use Rattle.acl_edit.specs.Masks.{has_mask, has_named, add_mask}
 use Rattle.acl_edit.specs.Parts.{Part}
 use Rattle.acl_edit.specs.Edits.{worked}

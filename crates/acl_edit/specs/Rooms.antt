@@ -1,5 +1,5 @@
 -- Lists and lines so small that no memory is wanted for them.
-use Rattle.std.specs.Prelude.{ℕ, ◌+◌, ◌≤◌, List, length, Option, unwrap_or}
+use Rattle.std.specs.Prelude.{ℕ, ◌+◌, ◌≤◌, length, Option, unwrap_or}
 use Rattle.std.specs.FinMap as maps
 use Rattle.acl_entry.specs.Lists.{KeyMap, entries, inline_entries}
 use Rattle.acl_text.specs.declared.fault.Which.TheVariants.{Access, Default}

@@ -1,4 +1,4 @@
-use Rattle.std.proofs.Common.{◌≡◌, suc, ◌+◌, cond, List, ◌∷◌, length, drop, filter, sym, ap, ◌∙◌, add-one, arith}
+use Rattle.std.proofs.Common.{◌≡◌, suc, ◌+◌, cond, ◌∷◌, length, drop, filter, sym, ap, ◌∙◌, add-one, arith}
 use Rattle.std.specs.FinMap as maps
 use Rattle.std.proofs.Math.Seq.{drop-cons}
 use Rattle.acl_edit.specs.Parts.{speaks_of}
@@ -22,16 +22,16 @@ loop-spec-preserved c =
     let inv = c.loop-spec.invariant in
     elim c.if-takes.branch [
       | then-takes+in_ok-insert w ↦
-        let taken = kept ∙ ap (λ b. cond b (s ∷ rest) rest) w.if-takes.true in
-        let put = w.draft-is ∙ w.in_ok-insert.ensures.ok in
-        record {
-          put = ap (modify c.args.x rest) (put ∙ ap (maps.insert c.loop-spec.draft s.key) w.perms_of.ensures) ∙ sym (ap (λ l. modify c.args.x l c.loop-spec.draft) taken) ∙ inv.put;
-          room = omega (arith, ap length taken, inv.room, ap size put, size-insert c.loop-spec.draft s.key w.perms_of.result);
-        }
+          let taken = kept ∙ ap (λ b. cond b (s ∷ rest) rest) w.if-takes.true in
+          let put = w.draft-is ∙ w.in_ok-insert.ensures.ok in
+          record {
+            put = ap (modify c.args.x rest) (put ∙ ap (maps.insert c.loop-spec.draft s.key) w.perms_of.ensures) ∙ sym (ap (λ l. modify c.args.x l c.loop-spec.draft) taken) ∙ inv.put;
+            room = omega (arith, ap length taken, inv.room, ap size put, size-insert c.loop-spec.draft s.key w.perms_of.result);
+          }
       | else-takes w ↦
-        let skipped = kept ∙ ap (λ b. cond b (s ∷ rest) rest) w.if-takes.false in
-        record {
-          put = ap (modify c.args.x rest) w.draft-is ∙ sym (ap (λ l. modify c.args.x l c.loop-spec.draft) skipped) ∙ inv.put;
-          room = omega (arith, ap length skipped, inv.room, ap size w.draft-is);
-        }
+          let skipped = kept ∙ ap (λ b. cond b (s ∷ rest) rest) w.if-takes.false in
+          record {
+            put = ap (modify c.args.x rest) w.draft-is ∙ sym (ap (λ l. modify c.args.x l c.loop-spec.draft) skipped) ∙ inv.put;
+            room = omega (arith, ap length skipped, inv.room, ap size w.draft-is);
+          }
     ]

@@ -1,4 +1,4 @@
-use Rattle.std.proofs.Common.{ap, ◌∙◌, arith}
+use Rattle.std.proofs.Common.{ap, arith}
 use mathlib.Core.Bool.{false≢true}
 use Rattle.acl_entry.specs.declared.key.Key.TheVariants.{Owner, OwningGroup}
 use Rattle.acl_edit.specs.Rooms.{size}
