@@ -57,7 +57,7 @@ inline_entries = 8
 -- the first thing that is wrong with the keys of a list, if anything is
 abbrev pub fault_of_keys : List Key → Option ListFault
 fault_of_keys ks =
-    if nat_lt 4096 (length ks) then Some TooLong
+    if nat_lt most_entries (length ks) then Some TooLong
     else or_else (option_map Repeated (repeated ks)) (or_else (option_map MissingBase (missing_base ks)) (option_map MissingMask (unmasked ks)))
 
 -- what is wrong with a sequence of entries
