@@ -178,9 +178,14 @@ close dump_use records None = Ok records
 close dump_use records (Some draft) = at_place draft.at (record_of dump_use draft) (λ r. Ok (records ++ r ∷ []))
 
 module _ (user_id group_id : List ℕ → Option ℕ) where
+  -- a line that begins no record, with the record that is begun, or the lowest kind of fault that it has there
+  abbrev pub judged : Option Draft → Numbered → Result (Option Draft) FaultKind
+  judged draft l = do
+    said ← said_by user_id group_id l.0 (content_of l.1).0 (content_of l.1).1
+    add said draft
+
   abbrev pub line_in : Option Draft → Numbered → Result (Option Draft) TextFault
-  line_in draft l =
-      at_place l.0 (said_by user_id group_id l.0 (content_of l.1).0 (content_of l.1).1 >>= (λ said. add said draft)) (λ new. Ok new)
+  line_in draft l = at_place l.0 (judged draft l) (λ new. Ok new)
 
   -- the records of a dump, or its first fault: record after record, each line by line and then as a whole; the lines
   -- before the first record belong to none

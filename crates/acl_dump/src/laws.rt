@@ -5,8 +5,11 @@ ghost use Rattle.std.specs.List.{AllByRecursion};
 ghost use Rattle.acl_dump.specs.declared.record.DumpUse.{DumpUse};
 ghost use Rattle.acl_dump.specs.declared.record.DumpRecord.{DumpRecord};
 ghost use Rattle.acl_text.specs.declared.fault.TextFault.{TextFault};
-ghost use Rattle.acl_dump.specs.Records.{lines_of, dump_of};
+ghost use Rattle.acl_text.specs.Lowest.{TellsLowest};
+ghost use Rattle.acl_dump.specs.declared.draft.Draft.{Draft};
+ghost use Rattle.acl_dump.specs.Records.{Numbered, judged, lines_of, dump_of};
 ghost use Rattle.acl_dump.specs.Faults.{IsFirstFault};
+ghost use Rattle.acl_dump.specs.Lowest.{LineHas};
 ghost use Rattle.acl_dump.specs.Again.{IsReadable, AreApart, paths, placed, dump_text};
 
 /// The fault of a dump is that of the first faulty record: the lines before the record are a dump without a
@@ -16,6 +19,14 @@ ghost use Rattle.acl_dump.specs.Again.{IsReadable, AreApart, paths, placed, dump
 pub fn dump_fault_is_first()
     ensures { (user_id group_id : List ℕ → Option ℕ) (dump_use : DumpUse) (bytes : List ℕ) (fault : TextFault) →
         (dump_of user_id group_id dump_use bytes ≡ Err fault) ↔ IsFirstFault user_id group_id dump_use (lines_of bytes) fault }
+{}
+
+/// The fault of a line that begins no record is the lowest of the kinds that it has: in itself, for want of
+/// a record that is begun, or as a header that stands already or behind an entry; where it has none, the
+/// line is read.
+pub fn dump_line_fault_is_lowest()
+    ensures { (user_id group_id : List ℕ → Option ℕ) (draft : Option Draft) (line : Numbered) →
+        TellsLowest (LineHas user_id group_id draft line) (judged user_id group_id draft line) }
 {}
 
 /// The texts of records, put one after another, are read as those records, each at its line: where their

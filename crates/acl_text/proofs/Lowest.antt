@@ -76,7 +76,7 @@ some_number (kinds.List which fault) = omega arith
 some_number kinds.TooMany = omega arith
 some_number kinds.NoMemory = omega arith
 
-or_fault-kind : {A : Type 0} (o : Option A) (kind k : FaultKind) → or_fault o kind ≡ Err k → kind ≡ k
+pub or_fault-kind : {A : Type 0} (o : Option A) (kind k : FaultKind) → or_fault o kind ≡ Err k → kind ≡ k
 or_fault-kind None kind k e = cc
 or_fault-kind (Some x) kind k e = absurd cc
 
@@ -189,6 +189,39 @@ module _ (user_id group_id : List ℕ → Option ℕ) (rules : Rules) (specs : L
         | inl full ↦ let told = rw full at e in let same : kinds.TooMany ≡ k = cc in record { is = sym same; full = leb-true 16384 (length specs) full }
         | inr room ↦ let told = rw room at e in absurd cc
       ])
+
+-- the kinds that an entry has in itself
+module _ (user_id group_id : List ℕ → Option ℕ) (rules : Rules) (at : ℕ) (fields : List (List ℕ)) (k : FaultKind) where
+  abbrev said : Option PermSpec → Key → Result Spec FaultKind
+  said perm key = allowed_key rules key >>= (λ allowed. Ok (record { at = at; dflt = (default_of fields).0; key = allowed; perm = perm }))
+
+  abbrev worded : EntryRow → Option PermSpec → Result Spec FaultKind
+  worded row perm = key_of user_id group_id row.tag row.word >>= (λ key. said perm key)
+
+  abbrev granted : EntryRow → Result Spec FaultKind
+  granted row = wanted_perms rules row.perms >>= (λ perm. worded row perm)
+
+  same_kind : {A : Type 0} (j : FaultKind) → (let r : Result A FaultKind = Err j in r ≡ Err k) → number j ≡ number k
+  same_kind j e = let same : j ≡ k = cc in ap number same
+
+  from_base : (r : Result Key FaultKind) (perm : Option PermSpec) (key : Key) → allowed_key rules key ≡ r → (r >>= (λ allowed. let spec : Spec = record { at = at; dflt = (default_of fields).0; key = allowed; perm = perm } in Ok spec)) ≡ Err k → number k ≤ 7
+  from_base (Ok allowed) perm key is told = absurd cc
+  from_base (Err j) perm key is told = omega (arith, base-kind rules key j is, same_kind {A = Spec} j told)
+
+  from_word : (row : EntryRow) (perm : Option PermSpec) (r : Result Key FaultKind) → key_of user_id group_id row.tag row.word ≡ r → (r >>= (λ key. said perm key)) ≡ Err k → number k ≤ 7
+  from_word row perm (Ok key) is told = from_base (allowed_key rules key) perm key refl told
+  from_word row perm (Err j) is told = omega (arith, (word-kind user_id group_id row.tag row.word j is).1, same_kind {A = Spec} j told)
+
+  from_perms : (row : EntryRow) (r : Result (Option PermSpec) FaultKind) → wanted_perms rules row.perms ≡ r → (r >>= (λ perm. worded row perm)) ≡ Err k → number k ≤ 7
+  from_perms row (Ok perm) is told = from_word row perm (key_of user_id group_id row.tag row.word) refl told
+  from_perms row (Err j) is told = omega (arith, perms-kind rules row.perms j is, same_kind {A = Spec} j told)
+
+  from_tag : (r : Result EntryRow FaultKind) → or_fault (tagged rules (default_of fields)) kinds.BadTag ≡ r → (r >>= (λ row. granted row)) ≡ Err k → number k ≤ 7
+  from_tag (Ok row) is told = from_perms row (wanted_perms rules row.perms) refl told
+  from_tag (Err j) is told = omega (arith, ap number (or_fault-kind (tagged rules (default_of fields)) kinds.BadTag j is), same_kind {A = Spec} j told)
+
+  pub entry-kind : entry_from user_id group_id rules at fields ≡ Err k → number k ≤ 7
+  entry-kind e = from_tag (or_fault (tagged rules (default_of fields)) kinds.BadTag) refl e
 
 -- a value that is made of another changes no fault
 made : {A B : Type 0} (has : FaultKind → Type 0) (r : Result A FaultKind) (g : A → B) → TellsLowest has r → TellsLowest has (r >>= (λ x. Ok (g x)))
