@@ -3,7 +3,7 @@ use crate::slow::{Slow, read};
 use acl_dump::{
     DumpRecord, DumpUse, Effective, append_header, append_list, append_record, read_dump,
 };
-use acl_entry::{Acl, Entry, Id, ListFault};
+use acl_entry::{Acl, Entry, Id, Key, ListFault};
 use acl_text::{FaultKind, NoNames, TextFault, Which};
 use std::alloc::Global;
 use std::process::Abort;
@@ -102,6 +102,47 @@ fn faults(rt: HostRuntime) -> Result<(), Fail> {
     let next = load(rt.alloc(), b"# file: a\n# file:\n").err();
     assert_eq!(rt; next, fault(FaultKind::MissingHeader, 1));
     Ok(())
+}
+
+// The kinds of fault that the other tests do not tell, each once.
+#[test]
+fn each_other_kind(rt: HostRuntime) {
+    for (text, kind, at) in [
+        (b"#file:a\nx:y:z:7".as_slice(), FaultKind::BadTag, 2),
+        (b"#file:a\nu:joe".as_slice(), FaultKind::MissingPerms, 2),
+        (b"#file:a\nu:li:7".as_slice(), FaultKind::UnknownUser, 2),
+        (b"#file:a\n#group:li".as_slice(), FaultKind::UnknownGroup, 2),
+        (b"#file:a\n#flags:tss".as_slice(), FaultKind::BadHeader, 2),
+        (
+            b"#file:a\n#owner:joe\n#owner:joe".as_slice(),
+            FaultKind::BadHeader,
+            3,
+        ),
+        (
+            b"#file:a\no:7\n#owner:joe".as_slice(),
+            FaultKind::BadHeader,
+            3,
+        ),
+        (b"\n#file: a/../b".as_slice(), FaultKind::BadPath, 2),
+        (
+            b"#file:a\nu::7\ng::7\no::7\nd:u::7".as_slice(),
+            FaultKind::List(
+                Which::Default,
+                ListFault::MissingBase {
+                    key: Key::OwningGroup,
+                },
+            ),
+            1,
+        ),
+        (
+            b"#file:a\nu::7\ng::7\no::7\nd:o:7\nd:o:7".as_slice(),
+            FaultKind::List(Which::Default, ListFault::Repeated { at: 2 }),
+            1,
+        ),
+    ] {
+        let told = read_dump(rt.alloc(), text, DumpUse::Restore, &People).err();
+        assert_eq!(rt; told, fault(kind, at));
+    }
 }
 
 #[test]
