@@ -1,5 +1,5 @@
 -- An attribute is read as a list exactly where its entries say so.
-use Rattle.std.proofs.Common.{◌≡◌, ℕ, zero, suc, ◌+◌, ◌*◌, ◌/◌, ◌≤◌, false, cond, eqb, List, [], ◌∷◌, ◌++◌, length, take, drop, Option, Some, None, is_some, Result, Ok, Err, refl, sym, ap, subst, ◌∙◌, arith, inl, inr, append_assoc, length-append, length-drop}
+use Rattle.std.proofs.Common.{◌≡◌, ℕ, zero, suc, ◌+◌, ◌*◌, ◌/◌, ◌≤◌, true, false, cond, eqb, List, [], ◌∷◌, ◌++◌, length, take, drop, Option, Some, None, is_some, Result, Ok, Err, refl, sym, ap, subst, ◌∙◌, arith, inl, inr, append_assoc, length-append, length-drop}
 use Rattle.std.specs.Prelude.{◌⊎◌, ◌||◌, not, option_map, option_and_then}
 use Rattle.std.specs.List.{flat_map}
 use Rattle.std.specs.Simd.{first_chunks}
@@ -16,12 +16,15 @@ use Rattle.acl_entry.specs.Lists.{KeyMap, IsValid, keys, pairs, is_among, repeat
 use Rattle.acl_entry.specs.Perms.{number}
 use Rattle.acl_entry.proofs.Maps.{get-map_of}
 use Rattle.acl_entry.proofs.Faults.{is_among-keys}
+use Rattle.acl_text.specs.declared.fault.FaultKind.{FaultKind}
 use Rattle.acl_text.specs.declared.fault.FaultKind.TheVariants.{BadAttr}
-use Rattle.acl_text.specs.Told.{at_place, told_from, told, or_fault}
+use Rattle.acl_text.specs.declared.fault.TextFault.{TextFault}
+use Rattle.acl_text.specs.Told.{at_place, told_from, told, or_fault, IsFirstFault}
+use Rattle.acl_text.proofs.Judging.{told_first}
 use Rattle.byteorder.specs.Endian.{little_number}
 use Rattle.acl_attr.specs.declared.decode.Reading.{Reading}
 use Rattle.acl_attr.specs.Attr.{tag_of, id_from, key_of, perm_of, start, with_key, with_numbers, with_entry, one_entry, entries_in, has_head, list_from, list_of, list_in, attr_of, bad_attr}
-use Rattle.acl_attr.specs.Said.{IsIdOf, Says, SayEach, TagsRise, IsAttribute}
+use Rattle.acl_attr.specs.Said.{IsIdOf, Says, SayEach, TagsRise, Read, IsAttribute, IsOfAnEntry, IsFaultyAt}
 use Rattle.acl_attr.proofs.Chunks.{entries_step}
 use Rattle.acl_attr.proofs.Numbers.{is_read}
 use Rattle.acl_attr.proofs.ReadAgain.{perm_again, one_more, lasting}
@@ -169,9 +172,22 @@ said_read at tag n done (p ∷ ps) (e ∷ es) room said rise once =
 
 -- ---- attributes
 
+abbrev whole_of : ℕ → KeyMap → Result KeyMap TextFault
+whole_of last m = list_from last m (fault (entries m))
+
 from_whole : (last : ℕ) (m acl : KeyMap) (f : Option ListFault) → fault (entries m) ≡ f → list_from last m f ≡ Ok acl → (m ≡ acl) × IsValid acl
 from_whole last m acl None valid e = let same : m ≡ acl = cc in (same, subst IsValid same valid)
 from_whole last m acl (Some fault) valid e = absurd cc
+
+-- the entries that were read from the first on
+all_read : (pieces : List (List ℕ)) (new : Reading) → told one_entry start pieces ≡ Ok new → AreRead 1 0 [] pieces new
+all_read pieces new e = read_said 1 0 [] pieces new (omega arith) e
+
+is_read_of : (pieces : List (List ℕ)) (new : Reading) (r : AreRead 1 0 [] pieces new) → Read pieces r.es
+is_read_of pieces new r = record { said = r.said; few = omega (arith, r.few); tags = r.tags; once = r.once 1 }
+
+read_of : (pieces : List (List ℕ)) (es : List Entry) → Read pieces es → told one_entry start pieces ≡ Ok (reading_of (lasting 0 es) es)
+read_of pieces es r = said_read 1 0 1 [] pieces es (omega (arith, r.few)) r.said r.tags r.once
 
 pub attribute_of : (bytes : List ℕ) (acl : KeyMap) → attr_of bytes ≡ Ok acl → IsAttribute bytes acl
 attribute_of bytes acl e =
@@ -184,17 +200,14 @@ attribute_of bytes acl e =
           elim (cases_Result (told one_entry start pieces)) [
             | inr bad ↦ absurd (cc (sym (ap (list_of last) bad.1) ∙ whole))
             | inl fine ↦
-                let r = read_said 1 0 [] pieces fine.0 (omega arith) fine.1 in
+                let r = all_read pieces fine.0 fine.1 in
                 let valid = from_whole last fine.0.entries acl (fault (entries fine.0.entries)) refl (sym (ap (list_of last) fine.1) ∙ whole) in
                 record {
                   head = head;
                   pieces = pieces;
                   entries = r.es;
                   parts = sym (all_together (drop 4 bytes));
-                  said = r.said;
-                  few = omega (arith, r.few);
-                  tags = r.tags;
-                  once = r.once 1;
+                  read = is_read_of pieces fine.0 r;
                   list = sym r.list ∙ valid.0;
                   valid = valid.1;
                 }
@@ -203,9 +216,109 @@ attribute_of bytes acl e =
 
 pub of_attribute : (bytes : List ℕ) (acl : KeyMap) → IsAttribute bytes acl → attr_of bytes ≡ Ok acl
 of_attribute bytes acl is =
-    let cut : entries_in (drop 4 bytes) ≡ is.pieces = ap entries_in is.parts ∙ pieces_again is.pieces is.entries is.said in
+    let cut : entries_in (drop 4 bytes) ≡ is.pieces = ap entries_in is.parts ∙ pieces_again is.pieces is.entries is.read.said in
     let last = length (entries_in (drop 4 bytes)) in
-    let read : told one_entry start is.pieces ≡ Ok (reading_of (lasting 0 is.entries) is.entries) = said_read 1 0 1 [] is.pieces is.entries (omega (arith, is.few)) is.said is.tags is.once in
-    let whole : list_in (drop 4 bytes) ≡ list_from last (map_of is.entries) (fault (entries (map_of is.entries))) = ap (λ (ps : List (List ℕ)). list_of last (told one_entry start ps)) cut ∙ ap (list_of last) read in
+    let whole : list_in (drop 4 bytes) ≡ whole_of last (map_of is.entries) = ap (λ (ps : List (List ℕ)). list_of last (told one_entry start ps)) cut ∙ ap (list_of last) (read_of is.pieces is.entries is.read) in
     ap (λ b. cond b (list_in (drop 4 bytes)) (Err (bad_attr 0))) is.head
-    ∙ (whole ∙ (ap (λ m. list_from last m (fault (entries m))) is.list ∙ ap (list_from last acl) is.valid))
+    ∙ (whole ∙ (ap (λ m. whole_of last m) is.list ∙ ap (list_from last acl) is.valid))
+
+-- ---- faults
+
+last_says : (before : List (List ℕ)) (piece : List ℕ) (es : List Entry) (e : Entry) → SayEach before es → SayEach (before ++ piece ∷ []) (es ++ e ∷ []) → Says piece e
+last_says [] piece [] e said all = all.0
+last_says [] piece (f ∷ es) e said all = absurd said
+last_says (p ∷ ps) piece [] e said all = absurd said
+last_says (p ∷ ps) piece (f ∷ es) e said all = last_says ps piece es e said.1 all.1
+
+last_rises : (tag : ℕ) (es : List Entry) (e : Entry) → TagsRise tag (es ++ e ∷ []) → lasting tag es ≤ tag_of e.key
+last_rises tag [] e rise = rise.0
+last_rises tag (f ∷ es) e rise = last_rises (tag_of f.key) es e rise.1
+
+last_apart : (n : ℕ) (done es : List Entry) (e : Entry) → repeated_from (keys done) n (keys (es ++ e ∷ [])) ≡ None → is_among e.key (keys (done ++ es)) ≡ false
+last_apart n done [] e once = ap (λ (l : List Entry). is_among e.key (keys l)) (append-nil done) ∙ apart_from n done e [] once
+last_apart n done (f ∷ es) e once =
+    let apart = apart_from n done f (es ++ e ∷ []) once in
+    ap (λ (l : List Entry). is_among e.key (keys l)) (sym (append_assoc done (f ∷ []) es))
+    ∙ last_apart (n + 1) (done ++ f ∷ []) es e (sym (later_once n done f (es ++ e ∷ []) apart) ∙ once)
+
+same_length : (ps : List (List ℕ)) (fs : List Entry) → SayEach ps fs → length ps ≡ length fs
+same_length [] [] said = refl
+same_length [] (f ∷ fs) said = absurd said
+same_length (p ∷ ps) [] said = absurd said
+same_length (p ∷ ps) (f ∷ fs) said = ap suc (same_length ps fs said.1)
+
+-- an entry behind those that were read is read too
+read_on : (before : List (List ℕ)) (piece : List ℕ) (es : List Entry) (e : Entry) → Read before es → Read (before ++ piece ∷ []) (es ++ e ∷ []) → one_entry (1 + length before) (reading_of (lasting 0 es) es) piece ≡ Ok (after (1 + length before) (reading_of (lasting 0 es) es) piece e)
+read_on before piece es e r all =
+    let none : is_some (maps.find key_cmp e.key (pairs es)) ≡ false = sym (is_among-keys e.key es) ∙ last_apart 1 [] es e all.once in
+    let new : maps.contains_key (map_of es) e.key ≡ false = ap is_some (get-map_of es e.key) ∙ none in
+    said_entry (1 + length before) (reading_of (lasting 0 es) es) piece e (last_says before piece es e r.said all.said)
+    (omega (arith, all.few, length-append es (e ∷ []), same_length before es r.said)) (last_rises 0 es e all.tags) new
+
+of_entry : (bytes : List ℕ) (told_fault : TextFault) → has_head bytes ≡ true → IsFirstFault one_entry 1 start (entries_in (drop 4 bytes)) told_fault → IsOfAnEntry bytes told_fault.at
+of_entry bytes told_fault head first =
+    let r = all_read first.before first.said first.no_fault_before in
+    let read = is_read_of first.before first.said r in
+    let both : Ok first.said ≡ Ok (reading_of (lasting 0 r.es) r.es) = sym first.no_fault_before ∙ read_of first.before r.es read in
+    let same : first.said ≡ reading_of (lasting 0 r.es) r.es = cc in
+    record {
+      head = head;
+      before = first.before;
+      piece = first.piece;
+      after = first.after;
+      parts = first.parts;
+      place = first.place;
+      entries = r.es;
+      read = read;
+      faulty = λ e all.
+          let bad : one_entry (1 + length first.before) (reading_of (lasting 0 r.es) r.es) first.piece ≡ Err told_fault.kind =
+          ap (λ (n : ℕ). one_entry n (reading_of (lasting 0 r.es) r.es) first.piece) (sym first.place) ∙ (ap (λ (x : Reading). one_entry told_fault.at x first.piece) (sym same) ∙ first.faulty) in
+          cc (sym (read_on first.before first.piece r.es e read all) ∙ bad);
+    }
+
+bad_kind : (o : Option Reading) (k : FaultKind) → or_fault o BadAttr ≡ Err k → k ≡ BadAttr
+bad_kind None k e = cc
+bad_kind (Some x) k e = absurd cc
+
+no_list_of : (last : ℕ) (m : KeyMap) (told_fault : TextFault) (f : Option ListFault) → fault (entries m) ≡ f → list_from last m f ≡ Err told_fault → (IsValid m → ⊥) × (bad_attr (last + 1) ≡ told_fault)
+no_list_of last m told_fault None is e = absurd cc
+no_list_of last m told_fault (Some x) is e = ((λ valid. cc (sym valid ∙ is)), cc)
+
+-- what is told is where the attribute is faulty
+pub record IsToldAt (bytes : List ℕ) (told_fault : TextFault) : Type 0 where
+  pub kind : told_fault.kind ≡ BadAttr
+  pub place : IsFaultyAt bytes told_fault.at
+
+pub faulty_where : (bytes : List ℕ) (told_fault : TextFault) → attr_of bytes ≡ Err told_fault → IsToldAt bytes told_fault
+faulty_where bytes told_fault e =
+    elim (cases_Bool (has_head bytes)) [
+      | inr no_head ↦
+          let here : Err (bad_attr 0) ≡ Err told_fault = rw no_head at e in
+          let same : bad_attr 0 ≡ told_fault = cc in
+          record { kind = ap (λ (f : TextFault). f.kind) (sym same); place = inl (no_head, ap (λ (f : TextFault). f.at) (sym same)) }
+      | inl head ↦
+          let whole : list_in (drop 4 bytes) ≡ Err told_fault = rw head at e in
+          let pieces = entries_in (drop 4 bytes) in
+          let last = length pieces in
+          elim (cases_Result (told one_entry start pieces)) [
+            | inr bad ↦
+                let here : Err bad.0 ≡ Err told_fault = sym (ap (list_of last) bad.1) ∙ whole in
+                let same : bad.0 ≡ told_fault = cc in
+                let first = told_first one_entry 1 start pieces told_fault (bad.1 ∙ ap (λ f. Err f) same) in
+                record { kind = bad_kind (with_entry told_fault.at first.said first.piece) told_fault.kind first.faulty; place = inr (inl (of_entry bytes told_fault head first)) }
+            | inl fine ↦
+                let r = all_read pieces fine.0 fine.1 in
+                let none = no_list_of last fine.0.entries told_fault (fault (entries fine.0.entries)) refl (sym (ap (list_of last) fine.1) ∙ whole) in
+                let place : told_fault.at ≡ last + 1 = ap (λ (f : TextFault). f.at) (sym none.1) in
+                record {
+                  kind = ap (λ (f : TextFault). f.kind) (sym none.1);
+                  place = inr (inr (record {
+                    head = head;
+                    entries = r.es;
+                    read = is_read_of pieces fine.0 r;
+                    no_list = λ valid. none.0 (subst IsValid (sym r.list) valid);
+                    place = place ∙ ap (λ n. n + 1) (same_length pieces r.es r.said);
+                  }));
+                }
+          ]
+    ]

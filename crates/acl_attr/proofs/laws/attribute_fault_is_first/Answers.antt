@@ -1,0 +1,7 @@
+use Rattle.acl_attr.proofs.ReadBack.{faulty_where}
+use Rattle.acl_attr.proofs.laws.attribute_fault_is_first.Goals as goal
+
+pub returns : goal.returns
+returns c = λ bytes fault e.
+    let told = faulty_where bytes fault e in
+    (told.kind, told.place)
