@@ -1,16 +1,19 @@
 -- The first fault of a dump is told, and what is told is the first fault.
-use Rattle.std.proofs.Common.{◌≡◌, ℕ, List, [], ◌∷◌, Option, Some, None, Result, Ok, Err, sym, ap, ◌∙◌, inl, inr}
-use Rattle.std.specs.Prelude.{◌⊎◌}
+use Rattle.std.proofs.Common.{◌≡◌, ℕ, Bool, true, false, List, [], ◌∷◌, ◌++◌, Option, Some, None, Result, Ok, Err, refl, sym, ap, subst, ◌∙◌, inl, inr}
+use Rattle.std.specs.Prelude.{◌⊎◌, if◌then◌else◌}
 use Rattle.acl_text.specs.declared.fault.FaultKind.{FaultKind}
+use Rattle.acl_text.specs.declared.fault.FaultKind.TheVariants.{BadHeader, BadPath, RepeatedFile}
 use Rattle.acl_text.specs.declared.fault.TextFault.{TextFault}
-use Rattle.acl_text.specs.Told.{at_place, ◌>>=◌}
+use Rattle.acl_text.specs.Told.{at_place, ◌>>=◌, or_fault}
+use Rattle.acl_names.specs.Paths.{path_of}
 use Rattle.acl_dump.specs.declared.record.DumpUse.{DumpUse}
 use Rattle.acl_dump.specs.declared.record.DumpRecord.{DumpRecord}
 use Rattle.acl_dump.specs.declared.draft.Draft.{Draft}
 use Rattle.acl_dump.specs.declared.said.Said.{Said}
+use Rattle.acl_dump.specs.declared.said.Said.TheVariants.{Owner, OwningGroup, Flags, Entry}
 use Rattle.acl_dump.specs.Groups.{next, in_turn, streamed}
 use Rattle.acl_dump.specs.Lines.{content_of}
-use Rattle.acl_dump.specs.Records.{Numbered, begins, begin, line_in, close, said_by, add}
+use Rattle.acl_dump.specs.Records.{Numbered, begins, begun, begin, line_in, close, said_by, add, may_head, with_entry, is_repeated, ends_in_slash, record_of}
 use Rattle.acl_dump.specs.Faults.{added, IsOfALine, IsOfTheRecord, records_in, IsOfALaterRecord, IsFirstFault}
 use Rattle.acl_dump.proofs.Streams.{streamed_by_groups}
 use Rattle.acl_dump.proofs.FirstFaults.{InPiece, InWhole, InLater, cases_Result, told_found, group_told, later_told}
@@ -35,6 +38,48 @@ module _ (user_id group_id : List ℕ → Option ℕ) where
         | inr bad ↦ absurd cc
       ]
 
+  -- a record that is begun stands at this place
+  abbrev StandsAt : ℕ → Option Draft → Type 0
+  StandsAt at None = Unit {0}
+  StandsAt at (Some d) = d.at ≡ at
+
+  headed_at : (at : ℕ) (b : Bool) (new : Draft) (d : Option Draft) → new.at ≡ at → ((if b then Ok new else Err BadHeader) >>= (λ x. Ok (Some x))) ≡ Ok d → StandsAt at d
+  headed_at at true new d is e = let same : Some new ≡ d = cc in subst (StandsAt at) same is
+  headed_at at false new d is e = absurd cc
+
+  said_at : (at : ℕ) (said : Option Said) (old d : Option Draft) → StandsAt at old → add said old ≡ Ok d → StandsAt at d
+  said_at at None old d stands e = let same : old ≡ d = cc in subst (StandsAt at) same stands
+  said_at at (Some x) None d stands e = absurd cc
+  said_at at (Some (Owner id)) (Some old) d stands e = headed_at at (may_head old.owner old) (record old { owner = Some id }) d stands e
+  said_at at (Some (OwningGroup id)) (Some old) d stands e = headed_at at (may_head old.group old) (record old { group = Some id }) d stands e
+  said_at at (Some (Flags flags)) (Some old) d stands e = headed_at at (may_head old.flags old) (record old { flags = Some flags }) d stands e
+  said_at at (Some (Entry true entry)) (Some old) d stands e = let same : Some (with_entry true entry old) ≡ d = cc in subst (StandsAt at) same stands
+  said_at at (Some (Entry false entry)) (Some old) d stands e = let same : Some (with_entry false entry old) ≡ d = cc in subst (StandsAt at) same stands
+
+  judged_at : (at n : ℕ) (r : Result (Option Said) FaultKind) (old d : Option Draft) → StandsAt at old → at_place n (r >>= (λ said. add said old)) (λ new. Ok new) ≡ Ok d → StandsAt at d
+  judged_at at n (Err kind) old d stands e = absurd cc
+  judged_at at n (Ok said) old d stands e =
+      elim (cases_Result (add said old)) [
+        | inl fine ↦
+            let same : fine.0 ≡ d = cc (sym (ap (λ j. at_place n j (λ new. let r : Result (Option Draft) TextFault = Ok new in r)) fine.1) ∙ e) in
+            subst (StandsAt at) same (said_at at said old fine.0 stands fine.1)
+        | inr bad ↦ absurd (cc (sym (ap (λ j. at_place n j (λ new. let r : Result (Option Draft) TextFault = Ok new in r)) bad.1) ∙ e))
+      ]
+
+  added_at : (at : ℕ) (ls : List Numbered) (old d : Option Draft) → StandsAt at old → added user_id group_id old ls ≡ Ok d → StandsAt at d
+  added_at at [] old d stands e = let same : old ≡ d = cc in subst (StandsAt at) same stands
+  added_at at (l ∷ ls) old d stands e =
+      elim (cases_Result (line old l)) [
+        | inl fine ↦ added_at at ls fine.0 d (judged_at at l.0 (said_by user_id group_id l.0 (content_of l.1).0 (content_of l.1).1) old fine.0 stands fine.1) (sym (ap (λ r. next r (λ more. in_turn line more ls)) fine.1) ∙ e)
+        | inr bad ↦ absurd (cc (sym (ap (λ r. next r (λ more. in_turn line more ls)) bad.1) ∙ e))
+      ]
+
+  abbrev draft_of : ℕ → List ℕ → List (List ℕ) → Draft
+  draft_of at name path = record { at = at; path = path; slash = ends_in_slash name; owner = None; group = None; flags = None; access = []; dacl = [] }
+
+  abbrev new_draft : List DumpRecord → ℕ → List ℕ → List (List ℕ) → Result Draft FaultKind
+  new_draft records at name path = if is_repeated records path then Err RepeatedFile else Ok (draft_of at name path)
+
   module _ (dump_use : DumpUse) where
     abbrev stream : List DumpRecord → Option Draft → List Numbered → Result (List DumpRecord) TextFault
     stream records draft ls = streamed begins begin line (close dump_use) records draft ls
@@ -48,17 +93,41 @@ module _ (user_id group_id : List ℕ → Option ℕ) where
     to_piece : (draft : Option Draft) (ls : List Numbered) (fault : TextFault) → IsOfALine user_id group_id draft ls fault → InPiece begins begin line (close dump_use) draft ls fault
     to_piece draft ls fault w = record { before = w.before; piece = w.line; after = w.after; parts = w.parts; same_group = w.same_record; begins_none = w.begins_none; so_far = w.so_far; no_fault_before = w.no_fault_before; faulty = w.faulty }
 
-    of_group : (records : List DumpRecord) (draft : Option Draft) (ls : List Numbered) (fault : TextFault)
-        → InPiece begins begin line (close dump_use) draft ls fault ⊎ InWhole begins begin line (close dump_use) records draft ls fault → IsOfTheRecord user_id group_id dump_use records draft ls fault
-    of_group records draft ls fault found =
+    -- a record in the making keeps its place
+    begun_at : (records : List DumpRecord) (l : Numbered) (d : Option Draft) → begin records l ≡ Ok d → StandsAt l.0 d
+    begun_at records l d e = from_value (content_of l.1).1 d e
+      where
+        from_path : (bytes : List ℕ) (o : Option (List (List ℕ))) (d : Option Draft) → at_place l.0 (or_fault o BadPath >>= new_draft records l.0 bytes) (λ draft. Ok (Some draft)) ≡ Ok d → StandsAt l.0 d
+        from_path bytes None d e = absurd cc
+        from_path bytes (Some path) d e = by (is_repeated records path) e
+          where
+            by : (b : Bool) → at_place l.0 (if b then Err RepeatedFile else Ok (draft_of l.0 bytes path)) (λ draft. Ok (Some draft)) ≡ Ok d → StandsAt l.0 d
+            by true e = absurd cc
+            by false e = let same : Some (draft_of l.0 bytes path) ≡ d = cc in subst (StandsAt l.0) same refl
+
+        from_value : (value : List ℕ) (d : Option Draft) → at_place l.0 (begun records l.0 value) (λ draft. Ok (Some draft)) ≡ Ok d → StandsAt l.0 d
+        from_value [] d e = absurd cc
+        from_value (b ∷ bs) d e = from_path (b ∷ bs) (path_of (b ∷ bs)) d e
+
+    whole_at : (at : ℕ) (records : List DumpRecord) (d : Option Draft) (fault : TextFault) → StandsAt at d → close dump_use records d ≡ Err fault → fault.at ≡ at
+    whole_at at records None fault stands e = absurd cc
+    whole_at at records (Some d) fault stands e = by (record_of dump_use d) e ∙ stands
+      where
+        by : (r : Result DumpRecord FaultKind) → at_place d.at r (λ x. let rs : Result (List DumpRecord) TextFault = Ok (records ++ x ∷ []) in rs) ≡ Err fault → fault.at ≡ d.at
+        by (Ok x) e = absurd cc
+        by (Err kind) e = let same : record { kind = kind; at = d.at } ≡ fault = cc in sym (ap (λ (f : TextFault). f.at) same)
+
+    of_group : (at : ℕ) (records : List DumpRecord) (draft : Option Draft) (ls : List Numbered) (fault : TextFault) → StandsAt at draft
+        → InPiece begins begin line (close dump_use) draft ls fault ⊎ InWhole begins begin line (close dump_use) records draft ls fault → IsOfTheRecord user_id group_id dump_use at records draft ls fault
+    of_group at records draft ls fault stands found =
         elim found [
           | inl w ↦ inl (of_piece draft ls fault w)
-          | inr w ↦ inr (record { others = w.others; after = w.after; parts = w.parts; same_record = w.same_group; ended = w.ends; so_far = w.so_far; no_faulty_line = w.no_faulty_piece; faulty = w.faulty })
+          | inr w ↦ inr (record { place = whole_at at records w.so_far fault (added_at at w.others draft w.so_far stands w.no_faulty_piece) w.faulty; others = w.others; after = w.after; parts = w.parts; same_record = w.same_group; ended = w.ends; so_far = w.so_far; no_faulty_line = w.no_faulty_piece; faulty = w.faulty })
         ]
 
-    to_group : (records : List DumpRecord) (draft : Option Draft) (ls : List Numbered) (fault : TextFault)
-        → IsOfTheRecord user_id group_id dump_use records draft ls fault → InPiece begins begin line (close dump_use) draft ls fault ⊎ InWhole begins begin line (close dump_use) records draft ls fault
-    to_group records draft ls fault found =
+    to_group : (at : ℕ) (records : List DumpRecord) (draft : Option Draft) (ls : List Numbered) (fault : TextFault)
+        → IsOfTheRecord user_id group_id dump_use at records draft ls fault → InPiece begins begin line (close dump_use) draft ls fault ⊎ InWhole begins begin line (close dump_use) records draft ls fault
+    to_group at records draft ls fault found =
         elim found [
           | inl w ↦ inl (to_piece draft ls fault w)
           | inr w ↦ inr (record { others = w.others; after = w.after; parts = w.parts; same_group = w.same_record; ends = w.ended; so_far = w.so_far; no_faulty_piece = w.no_faulty_line; faulty = w.faulty })
@@ -75,7 +144,7 @@ module _ (user_id group_id : List ℕ → Option ℕ) where
       no_fault_before = sym (by_stream w.before) ∙ w.no_fault_before;
       faulty = elim w.faulty [
         | inl bad ↦ inl bad
-        | inr b ↦ inr (record { draft = b.draft; no_fault = b.no_fault; behind = of_group w.more b.draft w.behind fault b.behind })
+        | inr b ↦ inr (record { draft = b.draft; no_fault = b.no_fault; behind = of_group w.head.0 w.more b.draft w.behind fault (begun_at w.more w.head b.draft b.no_fault) b.behind })
       ];
     }
 
@@ -90,7 +159,7 @@ module _ (user_id group_id : List ℕ → Option ℕ) where
       no_fault_before = by_stream w.before ∙ w.no_fault_before;
       faulty = elim w.faulty [
         | inl bad ↦ inl bad
-        | inr b ↦ inr (record { draft = b.draft; no_fault = b.no_fault; behind = to_group w.records b.draft w.behind fault b.behind })
+        | inr b ↦ inr (record { draft = b.draft; no_fault = b.no_fault; behind = to_group w.file.0 w.records b.draft w.behind fault b.behind })
       ];
     }
 

@@ -35,8 +35,10 @@ module _ (user_id group_id : List ℕ → Option ℕ) where
     pub faulty : line_in user_id group_id so_far line ≡ Err fault
 
   module _ (dump_use : DumpUse) where
-    -- A record has the fault as a whole; all its lines are not faulty, and what comes behind it is not looked at.
-    pub record IsOfTheWhole (records : List DumpRecord) (draft : Option Draft) (ls : List Numbered) (fault : TextFault) : Type 0 where
+    -- A record has the fault as a whole, which is told at a place; all its lines are not faulty, and what comes behind it
+    -- is not looked at.
+    pub record IsOfTheWhole (at : ℕ) (records : List DumpRecord) (draft : Option Draft) (ls : List Numbered) (fault : TextFault) : Type 0 where
+      pub place : fault.at ≡ at
       pub others : List Numbered
       pub after : List Numbered
       pub parts : ls ≡ others ++ after
@@ -46,15 +48,15 @@ module _ (user_id group_id : List ℕ → Option ℕ) where
       pub no_faulty_line : added draft others ≡ Ok so_far
       pub faulty : close dump_use records so_far ≡ Err fault
 
-    -- the record that is begun has the fault, in one of the lines behind or as a whole
-    abbrev pub IsOfTheRecord : List DumpRecord → Option Draft → List Numbered → TextFault → Type 0
-    IsOfTheRecord records draft ls fault = IsOfALine draft ls fault ⊎ IsOfTheWhole records draft ls fault
+    -- the record that is begun at a place has the fault, in one of the lines behind, or there as a whole
+    abbrev pub IsOfTheRecord : ℕ → List DumpRecord → Option Draft → List Numbered → TextFault → Type 0
+    IsOfTheRecord at records draft ls fault = IsOfALine draft ls fault ⊎ IsOfTheWhole at records draft ls fault
 
     -- a `file:` line is not faulty, and the record that it begins has the fault
     pub record IsBehind (records : List DumpRecord) (file : Numbered) (ls : List Numbered) (fault : TextFault) : Type 0 where
       pub draft : Option Draft
       pub no_fault : begin records file ≡ Ok draft
-      pub behind : IsOfTheRecord records draft ls fault
+      pub behind : IsOfTheRecord file.0 records draft ls fault
 
     -- the records of these lines, or the first fault
     abbrev pub records_in : List Numbered → Result (List DumpRecord) TextFault

@@ -14,8 +14,8 @@ ghost use Rattle.acl_dump.specs.Again.{IsReadable, AreApart, paths, placed, dump
 
 /// The fault of a dump is that of the first faulty record: the lines before the record are a dump without a
 /// fault. Where its `# file:` line is not faulty, it is that of the record's first faulty line, and where
-/// none of its lines is faulty that of the record as a whole, whatever comes behind it. A fault of a line
-/// before the first record goes before all these.
+/// none of its lines is faulty that of the record as a whole, which is told at the `# file:` line, whatever
+/// comes behind the record. A fault of a line before the first record goes before all these.
 pub fn dump_fault_is_first()
     ensures { (user_id group_id : List ℕ → Option ℕ) (dump_use : DumpUse) (bytes : List ℕ) (fault : TextFault) →
         (dump_of user_id group_id dump_use bytes ≡ Err fault) ↔ IsFirstFault user_id group_id dump_use (lines_of bytes) fault }
