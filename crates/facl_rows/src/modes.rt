@@ -53,7 +53,7 @@ can joe pub\n\
 can lisa log\n\
 can nosuch nofile\n\
 can joe nofile\n\
-can --reach joe f\n",
+can -R joe f\n",
         out: b"--x -w- -wx r-- r-x rw- rwx\n\
 --x -w- -wx r-- r-x rw- rwx\n\
 --x r-- r-x\n\
