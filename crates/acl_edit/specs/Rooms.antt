@@ -1,9 +1,9 @@
 -- Lists and lines so small that no memory is wanted for them.
-use Rattle.std.specs.Prelude.{ℕ, ◌+◌, ◌≤◌, length, Option, unwrap_or}
+use Rattle.std.specs.Prelude.{◌≡◌, ℕ, true, ◌+◌, ◌≤◌, length, Option, unwrap_or}
 use Rattle.std.specs.FinMap as maps
 use Rattle.acl_entry.specs.Lists.{KeyMap, entries, inline_entries}
 use Rattle.acl_text.specs.declared.fault.Which.TheVariants.{Access, Default}
-use Rattle.acl_edit.specs.Parts.{Part, part}
+use Rattle.acl_edit.specs.Parts.{Part, part, names}
 use Rattle.acl_edit.specs.Edits.{access_before, default_before}
 use Rattle.acl_edit.specs.declared.edit.Change.{Change}
 use Rattle.acl_edit.specs.declared.edit.Edit.{Edit}
@@ -31,12 +31,12 @@ pub record HasShortLists (n : Node) : Type 0 where
   pub access : Fits (size n.label.acl)
   pub dacl : Fits (size_of n.dacl)
 
--- the access list that the steps begin with finds room beside what the line puts and a mask, the default list beside these and the base
--- entries, and the default list as it is
+-- the file's lists find room, and each list that the line names, beside what the line puts and a mask; a default list beside the base
+-- entries too
 pub record HasRoom (n : Node) (c : Change) : Type 0 where
-  pub access : Fits (size (access_before c n.label.acl) + puts_of (part c Access) + 1)
-  pub dacl : Fits (size (default_before c n.dacl) + puts_of (part c Default) + 4)
-  pub kept : Fits (size_of n.dacl)
+  pub lists : HasShortLists n
+  pub access : names (part c Access) ≡ true → Fits (size (access_before c n.label.acl) + puts_of (part c Access) + 1)
+  pub dacl : names (part c Default) ≡ true → Fits (size (default_before c n.dacl) + puts_of (part c Default) + 4)
 
 -- the file's lists and the edit's find room
 abbrev pub IsSmall : Node → Edit → Type 0

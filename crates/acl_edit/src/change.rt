@@ -1,6 +1,6 @@
 //! What a setfacl(1) line leaves of a file's lists.
-ghost use Rattle.std.specs.Prelude.{◌≡◌, ◌≢◌, ◌+◌, ◌||◌, None, Ok, Err, IfOk, IfErr, IsOk, OnOk, if◌then◌else◌};
-ghost use Rattle.acl_edit.specs.Parts.{part};
+ghost use Rattle.std.specs.Prelude.{◌≡◌, ◌≢◌, ◌+◌, ◌||◌, true, None, Ok, Err, IfOk, IfErr, IsOk, OnOk, if◌then◌else◌};
+ghost use Rattle.acl_edit.specs.Parts.{part, names};
 ghost use Rattle.acl_edit.specs.Masks.{takes_mask};
 ghost use Rattle.acl_edit.specs.Steps as steps;
 ghost use Rattle.acl_edit.specs.Edits as edits;
@@ -51,7 +51,7 @@ impl Change {
     #[tactic(auto, unfolding(crate::specs::Edits::access_after))]
     fn edit_access(&self, alloc: Global, x: bool, draft: &mut Draft) -> Result<(), AllocError>
         ensures edited { OnOk result (draft.new ≡ access_after self.now x draft.old) }
-        ensures room { Fits (size draft.old + puts_of (part self.now Access) + 1) → IsOk result }
+        ensures room { (names (part self.now Access) ≡ true → Fits (size draft.old + puts_of (part self.now Access) + 1)) → IsOk result }
     {
         if self.names(Which::Access) {
             let lost = self.work(alloc, Which::Access, x, draft)?;
@@ -70,7 +70,7 @@ impl Change {
         draft: &mut Draft,
     ) -> Result<(), AllocError>
         ensures edited { OnOk result (draft.new ≡ default_after self.now x acl.now draft.old) }
-        ensures room { Fits (size draft.old + puts_of (part self.now Default) + 4) → IsOk result }
+        ensures room { (names (part self.now Default) ≡ true → Fits (size draft.old + puts_of (part self.now Default) + 4)) → IsOk result }
     {
         if self.names(Which::Default) {
             let lost = self.work(alloc, Which::Default, x, draft)?;
@@ -85,7 +85,7 @@ impl Change {
     // The access list that the steps begin with.
     fn access_before(&self, alloc: Global, acl: &Acl) -> Result<Draft, AllocError>
         ensures begun { IfOk result (λ draft. draft ≡ access_before self.now acl.now) }
-        ensures room { Fits (size (access_before self.now acl.now)) → IsOk result }
+        ensures room { Fits (size acl.now) → IsOk result }
     {
         if self.strip {
             strip(alloc, acl)
@@ -108,7 +108,7 @@ impl Change {
     // The default list that the steps begin with.
     fn default_before(&self, alloc: Global, dacl: &Option<Acl>) -> Result<Draft, AllocError>
         ensures begun { IfOk result (λ draft. draft ≡ default_before self.now dacl.now) }
-        ensures room { Fits (size (default_before self.now dacl.now)) → IsOk result }
+        ensures room { Fits (size_of dacl.now) → IsOk result }
     {
         match dacl {
             Some(acl) if !self.strip && !self.drop_default => Draft::of(alloc, acl),

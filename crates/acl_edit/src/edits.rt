@@ -19,8 +19,8 @@ use std::alloc::{AllocError, Global};
 /// # Errors
 ///
 /// Default entries or a default list for a file that is no directory, but in a recursion, which takes no
-/// memory to tell; a resulting list that is none; want of memory, never where the file's lists and those
-/// of the edit have a few entries: eight, with all that a setfacl(1) line puts into one.
+/// memory to tell; a resulting list that is none; want of memory, never where no list has more than
+/// eight entries, counted with what a setfacl(1) line puts into it, a mask, and copied base entries.
 #[tactic(auto, unfolding(crate::specs::Edits::restore))]
 pub fn apply(alloc: Global, node: &Node, edit: &Edit, in_recursion: bool) -> Result<Node, EditFault>
     ensures made { IfOk result (λ n. edits.edit node.now edit.now in_recursion ≡ Ok n) }
