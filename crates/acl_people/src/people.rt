@@ -1,6 +1,7 @@
 //! People: who is known by passwd(5) and group(5).
 
-ghost use Rattle.std.specs.Prelude.{◌≡◌, length, map, slice_get, IfOk, option_map};
+ghost use Rattle.std.specs.Prelude.{◌≡◌, length, map, slice_get, true, Err, IfOk, option_map};
+ghost use Rattle.acl_people.specs.declared.fault.LoadFault.TheVariants.{AlreadyLoaded};
 ghost use Rattle.std.specs.Option.{option_copied};
 ghost use Rattle.acl_people.specs.Rolls.{id_named, name_shown, place_of_word, IsNaming};
 ghost use Rattle.acl_people.specs.Registers.{nobody, users_of, groups_of, person, subject, load_passwd, load_group, Loads};
@@ -117,10 +118,11 @@ impl People {
         &self.subjects
     }
 
-    /// These people with the users of a passwd text. Refused where one was loaded, for the text's first fault
-    /// and for want of memory.
+    /// These people with the users of a passwd text. Refused where one was loaded, whatever memory there is,
+    /// for the text's first fault and for want of memory.
     pub fn load_passwd(&self, alloc: Global, bytes: &[u8]) -> Result<People, LoadFault>
-        ensures { Loads (λ people. people) result (load_passwd self.now bytes.now) }
+        ensures told { Loads (λ people. people) result (load_passwd self.now bytes.now) }
+        ensures again { self.now.passwd_loaded ≡ true → result ≡ Err AlreadyLoaded }
     {
         if self.passwd_loaded {
             return Err(LoadFault::AlreadyLoaded);
@@ -139,10 +141,11 @@ impl People {
         })
     }
 
-    /// These people with the groups of a group text. Refused where one was loaded, for the text's first fault
-    /// and for want of memory.
+    /// These people with the groups of a group text. Refused where one was loaded, whatever memory there is,
+    /// for the text's first fault and for want of memory.
     pub fn load_group(&self, alloc: Global, bytes: &[u8]) -> Result<People, LoadFault>
-        ensures { Loads (λ people. people) result (load_group self.now bytes.now) }
+        ensures told { Loads (λ people. people) result (load_group self.now bytes.now) }
+        ensures again { self.now.group_loaded ≡ true → result ≡ Err AlreadyLoaded }
     {
         if self.group_loaded {
             return Err(LoadFault::AlreadyLoaded);

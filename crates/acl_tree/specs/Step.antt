@@ -1,5 +1,5 @@
 -- The whole state, and what a command makes of it.
-use Rattle.std.specs.Prelude.{◌≡◌, ◌≢◌, ℕ, List, length, Bool, true, false, nat_lt, if◌then◌else◌, Option, Some, None, Result, Ok, Err, MatchResult, refl}
+use Rattle.std.specs.Prelude.{◌≡◌, ◌≢◌, ℕ, List, length, Bool, true, false, nat_lt, ◌||◌, if◌then◌else◌, Option, Some, None, Result, Ok, Err, MatchResult, refl}
 use Rattle.std.specs.Coded.{Coded, code_by, coded×}
 use Rattle.acl_text.specs.declared.fault.TextFault.{TextFault}
 use Rattle.acl_dump.specs.declared.record.DumpRecord.{DumpRecord}
@@ -71,10 +71,16 @@ load s Dump bytes = if s.tree.loaded then Err AlreadyLoaded else load_dump s byt
 
 -- ---- all commands
 
--- whether a command loads a text
-abbrev pub is_load : Command → Bool
-is_load (Load which bytes) = true
-is_load (Chmod paths mode recursive) = false
+-- whether a text was loaded, or can be no more: users and groups are loaded before a dump
+abbrev pub is_loaded : State → Table → Bool
+is_loaded s Passwd = s.tree.loaded || s.people.passwd_loaded
+is_loaded s Group = s.tree.loaded || s.people.group_loaded
+is_loaded s Dump = s.tree.loaded
+
+-- whether a command loads such a text
+abbrev pub loads_again : State → Command → Bool
+loads_again s (Load which bytes) = is_loaded s which
+loads_again s (Chmod paths mode recursive) = false
 
 -- the state after a command, or its first fault
 abbrev pub step : State → Command → Result State TreeFault

@@ -1,7 +1,7 @@
 //! Commands on the whole state: each is prepared whole, or refused.
 
 ghost use Rattle.std.specs.Prelude.{◌≡◌, [], true, IfOk, IfErr, OnOk, Err};
-ghost use Rattle.acl_tree.specs.Step.{chmod_all, or_missing, tree_fault, load, is_load, step, Stages};
+ghost use Rattle.acl_tree.specs.Step.{chmod_all, or_missing, tree_fault, load, is_loaded, loads_again, step, Stages};
 ghost use Rattle.acl_tree.specs.declared.command.TreeFault.TheVariants.{AlreadyLoaded, NoMemory};
 ghost use Rattle.acl_people.specs.Registers.{Register};
 ghost use Rattle.acl_tree.specs.Operands.{first_missing};
@@ -35,7 +35,7 @@ impl Tree {
     ///
     /// The command's first fault. A load tells `AlreadyLoaded` before any look at the text, then the text's
     /// first fault, then `TooMany`; a chmod tells `NoSuchFile` of the first operand that is not recorded. Or
-    /// `NoMemory`; after a dump every load is told `AlreadyLoaded`, whatever memory there is.
+    /// `NoMemory`, but `AlreadyLoaded` is told whatever memory there is.
     pub fn prepare(
         &self,
         alloc: Global,
@@ -43,7 +43,7 @@ impl Tree {
         command: &Command,
     ) -> Result<Staged, TreeFault>
         ensures made { Stages (λ s. s.state) result (step (record { tree = self.now; people = people.now }) command.now) }
-        ensures loaded { self.now.loaded ≡ true → is_load command.now ≡ true → result ≡ Err AlreadyLoaded }
+        ensures loaded { loads_again (record { tree = self.now; people = people.now }) command.now ≡ true → result ≡ Err AlreadyLoaded }
         ensures sound { IfOk result (λ staged. IsSoundTree staged.state.tree) }
         ensures tells { IfOk result (λ staged. Tells (record { tree = self.now; people = people.now }) staged) }
         ensures moved { IfOk result (λ staged. staged.moved ≡ users_move command.now) }
@@ -66,7 +66,7 @@ impl Tree {
         bytes: &[u8],
     ) -> Result<Staged, TreeFault>
         ensures made { Stages (λ s. s.state) result (load (record { tree = self.now; people = people.now }) which bytes.now) }
-        ensures loaded { self.now.loaded ≡ true → result ≡ Err AlreadyLoaded }
+        ensures loaded { is_loaded (record { tree = self.now; people = people.now }) which ≡ true → result ≡ Err AlreadyLoaded }
         ensures sound { IfOk result (λ staged. IsSoundTree staged.state.tree) }
         ensures tells { IfOk result (λ staged. Tells (record { tree = self.now; people = people.now }) staged) }
         ensures moved { IfOk result (λ staged. staged.moved ≡ load_moves which) }
