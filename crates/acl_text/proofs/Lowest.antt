@@ -15,8 +15,8 @@ use Rattle.acl_text.specs.declared.fields.Tag.TheVariants as tags
 use Rattle.acl_text.specs.Told.{◌>>=◌, or_fault}
 use Rattle.acl_text.specs.Blanks.{trimmed}
 use Rattle.acl_text.specs.Fields.{EntryRow, default_of, entry_fields}
-use Rattle.acl_text.specs.Entries.{tagged, given_perms, no_perms, wanted_perms, allowed_key, content, with_entry, key_of, entry_from, one_more}
-use Rattle.acl_text.specs.Lowest.{number, TellsLowest, HasBadTag, HasBadPerms, HasUnknownWord, HasBaseKey, HasNoRoom, EntryHas}
+use Rattle.acl_text.specs.Entries.{tagged, given_perms, no_perms, wanted_perms, allowed_key, content, with_entry, key_of, entry_from, entry_of, one_more}
+use Rattle.acl_text.specs.Lowest.{number, TellsLowest, HasBadTag, HasBadPerms, HasUnknownWord, HasBaseKey, HasNoRoom, FieldsHave, EntryHas, NextEntryHas}
 
 -- ---- one check, and one after another
 
@@ -121,28 +121,28 @@ base-kind rules key k e =
 
 -- ---- an entry
 
-module _ (user_id group_id : List ℕ → Option ℕ) (rules : Rules) (specs : List Spec) (fields : Bool × List (List ℕ)) where
+module _ (user_id group_id : List ℕ → Option ℕ) (rules : Rules) (fields : Bool × List (List ℕ)) where
   same_row : (a b : EntryRow) → tagged rules fields ≡ Some a → tagged rules fields ≡ Some b → b ≡ a
   same_row a b ea eb = let both : Some b ≡ Some a = sym eb ∙ ea in cc
 
-  tag_check : TellsLowest (HasBadTag user_id group_id rules specs fields) (or_fault (tagged rules fields) kinds.BadTag)
-  tag_check = alone (HasBadTag user_id group_id rules specs fields) (or_fault (tagged rules fields) kinds.BadTag)
+  tag_check : TellsLowest (HasBadTag user_id group_id rules fields) (or_fault (tagged rules fields) kinds.BadTag)
+  tag_check = alone (HasBadTag user_id group_id rules fields) (or_fault (tagged rules fields) kinds.BadTag)
       (λ k h. ap (λ o. or_fault o kinds.BadTag) h.no_row ∙ ap (λ j. Err j) (sym h.is))
       (λ k e. record { is = sym (or_fault-kind (tagged rules fields) kinds.BadTag k e); no_row = or_fault-none (tagged rules fields) kinds.BadTag k e })
 
   module _ (row : EntryRow) (is_row : tagged rules fields ≡ Some row) where
-    perms_check : TellsLowest (HasBadPerms user_id group_id rules specs fields) (wanted_perms rules row.perms)
-    perms_check = alone (HasBadPerms user_id group_id rules specs fields) (wanted_perms rules row.perms)
+    perms_check : TellsLowest (HasBadPerms user_id group_id rules fields) (wanted_perms rules row.perms)
+    perms_check = alone (HasBadPerms user_id group_id rules fields) (wanted_perms rules row.perms)
         (λ k h. ap (λ (r : EntryRow). wanted_perms rules r.perms) (same_row h.row row h.is_row is_row) ∙ h.bad)
         (λ k e. record { row = row; is_row = is_row; bad = e })
 
-    word_check : TellsLowest (HasUnknownWord user_id group_id rules specs fields) (key_of user_id group_id row.tag row.word)
-    word_check = alone (HasUnknownWord user_id group_id rules specs fields) (key_of user_id group_id row.tag row.word)
+    word_check : TellsLowest (HasUnknownWord user_id group_id rules fields) (key_of user_id group_id row.tag row.word)
+    word_check = alone (HasUnknownWord user_id group_id rules fields) (key_of user_id group_id row.tag row.word)
         (λ k h. ap (λ (r : EntryRow). key_of user_id group_id r.tag r.word) (same_row h.row row h.is_row is_row) ∙ h.unknown)
         (λ k e. record { row = row; is_row = is_row; unknown = e })
 
-    base_check : (key : Key) → key_of user_id group_id row.tag row.word ≡ Ok key → TellsLowest (HasBaseKey user_id group_id rules specs fields) (allowed_key rules key)
-    base_check key is_key = alone (HasBaseKey user_id group_id rules specs fields) (allowed_key rules key)
+    base_check : (key : Key) → key_of user_id group_id row.tag row.word ≡ Ok key → TellsLowest (HasBaseKey user_id group_id rules fields) (allowed_key rules key)
+    base_check key is_key = alone (HasBaseKey user_id group_id rules fields) (allowed_key rules key)
         (λ k h.
         let here = ap (λ (r : EntryRow). key_of user_id group_id r.tag r.word) (same_row h.row row h.is_row is_row) ∙ h.is_key in
         let both : Ok key ≡ Ok h.key = sym is_key ∙ here in
@@ -150,10 +150,10 @@ module _ (user_id group_id : List ℕ → Option ℕ) (rules : Rules) (specs : L
         ap (allowed_key rules) same ∙ h.base)
         (λ k e. record { row = row; key = key; is_row = is_row; is_key = is_key; base = e })
 
-  tag_below : (j k : FaultKind) → HasBadTag user_id group_id rules specs fields j → number j ≤ number k
+  tag_below : (j k : FaultKind) → HasBadTag user_id group_id rules fields j → number j ≤ number k
   tag_below j k h = omega (arith, ap number h.is, some_number k)
 
-  perms_below : (j k : FaultKind) → HasBadPerms user_id group_id rules specs fields j → (HasUnknownWord user_id group_id rules specs fields k ⊎ HasBaseKey user_id group_id rules specs fields k) → number j ≤ number k
+  perms_below : (j k : FaultKind) → HasBadPerms user_id group_id rules fields j → (HasUnknownWord user_id group_id rules fields k ⊎ HasBaseKey user_id group_id rules fields k) → number j ≤ number k
   perms_below j k h later =
       let low = perms-kind rules h.row.perms j h.bad in
       elim later [
@@ -161,107 +161,86 @@ module _ (user_id group_id : List ℕ → Option ℕ) (rules : Rules) (specs : L
         | inr base ↦ omega (arith, low, base-kind rules base.key k base.base)
       ]
 
-  word_below : (j k : FaultKind) → HasUnknownWord user_id group_id rules specs fields j → HasBaseKey user_id group_id rules specs fields k → number j ≤ number k
+  word_below : (j k : FaultKind) → HasUnknownWord user_id group_id rules fields j → HasBaseKey user_id group_id rules fields k → number j ≤ number k
   word_below j k h base = omega (arith, (word-kind user_id group_id h.row.tag h.row.word j h.unknown).1, base-kind rules base.key k base.base)
 
-  abbrev FieldsHave : FaultKind → Type 0
-  FieldsHave k = HasBadTag user_id group_id rules specs fields k ⊎ (HasBadPerms user_id group_id rules specs fields k ⊎ (HasUnknownWord user_id group_id rules specs fields k ⊎ HasBaseKey user_id group_id rules specs fields k))
-
-  fields_below : (j k : FaultKind) → FieldsHave j → HasNoRoom user_id group_id rules specs fields k → number j ≤ number k
-  fields_below j k have room =
-      let high : number k ≡ 15 = ap number room.is in
+  -- all that an entry has in itself is lower than what it has by its place
+  pub fields-kind : (k : FaultKind) → FieldsHave user_id group_id rules fields k → number k ≤ 7
+  fields-kind k have =
       elim have [
-        | inl tag ↦ omega (arith, ap number tag.is, high)
+        | inl tag ↦ omega (arith, ap number tag.is)
         | inr later ↦ elim later [
-          | inl perms ↦ omega (arith, perms-kind rules perms.row.perms j perms.bad, high)
+          | inl perms ↦ omega (arith, perms-kind rules perms.row.perms k perms.bad)
           | inr last ↦ elim last [
-            | inl word ↦ omega (arith, (word-kind user_id group_id word.row.tag word.row.word j word.unknown).1, high)
-            | inr base ↦ omega (arith, base-kind rules base.key j base.base, high)
+            | inl word ↦ omega (arith, (word-kind user_id group_id word.row.tag word.row.word k word.unknown).1)
+            | inr base ↦ omega (arith, base-kind rules base.key k base.base)
           ]
         ]
       ]
 
-  room_check : (spec : Spec) → TellsLowest (HasNoRoom user_id group_id rules specs fields) (if nat_le 16384 (length specs) then Err kinds.TooMany else Ok (specs ++ spec ∷ []))
-  room_check spec = alone (HasNoRoom user_id group_id rules specs fields) (if nat_le 16384 (length specs) then Err kinds.TooMany else Ok (specs ++ spec ∷ []))
-      (λ k h. rw (le-leb 16384 (length specs) h.full) (ap (λ j. Err j) (sym h.is)))
-      (λ k e.
-      elim (cases_Bool (leb 16384 (length specs))) [
-        | inl full ↦ let told = rw full at e in let same : kinds.TooMany ≡ k = cc in record { is = sym same; full = leb-true 16384 (length specs) full }
-        | inr room ↦ let told = rw room at e in absurd cc
-      ])
-
--- the kinds that an entry has in itself
-module _ (user_id group_id : List ℕ → Option ℕ) (rules : Rules) (at : ℕ) (fields : List (List ℕ)) (k : FaultKind) where
-  abbrev said : Option PermSpec → Key → Result Spec FaultKind
-  said perm key = allowed_key rules key >>= (λ allowed. Ok (record { at = at; dflt = (default_of fields).0; key = allowed; perm = perm }))
-
-  abbrev worded : EntryRow → Option PermSpec → Result Spec FaultKind
-  worded row perm = key_of user_id group_id row.tag row.word >>= (λ key. said perm key)
-
-  abbrev granted : EntryRow → Result Spec FaultKind
-  granted row = wanted_perms rules row.perms >>= (λ perm. worded row perm)
-
-  same_kind : {A : Type 0} (j : FaultKind) → (let r : Result A FaultKind = Err j in r ≡ Err k) → number j ≡ number k
-  same_kind j e = let same : j ≡ k = cc in ap number same
-
-  from_base : (r : Result Key FaultKind) (perm : Option PermSpec) (key : Key) → allowed_key rules key ≡ r → (r >>= (λ allowed. let spec : Spec = record { at = at; dflt = (default_of fields).0; key = allowed; perm = perm } in Ok spec)) ≡ Err k → number k ≤ 7
-  from_base (Ok allowed) perm key is told = absurd cc
-  from_base (Err j) perm key is told = omega (arith, base-kind rules key j is, same_kind {A = Spec} j told)
-
-  from_word : (row : EntryRow) (perm : Option PermSpec) (r : Result Key FaultKind) → key_of user_id group_id row.tag row.word ≡ r → (r >>= (λ key. said perm key)) ≡ Err k → number k ≤ 7
-  from_word row perm (Ok key) is told = from_base (allowed_key rules key) perm key refl told
-  from_word row perm (Err j) is told = omega (arith, (word-kind user_id group_id row.tag row.word j is).1, same_kind {A = Spec} j told)
-
-  from_perms : (row : EntryRow) (r : Result (Option PermSpec) FaultKind) → wanted_perms rules row.perms ≡ r → (r >>= (λ perm. worded row perm)) ≡ Err k → number k ≤ 7
-  from_perms row (Ok perm) is told = from_word row perm (key_of user_id group_id row.tag row.word) refl told
-  from_perms row (Err j) is told = omega (arith, perms-kind rules row.perms j is, same_kind {A = Spec} j told)
-
-  from_tag : (r : Result EntryRow FaultKind) → or_fault (tagged rules (default_of fields)) kinds.BadTag ≡ r → (r >>= (λ row. granted row)) ≡ Err k → number k ≤ 7
-  from_tag (Ok row) is told = from_perms row (wanted_perms rules row.perms) refl told
-  from_tag (Err j) is told = omega (arith, ap number (or_fault-kind (tagged rules (default_of fields)) kinds.BadTag j is), same_kind {A = Spec} j told)
-
-  pub entry-kind : entry_from user_id group_id rules at fields ≡ Err k → number k ≤ 7
-  entry-kind e = from_tag (or_fault (tagged rules (default_of fields)) kinds.BadTag) refl e
-
 -- a value that is made of another changes no fault
-made : {A B : Type 0} (has : FaultKind → Type 0) (r : Result A FaultKind) (g : A → B) → TellsLowest has r → TellsLowest has (r >>= (λ x. Ok (g x)))
+pub made : {A B : Type 0} (has : FaultKind → Type 0) (r : Result A FaultKind) (g : A → B) → TellsLowest has r → TellsLowest has (r >>= (λ x. Ok (g x)))
 made has (Ok x) g one = record { no_fault = λ y e k h. one.no_fault x refl k h; lowest = λ k e. absurd cc }
 made has (Err i) g one = record { no_fault = λ y e k h. absurd cc; lowest = λ k e. let same : i ≡ k = cc in one.lowest k (ap (λ j. Err j) same) }
 
-module _ (user_id group_id : List ℕ → Option ℕ) (rules : Rules) (at : ℕ) (specs : List Spec) (fs : List (List ℕ)) where
+module _ (user_id group_id : List ℕ → Option ℕ) (rules : Rules) (at : ℕ) (fs : List (List ℕ)) where
+  abbrev spec_with : Option PermSpec → Key → Spec
+  spec_with perm allowed = record { at = at; dflt = (default_of fs).0; key = allowed; perm = perm }
+
+  abbrev KeyHas : FaultKind → Type 0
+  KeyHas k = HasUnknownWord user_id group_id rules (default_of fs) k ⊎ HasBaseKey user_id group_id rules (default_of fs) k
+
   key_step : (row : EntryRow) → tagged rules (default_of fs) ≡ Some row → (perm : Option PermSpec)
-      → TellsLowest {A = Spec} (λ k. HasUnknownWord user_id group_id rules specs (default_of fs) k ⊎ HasBaseKey user_id group_id rules specs (default_of fs) k)
-      (key_of user_id group_id row.tag row.word >>= (λ key. allowed_key rules key >>= (λ allowed. Ok (record { at = at; dflt = (default_of fs).0; key = allowed; perm = perm }))))
+      → TellsLowest KeyHas (key_of user_id group_id row.tag row.word >>= (λ key. allowed_key rules key >>= (λ allowed. Ok (spec_with perm allowed))))
   key_step row is_row perm =
-      in_turn (HasUnknownWord user_id group_id rules specs (default_of fs)) (HasBaseKey user_id group_id rules specs (default_of fs)) (key_of user_id group_id row.tag row.word)
-      (λ key. allowed_key rules key >>= (λ allowed. Ok (record { at = at; dflt = (default_of fs).0; key = allowed; perm = perm })))
-      (word_below user_id group_id rules specs (default_of fs)) (word_check user_id group_id rules specs (default_of fs) row is_row)
-      (λ key is_key. made (HasBaseKey user_id group_id rules specs (default_of fs)) (allowed_key rules key) (λ allowed. record { at = at; dflt = (default_of fs).0; key = allowed; perm = perm }) (base_check user_id group_id rules specs (default_of fs) row is_row key is_key))
+      in_turn (HasUnknownWord user_id group_id rules (default_of fs)) (HasBaseKey user_id group_id rules (default_of fs)) (key_of user_id group_id row.tag row.word)
+      (λ key. allowed_key rules key >>= (λ allowed. Ok (spec_with perm allowed)))
+      (word_below user_id group_id rules (default_of fs)) (word_check user_id group_id rules (default_of fs) row is_row)
+      (λ key is_key. made (HasBaseKey user_id group_id rules (default_of fs)) (allowed_key rules key) (spec_with perm) (base_check user_id group_id rules (default_of fs) row is_row key is_key))
 
   perms_step : (row : EntryRow) → tagged rules (default_of fs) ≡ Some row
-      → TellsLowest {A = Spec} (λ k. HasBadPerms user_id group_id rules specs (default_of fs) k ⊎ (HasUnknownWord user_id group_id rules specs (default_of fs) k ⊎ HasBaseKey user_id group_id rules specs (default_of fs) k))
-      (wanted_perms rules row.perms >>= (λ perm. key_of user_id group_id row.tag row.word >>= (λ key. allowed_key rules key >>= (λ allowed. Ok (record { at = at; dflt = (default_of fs).0; key = allowed; perm = perm })))))
+      → TellsLowest (λ k. HasBadPerms user_id group_id rules (default_of fs) k ⊎ KeyHas k)
+      (wanted_perms rules row.perms >>= (λ perm. key_of user_id group_id row.tag row.word >>= (λ key. allowed_key rules key >>= (λ allowed. Ok (spec_with perm allowed)))))
   perms_step row is_row =
-      in_turn (HasBadPerms user_id group_id rules specs (default_of fs)) (λ k. HasUnknownWord user_id group_id rules specs (default_of fs) k ⊎ HasBaseKey user_id group_id rules specs (default_of fs) k) (wanted_perms rules row.perms)
-      (λ perm. key_of user_id group_id row.tag row.word >>= (λ key. allowed_key rules key >>= (λ allowed. Ok (record { at = at; dflt = (default_of fs).0; key = allowed; perm = perm }))))
-      (perms_below user_id group_id rules specs (default_of fs)) (perms_check user_id group_id rules specs (default_of fs) row is_row) (λ perm is. key_step row is_row perm)
+      in_turn (HasBadPerms user_id group_id rules (default_of fs)) KeyHas (wanted_perms rules row.perms)
+      (λ perm. key_of user_id group_id row.tag row.word >>= (λ key. allowed_key rules key >>= (λ allowed. Ok (spec_with perm allowed))))
+      (perms_below user_id group_id rules (default_of fs)) (perms_check user_id group_id rules (default_of fs) row is_row) (λ perm is. key_step row is_row perm)
 
-  fields_step : TellsLowest (FieldsHave user_id group_id rules specs (default_of fs)) (entry_from user_id group_id rules at fs)
-  fields_step =
-      in_turn (HasBadTag user_id group_id rules specs (default_of fs)) (λ k. HasBadPerms user_id group_id rules specs (default_of fs) k ⊎ (HasUnknownWord user_id group_id rules specs (default_of fs) k ⊎ HasBaseKey user_id group_id rules specs (default_of fs) k)) (or_fault (tagged rules (default_of fs)) kinds.BadTag)
-      (λ row. wanted_perms rules row.perms >>= (λ perm. key_of user_id group_id row.tag row.word >>= (λ key. allowed_key rules key >>= (λ allowed. Ok (record { at = at; dflt = (default_of fs).0; key = allowed; perm = perm })))))
-      (λ j k h later. tag_below user_id group_id rules specs (default_of fs) j k h) (tag_check user_id group_id rules specs (default_of fs))
+  fields_lowest : TellsLowest (FieldsHave user_id group_id rules (default_of fs)) (entry_from user_id group_id rules at fs)
+  fields_lowest =
+      in_turn (HasBadTag user_id group_id rules (default_of fs)) (λ k. HasBadPerms user_id group_id rules (default_of fs) k ⊎ KeyHas k) (or_fault (tagged rules (default_of fs)) kinds.BadTag)
+      (λ row. wanted_perms rules row.perms >>= (λ perm. key_of user_id group_id row.tag row.word >>= (λ key. allowed_key rules key >>= (λ allowed. Ok (spec_with perm allowed)))))
+      (λ j k h later. tag_below user_id group_id rules (default_of fs) j k h) (tag_check user_id group_id rules (default_of fs))
       (λ row is. perms_step row (or_fault-some (tagged rules (default_of fs)) kinds.BadTag row is))
 
-  with_entry_step : TellsLowest (EntryHas user_id group_id rules specs (default_of fs)) (with_entry specs (entry_from user_id group_id rules at fs))
-  with_entry_step =
-      in_turn (FieldsHave user_id group_id rules specs (default_of fs)) (HasNoRoom user_id group_id rules specs (default_of fs)) (entry_from user_id group_id rules at fs)
-      (λ spec. if nat_le 16384 (length specs) then Err kinds.TooMany else Ok (specs ++ spec ∷ []))
-      (fields_below user_id group_id rules specs (default_of fs)) fields_step (λ spec is. room_check user_id group_id rules specs (default_of fs) spec)
+  pub entry-kind : (k : FaultKind) → entry_from user_id group_id rules at fs ≡ Err k → number k ≤ 7
+  entry-kind k e = fields-kind user_id group_id rules (default_of fs) k (fields_lowest.lowest k e).applies
 
--- an entry that is not empty
+-- an entry by itself
+pub entry_lowest : (user_id group_id : List ℕ → Option ℕ) (rules : Rules) (at : ℕ) (entry : List ℕ) → TellsLowest (EntryHas user_id group_id rules entry) (entry_of user_id group_id rules at entry)
+entry_lowest user_id group_id rules at entry = fields_lowest user_id group_id rules at (entry_fields entry)
+
+room_lowest : (specs : List Spec) (spec : Spec) → TellsLowest (HasNoRoom specs) (if nat_le 16384 (length specs) then Err kinds.TooMany else Ok (specs ++ spec ∷ []))
+room_lowest specs spec = alone (HasNoRoom specs) (if nat_le 16384 (length specs) then Err kinds.TooMany else Ok (specs ++ spec ∷ []))
+    (λ k h. rw (le-leb 16384 (length specs) h.full) (ap (λ j. Err j) (sym h.is)))
+    (λ k e.
+    elim (cases_Bool (leb 16384 (length specs))) [
+      | inl full ↦ let told = rw full at e in let same : kinds.TooMany ≡ k = cc in record { is = sym same; full = leb-true 16384 (length specs) full }
+      | inr room ↦ let told = rw room at e in absurd cc
+    ])
+
+-- the next entry of a text
+next_lowest : (user_id group_id : List ℕ → Option ℕ) (rules : Rules) (at : ℕ) (specs : List Spec) (entry : List ℕ)
+    → TellsLowest (NextEntryHas user_id group_id rules specs entry) (with_entry specs (entry_of user_id group_id rules at entry))
+next_lowest user_id group_id rules at specs entry =
+    in_turn (EntryHas user_id group_id rules entry) (HasNoRoom specs) (entry_of user_id group_id rules at entry)
+    (λ spec. if nat_le 16384 (length specs) then Err kinds.TooMany else Ok (specs ++ spec ∷ []))
+    (λ j k have room. omega (arith, fields-kind user_id group_id rules (default_of (entry_fields entry)) j have, ap number room.is))
+    (entry_lowest user_id group_id rules at entry) (λ spec is. room_lowest specs spec)
+
+-- a piece that is not empty
 pub piece_lowest : (user_id group_id : List ℕ → Option ℕ) (sep : Sep) (rules : Rules) (at : ℕ) (specs : List Spec) (piece : List ℕ) → 0 < length (trimmed (content sep piece))
-    → TellsLowest (EntryHas user_id group_id rules specs (default_of (entry_fields (content sep piece)))) (one_more user_id group_id sep rules at specs piece)
+    → TellsLowest (NextEntryHas user_id group_id rules specs (content sep piece)) (one_more user_id group_id sep rules at specs piece)
 piece_lowest user_id group_id sep rules at specs piece some =
     let full : (length (trimmed (content sep piece)) == 0) ≡ false = ne_eqb (length (trimmed (content sep piece))) 0 (λ zero. omega arith) in
-    rw full (with_entry_step user_id group_id rules at specs (entry_fields (content sep piece)))
+    rw full (next_lowest user_id group_id rules at specs (content sep piece))

@@ -6,7 +6,7 @@ use Rattle.acl_text.specs.declared.fault.FaultKind.{FaultKind}
 use Rattle.acl_text.specs.declared.fault.FaultKind.TheVariants as kinds
 use Rattle.acl_text.specs.declared.entries.Rules.{Rules}
 use Rattle.acl_text.specs.declared.entries.Spec.{Spec}
-use Rattle.acl_text.specs.Fields.{EntryRow}
+use Rattle.acl_text.specs.Fields.{EntryRow, default_of, entry_fields}
 use Rattle.acl_text.specs.Entries.{tagged, wanted_perms, key_of, allowed_key}
 use Rattle.acl_text.specs.Rows.{is_repeated}
 
@@ -39,9 +39,9 @@ pub record TellsLowest {A : Type 0} (has : FaultKind → Type 0) (judgement : Re
   pub no_fault : (value : A) → judgement ≡ Ok value → (kind : FaultKind) → has kind → ⊥
   pub lowest : (kind : FaultKind) → judgement ≡ Err kind → IsLowest has kind
 
--- ---- what an entry may have
+-- ---- what an entry may have, by the rules of its use
 
-module _ (user_id group_id : List ℕ → Option ℕ) (rules : Rules) (specs : List Spec) (fields : Bool × List (List ℕ)) where
+module _ (user_id group_id : List ℕ → Option ℕ) (rules : Rules) (fields : Bool × List (List ℕ)) where
   -- its fields are none of those of an entry
   pub record HasBadTag (kind : FaultKind) : Type 0 where
     pub is : kind ≡ kinds.BadTag
@@ -67,13 +67,21 @@ module _ (user_id group_id : List ℕ → Option ℕ) (rules : Rules) (specs : L
     pub is_key : key_of user_id group_id row.tag row.word ≡ Ok key
     pub base : allowed_key rules key ≡ Err kind
 
-  -- there are as many entries already as a text may have
-  pub record HasNoRoom (kind : FaultKind) : Type 0 where
-    pub is : kind ≡ kinds.TooMany
-    pub full : 16384 ≤ length specs
+  abbrev pub FieldsHave : FaultKind → Type 0
+  FieldsHave kind = HasBadTag kind ⊎ (HasBadPerms kind ⊎ (HasUnknownWord kind ⊎ HasBaseKey kind))
 
-  abbrev pub EntryHas : FaultKind → Type 0
-  EntryHas kind = (HasBadTag kind ⊎ (HasBadPerms kind ⊎ (HasUnknownWord kind ⊎ HasBaseKey kind))) ⊎ HasNoRoom kind
+-- what an entry has in itself, wherever it is
+abbrev pub EntryHas : (user_id group_id : List ℕ → Option ℕ) → Rules → List ℕ → FaultKind → Type 0
+EntryHas user_id group_id rules entry = FieldsHave user_id group_id rules (default_of (entry_fields entry))
+
+-- there are as many entries already as a text may have
+pub record HasNoRoom (specs : List Spec) (kind : FaultKind) : Type 0 where
+  pub is : kind ≡ kinds.TooMany
+  pub full : 16384 ≤ length specs
+
+-- what the next entry of a text has
+abbrev pub NextEntryHas : (user_id group_id : List ℕ → Option ℕ) → Rules → List Spec → List ℕ → FaultKind → Type 0
+NextEntryHas user_id group_id rules specs entry kind = EntryHas user_id group_id rules entry kind ⊎ HasNoRoom specs kind
 
 -- ---- what a row of passwd(5) or group(5) may have
 

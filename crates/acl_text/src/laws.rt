@@ -5,15 +5,15 @@ ghost use Rattle.acl_names.specs.Pieces.{pieces};
 ghost use Rattle.acl_text.specs.declared.fault.TextFault.{TextFault};
 ghost use Rattle.acl_text.specs.declared.entries.Sep.{Sep};
 ghost use Rattle.acl_text.specs.declared.entries.Want.{Want};
+ghost use Rattle.acl_text.specs.declared.entries.Rules.{Rules};
 ghost use Rattle.acl_text.specs.Told.{IsFirstFault};
 ghost use Rattle.acl_text.specs.declared.rows.PasswdRow.{PasswdRow};
 ghost use Rattle.acl_text.specs.declared.rows.GroupRow.{GroupRow};
 ghost use Rattle.acl_text.specs.Rows.{says_nothing, passwd_name, passwd_row, passwd_line, passwd_of, group_name, group_row, group_line, group_of};
-ghost use Rattle.acl_text.specs.Entries.{rules_of, separator, content, one_more, entries_of};
+ghost use Rattle.acl_text.specs.Entries.{rules_of, separator, content, entry_of, one_more, entries_of};
 ghost use Rattle.acl_text.specs.declared.entries.Spec.{Spec};
 ghost use Rattle.acl_text.specs.Blanks.{trimmed};
-ghost use Rattle.acl_text.specs.Fields.{default_of, entry_fields};
-ghost use Rattle.acl_text.specs.Lowest.{TellsLowest, EntryHas, RowHas};
+ghost use Rattle.acl_text.specs.Lowest.{TellsLowest, EntryHas, NextEntryHas, RowHas};
 
 /// The fault of a passwd text is the lowest kind of fault of the first line that has one.
 pub fn passwd_fault_is_first()
@@ -32,13 +32,19 @@ pub fn entries_fault_is_first()
         ↔ IsFirstFault (one_more user_id group_id sep (rules_of want)) 1 [] (pieces (separator sep) bytes) fault }
 {}
 
-/// The fault of an entry that is not empty is the lowest of the kinds that it has, each looked for by
-/// itself; where it has none, the entry is read.
+/// The fault of an entry is the lowest of the kinds that it has in itself, each looked for on its own, by
+/// the rules of any use; where it has none, the entry is read.
 pub fn entry_fault_is_lowest()
-    ensures { (user_id group_id : List ℕ → Option ℕ) (sep : Sep) (want : Want) (at : ℕ) (specs : List Spec) (piece : List ℕ) →
+    ensures { (user_id group_id : List ℕ → Option ℕ) (rules : Rules) (at : ℕ) (entry : List ℕ) →
+        TellsLowest (EntryHas user_id group_id rules entry) (entry_of user_id group_id rules at entry) }
+{}
+
+/// The fault of a piece of a text that is not empty is the lowest of the kinds that its entry has in itself
+/// and by its place behind as many entries as there may be; where it has none, the entry is read.
+pub fn piece_fault_is_lowest()
+    ensures { (user_id group_id : List ℕ → Option ℕ) (sep : Sep) (rules : Rules) (at : ℕ) (specs : List Spec) (piece : List ℕ) →
         0 < length (trimmed (content sep piece)) →
-        TellsLowest (EntryHas user_id group_id (rules_of want) specs (default_of (entry_fields (content sep piece))))
-        (one_more user_id group_id sep (rules_of want) at specs piece) }
+        TellsLowest (NextEntryHas user_id group_id rules specs (content sep piece)) (one_more user_id group_id sep rules at specs piece) }
 {}
 
 /// The fault of a passwd line that says something is the lowest of the kinds that it has, each looked for

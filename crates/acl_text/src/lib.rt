@@ -31,6 +31,7 @@ pub use id::{is_number, read_id};
 pub use laws::{
     entries_fault_is_first, entry_fault_is_lowest, group_fault_is_first,
     group_line_fault_is_lowest, passwd_fault_is_first, passwd_line_fault_is_lowest,
+    piece_fault_is_lowest,
 };
 pub use letters::read_perms;
 pub use naming::{Names, NoNames, read_group_word, read_user_word};
