@@ -3,8 +3,10 @@
 
 pub mod cut;
 mod escape;
+mod laws;
 mod name;
 mod path;
 
+pub use laws::names_are_decoded_from_the_front;
 pub use name::{Name, append_name, read_name, write_name};
 pub use path::{Path, append_path, read_path, write_path};
