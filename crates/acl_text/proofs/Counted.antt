@@ -23,7 +23,7 @@ module _ {R : Type 0} (name_of : R → List ℕ) (row_of : List (List ℕ) → O
   pub line_new : is_repeated name_of rows (name_of row) ≡ false → length rows < 65536 → one_line name_of row_of rows line ≡ Ok (rows ++ row ∷ [])
   line_new new room = let is = lt-leb 65536 (length rows) room in rw (says, ← fields, new, is) refl
 
-or_no : (b : Bool) → b ≡ (b || false)
+pub or_no : (b : Bool) → b ≡ (b || false)
 or_no true = refl
 or_no false = refl
 

@@ -7,3 +7,6 @@ pub mod WrittenWords
 pub mod WrittenLists
 pub mod Lowest
 pub mod LowestRows
+pub mod Firsts
+pub mod Says
+pub mod InOrder

@@ -84,7 +84,7 @@ or_fault-none : {A : Type 0} (o : Option A) (kind k : FaultKind) → or_fault o 
 or_fault-none None kind k e = refl
 or_fault-none (Some x) kind k e = absurd cc
 
-or_fault-some : {A : Type 0} (o : Option A) (kind : FaultKind) (x : A) → or_fault o kind ≡ Ok x → o ≡ Some x
+pub or_fault-some : {A : Type 0} (o : Option A) (kind : FaultKind) (x : A) → or_fault o kind ≡ Ok x → o ≡ Some x
 or_fault-some None kind x e = absurd cc
 or_fault-some (Some y) kind x e = let same : y ≡ x = cc in ap (λ z. Some z) same
 

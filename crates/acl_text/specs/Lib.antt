@@ -2,10 +2,12 @@ pub mod Told
 pub mod Blanks
 pub mod Ids
 pub mod Rows
+pub mod Firsts
 pub mod Seen
 pub mod Words
 pub mod Fields
 pub mod Letters
 pub mod Entries
+pub mod Says
 pub mod Writing
 pub mod Lowest

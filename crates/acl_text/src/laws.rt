@@ -1,6 +1,6 @@
 //! Laws of the definitions, each proved as the contract of a function that does nothing.
 
-ghost use Rattle.std.specs.Prelude.{◌≡◌, ◌↔◌, ℕ, List, [], Option, Err, ◌<◌, false, length};
+ghost use Rattle.std.specs.Prelude.{◌≡◌, ◌↔◌, ℕ, List, [], Option, Ok, Err, ◌<◌, false, length};
 ghost use Rattle.acl_names.specs.Pieces.{pieces};
 ghost use Rattle.acl_text.specs.declared.fault.TextFault.{TextFault};
 ghost use Rattle.acl_text.specs.declared.entries.Sep.{Sep};
@@ -10,10 +10,38 @@ ghost use Rattle.acl_text.specs.Told.{IsFirstFault};
 ghost use Rattle.acl_text.specs.declared.rows.PasswdRow.{PasswdRow};
 ghost use Rattle.acl_text.specs.declared.rows.GroupRow.{GroupRow};
 ghost use Rattle.acl_text.specs.Rows.{says_nothing, passwd_name, passwd_row, passwd_line, passwd_of, group_name, group_row, group_line, group_of};
+ghost use Rattle.acl_text.specs.Firsts.{AreCounted};
+ghost use Rattle.acl_text.specs.Says.{Says, AreRead};
 ghost use Rattle.acl_text.specs.Entries.{rules_of, separator, content, entry_of, one_more, entries_of};
 ghost use Rattle.acl_text.specs.declared.entries.Spec.{Spec};
 ghost use Rattle.acl_text.specs.Blanks.{trimmed};
 ghost use Rattle.acl_text.specs.Lowest.{TellsLowest, EntryHas, NextEntryHas, RowHas};
+
+/// A passwd text has these counted rows exactly where each line that says something is a row, they are the
+/// rows whose name no earlier row has, in the order of the text, and they are at most 65,536.
+pub fn passwd_rows_are_first_of_their_names()
+    ensures { (bytes : List ℕ) (rows : List PasswdRow) → (passwd_of bytes ≡ Ok rows) ↔ AreCounted passwd_name passwd_row bytes rows }
+{}
+
+/// A group text has these counted rows exactly where each line that says something is a row, they are the
+/// rows whose name no earlier row has, in the order of the text, and they are at most 65,536.
+pub fn group_rows_are_first_of_their_names()
+    ensures { (bytes : List ℕ) (rows : List GroupRow) → (group_of bytes ≡ Ok rows) ↔ AreCounted group_name group_row bytes rows }
+{}
+
+/// An entry is read as a spec exactly where it is written as setfacl(1) says and says that spec: of which
+/// list, whom it is for, and which permissions it has, by the rules of any use.
+pub fn entry_says_what_is_read()
+    ensures { (user_id group_id : List ℕ → Option ℕ) (rules : Rules) (at : ℕ) (entry : List ℕ) (spec : Spec) →
+        (entry_of user_id group_id rules at entry ≡ Ok spec) ↔ Says user_id group_id rules at entry spec }
+{}
+
+/// A text is read as these specs exactly where they are those of its entries, one each, in their order and
+/// at their numbers, which count empty entries too, and there are at most 16,384.
+pub fn entries_are_read_in_order()
+    ensures { (user_id group_id : List ℕ → Option ℕ) (sep : Sep) (want : Want) (bytes : List ℕ) (specs : List Spec) →
+        (entries_of user_id group_id sep want bytes ≡ Ok specs) ↔ AreRead user_id group_id sep (rules_of want) bytes specs }
+{}
 
 /// The fault of a passwd text is the lowest kind of fault of the first line that has one.
 pub fn passwd_fault_is_first()
