@@ -1,22 +1,148 @@
 -- The fault of a line is the lowest that it has.
-use Rattle.std.proofs.Common.{◌≡◌, ℕ, ◌≤◌, Bool, true, false, List, [], ◌∷◌, Option, Some, None, is_some, Result, Ok, Err, refl, sym, ap, ◌∙◌, arith, inl, inr}
-use Rattle.std.specs.Prelude.{◌⊎◌, not, if◌then◌else◌}
+use Rattle.std.proofs.Common.{◌≡◌, ℕ, ◌≤◌, ◌<◌, Bool, true, false, List, [], ◌∷◌, length, map, Option, Some, None, is_some, Result, Ok, Err, Less, Equal, Greater, Ordering, refl, sym, ap, ◌∙◌, arith, inl, inr}
+use Rattle.std.specs.Prelude.{◌⊎◌, ◌||◌, not, if◌then◌else◌}
+use Rattle.std.specs.List.{Contains}
+use Rattle.std.specs.Ordering.{is_eq}
+use Rattle.std.proofs.lemmas.Bool.{cases_Bool, or_left, or_right}
+use Rattle.std.proofs.lemmas.Cmp.{tied_itself}
+use Rattle.std.proofs.lemmas.List.Elements.{Contains-append_left, Contains-append_right, Contains-append_cases, Contains-push, Contains-push_cases}
+use Rattle.acl_names.specs.Paths.{path_of, path_cmp}
+use Rattle.acl_names.proofs.PathOrder.{path_total, exact_paths}
 use Rattle.acl_text.specs.declared.fault.FaultKind.{FaultKind}
 use Rattle.acl_text.specs.declared.fault.FaultKind.TheVariants as kinds
 use Rattle.acl_text.specs.Told.{◌>>=◌, or_fault}
 use Rattle.acl_text.specs.Entries.{entry_of}
-use Rattle.acl_text.specs.Fields.{entry_fields}
+use Rattle.acl_text.specs.Fields.{default_of, entry_fields}
 use Rattle.acl_text.specs.Words.{word_id}
-use Rattle.acl_text.specs.Lowest.{number, TellsLowest}
-use Rattle.acl_text.proofs.Lowest.{alone, in_turn, or_fault-kind, entry-kind}
+use Rattle.acl_text.specs.Lowest.{number, TellsLowest, EntryHas}
+use Rattle.acl_text.proofs.Lowest.{alone, in_turn, made, or_fault-kind, fields-kind, entry_lowest}
 use Rattle.acl_dump.specs.declared.line.LineKind.{LineKind}
 use Rattle.acl_dump.specs.declared.line.LineKind.TheVariants.{Nothing, File, Owner, OwningGroup, Flags, Entry}
 use Rattle.acl_dump.specs.declared.draft.Draft.{Draft}
+use Rattle.acl_dump.specs.declared.record.DumpRecord.{DumpRecord}
 use Rattle.acl_dump.specs.declared.said.Said.{Said}
 use Rattle.acl_dump.specs.declared.said.Said.TheVariants as said
 use Rattle.acl_dump.specs.Lines.{content_of}
-use Rattle.acl_dump.specs.Records.{Numbered, rules, named, flags_of, entry_said, said_by, judged, may_head, add}
-use Rattle.acl_dump.specs.Lowest.{belongs, is_late, HasInItself, HasNoRecord, IsLate, LineHas}
+use Rattle.acl_dump.specs.Records.{Numbered, rules, named, flags_of, entry_said, said_by, judged, may_head, add, same_path, is_repeated, ends_in_slash, begun}
+use Rattle.acl_dump.specs.Lowest.{belongs, is_late, IsEmpty, NamesNobody, AreNoFlags, IsNoPath, IsOfAnEarlier, FileHas, HasInItself, HasNoRecord, IsLate, LineHas}
+
+or_fault-none : {A : Type 0} (o : Option A) (kind k : FaultKind) → or_fault o kind ≡ Err k → o ≡ None
+or_fault-none None kind k e = refl
+or_fault-none (Some x) kind k e = absurd cc
+
+or_fault-some : {A : Type 0} (o : Option A) (kind : FaultKind) (x : A) → or_fault o kind ≡ Ok x → o ≡ Some x
+or_fault-some None kind x e = absurd cc
+or_fault-some (Some y) kind x e = let same : y ≡ x = cc in ap (λ z. Some z) same
+
+-- ---- the value of a header
+
+named_check : (look_up : List ℕ → Option ℕ) (unknown : FaultKind) (word : List ℕ) → TellsLowest (λ k. IsEmpty word k ⊎ NamesNobody look_up unknown word k) (named look_up unknown word)
+named_check look_up unknown [] =
+    alone (λ k. IsEmpty [] k ⊎ NamesNobody look_up unknown [] k) (named look_up unknown [])
+    (λ k h. elim h [ inl e ↦ ap (λ j. Err j) (sym e.is) | inr n ↦ let some = n.some in absurd (omega arith) ])
+    (λ k e. let same : kinds.BadHeader ≡ k = cc in inl (record { is = sym same; empty = refl }))
+named_check look_up unknown (b ∷ bs) =
+    alone (λ k. IsEmpty (b ∷ bs) k ⊎ NamesNobody look_up unknown (b ∷ bs) k) (named look_up unknown (b ∷ bs))
+    (λ k h. elim h [ inl e ↦ let no = e.empty in absurd cc | inr n ↦ ap (λ o. or_fault o unknown) n.nobody ∙ ap (λ j. Err j) (sym n.is) ])
+    (λ k e. inr (record { is = sym (or_fault-kind (word_id look_up (b ∷ bs)) unknown k e); some = omega arith; nobody = or_fault-none (word_id look_up (b ∷ bs)) unknown k e }))
+
+flags_check : (value : List ℕ) → TellsLowest (AreNoFlags value) (or_fault (flags_of value) kinds.BadHeader)
+flags_check value =
+    alone (AreNoFlags value) (or_fault (flags_of value) kinds.BadHeader)
+    (λ k h. ap (λ o. or_fault o kinds.BadHeader) h.no_flags ∙ ap (λ j. Err j) (sym h.is))
+    (λ k e. record { is = sym (or_fault-kind (flags_of value) kinds.BadHeader k e); no_flags = or_fault-none (flags_of value) kinds.BadHeader k e })
+
+-- ---- a `file:` line
+
+is_equal : (o : Ordering) → is_eq o ≡ true → o ≡ Equal
+is_equal Less e = absurd cc
+is_equal Equal e = refl
+is_equal Greater e = absurd cc
+
+same_is_true : (p : List (List ℕ)) → same_path p p ≡ true
+same_is_true p = ap is_eq (tied_itself path_total p)
+
+abbrev paths_of : List DumpRecord → List (List (List ℕ))
+paths_of records = map (λ r. r.path) records
+
+repeated_of : (records : List DumpRecord) (path : List (List ℕ)) → Contains (paths_of records) path → is_repeated records path ≡ true
+repeated_of [] path h = absurd (omega (arith, h.1))
+repeated_of (r ∷ rs) path h =
+    elim (Contains-append_cases (r.path ∷ []) (paths_of rs) path h) [
+      | inl here ↦ elim (Contains-push_cases [] r.path path here) [
+        | inl none ↦ absurd (omega (arith, none.1))
+        | inr same ↦ or_left (same_path path r.path) (is_repeated rs path) (ap (same_path path) same ∙ same_is_true path)
+      ]
+      | inr later ↦ or_right (same_path path r.path) (is_repeated rs path) (repeated_of rs path later)
+    ]
+
+of_repeated : (records : List DumpRecord) (path : List (List ℕ)) → is_repeated records path ≡ true → Contains (paths_of records) path
+of_repeated [] path h = absurd cc
+of_repeated (r ∷ rs) path h =
+    elim (cases_Bool (same_path path r.path)) [
+      | inl same ↦ Contains-append_left (r.path ∷ []) (paths_of rs) path (rw (exact_paths path r.path (is_equal (path_cmp path r.path) same)) (Contains-push [] r.path))
+      | inr other ↦ Contains-append_right (r.path ∷ []) (paths_of rs) path (of_repeated rs path (rw other at h))
+    ]
+
+module _ (records : List DumpRecord) (at : ℕ) where
+  abbrev begun_with : List ℕ → List (List ℕ) → Draft
+  begun_with value path = record { at = at; path = path; slash = ends_in_slash value; owner = None; group = None; flags = None; access = []; dacl = [] }
+
+  no_path_check : (value : List ℕ) → TellsLowest (IsNoPath records value) (or_fault (path_of value) kinds.BadPath)
+  no_path_check value =
+      alone (IsNoPath records value) (or_fault (path_of value) kinds.BadPath)
+      (λ k h. ap (λ o. or_fault o kinds.BadPath) h.no_path ∙ ap (λ j. Err j) (sym h.is))
+      (λ k e. record { is = sym (or_fault-kind (path_of value) kinds.BadPath k e); no_path = or_fault-none (path_of value) kinds.BadPath k e })
+
+  new_check : (value : List ℕ) (path : List (List ℕ)) (draft : Draft) → path_of value ≡ Some path → TellsLowest (IsOfAnEarlier records value) (if is_repeated records path then Err kinds.RepeatedFile else Ok draft)
+  new_check value path draft is_path =
+      alone (IsOfAnEarlier records value) (if is_repeated records path then Err kinds.RepeatedFile else Ok draft)
+      (λ k h.
+      let both : Some h.path ≡ Some path = sym h.is_path ∙ is_path in
+      let same : h.path ≡ path = cc in
+      rw (repeated_of records path (rw same at h.earlier)) (ap (λ j. Err j) (sym h.is)))
+      (λ k e.
+      elim (cases_Bool (is_repeated records path)) [
+        | inl again ↦ let found = rw again at e in let same : kinds.RepeatedFile ≡ k = cc in record { is = sym same; path = path; is_path = is_path; earlier = of_repeated records path again }
+        | inr new ↦ let found = rw new at e in absurd cc
+      ])
+
+  abbrev NotEmptyHas : List ℕ → FaultKind → Type 0
+  NotEmptyHas value k = IsNoPath records value k ⊎ IsOfAnEarlier records value k
+
+  not_empty_check : (b : ℕ) (bs : List ℕ) → TellsLowest (NotEmptyHas (b ∷ bs)) (begun records at (b ∷ bs))
+  not_empty_check b bs =
+      in_turn (IsNoPath records (b ∷ bs)) (IsOfAnEarlier records (b ∷ bs)) (or_fault (path_of (b ∷ bs)) kinds.BadPath) (λ path. if is_repeated records path then Err kinds.RepeatedFile else Ok (begun_with (b ∷ bs) path))
+      (λ j k h later. omega (arith, ap number h.is, ap number later.is)) (no_path_check (b ∷ bs))
+      (λ path is. new_check (b ∷ bs) path (begun_with (b ∷ bs) path) (or_fault-some (path_of (b ∷ bs)) kinds.BadPath path is))
+
+  file_kind : (value : List ℕ) (k : FaultKind) → FileHas records value k → 8 ≤ number k
+  file_kind value k h =
+      elim h [
+        | inl e ↦ omega (arith, ap number e.is)
+        | inr later ↦ elim later [
+          | inl p ↦ omega (arith, ap number p.is)
+          | inr r ↦ omega (arith, ap number r.is)
+        ]
+      ]
+
+  pub file_lowest : (value : List ℕ) → TellsLowest (FileHas records value) (begun records at value)
+  file_lowest [] = record {
+    no_fault = λ x e k h. absurd cc;
+    lowest = λ k e.
+        let same : kinds.BadHeader ≡ k = cc in
+        record { applies = inl (record { is = sym same; empty = refl }); least = λ j h. omega (arith, ap number same, file_kind [] j h) };
+  }
+  file_lowest (b ∷ bs) =
+      let others = not_empty_check b bs in
+      record {
+        no_fault = λ x e k h. elim h [ inl a ↦ let no = a.empty in absurd cc | inr o ↦ others.no_fault x e k o ];
+        lowest = λ k e.
+            let low = others.lowest k e in
+            record { applies = inr low.applies; least = λ j h. elim h [ inl a ↦ let no = a.empty in absurd cc | inr o ↦ low.least j o ] };
+      }
+
+-- ---- any other line
 
 -- what is said comes late
 abbrev late : Option Said → Draft → Bool
@@ -31,42 +157,41 @@ record IsOfKind (kind : LineKind) (s : Option Said) : Type 0 where
   lone : is_some s ≡ belongs kind
   late_is : (draft : Draft) → late s draft ≡ is_late kind draft
 
-named-kind : (look_up : List ℕ → Option ℕ) (unknown k : FaultKind) (word : List ℕ) → number unknown ≤ 8 → named look_up unknown word ≡ Err k → number k ≤ 8
-named-kind look_up unknown k [] low e = let same : kinds.BadHeader ≡ k = cc in omega (arith, ap number same)
-named-kind look_up unknown k (b ∷ bs) low e = omega (arith, low, ap number (or_fault-kind (word_id look_up (b ∷ bs)) unknown k e))
-
-then_said : {A : Type 0} (r : Result A FaultKind) (say : A → Said) (k : FaultKind) → (r >>= (λ x. Ok (Some (say x)))) ≡ Err k → r ≡ Err k
-then_said (Ok x) say k e = absurd cc
-then_said (Err j) say k e = let same : j ≡ k = cc in ap (λ i. Err i) same
-
-made : {A : Type 0} (r : Result A FaultKind) (say : A → Said) (kind : LineKind) (s : Option Said) → ((x : A) → IsOfKind kind (Some (say x))) → (r >>= (λ x. Ok (Some (say x)))) ≡ Ok s → IsOfKind kind s
-made (Ok x) say kind s is e = let same : Some (say x) ≡ s = cc in rw (← same) (is x)
-made (Err j) say kind s is e = absurd cc
+says_of_kind : {A : Type 0} (r : Result A FaultKind) (say : A → Said) (kind : LineKind) (s : Option Said) → ((x : A) → IsOfKind kind (Some (say x))) → (r >>= (λ x. Ok (Some (say x)))) ≡ Ok s → IsOfKind kind s
+says_of_kind (Ok x) say kind s is e = let same : Some (say x) ≡ s = cc in rw (← same) (is x)
+says_of_kind (Err j) say kind s is e = absurd cc
 
 module _ (user_id group_id : List ℕ → Option ℕ) (at : ℕ) where
   abbrev says : LineKind → List ℕ → Result (Option Said) FaultKind
   says kind value = said_by user_id group_id at kind value
 
+  none_check : TellsLowest (λ k. ⊥) (says Nothing [])
+  none_check = alone (λ k. ⊥) (says Nothing []) (λ k h. absurd h) (λ k e. absurd cc)
+
+  itself_check : (kind : LineKind) (value : List ℕ) → TellsLowest (HasInItself user_id group_id kind value) (says kind value)
+  itself_check Nothing value = none_check
+  itself_check File value = none_check
+  itself_check Owner value = made (HasInItself user_id group_id Owner value) (named user_id kinds.UnknownUser value) (λ id. Some (said.Owner id)) (named_check user_id kinds.UnknownUser value)
+  itself_check OwningGroup value = made (HasInItself user_id group_id OwningGroup value) (named group_id kinds.UnknownGroup value) (λ id. Some (said.OwningGroup id)) (named_check group_id kinds.UnknownGroup value)
+  itself_check Flags value = made (HasInItself user_id group_id Flags value) (or_fault (flags_of value) kinds.BadHeader) (λ flags. Some (said.Flags flags)) (flags_check value)
+  itself_check Entry value = made (EntryHas user_id group_id rules value) (entry_of user_id group_id rules at value) (λ spec. Some (entry_said spec)) (entry_lowest user_id group_id rules at value)
+
   -- the kinds that a line has in itself
-  itself-kind : (kind : LineKind) (value : List ℕ) (k : FaultKind) → says kind value ≡ Err k → number k ≤ 8
-  itself-kind Nothing value k e = absurd cc
-  itself-kind File value k e = absurd cc
-  itself-kind Owner value k e = named-kind user_id kinds.UnknownUser k value (omega arith) (then_said (named user_id kinds.UnknownUser value) (λ id. said.Owner id) k e)
-  itself-kind OwningGroup value k e = named-kind group_id kinds.UnknownGroup k value (omega arith) (then_said (named group_id kinds.UnknownGroup value) (λ id. said.OwningGroup id) k e)
-  itself-kind Flags value k e =
-      let is = or_fault-kind (flags_of value) kinds.BadHeader k (then_said (or_fault (flags_of value) kinds.BadHeader) (λ flags. said.Flags flags) k e) in
-      omega (arith, ap number is)
-  itself-kind Entry value k e =
-      let is = entry-kind user_id group_id rules at (entry_fields value) k (then_said (entry_of user_id group_id rules at value) entry_said k e) in
-      omega (arith, is)
+  itself-kind : (kind : LineKind) (value : List ℕ) (k : FaultKind) → HasInItself user_id group_id kind value k → number k ≤ 8
+  itself-kind Nothing value k h = absurd h
+  itself-kind File value k h = absurd h
+  itself-kind Owner value k h = elim h [ inl e ↦ omega (arith, ap number e.is) | inr n ↦ omega (arith, ap number n.is) ]
+  itself-kind OwningGroup value k h = elim h [ inl e ↦ omega (arith, ap number e.is) | inr n ↦ omega (arith, ap number n.is) ]
+  itself-kind Flags value k h = omega (arith, ap number h.is)
+  itself-kind Entry value k h = let is = fields-kind user_id group_id rules (default_of (entry_fields value)) k h in omega (arith, is)
 
   of_kind : (kind : LineKind) (value : List ℕ) (s : Option Said) → says kind value ≡ Ok s → IsOfKind kind s
   of_kind Nothing value s e = let same : None ≡ s = cc in rw (← same) (record { lone = refl; late_is = λ draft. refl })
   of_kind File value s e = let same : None ≡ s = cc in rw (← same) (record { lone = refl; late_is = λ draft. refl })
-  of_kind Owner value s e = made (named user_id kinds.UnknownUser value) (λ id. said.Owner id) Owner s (λ id. record { lone = refl; late_is = λ draft. refl }) e
-  of_kind OwningGroup value s e = made (named group_id kinds.UnknownGroup value) (λ id. said.OwningGroup id) OwningGroup s (λ id. record { lone = refl; late_is = λ draft. refl }) e
-  of_kind Flags value s e = made (or_fault (flags_of value) kinds.BadHeader) (λ flags. said.Flags flags) Flags s (λ flags. record { lone = refl; late_is = λ draft. refl }) e
-  of_kind Entry value s e = made (entry_of user_id group_id rules at value) entry_said Entry s (λ spec. record { lone = refl; late_is = λ draft. refl }) e
+  of_kind Owner value s e = says_of_kind (named user_id kinds.UnknownUser value) (λ id. said.Owner id) Owner s (λ id. record { lone = refl; late_is = λ draft. refl }) e
+  of_kind OwningGroup value s e = says_of_kind (named group_id kinds.UnknownGroup value) (λ id. said.OwningGroup id) OwningGroup s (λ id. record { lone = refl; late_is = λ draft. refl }) e
+  of_kind Flags value s e = says_of_kind (or_fault (flags_of value) kinds.BadHeader) (λ flags. said.Flags flags) Flags s (λ flags. record { lone = refl; late_is = λ draft. refl }) e
+  of_kind Entry value s e = says_of_kind (entry_of user_id group_id rules at value) entry_said Entry s (λ spec. record { lone = refl; late_is = λ draft. refl }) e
 
 -- ---- the place of a line
 
@@ -121,12 +246,12 @@ module _ (user_id group_id : List ℕ → Option ℕ) (draft : Option Draft) (l 
   place_check : (s : Option Said) → IsOfKind kind_of s → TellsLowest Misplaced (add s draft)
   place_check s is = alone Misplaced (add s draft) (found s is) (λ k e. applies_to s is draft refl k e)
 
-  itself_check : TellsLowest (HasInItself user_id group_id draft l) (said_by user_id group_id l.0 kind_of (content_of l.1).1)
-  itself_check = alone (HasInItself user_id group_id draft l) (said_by user_id group_id l.0 kind_of (content_of l.1).1) (λ k h. h.faulty) (λ k e. record { faulty = e })
+  abbrev Itself : FaultKind → Type 0
+  Itself k = HasInItself user_id group_id kind_of (content_of l.1).1 k
 
-  below : (j k : FaultKind) → HasInItself user_id group_id draft l j → Misplaced k → number j ≤ number k
+  below : (j k : FaultKind) → Itself j → Misplaced k → number j ≤ number k
   below j k h misplaced =
-      let low = itself-kind user_id group_id l.0 kind_of (content_of l.1).1 j h.faulty in
+      let low = itself-kind user_id group_id l.0 kind_of (content_of l.1).1 j h in
       elim misplaced [
         | inl m ↦ omega (arith, low, ap number m.is)
         | inr m ↦ omega (arith, low, ap number m.is)
@@ -134,5 +259,5 @@ module _ (user_id group_id : List ℕ → Option ℕ) (draft : Option Draft) (l 
 
   pub line_lowest : TellsLowest (LineHas user_id group_id draft l) (judged user_id group_id draft l)
   line_lowest =
-      in_turn (HasInItself user_id group_id draft l) Misplaced (said_by user_id group_id l.0 kind_of (content_of l.1).1) (λ s. add s draft) below itself_check
+      in_turn Itself Misplaced (said_by user_id group_id l.0 kind_of (content_of l.1).1) (λ s. add s draft) below (itself_check user_id group_id l.0 kind_of (content_of l.1).1)
       (λ s e. place_check s (of_kind user_id group_id l.0 kind_of (content_of l.1).1 s e))

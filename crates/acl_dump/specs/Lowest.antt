@@ -1,12 +1,55 @@
--- The lowest of the kinds of fault that a line of a dump has.
-use Rattle.std.specs.Prelude.{◌≡◌, ℕ, ◌⊎◌, List, Bool, true, false, not, Option, Some, None, Err}
+-- Which kinds of fault a line of a dump has, with no order among them: the lowest of them is reported.
+use Rattle.std.specs.Prelude.{◌≡◌, ℕ, ◌<◌, ◌⊎◌, List, [], length, map, Bool, true, false, not, Option, Some, None}
+use Rattle.std.specs.List.{Contains}
+use Rattle.acl_names.specs.Paths.{path_of}
 use Rattle.acl_text.specs.declared.fault.FaultKind.{FaultKind}
-use Rattle.acl_text.specs.declared.fault.FaultKind.TheVariants.{BadHeader, MissingHeader}
+use Rattle.acl_text.specs.declared.fault.FaultKind.TheVariants.{UnknownUser, UnknownGroup, BadHeader, MissingHeader, BadPath, RepeatedFile}
+use Rattle.acl_text.specs.Words.{word_id}
+use Rattle.acl_text.specs.Lowest.{EntryHas}
 use Rattle.acl_dump.specs.declared.line.LineKind.{LineKind}
 use Rattle.acl_dump.specs.declared.line.LineKind.TheVariants.{Nothing, File, Owner, OwningGroup, Flags, Entry}
 use Rattle.acl_dump.specs.declared.draft.Draft.{Draft}
+use Rattle.acl_dump.specs.declared.record.DumpRecord.{DumpRecord}
 use Rattle.acl_dump.specs.Lines.{content_of}
-use Rattle.acl_dump.specs.Records.{Numbered, said_by, may_head}
+use Rattle.acl_dump.specs.Records.{Numbered, rules, flags_of, may_head}
+
+-- ---- the value of a header
+
+-- it is empty
+pub record IsEmpty (value : List ℕ) (kind : FaultKind) : Type 0 where
+  pub is : kind ≡ BadHeader
+  pub empty : value ≡ []
+
+-- it is a word that names nobody
+pub record NamesNobody (look_up : List ℕ → Option ℕ) (unknown : FaultKind) (word : List ℕ) (kind : FaultKind) : Type 0 where
+  pub is : kind ≡ unknown
+  pub some : 0 < length word
+  pub nobody : word_id look_up word ≡ None
+
+-- it is not three flags
+pub record AreNoFlags (value : List ℕ) (kind : FaultKind) : Type 0 where
+  pub is : kind ≡ BadHeader
+  pub no_flags : flags_of value ≡ None
+
+-- ---- a `file:` line
+
+module _ (records : List DumpRecord) (value : List ℕ) where
+  -- its value is not a path
+  pub record IsNoPath (kind : FaultKind) : Type 0 where
+    pub is : kind ≡ BadPath
+    pub no_path : path_of value ≡ None
+
+  -- its value is the path of an earlier record
+  pub record IsOfAnEarlier (kind : FaultKind) : Type 0 where
+    pub is : kind ≡ RepeatedFile
+    pub path : List (List ℕ)
+    pub is_path : path_of value ≡ Some path
+    pub earlier : Contains (map (λ r. r.path) records) path
+
+  abbrev pub FileHas : FaultKind → Type 0
+  FileHas kind = IsEmpty value kind ⊎ (IsNoPath kind ⊎ IsOfAnEarlier kind)
+
+-- ---- any other line
 
 -- a line that belongs to a record: a header, but for `file:`, or an entry
 abbrev pub belongs : LineKind → Bool
@@ -17,7 +60,7 @@ belongs OwningGroup = true
 belongs Flags = true
 belongs Entry = true
 
--- a header that stands in the record already, or behind one of its entries
+-- a header that the record has already, or that follows one of its entries
 abbrev pub is_late : LineKind → Draft → Bool
 is_late Nothing draft = false
 is_late File draft = false
@@ -26,23 +69,29 @@ is_late OwningGroup draft = not (may_head draft.group draft)
 is_late Flags draft = not (may_head draft.flags draft)
 is_late Entry draft = false
 
-module _ (user_id group_id : List ℕ → Option ℕ) (draft : Option Draft) (l : Numbered) where
-  -- the line has it wherever it stands
-  pub record HasInItself (kind : FaultKind) : Type 0 where
-    pub faulty : said_by user_id group_id l.0 (content_of l.1).0 (content_of l.1).1 ≡ Err kind
+module _ (user_id group_id : List ℕ → Option ℕ) where
+  -- what a line has wherever it is
+  abbrev pub HasInItself : LineKind → List ℕ → FaultKind → Type 0
+  HasInItself Nothing value kind = ⊥
+  HasInItself File value kind = ⊥
+  HasInItself Owner value kind = IsEmpty value kind ⊎ NamesNobody user_id UnknownUser value kind
+  HasInItself OwningGroup value kind = IsEmpty value kind ⊎ NamesNobody group_id UnknownGroup value kind
+  HasInItself Flags value kind = AreNoFlags value kind
+  HasInItself Entry value kind = EntryHas user_id group_id rules value kind
 
-  -- it belongs to a record, and none is begun
-  pub record HasNoRecord (kind : FaultKind) : Type 0 where
-    pub is : kind ≡ MissingHeader
-    pub none : draft ≡ None
-    pub lone : belongs (content_of l.1).0 ≡ true
+  module _ (draft : Option Draft) (l : Numbered) where
+    -- it belongs to a record, and no record has begun
+    pub record HasNoRecord (kind : FaultKind) : Type 0 where
+      pub is : kind ≡ MissingHeader
+      pub none : draft ≡ None
+      pub lone : belongs (content_of l.1).0 ≡ true
 
-  -- it is a header that comes late in the record that is begun
-  pub record IsLate (kind : FaultKind) : Type 0 where
-    pub is : kind ≡ BadHeader
-    pub so_far : Draft
-    pub begun : draft ≡ Some so_far
-    pub late : is_late (content_of l.1).0 so_far ≡ true
+    -- it is a header that comes late in its record
+    pub record IsLate (kind : FaultKind) : Type 0 where
+      pub is : kind ≡ BadHeader
+      pub so_far : Draft
+      pub begun : draft ≡ Some so_far
+      pub late : is_late (content_of l.1).0 so_far ≡ true
 
-  abbrev pub LineHas : FaultKind → Type 0
-  LineHas kind = HasInItself kind ⊎ (HasNoRecord kind ⊎ IsLate kind)
+    abbrev pub LineHas : FaultKind → Type 0
+    LineHas kind = HasInItself (content_of l.1).0 (content_of l.1).1 kind ⊎ (HasNoRecord kind ⊎ IsLate kind)

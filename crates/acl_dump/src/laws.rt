@@ -1,15 +1,16 @@
 //! Laws of the definitions, each proved as the contract of a function that does nothing.
 
-ghost use Rattle.std.specs.Prelude.{◌≡◌, ◌↔◌, ℕ, List, [], Option, Ok, Err};
+ghost use Rattle.std.specs.Prelude.{◌≡◌, ◌↔◌, ℕ, List, [], Option, Ok, Err, true};
 ghost use Rattle.std.specs.List.{AllByRecursion};
 ghost use Rattle.acl_dump.specs.declared.record.DumpUse.{DumpUse};
 ghost use Rattle.acl_dump.specs.declared.record.DumpRecord.{DumpRecord};
 ghost use Rattle.acl_text.specs.declared.fault.TextFault.{TextFault};
 ghost use Rattle.acl_text.specs.Lowest.{TellsLowest};
 ghost use Rattle.acl_dump.specs.declared.draft.Draft.{Draft};
-ghost use Rattle.acl_dump.specs.Records.{Numbered, judged, lines_of, dump_of};
+ghost use Rattle.acl_dump.specs.Records.{Numbered, begins, begun, judged, lines_of, dump_of};
 ghost use Rattle.acl_dump.specs.Faults.{IsFirstFault};
-ghost use Rattle.acl_dump.specs.Lowest.{LineHas};
+ghost use Rattle.acl_dump.specs.Lowest.{FileHas, LineHas};
+ghost use Rattle.acl_dump.specs.Lines.{content_of};
 ghost use Rattle.acl_dump.specs.Again.{IsReadable, AreApart, paths, placed, dump_text};
 
 /// The fault of a dump is that of the first faulty record: the lines before the record are a dump without a
@@ -21,9 +22,18 @@ pub fn dump_fault_is_first()
         (dump_of user_id group_id dump_use bytes ≡ Err fault) ↔ IsFirstFault user_id group_id dump_use (lines_of bytes) fault }
 {}
 
-/// The fault of a line that begins no record is the lowest of the kinds that it has: in itself, for want of
-/// a record that is begun, or as a header that stands already or behind an entry; where it has none, the
-/// line is read.
+/// The fault of a `# file:` line is the lowest of the kinds that it has, each looked for on its own: an
+/// empty value, a value that is not a path, and the path of an earlier record. Where it has none, the line
+/// begins a record.
+pub fn dump_file_fault_is_lowest()
+    ensures { (records : List DumpRecord) (line : Numbered) → begins line ≡ true →
+        TellsLowest (FileHas records (content_of line.1).1) (begun records line.0 (content_of line.1).1) }
+{}
+
+/// The fault of a line that begins no record is the lowest of the kinds that it has, each looked for on its
+/// own: what an entry has by the rules of a dump, a value that names nobody, is empty or is not three
+/// flags, a line before the first record, and a header that comes twice or after an entry. Where it has
+/// none, the line is read.
 pub fn dump_line_fault_is_lowest()
     ensures { (user_id group_id : List ℕ → Option ℕ) (draft : Option Draft) (line : Numbered) →
         TellsLowest (LineHas user_id group_id draft line) (judged user_id group_id draft line) }

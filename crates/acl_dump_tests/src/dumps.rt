@@ -145,6 +145,35 @@ fn each_other_kind(rt: HostRuntime) {
     }
 }
 
+// Of the kinds of fault that one line has, the lowest is reported.
+#[test]
+fn the_lowest_kind(rt: HostRuntime) {
+    for (text, kind, at) in [
+        (b"#file:a\nuser:nosuch:X".as_slice(), FaultKind::BadPerms, 2),
+        (b"user:nosuch:X".as_slice(), FaultKind::BadPerms, 1),
+        (b"user:nosuch:r".as_slice(), FaultKind::UnknownUser, 1),
+        (
+            b"#file:a\n#owner:joe\n#owner:nosuch".as_slice(),
+            FaultKind::UnknownUser,
+            3,
+        ),
+        // An empty value is no path, although its text would be read as that of the root.
+        (
+            b"#file:.\nu::7\ng::7\no::7\n# file: ".as_slice(),
+            FaultKind::BadHeader,
+            5,
+        ),
+        (
+            b"#file:.\nu::7\ng::7\no::7\n# file: /".as_slice(),
+            FaultKind::RepeatedFile,
+            5,
+        ),
+    ] {
+        let fault_found = read_dump(rt.alloc(), text, DumpUse::Restore, &People).err();
+        assert_eq!(rt; fault_found, fault(kind, at));
+    }
+}
+
 #[test]
 fn the_greatest_owner(rt: HostRuntime) -> Result<(), Fail> {
     let text =
