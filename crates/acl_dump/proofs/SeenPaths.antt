@@ -1,5 +1,5 @@
 -- Paths among those that were seen.
-use Rattle.std.proofs.Common.{◌≡◌, ℕ, Bool, true, false, List, [], ◌∷◌, ◌++◌, map, Less, Equal, Greater, Ordering, refl, sym, ap, ◌∙◌}
+use Rattle.std.proofs.Common.{◌≡◌, ℕ, Bool, true, false, List, [], ◌∷◌, ◌++◌, map, Less, Equal, Greater, Ordering, Some, refl, sym, ap, ◌∙◌}
 use Rattle.std.specs.Prelude.{◌||◌}
 use Rattle.std.specs.List.{list_any}
 use Rattle.std.specs.Ordering.{nat_cmp, is_eq, eq_by_cmp}
@@ -53,7 +53,7 @@ turned false true = refl
 turned false false = refl
 
 -- the paths of the records with one more
-pub seen_more : (old new : Seen) (records : List DumpRecord) (r : DumpRecord) → SeenAre old records → ((other : List (List ℕ)) → has_path new other ≡ (same_path other r.path || has_path old other)) → SeenAre new (records ++ r ∷ [])
+pub seen_more : (old new : Seen) (records : List DumpRecord) (r : DumpRecord) → SeenAre (Some old) records → ((other : List (List ℕ)) → has_path new other ≡ (same_path other r.path || has_path old other)) → SeenAre (Some new) (records ++ r ∷ [])
 seen_more old new records r are more path =
     more path
     ∙ ap (λ b. same_path path r.path || b) (are path)

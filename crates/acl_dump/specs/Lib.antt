@@ -4,5 +4,6 @@ pub mod Records
 pub mod Faults
 pub mod Lowest
 pub mod Seen
+pub mod Watched
 pub mod Writing
 pub mod Again

@@ -1,5 +1,5 @@
 -- The set of the paths that were read, as it is looked up.
-use Rattle.std.specs.Prelude.{◌≡◌, ℕ, List, Bool, map}
+use Rattle.std.specs.Prelude.{◌≡◌, ℕ, List, Bool, Option, Some, None, map}
 use Rattle.std.specs.BTreeSet.{contains_by}
 use Rattle.acl_names.specs.Paths.{path_cmp}
 use Rattle.acl_dump.specs.declared.record.DumpRecord.{DumpRecord}
@@ -9,6 +9,7 @@ use Rattle.acl_dump.specs.Records.{is_repeated}
 abbrev pub has_path : Seen → List (List ℕ) → Bool
 has_path seen path = contains_by (λ k. path_cmp path (map (λ v. v.items) k.items)) seen.paths
 
--- the set has the paths of the records
-abbrev pub SeenAre : Seen → List DumpRecord → Type 0
-SeenAre seen records = (path : List (List ℕ)) → has_path seen path ≡ is_repeated records path
+-- the set, where there is one, has the paths of the records
+abbrev pub SeenAre : Option Seen → List DumpRecord → Type 0
+SeenAre None records = Unit {0}
+SeenAre (Some seen) records = (path : List (List ℕ)) → has_path seen path ≡ is_repeated records path

@@ -1,13 +1,13 @@
 //! Records as a whole.
 
-ghost use Rattle.std.specs.Prelude.{◌≡◌, Some, OnOk, List};
+ghost use Rattle.std.specs.Prelude.{◌≡◌, Some, OnOk, List, is_some};
 ghost use Rattle.acl_text.specs.Told.{Gives, GivesAt};
 ghost use Rattle.acl_dump.specs.Records.{list_of, default_list_of, has_headers, record_of, close};
 ghost use Rattle.acl_dump.specs.Seen.{SeenAre};
 
 use crate::draft::Draft;
 use crate::record::{DumpRecord, DumpUse};
-use crate::seen::Seen;
+use crate::seen::{Seen, watch};
 use acl_entry::{Acl, Entry, ListFault};
 use acl_text::{FaultKind, TextFault, Which};
 use std::alloc::Global;
@@ -76,18 +76,19 @@ pub(crate) fn close(
     alloc: Global,
     dump_use: DumpUse,
     records: &mut Vec<DumpRecord>,
-    seen: &mut Seen,
+    seen: &mut Option<Seen>,
     draft: Option<Draft>,
 ) -> Result<(), TextFault>
     requires { SeenAre seen.old records.old.items }
     ensures closed { Gives (λ _. records.new.items) result (close dump_use records.old.items draft) }
     ensures seen_are { OnOk result (SeenAre seen.new records.new.items) }
+    ensures watched { is_some seen.new ≡ is_some seen.old }
 {
     let Some(draft) = draft else {
         return Ok(());
     };
     let record = record_of(alloc, dump_use, draft)?;
-    seen.insert(alloc, &record.path)?;
+    watch(alloc, seen, &record.path)?;
     records.push(record)?;
     Ok(())
 }

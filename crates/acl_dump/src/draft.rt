@@ -1,14 +1,15 @@
 //! A record in the making.
 
-ghost use Rattle.std.specs.Prelude.{◌≡◌, ◌++◌, ◌∷◌, [], List, IfOk, IfErr, OnOk};
+ghost use Rattle.std.specs.Prelude.{◌≡◌, ◌++◌, ◌∷◌, [], List, IfOk, IfErr, OnOk, is_some};
 ghost use Rattle.acl_text.specs.declared.fault.FaultKind.TheVariants.{NoMemory};
 ghost use Rattle.acl_text.specs.Told.{GivesAt};
-ghost use Rattle.acl_dump.specs.Records.{has_no_entry, with_entry, with_said, add, begun};
+ghost use Rattle.acl_dump.specs.Records.{has_no_entry, with_entry, with_said, add};
+ghost use Rattle.acl_dump.specs.Watched.{begun};
 ghost use Rattle.acl_dump.specs.Seen.{SeenAre};
 ghost use Rattle.acl_dump.specs.declared.record.DumpRecord.{DumpRecord};
 
 use crate::said::{Said, bad_header};
-use crate::seen::Seen;
+use crate::seen::{Seen, is_seen};
 use acl_entry::{Entry, Id, Key, Perm};
 use acl_names::{Path, read_path};
 use acl_text::{FaultKind, TextFault};
@@ -143,9 +144,15 @@ pub(crate) fn add(
     }
 }
 
-/// The record that a `file:` line of this value begins, whose path no earlier record has.
-pub(crate) fn begin(alloc: Global, seen: &Seen, at: usize, value: &[u8]) -> Result<Draft, TextFault>
-    ensures { (records : List DumpRecord) → SeenAre seen.now records → GivesAt at (λ draft. draft) result (begun records at value.now) }
+/// The record that a `file:` line of this value begins. Where paths are watched, no earlier record may have
+/// its path.
+pub(crate) fn begin(
+    alloc: Global,
+    seen: &Option<Seen>,
+    at: usize,
+    value: &[u8],
+) -> Result<Draft, TextFault>
+    ensures { (records : List DumpRecord) → SeenAre seen.now records → GivesAt at (λ draft. draft) result (begun (is_some seen.now) records at value.now) }
 {
     if value.is_empty() {
         return Err(bad_header(at));
@@ -156,7 +163,7 @@ pub(crate) fn begin(alloc: Global, seen: &Seen, at: usize, value: &[u8]) -> Resu
             at,
         });
     };
-    if seen.contains(&path) {
+    if is_seen(seen, &path) {
         return Err(TextFault {
             kind: FaultKind::RepeatedFile,
             at,

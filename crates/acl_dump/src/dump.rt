@@ -1,11 +1,13 @@
 //! Reading dumps.
 
-ghost use Rattle.std.specs.Prelude.{◌≡◌, [], ◌∷◌, OnOk, None};
+ghost use Rattle.std.specs.Prelude.{◌≡◌, [], ◌∷◌, OnOk, None, is_some};
 ghost use Rattle.acl_text.specs.Told.{Gives, GivesAt};
-ghost use Rattle.acl_dump.specs.Records.{lines_of, line_in, begins, begin, close, dump_of, dump_stream};
+ghost use Rattle.acl_dump.specs.Records.{lines_of, line_in, begins, close, dump_of};
+ghost use Rattle.acl_dump.specs.Watched as watched;
 ghost use Rattle.acl_dump.specs.Groups.{stepped};
 ghost use Rattle.acl_dump.specs.Seen.{SeenAre};
 
+use crate::apart::are_apart;
 use crate::close::close;
 use crate::draft::{Draft, add, begin};
 use crate::line::{LineKind, content_of};
@@ -13,7 +15,7 @@ use crate::record::{DumpRecord, DumpUse};
 use crate::said::said_by;
 use crate::seen::Seen;
 use acl_names::cut::first_piece;
-use acl_text::{Names, TextFault};
+use acl_text::{FaultKind, Names, TextFault};
 use std::alloc::Global;
 
 /// The records of a dump, in their order: what getfacl(1) writes and setfacl(1) --restore reads.
@@ -38,19 +40,35 @@ pub fn read_dump<N: Names>(
 ) -> Result<Vec<DumpRecord>, TextFault>
     ensures { Gives (λ records. records.items) result (dump_of (N.user_id names.now) (N.group_id names.now) dump_use bytes.now) }
 {
-    read_stream(alloc, bytes, dump_use, names)
+    // A dump without a fault needs no set of paths: they are compared once all are known.
+    match read_stream(alloc, bytes, dump_use, names, None) {
+        Ok(records) => {
+            if are_apart(alloc, &records)? {
+                return Ok(records);
+            }
+        }
+        Err(fault) => {
+            if matches!(fault.kind, FaultKind::NoMemory) {
+                return Err(fault);
+            }
+        }
+    }
+    // A repeated path may be the first fault, so the dump is read again and each path is looked up.
+    read_stream(alloc, bytes, dump_use, names, Some(Seen::new(alloc)))
 }
 
+/// The records of a dump. A repeated path is a fault only where paths are watched, in a set that starts empty.
 fn read_stream<N: Names>(
     alloc: Global,
     bytes: &[u8],
     dump_use: DumpUse,
     names: &N,
+    mut seen: Option<Seen>,
 ) -> Result<Vec<DumpRecord>, TextFault>
-    ensures { Gives (λ records. records.items) result (dump_stream (N.user_id names.now) (N.group_id names.now) dump_use [] None (lines_of bytes.now)) }
+    requires { SeenAre seen [] }
+    ensures { Gives (λ records. records.items) result (watched.stream (N.user_id names.now) (N.group_id names.now) (is_some seen) dump_use [] None (lines_of bytes.now)) }
 {
     let mut records = Vec::new(alloc);
-    let mut seen = Seen::new(alloc);
     let mut draft = None;
     let mut rest = bytes;
     let mut at = 0;
@@ -80,14 +98,15 @@ fn read_line<N: Names>(
     names: &N,
     dump_use: DumpUse,
     records: &mut Vec<DumpRecord>,
-    seen: &mut Seen,
+    seen: &mut Option<Seen>,
     draft: Option<Draft>,
     at: usize,
     line: &[u8],
 ) -> Result<Option<Draft>, TextFault>
     requires { SeenAre seen.old records.old.items }
-    ensures stepped { Gives (λ new. (records.new.items, new)) result (stepped begins begin (line_in (N.user_id names.now) (N.group_id names.now)) (close dump_use) records.old.items draft (at, line.now)) }
+    ensures stepped { Gives (λ new. (records.new.items, new)) result (stepped begins (watched.begin (is_some seen.old)) (line_in (N.user_id names.now) (N.group_id names.now)) (close dump_use) records.old.items draft (at, line.now)) }
     ensures seen_are { OnOk result (SeenAre seen.new records.new.items) }
+    ensures watched { is_some seen.new ≡ is_some seen.old }
 {
     let (kind, value) = content_of(line);
     if kind == LineKind::File {

@@ -2,6 +2,7 @@
 //! setfacl(1) --restore reads them.
 #![tactic(auto)]
 
+mod apart;
 mod close;
 mod draft;
 mod dump;

@@ -1,8 +1,9 @@
 //! The paths of the records that were read.
 
-ghost use Rattle.std.specs.Prelude.{◌≡◌, ℕ, List, IfOk, OnOk, false, ◌||◌, map};
-ghost use Rattle.acl_dump.specs.Records.{same_path};
-ghost use Rattle.acl_dump.specs.Seen.{has_path};
+ghost use Rattle.std.specs.Prelude.{◌≡◌, ◌++◌, ◌∷◌, [], ℕ, List, IfOk, OnOk, false, ◌||◌, ◌&&◌, map, is_some};
+ghost use Rattle.acl_dump.specs.declared.record.DumpRecord.{DumpRecord};
+ghost use Rattle.acl_dump.specs.Records.{same_path, is_repeated};
+ghost use Rattle.acl_dump.specs.Seen.{has_path, SeenAre};
 
 use acl_names::Path;
 use std::alloc::{AllocError, Global};
@@ -35,6 +36,27 @@ impl Seen {
         let components = clone_of(alloc, path.components())?;
         self.paths.insert(components)?;
         Ok(())
+    }
+}
+
+/// Whether paths are watched, and this one is among them.
+pub(crate) fn is_seen(seen: &Option<Seen>, path: &Path) -> bool
+    ensures { (records : List DumpRecord) → SeenAre seen.now records → result ≡ (is_some seen.now && is_repeated records path.now) }
+{
+    match seen {
+        None => false,
+        Some(seen) => seen.contains(path),
+    }
+}
+
+/// Adds the path of a record that follows others, where paths are watched.
+pub(crate) fn watch(alloc: Global, seen: &mut Option<Seen>, path: &Path) -> Result<(), AllocError>
+    ensures watched { is_some seen.new ≡ is_some seen.old }
+    ensures added { OnOk result ((records : List DumpRecord) (r : DumpRecord) → r.path ≡ path.now → SeenAre seen.old records → SeenAre seen.new (records ++ r ∷ [])) }
+{
+    match seen {
+        None => Ok(()),
+        Some(seen) => seen.insert(alloc, path),
     }
 }
 

@@ -174,6 +174,47 @@ fn the_lowest_kind(rt: HostRuntime) {
     }
 }
 
+/// A dump of records of four lines each, whose paths are these between blanks.
+fn records_of(alloc: Global, paths: &[u8]) -> Result<Vec<u8>, Fail> {
+    let mut bytes = Vec::new(alloc);
+    for path in paths.split(|b| *b == b' ') {
+        bytes.extend_from_slice(b"# file: ")?;
+        bytes.extend_from_slice(path)?;
+        bytes.extend_from_slice(b"\nuser::rwx\ngroup::r-x\nother::---\n")?;
+    }
+    Ok(bytes)
+}
+
+// Records may come in any order of their paths, and keep the order of their lines.
+#[test]
+fn paths_in_any_order(rt: HostRuntime) -> Result<(), Fail> {
+    for paths in [b"b a c".as_slice(), b"a-b a/c a", b"a a/b b"] {
+        let bytes = records_of(rt.alloc(), paths)?;
+        let records = read_dump(rt.alloc(), &bytes, DumpUse::Restore, &NoNames).expect(
+            &rt, "a dump",
+        );
+        let places = records.iter().map(|record| record.at);
+        assert!(rt; places.eq([1, 5, 9].into_iter()));
+    }
+    Ok(())
+}
+
+// Of a repeated path and another fault the first is reported.
+#[test]
+fn repeated_paths(rt: HostRuntime) -> Result<(), Fail> {
+    for (paths, kind, at) in [
+        (b"b a ./b/".as_slice(), FaultKind::RepeatedFile, 9),
+        (b"a b b a".as_slice(), FaultKind::RepeatedFile, 9),
+        (b"a a ..".as_slice(), FaultKind::RepeatedFile, 5),
+        (b"a .. a".as_slice(), FaultKind::BadPath, 5),
+    ] {
+        let bytes = records_of(rt.alloc(), paths)?;
+        let found = read_dump(rt.alloc(), &bytes, DumpUse::Restore, &NoNames).err();
+        assert_eq!(rt; found, fault(kind, at));
+    }
+    Ok(())
+}
+
 #[test]
 fn the_greatest_owner(rt: HostRuntime) -> Result<(), Fail> {
     let text =

@@ -1,0 +1,220 @@
+-- A dump whose records have paths that are apart is read alike whether paths are watched or not.
+use Rattle.std.proofs.Common.{◌≡◌, ℕ, ◌+◌, ◌<◌, Bool, true, false, cond, List, [], ◌∷◌, ◌++◌, length, get_or, map, Option, Some, None, Result, Ok, Err, Less, Ordering, refl, sym, ap, subst, ◌∙◌, append_assoc, arith}
+use Rattle.std.specs.Prelude.{◌||◌, if◌then◌else◌}
+use Rattle.std.specs.List.{AllByRecursion, IsDistinct}
+use Rattle.std.specs.List.Sorted.{IsPermutation, IsStrictlySortedBy}
+use Rattle.std.proofs.lemmas.Cmp.{eq_by_cmp_equiv}
+use Rattle.std.proofs.lemmas.List.{append-nil, map-append, get_or-map, length-map}
+use Rattle.std.proofs.lemmas.List.Sorted.{IsPermutation-sym, IsPermutation-map}
+use Rattle.std.proofs.lemmas.Map.Keys.{IsDistinct-head, IsDistinct-tail, IsDistinct-from_sorted, IsDistinct-IsPermutation, sorted_from_all_adjacent}
+use Rattle.acl_names.specs.Paths.{path_of, path_cmp}
+use Rattle.acl_names.proofs.PathOrder.{path_total}
+use Rattle.acl_text.specs.declared.fault.FaultKind.{FaultKind}
+use Rattle.acl_text.specs.declared.fault.FaultKind.TheVariants as kinds
+use Rattle.acl_text.specs.declared.fault.TextFault.{TextFault}
+use Rattle.acl_text.specs.declared.fault.Which.TheVariants.{Access}
+use Rattle.acl_text.specs.Told.{at_place, ◌>>=◌, or_fault}
+use Rattle.acl_dump.specs.declared.record.DumpUse.{DumpUse}
+use Rattle.acl_dump.specs.declared.record.DumpRecord.{DumpRecord}
+use Rattle.acl_dump.specs.declared.draft.Draft.{Draft}
+use Rattle.acl_dump.specs.declared.said.Said.{Said}
+use Rattle.acl_dump.specs.declared.said.Said.TheVariants as said
+use Rattle.acl_dump.specs.Groups.{next, streamed}
+use Rattle.acl_dump.specs.Lines.{content_of}
+use Rattle.acl_dump.specs.Records.{Numbered, same_path, is_repeated, may_head, with_entry, with_said, add, said_by, begun, begin, begins, list_of, default_list_of, has_headers, whole, record_of, close, judged, line_in, lines_of, dump_of}
+use Rattle.acl_dump.specs.Watched as watched
+use Rattle.acl_dump.specs.Again.{paths}
+use Rattle.acl_dump.proofs.Streams.{streamed_by_groups}
+
+-- ---- paths that are apart
+
+-- neighbours of a list that is seen through a function
+adjacent : {A B : Type 0} (f : A → B) (cmp : B → B → Ordering) (xs : List A) (e : B) → ((k : ℕ) (d : A) → k + 1 < length xs → cmp (f (get_or xs k d)) (f (get_or xs (k + 1) d)) ≡ Less)
+    → (k : ℕ) → k + 1 < length xs → cmp (get_or (map f xs) k e) (get_or (map f xs) (k + 1) e) ≡ Less
+adjacent f cmp [] e rising k lt = absurd (omega (arith, lt))
+adjacent f cmp (x ∷ xs) e rising k lt =
+    ap (λ a. cmp a (get_or (map f (x ∷ xs)) (k + 1) e)) (get_or-map f (x ∷ xs) k x e (omega (arith, lt)))
+    ∙ ap (λ b. cmp (f (get_or (x ∷ xs) k x)) b) (get_or-map f (x ∷ xs) (k + 1) x e lt)
+    ∙ rising k x lt
+
+pub rising_paths : {A : Type 0} (f : A → List (List ℕ)) (xs : List A) → ((k : ℕ) (d : A) → k + 1 < length xs → path_cmp (f (get_or xs k d)) (f (get_or xs (k + 1) d)) ≡ Less) → IsStrictlySortedBy path_cmp (map f xs)
+rising_paths f xs rising = sorted_from_all_adjacent path_total (map f xs) [] (λ k lt. adjacent f path_cmp xs [] rising k (omega (arith, lt, length-map xs f)))
+
+flips : (x y : List (List ℕ)) → same_path x y ≡ same_path y x
+flips x y = (eq_by_cmp_equiv path_total).symm x y
+
+-- paths that rise in some order are apart in any
+pub apart_in_order : {A : Type 0} (f : A → List (List ℕ)) (xs ys : List A) → IsPermutation xs ys → IsStrictlySortedBy path_cmp (map f ys) → IsDistinct same_path (map f xs)
+apart_in_order f xs ys order rising =
+    IsDistinct-IsPermutation same_path flips (map f ys) (map f xs) (IsPermutation-map f ys xs (IsPermutation-sym xs ys order)) (IsDistinct-from_sorted path_cmp (map f ys) rising)
+
+middle : {X : Type 0} (P : X → Type 0) (xs : List X) (x : X) (rest : List X) → AllByRecursion P ((xs ++ x ∷ []) ++ rest) → P x
+middle P [] x rest h = h.0
+middle P (y ∷ ys) x rest h = middle P ys x rest h.1
+
+not_repeated : (records : List DumpRecord) (path : List (List ℕ)) (rest : List (List (List ℕ))) → IsDistinct same_path ((paths records ++ path ∷ []) ++ rest) → is_repeated records path ≡ false
+not_repeated [] path rest apart = refl
+not_repeated (r ∷ rs) path rest apart =
+    let here = middle (λ p. same_path r.path p ≡ false) (paths rs) path rest (IsDistinct-head same_path r.path ((paths rs ++ path ∷ []) ++ rest) apart) in
+    let later = not_repeated rs path rest (IsDistinct-tail same_path r.path ((paths rs ++ path ∷ []) ++ rest) apart) in
+    ap (λ b. b || is_repeated rs path) (flips path r.path ∙ here) ∙ later
+
+not_among : (all : List (List (List ℕ))) (records : List DumpRecord) (path : List (List ℕ)) (rest : List (List (List ℕ))) → all ≡ (paths records ++ path ∷ []) ++ rest → IsDistinct same_path all → is_repeated records path ≡ false
+not_among all records path rest parts apart = not_repeated records path rest (subst (IsDistinct same_path) parts apart)
+
+-- ---- what a value is made of
+
+next-ok : {A B : Type 0} (r : Result A TextFault) (f : A → Result B TextFault) (y : B) → next r f ≡ Ok y → (x : A) × ((r ≡ Ok x) × (f x ≡ Ok y))
+next-ok (Ok x) f y e = (x, (refl, e))
+next-ok (Err fault) f y e = absurd cc
+
+at_place-ok : {S T : Type 0} (at : ℕ) (r : Result S FaultKind) (more : S → Result T TextFault) (y : T) → at_place at r more ≡ Ok y → (x : S) × ((r ≡ Ok x) × (more x ≡ Ok y))
+at_place-ok at (Ok x) more y e = (x, (refl, e))
+at_place-ok at (Err kind) more y e = absurd cc
+
+bind-ok : {A B : Type 0} (r : Result A FaultKind) (f : A → Result B FaultKind) (y : B) → (r >>= f) ≡ Ok y → (x : A) × ((r ≡ Ok x) × (f x ≡ Ok y))
+bind-ok (Ok x) f y e = (x, (refl, e))
+bind-ok (Err kind) f y e = absurd cc
+
+ok-is : {A F : Type 0} (x y : A) → (let r : Result A F = Ok x in r ≡ Ok y) → x ≡ y
+ok-is x y e = cc
+
+abbrev drafted : Option Draft → List (List (List ℕ))
+drafted None = []
+drafted (Some draft) = draft.path ∷ []
+
+-- ---- what is read keeps the path of its record
+
+list_path : (draft : Draft) (r : DumpRecord) → whole draft ≡ Ok r → r.path ≡ draft.path
+list_path draft r e =
+    let access = bind-ok (list_of Access draft.access) _ r e in
+    let dacl = bind-ok (default_list_of draft.dacl) _ r access.1.1 in
+    sym (ap (λ (s : DumpRecord). s.path) (ok-is _ r dacl.1.1))
+
+record_path : (b : Bool) (draft : Draft) (r : DumpRecord) → (if b then whole draft else Err kinds.MissingHeader) ≡ Ok r → r.path ≡ draft.path
+record_path true draft r e = list_path draft r e
+record_path false draft r e = absurd cc
+
+closed_paths : (dump_use : DumpUse) (records : List DumpRecord) (draft : Option Draft) (more : List DumpRecord) → close dump_use records draft ≡ Ok more → paths more ≡ paths records ++ drafted draft
+closed_paths dump_use records None more e = ap paths (sym (ok-is records more e)) ∙ sym (append-nil (paths records))
+closed_paths dump_use records (Some draft) more e =
+    let s = at_place-ok draft.at (record_of dump_use draft) (λ r. Ok (records ++ r ∷ [])) more e in
+    ap paths (sym (ok-is (records ++ s.0 ∷ []) more s.1.1))
+    ∙ map-append (λ (r : DumpRecord). r.path) records (s.0 ∷ [])
+    ∙ ap (λ p. paths records ++ p ∷ []) (record_path (has_headers dump_use draft) draft s.0 s.1.0)
+
+headed_path : (b : Bool) (draft new more : Draft) → new.path ≡ draft.path → (if b then Ok new else Err kinds.BadHeader) ≡ Ok more → more.path ≡ draft.path
+headed_path true draft new more same e = sym (ap (λ (d : Draft). d.path) (ok-is new more e)) ∙ same
+headed_path false draft new more same e = absurd cc
+
+said_path : (s : Said) (draft more : Draft) → with_said s draft ≡ Ok more → more.path ≡ draft.path
+said_path (said.Owner id) draft more e = headed_path (may_head draft.owner draft) draft (record draft { owner = Some id }) more refl e
+said_path (said.OwningGroup id) draft more e = headed_path (may_head draft.group draft) draft (record draft { group = Some id }) more refl e
+said_path (said.Flags flags) draft more e = headed_path (may_head draft.flags draft) draft (record draft { flags = Some flags }) more refl e
+said_path (said.Entry true entry) draft more e = sym (ap (λ (d : Draft). d.path) (ok-is (with_entry true entry draft) more e))
+said_path (said.Entry false entry) draft more e = sym (ap (λ (d : Draft). d.path) (ok-is (with_entry false entry draft) more e))
+
+added_path : (s : Option Said) (draft more : Option Draft) → add s draft ≡ Ok more → drafted more ≡ drafted draft
+added_path None draft more e = ap drafted (sym (ok-is draft more e))
+added_path (Some s) None more e = absurd cc
+added_path (Some s) (Some draft) more e =
+    let w = bind-ok (with_said s draft) (λ d. Ok (Some d)) more e in
+    ap drafted (sym (ok-is (Some w.0) more w.1.1)) ∙ ap (λ p. p ∷ []) (said_path s draft w.0 w.1.0)
+
+-- ---- a record that begins
+
+begun_apart : (records : List DumpRecord) (at : ℕ) (value : List ℕ) (draft : Draft) → watched.begun false records at value ≡ Ok draft → is_repeated records draft.path ≡ false → watched.begun true records at value ≡ Ok draft
+begun_apart records at [] draft e new = absurd cc
+begun_apart records at (b ∷ bs) draft e new =
+    let s = bind-ok (or_fault (path_of (b ∷ bs)) kinds.BadPath) _ draft e in
+    let made = ok-is _ draft s.1.1 in
+    let fresh = ap (λ (d : Draft). is_repeated records d.path) made ∙ new in
+    rw (s.1.0, fresh) (ap (λ d. Ok d) made)
+
+begin_apart : (records : List DumpRecord) (l : Numbered) (new : Option Draft) → watched.begin false records l ≡ Ok new
+    → (path : List (List ℕ)) × ((drafted new ≡ path ∷ []) × (is_repeated records path ≡ false → watched.begin true records l ≡ Ok new))
+begin_apart records l new e =
+    let s = at_place-ok l.0 (watched.begun false records l.0 (content_of l.1).1) (λ d. Ok (Some d)) new e in
+    let made = ok-is (Some s.0) new s.1.1 in
+    (s.0.path, (ap drafted (sym made), λ fresh. ap (λ r. at_place l.0 r (λ d. Ok (Some d))) (begun_apart records l.0 (content_of l.1).1 s.0 s.1.0 fresh) ∙ ap (λ d. Ok d) made))
+
+-- ---- the stream
+
+same_begun : (records : List DumpRecord) (at : ℕ) (value : List ℕ) → watched.begun true records at value ≡ begun records at value
+same_begun records at [] = refl
+same_begun records at (b ∷ bs) = refl
+
+same_begin : watched.begin true ≡ begin
+same_begin = λ i records l. at_place l.0 (same_begun records l.0 (content_of l.1).1 i) (λ draft. Ok (Some draft))
+
+module _ (user_id group_id : List ℕ → Option ℕ) (dump_use : DumpUse) where
+  abbrev stream : Bool → List DumpRecord → Option Draft → List Numbered → Result (List DumpRecord) TextFault
+  stream are_watched records draft ls = watched.stream user_id group_id are_watched dump_use records draft ls
+
+  abbrev step_by : Bool → Bool → List DumpRecord → Option Draft → Numbered → Result (List DumpRecord × Option Draft) TextFault
+  step_by are_watched b records draft l =
+      cond b (next (close dump_use records draft) (λ more. next (watched.begin are_watched more l) (λ new. Ok (more, new)))) (next (line_in user_id group_id draft l) (λ new. Ok (records, new)))
+
+  line_path : (draft : Option Draft) (l : Numbered) (more : Option Draft) → line_in user_id group_id draft l ≡ Ok more → drafted more ≡ drafted draft
+  line_path draft l more e =
+      let s = at_place-ok l.0 (judged user_id group_id draft l) (λ new. Ok new) more e in
+      let w = bind-ok (said_by user_id group_id l.0 (content_of l.1).0 (content_of l.1).1) (λ s. add s draft) s.0 s.1.0 in
+      ap drafted (sym (ok-is s.0 more s.1.1)) ∙ added_path w.0 draft s.0 w.1.1
+
+  -- the paths of all records begin with those that were read
+  abbrev Goes : List DumpRecord → Option Draft → List DumpRecord → Type 0
+  Goes records draft all = (rest : List (List (List ℕ))) × (paths all ≡ (paths records ++ drafted draft) ++ rest)
+
+  middle_is : {X : Type 0} (all front a b rest : List X) → all ≡ (front ++ a) ++ rest → a ≡ b → all ≡ (front ++ b) ++ rest
+  middle_is all front a b rest e same = e ∙ ap (λ d. (front ++ d) ++ rest) same
+
+  further : {X : Type 0} (all more new rest front : List X) → all ≡ (more ++ new) ++ rest → more ≡ front → all ≡ front ++ (new ++ rest)
+  further all more new rest front e same = e ∙ (append_assoc more new rest ∙ ap (λ p. p ++ (new ++ rest)) same)
+
+  goes_by : (b : Bool) (l : Numbered) (ls : List Numbered) (records : List DumpRecord) (draft : Option Draft) (all : List DumpRecord) → next (step_by false b records draft l) (λ s. stream false s.0 s.1 ls) ≡ Ok all
+      → ((more : List DumpRecord) (new : Option Draft) → stream false more new ls ≡ Ok all → Goes more new all) → Goes records draft all
+  goes_by true l ls records draft all e again =
+      let s = next-ok (step_by false true records draft l) (λ s. stream false s.0 s.1 ls) all e in
+      let c = next-ok (close dump_use records draft) _ s.0 s.1.0 in
+      let n = next-ok (watched.begin false c.0 l) _ s.0 c.1.1 in
+      let pair = ok-is (c.0, n.0) s.0 n.1.1 in
+      let tail = again c.0 n.0 (ap (λ (p : List DumpRecord × Option Draft). stream false p.0 p.1 ls) pair ∙ s.1.1) in
+      (drafted n.0 ++ tail.0, further (paths all) (paths c.0) (drafted n.0) tail.0 (paths records ++ drafted draft) tail.1 (closed_paths dump_use records draft c.0 c.1.0))
+  goes_by false l ls records draft all e again =
+      let s = next-ok (step_by false false records draft l) (λ s. stream false s.0 s.1 ls) all e in
+      let n = next-ok (line_in user_id group_id draft l) _ s.0 s.1.0 in
+      let pair = ok-is (records, n.0) s.0 n.1.1 in
+      let tail = again records n.0 (ap (λ (p : List DumpRecord × Option Draft). stream false p.0 p.1 ls) pair ∙ s.1.1) in
+      (tail.0, middle_is (paths all) (paths records) (drafted n.0) (drafted draft) tail.0 tail.1 (line_path draft l n.0 n.1.0))
+
+  goes : (ls : List Numbered) (records : List DumpRecord) (draft : Option Draft) (all : List DumpRecord) → stream false records draft ls ≡ Ok all → Goes records draft all
+  goes [] records draft all e = ([], closed_paths dump_use records draft all e ∙ sym (append-nil (paths records ++ drafted draft)))
+  goes (l ∷ ls) records draft all e = goes_by (begins l) l ls records draft all e (λ more new f. goes ls more new all f)
+
+  watched_by : (b : Bool) (l : Numbered) (ls : List Numbered) (records : List DumpRecord) (draft : Option Draft) (all : List DumpRecord) → IsDistinct same_path (paths all) → next (step_by false b records draft l) (λ s. stream false s.0 s.1 ls) ≡ Ok all
+      → ((more : List DumpRecord) (new : Option Draft) → stream false more new ls ≡ Ok all → stream true more new ls ≡ Ok all) → next (step_by true b records draft l) (λ s. stream true s.0 s.1 ls) ≡ Ok all
+  watched_by true l ls records draft all apart e again =
+      let s = next-ok (step_by false true records draft l) (λ s. stream false s.0 s.1 ls) all e in
+      let c = next-ok (close dump_use records draft) _ s.0 s.1.0 in
+      let n = next-ok (watched.begin false c.0 l) _ s.0 c.1.1 in
+      let pair = ok-is (c.0, n.0) s.0 n.1.1 in
+      let f = ap (λ (p : List DumpRecord × Option Draft). stream false p.0 p.1 ls) pair ∙ s.1.1 in
+      let tail = goes ls c.0 n.0 all f in
+      let one = begin_apart c.0 l n.0 n.1.0 in
+      let new = not_among (paths all) c.0 one.0 tail.0 (middle_is (paths all) (paths c.0) (drafted n.0) (one.0 ∷ []) tail.0 tail.1 one.1.0) apart in
+      rw (c.1.0, one.1.1 new) (again c.0 n.0 f)
+  watched_by false l ls records draft all apart e again =
+      let s = next-ok (step_by false false records draft l) (λ s. stream false s.0 s.1 ls) all e in
+      let n = next-ok (line_in user_id group_id draft l) _ s.0 s.1.0 in
+      let pair = ok-is (records, n.0) s.0 n.1.1 in
+      rw (n.1.0) (again records n.0 (ap (λ (p : List DumpRecord × Option Draft). stream false p.0 p.1 ls) pair ∙ s.1.1))
+
+  pub watched_alike : (ls : List Numbered) (records : List DumpRecord) (draft : Option Draft) (all : List DumpRecord) → stream false records draft ls ≡ Ok all → IsDistinct same_path (paths all) → stream true records draft ls ≡ Ok all
+  watched_alike [] records draft all e apart = e
+  watched_alike (l ∷ ls) records draft all e apart = watched_by (begins l) l ls records draft all apart e (λ more new f. watched_alike ls more new all f apart)
+
+  -- a dump is read by groups as it is line by line, where paths are watched
+  pub watched_dump : (bytes : List ℕ) → stream true [] None (lines_of bytes) ≡ dump_of user_id group_id dump_use bytes
+  watched_dump bytes =
+      ap (λ first. streamed begins first (line_in user_id group_id) (close dump_use) [] None (lines_of bytes)) same_begin
+      ∙ streamed_by_groups begins begin (line_in user_id group_id) (close dump_use) [] None (lines_of bytes)
