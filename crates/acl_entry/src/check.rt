@@ -49,6 +49,13 @@ impl Requests {
         self.bits
     }
 
+    /// The requests of a byte whose bit i is set if request i is one of them.
+    pub fn from_byte(byte: u8) -> Requests
+        ensures { result ≡ byte }
+    {
+        Requests { bits: byte }
+    }
+
     /// No request.
     pub fn none() -> Requests
         ensures { result ≡ 0 }

@@ -154,6 +154,7 @@ fn users_and_requests(rt: HostRuntime) -> Result<(), Fail> {
         read.union(write).union(Requests::none()).bits(),
         0b0001_0101
     );
+    assert!(rt; Requests::from_byte(0b0001_0101) == read.union(write));
     assert_eq!(rt;
         Perm::none().union(perm(&rt, 5)).meet(perm(&rt, 6)),
         perm(&rt, 4)
