@@ -30,7 +30,7 @@ pub default_unnamed : (c : Change) (x : Bool) (acl m : KeyMap) → names (part c
 unfolding default_after
 default_unnamed c x acl m h = rw h
 
-is_empty : (es : List Entry) → eqb (length es) 0 ≡ true → es ≡ []
+pub is_empty : (es : List Entry) → eqb (length es) 0 ≡ true → es ≡ []
 is_empty [] h = refl
 is_empty (e ∷ es) h = let none = eqb-true (length (e ∷ es)) 0 h in absurd (omega arith)
 

@@ -3,6 +3,8 @@ pub mod Shown
 pub mod Stripped
 pub mod Given
 pub mod ByKey
+pub mod Left
 pub mod Lines
+pub mod Refused
 pub mod Restored
 pub mod Sizes

@@ -1,12 +1,12 @@
 -- What a line keeps of a file.
-use Rattle.std.proofs.Common.{◌≡◌, Bool, true, false, cond, if◌then◌else◌, ◌&&◌, ◌||◌, eqb, length, Option, Some, None, Result, Ok, Err, unwrap_or, option_and_then, refl, sym, ap, subst, ◌∙◌}
+use Rattle.std.proofs.Common.{◌≡◌, Bool, true, false, cond, if◌then◌else◌, ◌&&◌, ◌||◌, eqb, length, Option, Some, None, Result, Ok, Err, unwrap_or, option_and_then, option_map, refl, sym, ap, subst, ◌∙◌}
 use Rattle.std.proofs.lemmas.Bool.{eq-eqb, eqb-true}
 use Rattle.std.proofs.lemmas.List.{length-map}
 use Rattle.std.specs.Option.{option_map_or, ForSome}
 use Rattle.std.specs.FinMap as maps
 use Rattle.acl_entry.specs.Perms.{Perms}
 use Rattle.acl_entry.specs.Keys.{key_cmp, is_base}
-use Rattle.acl_entry.specs.Lists.{KeyMap, entries, fault, effective, or_else}
+use Rattle.acl_entry.specs.Lists.{KeyMap, entries, fault, class_union, effective, or_else}
 use Rattle.acl_entry.specs.declared.entry.ListFault.{ListFault}
 use Rattle.acl_entry.specs.declared.key.Key.{Key}
 use Rattle.acl_entry.specs.declared.key.Key.TheVariants.{Owner, User, OwningGroup, Group, Mask, Other}
@@ -16,7 +16,7 @@ use Rattle.acl_edit.specs.Parts.{Part, part, names, puts, is_given, is_mask}
 use Rattle.acl_edit.specs.Steps.{gives_execute, perms_of, strip, replace, fill_from}
 use Rattle.acl_edit.specs.Masks.{takes_mask, with_mask, add_mask, recalculate, is_recalculated}
 use Rattle.acl_edit.specs.Edits.{worked, checked, checked_default, access_after, default_after, access_before, default_before, changed_access, changed_default, ◌>>=◌}
-use Rattle.acl_edit.specs.Laws.{HidesNothing, LeavesUnnamed, ShowsRecalculated, KeepsGranted, GivesModified, GoesByKey, LeavesByKey, CopiesBase, MakesMask, DropsDefault, last_for, given, has_entry, left_at, mask_after, had_access, had_default}
+use Rattle.acl_edit.specs.Laws.{HidesNothing, LeavesUnnamed, ShowsRecalculated, KeepsGranted, GivesModified, GoesByKey, LeavesByKey, CopiesBase, MakesMask, BoundsRecalculated, MasksNoMore, DropsDefault, last_for, given, has_entry, left_at, mask_made, mask_after, had_access, had_default}
 use Rattle.acl_edit.specs.declared.edit.Change.{Change}
 use Rattle.acl_edit.specs.declared.edit.EditFault.{EditFault}
 use Rattle.acl_edit.specs.declared.edit.EditFault.TheVariants.{List as ListIs}
@@ -24,10 +24,11 @@ use Rattle.acl_edit.specs.declared.node.Kind.{Kind}
 use Rattle.acl_edit.specs.declared.node.Kind.TheVariants.{Plain, Directory}
 use Rattle.acl_edit.specs.declared.node.Node.{Node}
 use Rattle.acl_edit.proofs.Kept.{checked_is, access_unnamed, default_unnamed, checked_valid}
-use Rattle.acl_edit.proofs.Shown.{recalculate_shows}
+use Rattle.acl_edit.proofs.Shown.{recalculate_shows, masks_no_more}
 use Rattle.acl_edit.proofs.Given.{get-with_mask, get-fill_from, get-modified, puts_some, names_some, get-masked, get-steps, unnamed_key, unnamed_left, or_right}
 use Rattle.acl_edit.proofs.ByKey.{get-worked, get-fill_all, loses, get-mask_after}
 use Rattle.acl_text.specs.declared.entries.Spec.{Spec}
+use Rattle.acl_edit.proofs.Left.{had_access_is, had_default_is, access_key, access_mask, default_key, default_mask}
 use Rattle.acl_edit.proofs.Stripped.{get-strip_base, get-strip_other}
 
 -- ---- checked default lists
@@ -206,56 +207,6 @@ module _ (n : Node) (c : Change) (acl : KeyMap) (dacl : Option KeyMap) (made : c
 
   -- ---- each key of any list that the line leaves
 
-  base_or_none : (b : Bool) (k : Key) → is_base k ≡ b → maps.get (strip n.label.acl) k ≡ (if b then effective n.label.acl k else None)
-  base_or_none true k e = get-strip_base n.label.acl k e
-  base_or_none false k e = get-strip_other n.label.acl k e
-
-  had_access_is : (k : Key) → maps.get (access_before c n.label.acl) k ≡ had_access n c k
-  had_access_is k = by_strip c.strip
-    where
-      by_strip : (b : Bool) → maps.get (if b then strip n.label.acl else n.label.acl) k ≡ (if b then (if is_base k then effective n.label.acl k else None) else maps.get n.label.acl k)
-      by_strip true = base_or_none (is_base k) k refl
-      by_strip false = refl
-
-  had_default_is : (k : Key) → maps.get (default_before c n.dacl) k ≡ had_default n c k
-  had_default_is k = by_drop (c.strip || c.drop_default) n.dacl
-    where
-      by_drop : (b : Bool) (o : Option KeyMap) → maps.get (if b then maps.empty else unwrap_or o maps.empty) k ≡ (if b then None else option_and_then (λ d. maps.get d k) o)
-      by_drop true o = maps.get-empty key_cmp k
-      by_drop false None = maps.get-empty key_cmp k
-      by_drop false (Some d) = refl
-
-  access_key : (k : Key) → is_mask k ≡ false → (m : KeyMap) → maps.get (access_after c (gives_execute n) m) k ≡ left_at (gives_execute n) (part c Access) k (maps.get m k)
-  unfolding access_after
-  access_key k other m = by_names (names (part c Access)) refl
-    where
-      by_names : (b : Bool) → names (part c Access) ≡ b
-          → maps.get (if b then with_mask c (part c Access) (takes_mask (part c Access) (replace (gives_execute n) (part c Access).set m)) (worked (gives_execute n) (part c Access) m) else m) k
-          ≡ left_at (gives_execute n) (part c Access) k (maps.get m k)
-      by_names true named = get-masked c (part c Access) _ (worked (gives_execute n) (part c Access) m) k other ∙ get-worked (gives_execute n) (part c Access) m k
-      by_names false unnamed = unnamed_left (gives_execute n) (part c Access) k (maps.get m k) unnamed
-
-  filled_key : (b : Bool) (k : Key) (m : KeyMap) → maps.get (if b then fill_from acl (worked (gives_execute n) (part c Default) m) else worked (gives_execute n) (part c Default) m) k
-      ≡ (if b && is_base k then or_else (left_at (gives_execute n) (part c Default) k (maps.get m k)) (maps.get acl k) else left_at (gives_execute n) (part c Default) k (maps.get m k))
-  filled_key true k m = get-fill_all acl (worked (gives_execute n) (part c Default) m) k ∙ ap (λ o. if is_base k then or_else o (maps.get acl k) else o) (get-worked (gives_execute n) (part c Default) m k)
-  filled_key false k m = get-worked (gives_execute n) (part c Default) m k
-
-  default_key : (k : Key) → is_mask k ≡ false → (m : KeyMap) → maps.get (default_after c (gives_execute n) acl m) k
-      ≡ (if puts (part c Default) && is_base k then or_else (left_at (gives_execute n) (part c Default) k (maps.get m k)) (maps.get acl k) else left_at (gives_execute n) (part c Default) k (maps.get m k))
-  unfolding default_after
-  default_key k other m = by_names (names (part c Default)) refl
-    where
-      no_puts : names (part c Default) ≡ false → puts (part c Default) ≡ false
-      no_puts h = or_right (is_given (part c Default).remove) (puts (part c Default)) h
-
-      by_names : (b : Bool) → names (part c Default) ≡ b
-          → maps.get (if b then with_mask c (part c Default) (takes_mask (part c Default) (replace (gives_execute n) (part c Default).set m)) (if puts (part c Default) then fill_from acl (worked (gives_execute n) (part c Default) m) else worked (gives_execute n) (part c Default) m) else m) k
-          ≡ (if puts (part c Default) && is_base k then or_else (left_at (gives_execute n) (part c Default) k (maps.get m k)) (maps.get acl k) else left_at (gives_execute n) (part c Default) k (maps.get m k))
-      by_names true named = get-masked c (part c Default) _ _ k other ∙ filled_key (puts (part c Default)) k m
-      by_names false unnamed =
-          unnamed_left (gives_execute n) (part c Default) k (maps.get m k) unnamed
-          ∙ ap (λ b. if b && is_base k then or_else (left_at (gives_execute n) (part c Default) k (maps.get m k)) (maps.get acl k) else left_at (gives_execute n) (part c Default) k (maps.get m k)) (sym (no_puts unnamed))
-
   default_is : (kind : Kind) → changed_default kind n c acl ≡ Ok dacl → kind ≡ Directory → (k : Key) → option_and_then (λ d. maps.get d k) dacl ≡ maps.get (default_after c (gives_execute n) acl (default_before c n.dacl)) k
   default_is Plain h directory k = cc
   default_is Directory h directory k = by_list dacl refl
@@ -271,12 +222,12 @@ module _ (n : Node) (c : Change) (acl : KeyMap) (dacl : Option KeyMap) (made : c
   default_all : n.kind ≡ Directory → (k : Key) → is_mask k ≡ false → option_and_then (λ d. maps.get d k) dacl
       ≡ (if puts (part c Default) && is_base k then or_else (left_at (gives_execute n) (part c Default) k (had_default n c k)) (maps.get acl k) else left_at (gives_execute n) (part c Default) k (had_default n c k))
   default_all directory k other =
-      default_is n.kind made_default directory k ∙ default_key k other (default_before c n.dacl)
-      ∙ ap (λ had. if puts (part c Default) && is_base k then or_else (left_at (gives_execute n) (part c Default) k had) (maps.get acl k) else left_at (gives_execute n) (part c Default) k had) (had_default_is k)
+      default_is n.kind made_default directory k ∙ default_key n c acl k other (default_before c n.dacl)
+      ∙ ap (λ had. if puts (part c Default) && is_base k then or_else (left_at (gives_execute n) (part c Default) k had) (maps.get acl k) else left_at (gives_execute n) (part c Default) k had) (had_default_is n c k)
 
   pub leaves_by_key : LeavesByKey n c (with_lists n acl dacl)
   leaves_by_key = record {
-    access = λ k other. ap (λ z. maps.get z k) access_is ∙ access_key k other (access_before c n.label.acl) ∙ ap (left_at (gives_execute n) (part c Access) k) (had_access_is k);
+    access = λ k other. ap (λ z. maps.get z k) access_is ∙ access_key n c k other (access_before c n.label.acl) ∙ ap (left_at (gives_execute n) (part c Access) k) (had_access_is n c k);
     dacl = λ directory k other own.
         default_all directory k other
         ∙ ap (λ b. if b then or_else (left_at (gives_execute n) (part c Default) k (had_default n c k)) (maps.get acl k) else left_at (gives_execute n) (part c Default) k (had_default n c k)) own;
@@ -291,40 +242,32 @@ module _ (n : Node) (c : Change) (acl : KeyMap) (dacl : Option KeyMap) (made : c
 
   -- ---- the mask of a list that the line names
 
-  access_mask : names (part c Access) ≡ true → (m : KeyMap) → maps.get (access_after c (gives_execute n) m) Mask
-      ≡ mask_after (gives_execute n) c (part c Access) (maps.get m Mask) (access_after c (gives_execute n) m)
-  unfolding access_after
-  access_mask named m =
-      subst (λ b. let new = if b then with_mask c (part c Access) (takes_mask (part c Access) (replace (gives_execute n) (part c Access).set m)) (worked (gives_execute n) (part c Access) m) else m in
-      maps.get new Mask ≡ mask_after (gives_execute n) c (part c Access) (maps.get m Mask) new) (sym named)
-      (get-mask_after (gives_execute n) c (part c Access) _ (maps.get m Mask) (worked (gives_execute n) (part c Access) m) (loses (gives_execute n) (part c Access) m) (get-worked (gives_execute n) (part c Access) m Mask))
-
-  default_mask : names (part c Default) ≡ true → (m : KeyMap) → maps.get (default_after c (gives_execute n) acl m) Mask
-      ≡ mask_after (gives_execute n) c (part c Default) (maps.get m Mask) (default_after c (gives_execute n) acl m)
-  unfolding default_after
-  default_mask named m =
-      let filled = if puts (part c Default) then fill_from acl (worked (gives_execute n) (part c Default) m) else worked (gives_execute n) (part c Default) m in
-      subst (λ b. let new = if b then with_mask c (part c Default) (takes_mask (part c Default) (replace (gives_execute n) (part c Default).set m)) filled else m in
-      maps.get new Mask ≡ mask_after (gives_execute n) c (part c Default) (maps.get m Mask) new) (sym named)
-      (get-mask_after (gives_execute n) c (part c Default) _ (maps.get m Mask) filled (loses (gives_execute n) (part c Default) m) (filled_mask (puts (part c Default)) m))
-    where
-      filled_mask : (b : Bool) (m : KeyMap) → maps.get (if b then fill_from acl (worked (gives_execute n) (part c Default) m) else worked (gives_execute n) (part c Default) m) Mask ≡ left_at (gives_execute n) (part c Default) Mask (maps.get m Mask)
-      filled_mask true m = filled_key true Mask m
-      filled_mask false m = filled_key false Mask m
-
   mask_default : (k : Kind) → changed_default k n c acl ≡ Ok dacl → k ≡ Directory → names (part c Default) ≡ true
       → ForSome dacl (λ d. maps.get d Mask ≡ mask_after (gives_execute n) c (part c Default) (had_default n c Mask) d)
   mask_default Plain h directory named d e = cc
   mask_default Directory h directory named d e =
-      subst (λ had. maps.get d Mask ≡ mask_after (gives_execute n) c (part c Default) had d) (had_default_is Mask)
-      (subst (λ z. maps.get z Mask ≡ mask_after (gives_execute n) c (part c Default) (maps.get (default_before c n.dacl) Mask) z) (sym (checked_default_is _ d (h ∙ ap Ok e))) (default_mask named (default_before c n.dacl)))
+      subst (λ had. maps.get d Mask ≡ mask_after (gives_execute n) c (part c Default) had d) (had_default_is n c Mask)
+      (subst (λ z. maps.get z Mask ≡ mask_after (gives_execute n) c (part c Default) (maps.get (default_before c n.dacl) Mask) z) (sym (checked_default_is _ d (h ∙ ap Ok e))) (default_mask n c acl named (default_before c n.dacl)))
 
   pub makes_mask : MakesMask n c (with_lists n acl dacl)
   makes_mask = record {
     access = λ named.
-        subst (λ had. maps.get acl Mask ≡ mask_after (gives_execute n) c (part c Access) had acl) (had_access_is Mask)
-        (subst (λ z. maps.get z Mask ≡ mask_after (gives_execute n) c (part c Access) (maps.get (access_before c n.label.acl) Mask) z) (sym access_is) (access_mask named (access_before c n.label.acl)));
+        subst (λ had. maps.get acl Mask ≡ mask_after (gives_execute n) c (part c Access) had acl) (had_access_is n c Mask)
+        (subst (λ z. maps.get z Mask ≡ mask_after (gives_execute n) c (part c Access) (maps.get (access_before c n.label.acl) Mask) z) (sym access_is) (access_mask n c named (access_before c n.label.acl)));
     dacl = λ directory named. mask_default n.kind made_default directory named;
+  }
+
+  -- ---- what a mask that is recalculated grants
+
+  after_again : (p : Part) (had : Option Perms) (m : KeyMap) → is_recalculated c p ≡ true → maps.get m Mask ≡ mask_after (gives_execute n) c p had m → MasksNoMore m
+  after_again p had m again h =
+      masks_no_more m (mask_made (gives_execute n) p had m)
+      (h ∙ ap (λ b. if b then option_map (λ _. class_union m) (mask_made (gives_execute n) p had m) else mask_made (gives_execute n) p had m) again)
+
+  pub bounds_recalculated : BoundsRecalculated n c (with_lists n acl dacl)
+  bounds_recalculated = record {
+    access = λ named again. after_again (part c Access) (had_access n c Mask) acl again (makes_mask.access named);
+    dacl = λ directory named again d e. after_again (part c Default) (had_default n c Mask) d again (makes_mask.dacl directory named d e);
   }
 
   -- ---- default lists that are dropped

@@ -1,18 +1,19 @@
--- A recalculated mask hides nothing.
+-- A recalculated mask hides nothing, and grants no more than the group class has.
 use Rattle.std.proofs.Common.{◌≡◌, Bool, true, false, cond, if◌then◌else◌, ◌&&◌, ◌||◌, List, [], ◌∷◌, map, filter, Option, Some, None, is_some, option_map, Equal, refl, sym, ap, subst, ◌∙◌}
 use Rattle.std.specs.declared.cmp.Ordering.{Ordering}
 use Rattle.std.specs.declared.cmp.Ordering.TheVariants.{Less, Greater}
 use Rattle.std.specs.Ordering.{eq_by_cmp, is_eq}
+use Rattle.std.specs.List.{list_any}
 use Rattle.std.specs.FinMap as maps
-use Rattle.acl_entry.specs.Perms.{Perms, union, meet}
+use Rattle.acl_entry.specs.Perms.{Perms, none, union, meet}
 use Rattle.acl_entry.specs.Keys.{key_cmp, same_key, is_class}
-use Rattle.acl_entry.specs.Lists.{KeyMap, masked_by, union_all, perm_of_entry, in_class, class_union}
+use Rattle.acl_entry.specs.Lists.{KeyMap, entries, masked_by, union_all, perm_of_entry, in_class, class_union}
 use Rattle.acl_entry.specs.declared.key.Key.{Key}
 use Rattle.acl_entry.specs.declared.key.Key.TheVariants.{Owner, User, OwningGroup, Group, Mask, Other}
 use Rattle.acl_entry.specs.declared.entry.Entry.{Entry}
 use Rattle.acl_entry.proofs.KeyLaws.{key_total, exact_keys}
 use Rattle.acl_edit.specs.Masks.{has_mask, recalculate}
-use Rattle.acl_edit.specs.Laws.{HidesNothing}
+use Rattle.acl_edit.specs.Laws.{HidesNothing, GrantsNoMore, MasksNoMore}
 
 -- ---- a set within a union
 
@@ -110,3 +111,27 @@ recalculate_shows m = by_mask (has_mask m) refl
         ap (λ o. masked_by o s) (maps.get-insert key_total m Mask (class_union m) Mask)
         ∙ meet-class_union m k s of_class (sym (maps.get-insert key_total m Mask (class_union m) k ∙ ap (λ b. cond b (Some (class_union m)) (maps.get m k)) (is_other k of_class)) ∙ h))
     by_mask false e = hides_nothing m (λ k s of_class h. ap (λ o. masked_by o s) (no_mask (maps.get m Mask) e))
+
+-- ---- what all entries of the class have, some entry has
+
+module _ (f : Perms → Bool) (joins : (s t : Perms) → f (union s t) ≡ (f s || f t)) (nothing : f none ≡ false) where
+  some_has : (es : List Entry) → f (union_all (map perm_of_entry (filter in_class es))) ≡ list_any (λ e. is_class e.key && f e.perm) es
+  some_has [] = nothing
+  some_has (e ∷ es) = by_class (is_class e.key) (some_has es)
+    where
+      by_class : (b : Bool) → f (union_all (map perm_of_entry (filter in_class es))) ≡ list_any (λ e. is_class e.key && f e.perm) es
+          → f (union_all (map perm_of_entry (cond b (e ∷ filter in_class es) (filter in_class es)))) ≡ ((b && f e.perm) || list_any (λ e. is_class e.key && f e.perm) es)
+      by_class true h = joins e.perm (union_all (map perm_of_entry (filter in_class es))) ∙ ap (λ b. f e.perm || b) h
+      by_class false h = h
+
+union_grants_no_more : (m : KeyMap) → GrantsNoMore m (class_union m)
+union_grants_no_more m = record {
+  read = λ h. sym (some_has (λ p. p.read) (λ s t. refl) refl (entries m)) ∙ h;
+  write = λ h. sym (some_has (λ p. p.write) (λ s t. refl) refl (entries m)) ∙ h;
+  execute = λ h. sym (some_has (λ p. p.execute) (λ s t. refl) refl (entries m)) ∙ h;
+}
+
+-- a mask that is recalculated, if there is one
+pub masks_no_more : (m : KeyMap) (o : Option Perms) → maps.get m Mask ≡ option_map (λ _. class_union m) o → MasksNoMore m
+masks_no_more m None h mask e = cc
+masks_no_more m (Some s) h mask e = let is : class_union m ≡ mask = cc in subst (GrantsNoMore m) is (union_grants_no_more m)

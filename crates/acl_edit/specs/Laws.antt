@@ -1,15 +1,18 @@
 -- What edits keep, in words of lists and modes.
-use Rattle.std.specs.Prelude.{◌≡◌, Bool, true, false, not, List, [], ◌∷◌, Option, Some, None, is_some, option_and_then, option_map, Ok, ◌&&◌, ◌||◌, if◌then◌else◌}
+use Rattle.std.specs.Prelude.{◌≡◌, ◌≢◌, ◌↔◌, Bool, true, false, not, List, [], ◌∷◌, Option, Some, None, is_some, option_and_then, option_map, Ok, Err, ◌&&◌, ◌||◌, if◌then◌else◌}
 use Rattle.std.specs.Option.{ForSome}
 use Rattle.std.specs.List.{list_any}
 use Rattle.std.specs.FinMap as maps
 use Rattle.acl_entry.specs.Perms.{Perms}
-use Rattle.acl_entry.specs.Keys.{same_key, is_base}
-use Rattle.acl_entry.specs.Lists.{KeyMap, effective, class_union, or_else}
+use Rattle.acl_entry.specs.Keys.{same_key, is_base, is_class}
+use Rattle.acl_entry.specs.Lists.{KeyMap, IsValid, entries, fault, effective, class_union, or_else}
+use Rattle.acl_entry.specs.declared.entry.ListFault.{ListFault}
 use Rattle.acl_entry.specs.declared.key.Key.{Key}
 use Rattle.acl_entry.specs.declared.key.Key.TheVariants.{OwningGroup, Mask}
+use Rattle.acl_text.specs.declared.fault.Which.{Which}
 use Rattle.acl_text.specs.declared.fault.Which.TheVariants.{Access, Default}
-use Rattle.acl_edit.specs.Parts.{Part, part, names, puts, is_given, is_mask}
+use Rattle.acl_edit.specs.Nodes.{is_directory}
+use Rattle.acl_edit.specs.Parts.{Part, part, names, puts, is_given, is_mask, speaks_of}
 use Rattle.acl_edit.specs.Steps.{perms_of, gives_execute}
 use Rattle.acl_text.specs.declared.entries.Spec.{Spec}
 use Rattle.acl_edit.specs.Masks.{has_named, is_recalculated}
@@ -17,12 +20,23 @@ use Rattle.acl_edit.specs.Edits.{edit}
 use Rattle.acl_edit.specs.declared.edit.Change.{Change}
 use Rattle.acl_edit.specs.declared.edit.Edit.{Edit}
 use Rattle.acl_edit.specs.declared.edit.Edit.TheVariants as edits
+use Rattle.acl_edit.specs.declared.edit.EditFault.TheVariants.{DefaultOnFile, List as ListIs}
 use Rattle.acl_edit.specs.declared.node.Kind.TheVariants.{Directory}
 use Rattle.acl_edit.specs.declared.node.Node.{Node}
 
 -- the mask takes nothing away: each entry grants what it has
 abbrev pub HidesNothing : KeyMap → Type 0
 HidesNothing m = (k : Key) → effective m k ≡ maps.get m k
+
+-- the mask has no permission that no entry of the group class has
+pub record GrantsNoMore (m : KeyMap) (mask : Perms) : Type 0 where
+  pub read : mask.read ≡ true → list_any (λ e. is_class e.key && e.perm.read) (entries m) ≡ true
+  pub write : mask.write ≡ true → list_any (λ e. is_class e.key && e.perm.write) (entries m) ≡ true
+  pub execute : mask.execute ≡ true → list_any (λ e. is_class e.key && e.perm.execute) (entries m) ≡ true
+
+-- so it is with the mask of the list, if it has one
+abbrev pub MasksNoMore : KeyMap → Type 0
+MasksNoMore m = ForSome (maps.get m Mask) (GrantsNoMore m)
 
 -- the last entry for a key
 abbrev pub last_for : Key → List Spec → Option Spec
@@ -85,6 +99,11 @@ module _ (old : Node) (c : Change) (new : Node) where
     pub access : names (part c Access) ≡ true → is_recalculated c (part c Access) ≡ true → HidesNothing new.label.acl
     pub dacl : new.kind ≡ Directory → names (part c Default) ≡ true → is_recalculated c (part c Default) ≡ true → ForSome new.dacl HidesNothing
 
+  -- nor does it grant what no entry of the group class has
+  pub record BoundsRecalculated : Type 0 where
+    pub access : names (part c Access) ≡ true → is_recalculated c (part c Access) ≡ true → MasksNoMore new.label.acl
+    pub dacl : new.kind ≡ Directory → names (part c Default) ≡ true → is_recalculated c (part c Default) ≡ true → ForSome new.dacl MasksNoMore
+
   -- -b leaves the base entries of an access list of which the line names no entry, with what they granted, and no other
   pub record KeepsGranted : Type 0 where
     pub base : c.strip ≡ true → names (part c Access) ≡ false → (k : Key) → is_base k ≡ true → maps.get new.label.acl k ≡ effective old.label.acl k
@@ -125,6 +144,60 @@ module _ (old : Node) (c : Change) (new : Node) where
   -- -b and -k leave no default list where the line names no entry of one
   pub record DropsDefault : Type 0 where
     pub dacl : (c.strip || c.drop_default) ≡ true → names (part c Default) ≡ false → new.dacl ≡ None
+
+-- ---- why an edit is refused
+
+-- the edit puts entries of a default list, or a whole one; a removed entry puts nothing
+abbrev pub puts_default : Edit → Bool
+puts_default (edits.Change c) = list_any (speaks_of c.as_default Default) c.set || list_any (speaks_of c.as_default Default) c.modify
+puts_default (edits.Put access dacl) = is_some dacl
+puts_default (edits.Flatten access dacl) = false
+puts_default (edits.Restore access dacl owner group flags) = is_some dacl
+
+-- it puts them on a file that is no directory, and not in a recursion
+abbrev pub misplaces_default : Node → Edit → Bool → Bool
+misplaces_default n e in_recursion = not (is_directory n.kind) && not in_recursion && puts_default e
+
+-- the access list that a line leaves, key by key
+pub record IsAccessLeft (old : Node) (c : Change) (m : KeyMap) : Type 0 where
+  pub keys : (k : Key) → is_mask k ≡ false → maps.get m k ≡ left_at (gives_execute old) (part c Access) k (had_access old c k)
+  pub mask : maps.get m Mask ≡ (if names (part c Access) then mask_after (gives_execute old) c (part c Access) (had_access old c Mask) m else had_access old c Mask)
+
+-- what a line leaves at a key of a default list: where it puts entries, a base entry that they lack is that of the access list
+abbrev pub default_left_at : Node → Change → KeyMap → Key → Option Perms
+default_left_at old c access k =
+    let left = left_at (gives_execute old) (part c Default) k (had_default old c k) in
+    if puts (part c Default) && is_base k then or_else left (maps.get access k) else left
+
+-- the default list that a line leaves beside an access list, key by key
+pub record IsDefaultLeft (old : Node) (c : Change) (access : KeyMap) (m : KeyMap) : Type 0 where
+  pub keys : (k : Key) → is_mask k ≡ false → maps.get m k ≡ default_left_at old c access k
+  pub mask : maps.get m Mask ≡ (if names (part c Default) then mask_after (gives_execute old) c (part c Default) (had_default old c Mask) m else had_default old c Mask)
+
+-- a directory's default list has this fault, where the access list has none; without entries it is none, and has no fault
+pub record IsDefaultFault (n : Node) (access : KeyMap) (dacl : KeyMap) (f : ListFault) : Type 0 where
+  pub directory : n.kind ≡ Directory
+  pub valid : IsValid access
+  pub given : entries dacl ≢ []
+  pub fault : fault (entries dacl) ≡ Some f
+
+-- the lists that a line leaves, key by key; it is refused for the first fault of each where they have one, and for no other
+pub record RefusesLists (n : Node) (c : Change) (in_recursion : Bool) : Type 0 where
+  pub access : KeyMap
+  pub dacl : KeyMap
+  pub access_left : IsAccessLeft n c access
+  pub dacl_left : IsDefaultLeft n c access dacl
+  pub access_fault : (f : ListFault) → (edit n (edits.Change c) in_recursion ≡ Err (ListIs Access f))
+      ↔ ((misplaces_default n (edits.Change c) in_recursion ≡ false) × (fault (entries access) ≡ Some f))
+  pub dacl_fault : (f : ListFault) → (edit n (edits.Change c) in_recursion ≡ Err (ListIs Default f)) ↔ IsDefaultFault n access dacl f
+
+-- whole lists are lists already, so no edit that puts them is refused for a fault of theirs
+abbrev pub RefusesNoList : Node → Edit → Bool → Type 0
+RefusesNoList n (edits.Change c) in_recursion = Unit {0}
+RefusesNoList n (edits.Put access dacl) in_recursion = (which : Which) (f : ListFault) → edit n (edits.Put access dacl) in_recursion ≢ Err (ListIs which f)
+RefusesNoList n (edits.Flatten access dacl) in_recursion = (which : Which) (f : ListFault) → edit n (edits.Flatten access dacl) in_recursion ≢ Err (ListIs which f)
+RefusesNoList n (edits.Restore access dacl owner group flags) in_recursion =
+    (which : Which) (f : ListFault) → edit n (edits.Restore access dacl owner group flags) in_recursion ≢ Err (ListIs which f)
 
 -- a fact of the line that an edit is, if it is one
 abbrev pub OfLine : Edit → (Change → Type 0) → Type 0

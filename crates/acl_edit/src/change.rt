@@ -8,7 +8,7 @@ ghost use Rattle.acl_edit.specs.Edits.{worked, access_after, default_after, acce
 ghost use Rattle.acl_edit.specs.Nodes.{IsSound};
 ghost use Rattle.acl_edit.specs.Rooms.{Fits, HasRoom, size, size_of, puts_of};
 ghost use Rattle.acl_text.specs.declared.fault.Which.TheVariants.{Access, Default};
-ghost use Rattle.acl_edit.specs.Laws.{LeavesUnnamed, ShowsRecalculated, KeepsGranted, GivesModified, GoesByKey, LeavesByKey, CopiesBase, MakesMask, DropsDefault};
+ghost use Rattle.acl_edit.specs.Laws.{LeavesUnnamed, ShowsRecalculated, BoundsRecalculated, KeepsGranted, GivesModified, GoesByKey, LeavesByKey, CopiesBase, MakesMask, DropsDefault};
 ghost use Rattle.acl_edit.specs.declared.edit.EditFault.TheVariants.{DefaultOnFile, NoMemory};
 
 use crate::masks::{complete_mask, has_mask};
@@ -204,6 +204,7 @@ pub(crate) fn change(
     ensures room { HasRoom node.now line.now → result ≢ Err NoMemory }
     ensures unnamed { IfOk result (LeavesUnnamed node.now line.now) }
     ensures shown { IfOk result (ShowsRecalculated node.now line.now) }
+    ensures bounded { IfOk result (BoundsRecalculated node.now line.now) }
     ensures granted { IfOk result (KeepsGranted node.now line.now) }
     ensures modified { IfOk result (GivesModified node.now line.now) }
     ensures by_key { IfOk result (GoesByKey node.now line.now) }

@@ -1,10 +1,10 @@
 //! Edits of one file.
-ghost use Rattle.std.specs.Prelude.{◌≡◌, ◌≢◌, None, Ok, Err, IfOk, IfErr, IsOk};
+ghost use Rattle.std.specs.Prelude.{◌≡◌, ◌≢◌, true, None, Ok, Err, IfOk, IfErr, IsOk};
 ghost use Rattle.acl_edit.specs.Edits as edits;
 ghost use Rattle.acl_edit.specs.Edits.{allowed};
 ghost use Rattle.acl_edit.specs.Nodes.{IsSound, HasValidLists};
 ghost use Rattle.acl_edit.specs.Rooms.{Fits, HasShortLists, IsSmall, size_of};
-ghost use Rattle.acl_edit.specs.Laws.{LeavesUnnamed, ShowsRecalculated, KeepsGranted, GivesModified, GoesByKey, LeavesByKey, CopiesBase, MakesMask, DropsDefault, OfLine, GivesBack};
+ghost use Rattle.acl_edit.specs.Laws.{LeavesUnnamed, ShowsRecalculated, BoundsRecalculated, KeepsGranted, GivesModified, GoesByKey, LeavesByKey, CopiesBase, MakesMask, DropsDefault, OfLine, GivesBack, misplaces_default};
 ghost use Rattle.acl_edit.specs.declared.edit.EditFault.TheVariants.{DefaultOnFile, NoMemory};
 
 use crate::change::{change, clone_of};
@@ -25,7 +25,7 @@ use std::alloc::{AllocError, Global};
 pub fn apply(alloc: Global, node: &Node, edit: &Edit, in_recursion: bool) -> Result<Node, EditFault>
     ensures made { IfOk result (λ n. edits.edit node.now edit.now in_recursion ≡ Ok n) }
     ensures told { IfErr result (λ fault. fault ≢ NoMemory → edits.edit node.now edit.now in_recursion ≡ Err fault) }
-    ensures misplaced { edits.edit node.now edit.now in_recursion ≡ Err DefaultOnFile → result ≡ Err DefaultOnFile }
+    ensures misplaced { misplaces_default node.now edit.now in_recursion ≡ true → result ≡ Err DefaultOnFile }
     ensures room { IsSmall node.now edit.now → result ≢ Err NoMemory }
 
     ensures valid { IfOk result HasValidLists }
@@ -34,6 +34,7 @@ pub fn apply(alloc: Global, node: &Node, edit: &Edit, in_recursion: bool) -> Res
     // What a setfacl(1) line keeps.
     ensures unnamed { IfOk result (λ n. OfLine edit.now (λ c. LeavesUnnamed node.now c n)) }
     ensures shown { IfOk result (λ n. OfLine edit.now (λ c. ShowsRecalculated node.now c n)) }
+    ensures bounded { IfOk result (λ n. OfLine edit.now (λ c. BoundsRecalculated node.now c n)) }
     ensures granted { IfOk result (λ n. OfLine edit.now (λ c. KeepsGranted node.now c n)) }
     ensures modified { IfOk result (λ n. OfLine edit.now (λ c. GivesModified node.now c n)) }
     ensures by_key { IfOk result (λ n. OfLine edit.now (λ c. GoesByKey node.now c n)) }

@@ -1,7 +1,7 @@
-use Rattle.acl_edit.proofs.Lines.{leaves_unnamed, shows_recalculated, keeps_granted, gives_modified, goes_by_key, leaves_by_key, copies_base, makes_mask, drops_default, stays_sound}
+use Rattle.acl_edit.proofs.Lines.{leaves_unnamed, shows_recalculated, bounds_recalculated, keeps_granted, gives_modified, goes_by_key, leaves_by_key, copies_base, makes_mask, drops_default, stays_sound}
 use Rattle.std.proofs.Common.{sym, subst}
 use Rattle.acl_edit.specs.Nodes.{IsSound}
-use Rattle.acl_edit.specs.Laws.{LeavesUnnamed, ShowsRecalculated, KeepsGranted, GivesModified, GoesByKey, LeavesByKey, CopiesBase, MakesMask, DropsDefault}
+use Rattle.acl_edit.specs.Laws.{LeavesUnnamed, ShowsRecalculated, BoundsRecalculated, KeepsGranted, GivesModified, GoesByKey, LeavesByKey, CopiesBase, MakesMask, DropsDefault}
 use Rattle.acl_edit.proofs.change.change.Goals as goal
 
 pub returns-clause-unnamed : goal.returns-clause-unnamed
@@ -13,6 +13,11 @@ pub returns-clause-shown : goal.returns-clause-shown
 returns-clause-shown c =
     subst (ShowsRecalculated c.args.node.now c.args.line.now) (sym c.with_lists.ensures)
     (shows_recalculated c.args.node.now c.args.line.now c.in_ok-acl.acl c.in_ok-dacl.dacl c.in_ok-acl.ensures.made c.in_ok-dacl.ensures.made)
+
+pub returns-clause-bounded : goal.returns-clause-bounded
+returns-clause-bounded c =
+    subst (BoundsRecalculated c.args.node.now c.args.line.now) (sym c.with_lists.ensures)
+    (bounds_recalculated c.args.node.now c.args.line.now c.in_ok-acl.acl c.in_ok-dacl.dacl c.in_ok-acl.ensures.made c.in_ok-dacl.ensures.made)
 
 pub returns-clause-granted : goal.returns-clause-granted
 returns-clause-granted c =
