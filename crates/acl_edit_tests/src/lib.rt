@@ -4,11 +4,11 @@
 #![tactic(auto)]
 
 #[cfg(test)]
-mod changes;
-#[cfg(test)]
-mod faults;
-#[cfg(test)]
 mod files;
+#[cfg(test)]
+mod lines;
+#[cfg(test)]
+mod lists;
 #[cfg(test)]
 mod made;
 #[cfg(test)]
