@@ -1,7 +1,6 @@
 //! New files.
 use crate::made::{JOE, STAFF, USERS, expect_label, expect_lists, file, id};
 use acl_edit::{Kind, chmod, create};
-use std::test::Fail;
 
 // A directory with the flags that a mode gives it, and a new file in it, made by joe of users.
 struct Made {
@@ -61,15 +60,16 @@ static MADE: [Made; 4] = [
 ];
 
 #[test]
-fn new_files(rt: HostRuntime) -> Result<(), Fail> {
+fn new_files(rt: HostRuntime) {
     let alloc = rt.alloc();
     let (joe, users) = (id(&rt, JOE), id(&rt, USERS));
     for made in &MADE {
-        let mut parent = file(&rt, alloc, made.parent)?;
+        let mut parent = file(&rt, alloc, made.parent);
         chmod(&mut parent, made.parent_mode);
-        let node = create(alloc, &parent, made.kind, made.mode, made.umask, joe, users)?;
-        expect_lists(&rt, alloc, &node, made.lists)?;
+        let node = create(alloc, &parent, made.kind, made.mode, made.umask, joe, users).expect(
+            &rt, "a file",
+        );
+        expect_lists(&rt, alloc, &node, made.lists);
         expect_label(&rt, &node, JOE, made.group, made.flags);
     }
-    Ok(())
 }

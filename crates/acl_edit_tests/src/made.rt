@@ -2,9 +2,8 @@
 use acl_edit::{Edit, EditFault, Kind, Node, apply};
 use acl_entry::{Acl, Entry, Id, Label, Perm};
 use acl_text::{NoNames, Sep, Spec, Want, append_short, read_entries};
-use std::alloc::Global;
+use std::alloc::{AllocError, Global};
 use std::process::Abort;
-use std::test::Fail;
 
 pub const JOE: u32 = 1000;
 
@@ -26,49 +25,51 @@ pub fn specs(rt: &impl Abort, alloc: Global, text: &str, want: Want) -> Vec<Spec
 }
 
 /// The list of a text.
-pub fn list(rt: &impl Abort, alloc: Global, text: &str) -> Result<Acl, Fail> {
+pub fn list(rt: &impl Abort, alloc: Global, text: &str) -> Acl {
     let mut entries = Vec::new(alloc);
     for spec in &specs(rt, alloc, text, Want::Plain) {
         let perm = match spec.perm {
             Some(perm) => perm.fixed,
             None => Perm::none(),
         };
-        entries.push(Entry {
+        let entry = Entry {
             key: spec.key,
             perm,
-        })?;
+        };
+        entries.push(entry).expect(rt, "memory");
     }
-    Ok(Acl::from_entries(alloc, &entries)?)
+    Acl::from_entries(alloc, &entries).expect(rt, "a list")
 }
 
 /// The list of a text; none of an empty one.
-pub fn list_of(rt: &impl Abort, alloc: Global, text: &str) -> Result<Option<Acl>, Fail> {
+pub fn list_of(rt: &impl Abort, alloc: Global, text: &str) -> Option<Acl> {
     if text.is_empty() {
-        return Ok(None);
+        None
+    } else {
+        Some(list(rt, alloc, text))
     }
-    Ok(Some(list(rt, alloc, text)?))
 }
 
 /// A file of lisa and staff. Behind the access list of a directory stands a slash, and its default list.
-pub fn file(rt: &impl Abort, alloc: Global, text: &str) -> Result<Node, Fail> {
+pub fn file(rt: &impl Abort, alloc: Global, text: &str) -> Node {
     let (kind, access, default) = match text.split_once('/') {
         Some((access, default)) => (Kind::Directory, access, default),
         None => (Kind::Plain, text, ""),
     };
-    Ok(Node {
+    Node {
         kind,
         label: Label {
             owner: id(rt, LISA),
             group: id(rt, STAFF),
-            acl: list(rt, alloc, access)?,
+            acl: list(rt, alloc, access),
         },
         flags: [false; 3],
-        dacl: list_of(rt, alloc, default)?,
-    })
+        dacl: list_of(rt, alloc, default),
+    }
 }
 
 /// The lists of a file, as `file` reads them.
-pub fn lists(alloc: Global, node: &Node) -> Result<Vec<u8>, Fail> {
+fn lists(alloc: Global, node: &Node) -> Result<Vec<u8>, AllocError> {
     let mut text = Vec::new(alloc);
     append_short(&mut text, &node.label.acl, &NoNames)?;
     if node.kind == Kind::Directory {
@@ -80,12 +81,21 @@ pub fn lists(alloc: Global, node: &Node) -> Result<Vec<u8>, Fail> {
     Ok(text)
 }
 
-/// The lists that are left, or the fault.
-fn told(alloc: Global, edited: Result<Node, EditFault>) -> Result<Vec<u8>, Fail> {
-    match edited {
-        Ok(node) => lists(alloc, &node),
-        Err(fault) => Ok(format!(in alloc; "{fault:?}")?.into_bytes()),
-    }
+/// The edit, not of a whole subtree, made of the file.
+pub fn edited(rt: &impl Abort, alloc: Global, node: &Node, edit: &Edit) -> Node {
+    apply(alloc, node, edit, false).expect(rt, "an edit")
+}
+
+/// The lists of the file are these.
+pub fn expect_lists(rt: &impl Abort, alloc: Global, node: &Node, want: &str) {
+    let found = lists(alloc, node).expect(rt, "memory");
+    assert!(rt; found.as_slice() == want.as_bytes(), "not {want}");
+}
+
+/// The fault reads like this.
+fn expect_fault(rt: &impl Abort, alloc: Global, fault: EditFault, want: &str) {
+    let found = format!(in alloc; "{fault:?}").expect(rt, "memory");
+    assert!(rt; found.as_str() == want, "not {want}");
 }
 
 /// The edit of the file leaves these lists, or is refused with this fault.
@@ -96,20 +106,12 @@ pub fn expect(
     edit: &Edit,
     in_recursion: bool,
     want: &str,
-) -> Result<(), Fail> {
-    let node = file(rt, alloc, text)?;
-    let found = told(alloc, apply(alloc, &node, edit, in_recursion))?;
-    assert!(rt; found.as_slice() == want.as_bytes(), "{text} not {want}");
-    Ok(())
-}
-
-/// The lists of the file are these.
-pub fn expect_lists(rt: &impl Abort, alloc: Global, node: &Node, want: &str) -> Result<(), Fail> {
-    assert!(rt;
-        lists(alloc, node)?.as_slice() == want.as_bytes(),
-        "not {want}"
-    );
-    Ok(())
+) {
+    let node = file(rt, alloc, text);
+    match apply(alloc, &node, edit, in_recursion) {
+        Ok(node) => expect_lists(rt, alloc, &node, want),
+        Err(fault) => expect_fault(rt, alloc, fault, want),
+    }
 }
 
 /// The owner, the group and the flags of the file are these.

@@ -2,7 +2,6 @@
 use crate::made::{ANN, JOE, LISA, STAFF, USERS, expect_label, expect_lists, file, id};
 use acl_edit::chmod;
 use acl_entry::{Subject, granted};
-use std::test::Fail;
 
 // A file, modes that it is given in turn, and its lists and flags afterwards.
 static MODES: [(&str, &[u16], &str, [bool; 3]); 5] = [
@@ -39,43 +38,40 @@ static MODES: [(&str, &[u16], &str, [bool; 3]); 5] = [
 ];
 
 #[test]
-fn modes_are_put(rt: HostRuntime) -> Result<(), Fail> {
+fn modes_are_put(rt: HostRuntime) {
     for (text, modes, lists, flags) in &MODES {
-        let mut node = file(&rt, rt.alloc(), text)?;
+        let mut node = file(&rt, rt.alloc(), text);
         for mode in *modes {
             chmod(&mut node, *mode);
         }
-        expect_lists(&rt, rt.alloc(), &node, lists)?;
+        expect_lists(&rt, rt.alloc(), &node, lists);
         expect_label(&rt, &node, LISA, STAFF, *flags);
     }
-    Ok(())
 }
 
 // joe's entry denies what users and the others may do.
 #[test]
-fn a_named_user_is_not_one_of_the_others(rt: HostRuntime) -> Result<(), Fail> {
+fn a_named_user_is_not_one_of_the_others(rt: HostRuntime) {
     let alloc = rt.alloc();
     let f = file(
         &rt,
         alloc,
         "u::rw-,u:1000:---,g::r--,g:100:rwx,m::rwx,o::r--",
-    )?;
+    );
     let users = [id(&rt, USERS)];
-    let joe = Subject::from_groups(alloc, id(&rt, JOE), &users)?;
-    let ann = Subject::from_groups(alloc, id(&rt, ANN), &users)?;
+    let joe = Subject::from_groups(alloc, id(&rt, JOE), &users).expect(&rt, "memory");
+    let ann = Subject::from_groups(alloc, id(&rt, ANN), &users).expect(&rt, "memory");
     assert_eq!(rt; granted(&joe, &f.label).bits(), 0x01);
     assert_eq!(rt; granted(&ann, &f.label).bits(), 0xff);
-    Ok(())
 }
 
 #[test]
-fn a_changed_list_is_another_label(rt: HostRuntime) -> Result<(), Fail> {
-    let f = file(&rt, rt.alloc(), "u::rw-,g::r--,o::---")?;
-    let mut other = f.try_clone(rt.alloc())?;
+fn a_changed_list_is_another_label(rt: HostRuntime) {
+    let f = file(&rt, rt.alloc(), "u::rw-,g::r--,o::---");
+    let mut other = f.try_clone(rt.alloc()).expect(&rt, "memory");
     assert!(rt; f.same_label(&other), "a copy");
     chmod(&mut other, 0o4640);
     assert!(rt; f.same_label(&other), "other flags");
     chmod(&mut other, 0o644);
     assert!(rt; !f.same_label(&other), "another list");
-    Ok(())
 }
