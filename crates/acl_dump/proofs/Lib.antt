@@ -1,6 +1,7 @@
 pub mod WatchedPaths
 pub mod SeenPaths
 pub mod FirstFaults
+pub mod OwnPaths
 pub mod DumpFaults
 pub mod LowestLines
 pub mod Streams

@@ -1,6 +1,7 @@
 pub mod Groups
 pub mod Lines
 pub mod Records
+pub mod OwnPaths
 pub mod Faults
 pub mod Lowest
 pub mod Seen

@@ -1,11 +1,12 @@
 //! Reading dumps.
 
-ghost use Rattle.std.specs.Prelude.{◌≡◌, [], ◌∷◌, OnOk, None, is_some};
+ghost use Rattle.std.specs.Prelude.{◌≡◌, [], ◌∷◌, OnOk, IfOk, None, true, is_some};
 ghost use Rattle.acl_text.specs.Told.{Gives, GivesAt};
 ghost use Rattle.acl_dump.specs.Records.{lines_of, line_in, begins, close, dump_of};
 ghost use Rattle.acl_dump.specs.Watched as watched;
 ghost use Rattle.acl_dump.specs.Groups.{stepped};
 ghost use Rattle.acl_dump.specs.Seen.{SeenAre};
+ghost use Rattle.acl_dump.specs.OwnPaths.{have_own_paths};
 
 use crate::apart::are_apart;
 use crate::close::close;
@@ -32,13 +33,16 @@ use std::alloc::Global;
 /// `BadPath`, and `RepeatedFile`. A record whose lines have no fault is told at its `# file:` line:
 /// `MissingHeader` where it is loaded and has no owner or no group, else `List` of its access list, else
 /// of its default list, whose places count the record's entries of that list. Or `NoMemory`.
+///
+/// The records that are returned have different paths.
 pub fn read_dump<N: Names>(
     alloc: Global,
     bytes: &[u8],
     dump_use: DumpUse,
     names: &N,
 ) -> Result<Vec<DumpRecord>, TextFault>
-    ensures { Gives (λ records. records.items) result (dump_of (N.user_id names.now) (N.group_id names.now) dump_use bytes.now) }
+    ensures made { Gives (λ records. records.items) result (dump_of (N.user_id names.now) (N.group_id names.now) dump_use bytes.now) }
+    ensures apart { IfOk result (λ records. have_own_paths records.items ≡ true) }
 {
     // A dump without a fault needs no set of paths: they are compared once all are known.
     match read_stream(alloc, bytes, dump_use, names, None) {
