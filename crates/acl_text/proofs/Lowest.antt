@@ -213,9 +213,6 @@ module _ (user_id group_id : List ℕ → Option ℕ) (rules : Rules) (at : ℕ)
       (λ j k h later. tag_below user_id group_id rules (default_of fs) j k h) (tag_check user_id group_id rules (default_of fs))
       (λ row is. perms_step row (or_fault-some (tagged rules (default_of fs)) kinds.BadTag row is))
 
-  pub entry-kind : (k : FaultKind) → entry_from user_id group_id rules at fs ≡ Err k → number k ≤ 7
-  entry-kind k e = fields-kind user_id group_id rules (default_of fs) k (fields_lowest.lowest k e).applies
-
 -- an entry by itself
 pub entry_lowest : (user_id group_id : List ℕ → Option ℕ) (rules : Rules) (at : ℕ) (entry : List ℕ) → TellsLowest (EntryHas user_id group_id rules entry) (entry_of user_id group_id rules at entry)
 entry_lowest user_id group_id rules at entry = fields_lowest user_id group_id rules at (entry_fields entry)
