@@ -16,9 +16,9 @@ use Rattle.acl_tree.specs.Found.{FoundFile, files_found}
 use Rattle.acl_tree.specs.Step.{State, load, step}
 use Rattle.facl_words.specs.Forms.{Text}
 use Rattle.facl_words.specs.Places.{has, operand, operands_from}
-use Rattle.facl_words.specs.declared.tool.Tool.{Tool}
-use Rattle.facl_words.specs.declared.tool.Tool.TheVariants as tools
-use Rattle.facl_words.specs.declared.words.Words.{Words}
+use Rattle.facl_usage.specs.declared.tool.Tool.{Tool}
+use Rattle.facl_usage.specs.declared.tool.Tool.TheVariants as tools
+use Rattle.facl_usage.specs.declared.words.Words.{Words}
 use Rattle.facl_messages.specs.declared.fault.LineFault.{LineFault}
 use Rattle.facl_messages.specs.declared.fault.LineFault.TheVariants.{UnknownTool}
 use Rattle.facl_listings.specs.declared.options.Options.{Options}

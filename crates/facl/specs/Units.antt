@@ -7,8 +7,8 @@ use Rattle.facl_script.specs.declared.words.SplitFault.{SplitFault}
 use Rattle.facl_words.specs.Forms.{Text}
 use Rattle.facl_words.specs.Tools.{tool_named}
 use Rattle.facl_words.specs.Words.{words_for}
-use Rattle.facl_words.specs.declared.tool.Tool.{Tool}
-use Rattle.facl_words.specs.declared.words.Words.{Words}
+use Rattle.facl_usage.specs.declared.tool.Tool.{Tool}
+use Rattle.facl_usage.specs.declared.words.Words.{Words}
 use Rattle.acl_tree.specs.Step.{State}
 use Rattle.facl_messages.specs.Faults.{line_fault_of_split}
 use Rattle.facl_messages.specs.Messages.{message}

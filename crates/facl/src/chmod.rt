@@ -3,7 +3,7 @@
 ghost use Rattle.std.specs.Prelude.{◌≡◌, IsTrue, codes};
 ghost use Rattle.facl_words.specs.Forms.{is_mode};
 ghost use Rattle.facl_words.specs.Places.{operand};
-ghost use Rattle.facl_words.specs.declared.tool.Tool.TheVariants as tools;
+ghost use Rattle.facl_usage.specs.declared.tool.Tool.TheVariants as tools;
 ghost use Rattle.facl.specs.Replies.{Gives, left};
 ghost use Rattle.facl.specs.Tools.{mode_of, chmod_line};
 

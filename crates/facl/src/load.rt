@@ -2,7 +2,7 @@
 
 ghost use Rattle.std.specs.Prelude.{◌≡◌, codes};
 ghost use Rattle.facl_words.specs.Places.{operand};
-ghost use Rattle.facl_words.specs.declared.tool.Tool.TheVariants as tools;
+ghost use Rattle.facl_usage.specs.declared.tool.Tool.TheVariants as tools;
 ghost use Rattle.facl.specs.Replies.{Gives, left};
 ghost use Rattle.facl.specs.Tools.{table_named, load_line};
 

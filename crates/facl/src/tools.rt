@@ -2,7 +2,7 @@
 
 ghost use Rattle.std.specs.Prelude.{◌≡◌, IsTrue, List, ℕ};
 ghost use Rattle.acl_entry.specs.Check.{rights};
-ghost use Rattle.facl_words.specs.Usage.{fits_tool};
+ghost use Rattle.facl_words.specs.Rules.{fits_tool};
 ghost use Rattle.facl.specs.Replies.{Gives, left};
 ghost use Rattle.facl.specs.Tools.{is_served, tool_line};
 

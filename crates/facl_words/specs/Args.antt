@@ -1,14 +1,8 @@
 -- The program's own words.
-use Rattle.std.specs.Prelude.{List, [], ◌∷◌, Option, codes, option_map}
-use Rattle.facl_words.specs.Forms.{Text}
-use Rattle.facl_words.specs.Lines.{Line, by_name, taken, values_in}
-
-abbrev pub program_line : Line
-program_line = record {
-  flags = [];
-  options = by_name (codes "passwd") ∷ by_name (codes "group") ∷ by_name (codes "dump") ∷ [];
-  operands = [];
-}
+use Rattle.std.specs.Prelude.{List, Option, option_map}
+use Rattle.facl_usage.specs.Forms.{Text}
+use Rattle.facl_usage.specs.Tools.{program_line}
+use Rattle.facl_words.specs.Commands.{taken, values_in}
 
 -- the files of `--passwd`, `--group` and `--dump`, where clap takes the words
 unfoldable pub files_for : List Text → Option (List (Option Text))

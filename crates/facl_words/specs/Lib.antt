@@ -1,10 +1,8 @@
-pub mod Forms
-pub mod Lines
-pub mod Rows
+pub mod Commands
 pub mod Refusals
 pub mod Args
-pub mod Tools
-pub mod Places
-pub mod Setfacl
-pub mod Usage
 pub mod Words
+pub use Rattle.facl_usage.specs.Forms
+pub use Rattle.facl_usage.specs.Places
+pub use Rattle.facl_usage.specs.Rules
+pub use Rattle.facl_usage.specs.Tools

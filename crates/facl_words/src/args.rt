@@ -1,31 +1,18 @@
 //! The program's own words.
 ghost use Rattle.std.specs.Prelude.{◌≡◌, MatchResult, Some, map, option_map, string_bytes};
-ghost use Rattle.facl_words.specs.Args.{files_for, program_line};
+ghost use Rattle.facl_words.specs.Args.{files_for};
 ghost use Rattle.facl_words.specs.Refusals.{IsRefusal};
-ghost use Rattle.facl_words.specs.Rows.{line_of};
 
 use crate::commands::{matches_for, value_of};
 use crate::fault::WordsFault;
-use crate::rows::{LineRows, SwitchRow, by_name};
+use facl_usage::program_rows;
 use std::alloc::Global;
 
-static FILES: [SwitchRow; 3] = [by_name!("passwd"), by_name!("group"), by_name!("dump")];
-
-fn program_rows() -> LineRows
-    ensures { line_of result ≡ program_line }
-{
-    LineRows {
-        flags: &[],
-        options: FILES.as_slice(),
-        operands: &[],
-    }
-}
-
 /// The files of `--passwd`, `--group` and `--dump`, in this order, from the words after the program's
-/// name; none for an absent option.
+/// name; `None` for an absent option.
 ///
-/// Refused with `Usage` where `clap` refuses the words: another word, an option without its value, or
-/// one that is given twice. Refused with `NoMemory` for want of memory only.
+/// Returns `Usage` where `clap` refuses the words: another word, an option without its value, or one that
+/// is given twice. Returns `NoMemory` only if memory runs out.
 #[tactic(auto, unfolding(crate::specs::Args::files_for))]
 pub fn read_args(alloc: Global, words: &[String]) -> Result<[Option<String>; 3], WordsFault>
     ensures { MatchResult result

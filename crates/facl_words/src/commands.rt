@@ -1,14 +1,14 @@
-//! A line's `clap` command, built anew for each line.
+//! A line's `clap` command, built for each line, and what it finds in the words.
 ghost use Rattle.std.specs.Prelude.{◌≡◌, false, true, IfOk, MatchResult, Some, map, option_map};
 ghost use Rattle.std.specs.Prelude.{string_bytes};
 ghost use Rattle.clap.specs.Words.{app_of, first_of, found_of, is_simple_and_free, rows_of, rule_of};
-ghost use Rattle.facl_words.specs.Lines.{app_for, operand_rule, switch_rule, taken};
+ghost use Rattle.facl_usage.specs.Rows.{line_of, operand_of, switch_of};
+ghost use Rattle.facl_words.specs.Commands.{app_for, operand_rule, switch_rule, taken};
 ghost use Rattle.facl_words.specs.Refusals.{IsRefusal};
-ghost use Rattle.facl_words.specs.Rows.{line_of, operand_of, switch_of};
 
 use crate::fault::WordsFault;
-use crate::rows::{LineRows, OperandRow, SwitchRow};
 use clap::{Arg, ArgAction, ArgMatches, Command};
+use facl_usage::{LineRows, OperandRow, SwitchRow};
 use std::alloc::{AllocError, Global};
 
 fn switch_arg<'a>(alloc: Global, row: &SwitchRow, action: ArgAction) -> Arg<'a>
@@ -40,7 +40,7 @@ fn operand_arg<'a>(alloc: Global, row: &OperandRow) -> Arg<'a>
 }
 
 /// The `clap` command of a row: its arguments alone, with no help and no version, for words that do not
-/// begin with a program's name. Refused for want of memory only.
+/// begin with a program's name. Fails only if memory runs out.
 fn command_for<'a>(alloc: Global, line: &LineRows) -> Result<Command<'a>, AllocError>
     ensures { IfOk result (λ c. app_of c ≡ app_for (line_of line.now)) }
 {

@@ -10,9 +10,9 @@ use std::alloc::{AllocError, AllocFailed};
 /// Why words are refused.
 #[derive(Clone, Copy, Debug, PartialEq, Eq)]
 pub enum WordsFault {
-    /// The words are not such as the tool, or the program, takes.
+    /// The tool, or the program, does not take these words.
     Usage,
-    /// A growth of memory was refused. It may come in place of `Usage`.
+    /// Memory ran out. It may come in place of `Usage`.
     NoMemory,
 }
 

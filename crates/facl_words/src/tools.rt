@@ -1,22 +1,18 @@
 //! A tool line's words.
 ghost use Rattle.std.specs.Prelude.{◌≡◌, IfOk, IsTrue, MatchResult, Some, map, string_bytes};
+ghost use Rattle.facl_usage.specs.Rules.{fits};
 ghost use Rattle.facl_words.specs.Refusals.{IsRefusal};
-ghost use Rattle.facl_words.specs.Usage.{fits};
 ghost use Rattle.facl_words.specs.Words.{words_for};
 
 use crate::fault::WordsFault;
 use crate::reading::words_by_clap;
-use crate::table::rows_for;
-use crate::tool::Tool;
-use crate::usage::fits;
-use crate::words::Words;
+use facl_usage::{Tool, Words, fits, rows_for};
 use std::alloc::Global;
 
 /// The words after a tool's name, read as the tool takes them: flags, options and operands.
 ///
-/// Refused with `Usage` where `clap` refuses the words of the tool's row in the table, and where they
-/// break a rule of the tool. Refused with `NoMemory` for want of memory only, and then in place of any
-/// answer.
+/// Returns `Usage` where `clap` refuses the words by the tool's row of the table, and where they break a
+/// rule of the tool. Returns `NoMemory` only if memory runs out, and then in place of any answer.
 #[tactic(auto, unfolding(crate::specs::Words::words_for))]
 pub fn read_words(alloc: Global, tool: Tool, words: &[String]) -> Result<Words, WordsFault>
     ensures meaning { MatchResult result

@@ -1,7 +1,7 @@
 use Rattle.std.proofs.Common.{◌∙◌, ap, sym, subst, codes}
 use Rattle.acl_entry.specs.Check.{rights}
 use Rattle.facl_words.specs.Places.{operand}
-use Rattle.facl_words.specs.declared.tool.Tool.TheVariants as tools
+use Rattle.facl_usage.specs.declared.tool.Tool.TheVariants as tools
 use Rattle.facl.specs.Replies.{Gives, left}
 use Rattle.facl.specs.Operands.{path_at}
 use Rattle.facl.specs.Tools.{can_at}

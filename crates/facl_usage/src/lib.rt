@@ -1,0 +1,21 @@
+//! The tools of a script: their names, the words that each takes, and the rules on those words.
+//!
+//! The table gives each tool's flags, options and operands. `Words` contains what a line gives of them,
+//! asked for by the places of `places`. `fits` is the rules that no table states.
+#![tactic(auto)]
+
+mod forms;
+pub mod places;
+mod rows;
+mod rules;
+mod setfacl;
+mod table;
+mod tool;
+mod words;
+
+pub use places::{FlagPlace, OperandPlace, ValuePlace};
+pub use rows::{LineRows, OperandRow, SwitchRow};
+pub use rules::{files, fits};
+pub use table::{program_rows, rows_for};
+pub use tool::Tool;
+pub use words::{Flags, Operands, Values, Word, Words};
