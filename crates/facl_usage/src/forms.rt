@@ -58,8 +58,8 @@ fn begins(text: &str, start: &str) -> bool
     text.as_bytes().starts_with(start.as_bytes())
 }
 
-/// Whether the text is an attribute of acl(5), `=`, and hexadecimal digits or anything after `0x` or
-/// `0X`.
+/// Whether the text begins with an attribute of acl(5), `=`, and `0x` or `0X`. What follows is not looked at
+/// here.
 pub(crate) fn names_attribute(text: &str) -> bool
     ensures { result ≡ names_attribute text.now }
 {

@@ -178,8 +178,8 @@ fn fits_tool(alloc: Global, tool: Tool, words: &Words) -> Result<bool, AllocErro
     Ok(fits)
 }
 
-/// Whether the words meet the tool's own rules: `words` as they are written, `found` by their kinds.
-/// Fails only if memory runs out.
+/// Whether the words meet the tool's own rules. `words` are all words after the tool's name, `found` the
+/// same by their kinds. Fails only if memory runs out.
 pub fn fits(alloc: Global, tool: Tool, words: &[String], found: &Words) -> Result<bool, AllocError>
     ensures { IfOk result (λ b. b ≡ fits tool (map string_bytes words.now) found.now) }
 {
