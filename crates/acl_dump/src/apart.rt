@@ -12,7 +12,8 @@ use acl_names::Path;
 use std::alloc::{AllocError, Global};
 use std::cmp::Ordering;
 
-/// Whether no two of the records have one path. It takes one walk where they come in path order.
+/// Whether no two of the records have one path: true only then. It takes one walk where they come in path
+/// order.
 pub(crate) fn are_apart(alloc: Global, records: &[DumpRecord]) -> Result<bool, AllocError>
     ensures { IfOk result (λ apart. apart ≡ true → IsDistinct same_path (paths records.now)) }
 {
@@ -21,6 +22,7 @@ pub(crate) fn are_apart(alloc: Global, records: &[DumpRecord]) -> Result<bool, A
     Ok(rise(&paths))
 }
 
+/// References to the paths, in the order of the records.
 fn paths_of<'a>(alloc: Global, records: &'a [DumpRecord]) -> Result<Vec<&'a Path>, AllocError>
     ensures { IfOk result (λ all. map (λ p. p.now) all.items ≡ paths records.now) }
 {
