@@ -1,13 +1,12 @@
 -- What a line leaves at each key, whether it is a list or not.
 use Rattle.std.proofs.Common.{◌≡◌, Bool, true, false, if◌then◌else◌, ◌&&◌, ◌||◌, Option, Some, None, unwrap_or, option_and_then, refl, sym, ap, subst, ◌∙◌}
 use Rattle.std.specs.FinMap as maps
-use Rattle.acl_entry.specs.Perms.{Perms}
 use Rattle.acl_entry.specs.Keys.{key_cmp, is_base}
 use Rattle.acl_entry.specs.Lists.{KeyMap, effective, or_else}
 use Rattle.acl_entry.specs.declared.key.Key.{Key}
 use Rattle.acl_entry.specs.declared.key.Key.TheVariants.{Mask}
 use Rattle.acl_text.specs.declared.fault.Which.TheVariants.{Access, Default}
-use Rattle.acl_edit.specs.Parts.{Part, part, names, puts, is_given, is_mask}
+use Rattle.acl_edit.specs.Parts.{part, names, puts, is_given, is_mask}
 use Rattle.acl_edit.specs.Steps.{gives_execute, strip, replace, fill_from}
 use Rattle.acl_edit.specs.Masks.{takes_mask, with_mask}
 use Rattle.acl_edit.specs.Edits.{worked, access_after, default_after, access_before, default_before}

@@ -6,7 +6,7 @@ use Rattle.std.specs.Option.{option_map_or, ForSome}
 use Rattle.std.specs.FinMap as maps
 use Rattle.acl_entry.specs.Perms.{Perms}
 use Rattle.acl_entry.specs.Keys.{key_cmp, is_base}
-use Rattle.acl_entry.specs.Lists.{KeyMap, entries, fault, class_union, effective, or_else}
+use Rattle.acl_entry.specs.Lists.{KeyMap, entries, fault, class_union, or_else}
 use Rattle.acl_entry.specs.declared.entry.ListFault.{ListFault}
 use Rattle.acl_entry.specs.declared.key.Key.{Key}
 use Rattle.acl_entry.specs.declared.key.Key.TheVariants.{Owner, User, OwningGroup, Group, Mask, Other}
@@ -25,8 +25,7 @@ use Rattle.acl_edit.specs.declared.node.Kind.TheVariants.{Plain, Directory}
 use Rattle.acl_edit.specs.declared.node.Node.{Node}
 use Rattle.acl_edit.proofs.Kept.{checked_is, access_unnamed, default_unnamed, checked_valid}
 use Rattle.acl_edit.proofs.Shown.{recalculate_shows, masks_no_more}
-use Rattle.acl_edit.proofs.Given.{get-with_mask, get-fill_from, get-modified, puts_some, names_some, get-masked, get-steps, unnamed_key, unnamed_left, or_right}
-use Rattle.acl_edit.proofs.ByKey.{get-worked, get-fill_all, loses, get-mask_after}
+use Rattle.acl_edit.proofs.Given.{get-with_mask, get-fill_from, get-modified, puts_some, names_some, get-masked, get-steps, unnamed_key}
 use Rattle.acl_text.specs.declared.entries.Spec.{Spec}
 use Rattle.acl_edit.proofs.Left.{had_access_is, had_default_is, access_key, access_mask, default_key, default_mask}
 use Rattle.acl_edit.proofs.Stripped.{get-strip_base, get-strip_other}

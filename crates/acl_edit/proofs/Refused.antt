@@ -1,19 +1,18 @@
 -- Why an edit is refused.
-use Rattle.std.proofs.Common.{◌≡◌, ◌≢◌, ◌↔◌, Bool, true, false, if◌then◌else◌, not, ◌&&◌, ◌||◌, eqb, length, List, [], ◌∷◌, filter, Option, Some, None, is_some, Result, Ok, Err, refl, sym, ap, subst, ◌∙◌}
+use Rattle.std.proofs.Common.{◌≡◌, ◌≢◌, ◌↔◌, Bool, true, false, if◌then◌else◌, not, ◌&&◌, ◌||◌, eqb, length, List, [], ◌∷◌, filter, Option, Some, None, is_some, Result, Ok, Err, refl, sym, ap, ◌∙◌}
 use Rattle.std.specs.List.{list_any}
 use Rattle.std.specs.Option.{option_map_or}
-use Rattle.acl_entry.specs.Lists.{KeyMap, IsValid, entries, fault}
+use Rattle.acl_entry.specs.Lists.{KeyMap, entries, fault}
 use Rattle.acl_entry.specs.declared.entry.Entry.{Entry}
 use Rattle.acl_entry.specs.declared.entry.ListFault.{ListFault}
 use Rattle.acl_text.specs.declared.entries.Spec.{Spec}
 use Rattle.acl_text.specs.declared.fault.Which.{Which}
 use Rattle.acl_text.specs.declared.fault.Which.TheVariants.{Access, Default}
 use Rattle.acl_edit.specs.Nodes.{is_directory, with_lists}
-use Rattle.acl_edit.specs.Parts.{part, puts, is_given, speaks_of}
-use Rattle.acl_edit.specs.Steps.{gives_execute}
+use Rattle.acl_edit.specs.Parts.{is_given, speaks_of}
 use Rattle.acl_edit.specs.Edits as steps
 use Rattle.acl_edit.specs.Edits.{edit, checked_default, changed_default, is_misplaced, allowed, ◌>>=◌}
-use Rattle.acl_edit.specs.Laws.{OfLine, puts_default, misplaces_default, RefusesLists, RefusesNoList, IsDefaultFault}
+use Rattle.acl_edit.specs.Laws.{OfLine, puts_default, misplaces_default, RefusesLists, RefusesNoList}
 use Rattle.acl_edit.specs.declared.edit.Change.{Change}
 use Rattle.acl_edit.specs.declared.edit.Edit.{Edit}
 use Rattle.acl_edit.specs.declared.edit.Edit.TheVariants as edits

@@ -20,7 +20,7 @@ use Rattle.acl_edit.specs.Edits.{edit}
 use Rattle.acl_edit.specs.declared.edit.Change.{Change}
 use Rattle.acl_edit.specs.declared.edit.Edit.{Edit}
 use Rattle.acl_edit.specs.declared.edit.Edit.TheVariants as edits
-use Rattle.acl_edit.specs.declared.edit.EditFault.TheVariants.{DefaultOnFile, List as ListIs}
+use Rattle.acl_edit.specs.declared.edit.EditFault.TheVariants.{List as ListIs}
 use Rattle.acl_edit.specs.declared.node.Kind.TheVariants.{Directory}
 use Rattle.acl_edit.specs.declared.node.Node.{Node}
 
