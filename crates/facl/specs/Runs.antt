@@ -1,11 +1,11 @@
 -- What a run writes.
 use Rattle.std.specs.Prelude.{◌≡◌, ◌≤◌, ℕ, Bool, true, false, List, Option, Result, Ok, Err, ◌⊎◌, length, IfSome}
 use Rattle.acl_tree.specs.Step.{State}
+use Rattle.facl_script.specs.Limits.{script_limit}
 use Rattle.facl_script.specs.Play.{session}
 use Rattle.facl_script.specs.Run.{StopsWith}
 use Rattle.facl_script.specs.Write.{Writes}
 use Rattle.facl_script.specs.declared.fault.ScriptFault.{ScriptFault}
-use Rattle.facl_script.specs.declared.source.TheConstants.{SCRIPT_LIMIT}
 use Rattle.facl_script.specs.declared.fault.ScriptFault.TheVariants as scripts
 use Rattle.facl_messages.specs.declared.fault.RunFault.{RunFault}
 use Rattle.facl_messages.specs.declared.fault.RunFault.TheVariants.{Read, Write, Setup, ScriptTooLong, NoMemory}
@@ -22,7 +22,7 @@ has_refused Refused = true
 -- The whole script was answered, for some units that wanted memory: out and err grew by what they do in turn.
 pub record Answers (verdict : Verdict) (start : State) (script : List ℕ) (status : Status) (out out' err err' : Option (List ℕ)) : Type 0 where
   pub m : ℕ → Bool
-  pub within : length script ≤ SCRIPT_LIMIT
+  pub within : length script ≤ script_limit
   pub writes : Writes out out' err err' (session (answered verdict) m script start).out (session (answered verdict) m script start).err
   pub status_is : has_refused status ≡ (session (answered verdict) m script start).refused
 

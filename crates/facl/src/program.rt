@@ -1,6 +1,7 @@
 //! A run over a script.
 
-ghost use Rattle.std.specs.Prelude.{◌≡◌, ◌⊎◌, true, false, IfOk, IfErr, IfSome, Err};
+ghost use Rattle.std.specs.Prelude.{◌≡◌, ◌⊎◌, true, false, IfOk, IfErr, IfSome, OnOk, Err};
+ghost use Rattle.std.specs.Io.KnownBytes.{IsAtEnd};
 ghost use Rattle.acl_entry.specs.Check.{rights};
 ghost use Rattle.facl.specs.Setups.{begun};
 ghost use Rattle.facl.specs.Runs.{RunsTo, EndsBy};
@@ -43,6 +44,11 @@ pub fn run<R: Feed, O: Sink, E: Sink>(
     ensures fault { IfErr result (λ fault.
         EndsBy fault rights (begun setup.now) (R.remaining reader.old) (R.remaining reader.new)
         (O.contents out.old) (O.contents out.new) (E.contents err.old) (E.contents err.new)) }
+
+    // A status comes only once the reader is at its end, and where no device has failed.
+    ensures end { OnOk result (IsAtEnd (R.remaining reader.new)) }
+    ensures works { OnOk result ((R.has_failed reader.new ≡ false)
+        × (O.has_failed out.new ≡ false) × (E.has_failed err.new ≡ false)) }
 
     // A fault of a device is told only where that device has failed.
     ensures read { result ≡ Err RunFault.Read → R.has_failed reader.new ≡ true }

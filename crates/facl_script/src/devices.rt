@@ -16,7 +16,9 @@ pub trait Feed {
     ghost has_failed: { Self → Bool };
 
     /// Reads into the front of `buf`, and tells how many bytes. 0 bytes are the end. Each error is a failure, whatever its kind.
+    /// After a failure nothing is read.
     fn read(&mut self, buf: &mut [u8]) -> io::Result<usize>
+        requires { has_failed self.old ≡ false }
         ensures bound { ReadsAtMost result buf.new }
         ensures bytes { ReadConsumes (remaining self.old) (remaining self.new) result buf.new }
         ensures failed { has_failed self.new ≡ (has_failed self.old || is_err result) };
@@ -34,8 +36,10 @@ pub trait Sink {
     /// Whether a write answered an error, or took nothing of a piece that is not empty.
     ghost has_failed: { Self → Bool };
 
-    /// Writes a beginning of the piece, and tells how many bytes. Each error is a failure, whatever its kind.
+    /// Writes a beginning of the piece, and tells how many bytes. Each error is a failure, whatever its kind. After a failure
+    /// nothing is written.
     fn write(&mut self, piece: &[u8]) -> io::Result<usize>
+        requires { has_failed self.old ≡ false }
         ensures bound { WritesAtMost result piece.now }
         ensures bytes { WriteAppends (contents self.old) (contents self.new) result piece.now }
         ensures failed { has_failed self.new ≡ (has_failed self.old || write_fails result piece.now) };
