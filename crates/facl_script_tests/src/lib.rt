@@ -10,4 +10,6 @@ mod devices;
 #[cfg(test)]
 mod lines;
 #[cfg(test)]
+mod recovering;
+#[cfg(test)]
 mod runs;
