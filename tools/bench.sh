@@ -4,7 +4,7 @@
 #
 # usage: tools/bench.sh [--program FILE] [--runs N] [--users N] [FILES..]
 #
-#   --program FILE    a program that is built already; else `rt run` proves and builds crates/facl_cli
+#   --program FILE    a program that is built already; else tools/prove.py proves and builds crates/facl_cli
 #   --runs N          the best of N runs is taken (3)
 #   --users N         users of passwd, and a tenth as many groups (1000)
 #   FILES             sizes of trees, from 102 to 1048576 (10000 100000 1000000)
@@ -22,7 +22,7 @@ while [ $# -gt 0 ]; do
 done
 [ ${#sizes[@]} -gt 0 ] || sizes=(10000 100000 1000000)
 if [ -z "$program" ]; then
-    (cd "$here/../crates/facl_cli" && rt run </dev/null >/dev/null)
+    "$here/prove.py"
     program=$here/../crates/facl_cli/out/facl_cli
 fi
 python3 "$here/measure.py" "$program" "$runs" "$users" "${sizes[@]}"

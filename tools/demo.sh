@@ -3,15 +3,13 @@
 #
 # usage: tools/demo.sh [PROGRAM]      PROGRAM: one that is built already
 #
-# The first build proves every crate below the program. The session has refused lines, so it ends with status 1.
+# The first build proves every crate below the program (tools/prove.py). The session has refused lines, so it ends with
+# status 1.
 set -eu
 top=$(cd "$(dirname "$0")/.." && pwd)
 program=${1:-$top/crates/facl_cli/out/facl_cli}
 if [ $# -eq 0 ]; then
-    log=$(mktemp)
-    echo "tools/demo.sh: proving and building facl, what rt says goes to $log" >&2
-    (cd "$top/crates/facl_cli" && rt run </dev/null >"$log" 2>&1) || {
-        tail -n 20 "$log" >&2
+    "$top/tools/prove.py" || {
         echo "tools/demo.sh: facl is not built" >&2
         exit 2
     }

@@ -8,7 +8,7 @@ set -eu
 top=$(cd "$(dirname "$0")/.." && pwd)
 program=${1:-$top/crates/facl_cli/out/facl_cli}
 if [ $# -eq 0 ]; then
-    (cd "$top/crates/facl_cli" && rt run </dev/null >/dev/null) || {
+    "$top/tools/prove.py" || {
         echo "tools/each_growth.sh: facl is not built" >&2
         exit 2
     }

@@ -1,6 +1,7 @@
 -- The files that the program reads.
-use Rattle.std.specs.Prelude.{◌≡◌, ℕ, List, [], ◌∷◌, Option, None, Some, IsSome, IfSome, length, nat_le, if◌then◌else◌, option_map, string_bytes, vec_items, ⊤}
+use Rattle.std.specs.Prelude.{◌≡◌, ◌⊎◌, ℕ, List, [], ◌∷◌, Option, None, Some, option_map, string_bytes, vec_items, ⊤}
 use Rattle.facl.specs.declared.setup.Setup.{Setup}
+use Rattle.facl_cli.specs.Shelves.{Bytes, IsText, HasNoText}
 use Rattle.facl_cli.specs.declared.fault.ProgramFault.{ProgramFault}
 use Rattle.facl_cli.specs.declared.fault.ProgramFault.TheVariants.{CannotRead, NoMemory}
 use Rattle.facl_cli.specs.declared.files.Texts.{Texts}
@@ -9,25 +10,28 @@ use Rattle.facl_cli.specs.declared.files.Texts.{Texts}
 abbrev pub file_limit : ℕ
 file_limit = 268435456
 
--- a file's bytes, unless there are more than a limit
-abbrev pub within : ℕ → List ℕ → Option (List ℕ)
-within limit bytes = if nat_le (length bytes) limit then Some bytes else None
-
--- No text where no file is given; else there is one: where the bytes of files are known by their names, all of the file's.
-abbrev pub IsTextOf : (List ℕ → Option (List ℕ)) → Option (List ℕ) → Option (List ℕ) → Type 0
+-- No text where no file is given; else there is one: all bytes of the file, as far as they are known.
+abbrev pub IsTextOf : (List ℕ → Bytes) → Option (List ℕ) → Option (List ℕ) → Type 0
 IsTextOf bytes_of None text = text ≡ None
-IsTextOf bytes_of (Some file) text = IsSome text × IfSome (bytes_of file) (λ bytes. text ≡ within file_limit bytes)
+IsTextOf bytes_of (Some file) None = ⊥
+IsTextOf bytes_of (Some file) (Some text) = IsText file_limit (bytes_of file) text
 
 -- each text is that of its file
-abbrev pub AreTextsOf : (List ℕ → Option (List ℕ)) → List (Option (List ℕ)) → List (Option (List ℕ)) → Type 0
+abbrev pub AreTextsOf : (List ℕ → Bytes) → List (Option (List ℕ)) → List (Option (List ℕ)) → Type 0
 AreTextsOf bytes_of [] [] = ⊤
 AreTextsOf bytes_of (file ∷ files) (text ∷ texts) = IsTextOf bytes_of file text × AreTextsOf bytes_of files texts
 AreTextsOf bytes_of files texts = ⊥
 
--- the file cannot be had, or there is no memory for it
-abbrev pub IsOfFile : ProgramFault → Option (List ℕ) → Type 0
-IsOfFile (CannotRead unread) file = file ≡ Some (string_bytes unread)
-IsOfFile fault file = fault ≡ NoMemory
+-- the file of this fault is the one that is given, and cannot be read or is over the limit; or memory ran out
+abbrev pub IsUnread : (List ℕ → Bytes) → ProgramFault → Option (List ℕ) → Type 0
+IsUnread bytes_of (CannotRead unread) file = (file ≡ Some (string_bytes unread)) × HasNoText file_limit (bytes_of (string_bytes unread))
+IsUnread bytes_of fault file = fault ≡ NoMemory
+
+-- The fault is that of the first of these files that has no text: those before it have theirs.
+abbrev pub IsFirstUnread : (List ℕ → Bytes) → ProgramFault → List (Option (List ℕ)) → Type 0
+IsFirstUnread bytes_of fault [] = ⊥
+IsFirstUnread bytes_of fault (file ∷ files) =
+    IsUnread bytes_of fault file ⊎ (((text : Option (List ℕ)) × IsTextOf bytes_of file text) × IsFirstUnread bytes_of fault files)
 
 -- the texts of users, of groups and of a dump
 abbrev pub texts_of : Texts → List (Option (List ℕ))

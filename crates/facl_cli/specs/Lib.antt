@@ -1,3 +1,4 @@
+pub mod Shelves
 pub mod Files
 pub mod Lines
 pub mod Words

@@ -6,6 +6,7 @@ use Rattle.std.specs.declared.io.ErrorKind.TheVariants.{OutOfMemory}
 use Rattle.facl.specs.Runs.{has_refused}
 use Rattle.facl.specs.declared.status.Status.{Status}
 use Rattle.facl_messages.specs.Messages.{run_fault_text}
+use Rattle.facl_messages.specs.declared.fault.RunFault.TheVariants.{Setup}
 use Rattle.facl_words.specs.declared.fault.WordsFault.{WordsFault}
 use Rattle.facl_words.specs.declared.fault.WordsFault.TheVariants as words
 use Rattle.facl_cli.specs.declared.fault.ProgramFault.{ProgramFault}
@@ -27,15 +28,32 @@ fault_text (CannotRead file) = string_bytes file ++ codes ": cannot read"
 fault_text (Run fault) = run_fault_text fault
 fault_text NoMemory = codes "no memory"
 
+-- the line of a text
+abbrev pub line_of : List ℕ → List ℕ
+line_of text = codes "facl: " ++ text ++ 10 ∷ []
+
 abbrev pub fault_line : ProgramFault → List ℕ
-fault_line fault = codes "facl: " ++ fault_text fault ++ 10 ∷ []
+fault_line fault = line_of (fault_text fault)
+
+-- the line of a file that cannot be read
+abbrev pub unread_line : List ℕ → List ℕ
+unread_line file = line_of (file ++ codes ": cannot read")
+
+-- the line of the fault is composed in memory: only a fault of the setup has one that is
+abbrev pub is_composed : ProgramFault → Bool
+is_composed (Run (Setup which fault)) = true
+is_composed fault = false
+
+-- The fault's line is added. Only where it is composed in memory may that of `no memory` be added in its place.
+abbrev pub IsLineTold : ProgramFault → (err err' : Option (List ℕ)) → Type 0
+IsLineTold fault err err' = Appends err err' (fault_line fault) ⊎ ((is_composed fault ≡ true) × Appends err err' (fault_line NoMemory))
 
 -- 1 where a line was refused, 2 at a fault of the program, else 0
 abbrev pub status_of : Result Status ProgramFault → ℕ
 status_of (Ok status) = if has_refused status then 1 else 0
 status_of (Err fault) = 2
 
--- At a fault its line is added, or that of want of memory, or the writer has failed; else nothing is.
+-- At a fault its line is added, or the writer has failed; else nothing is.
 abbrev pub IsTold : Result Status ProgramFault → (err err' : Option (List ℕ)) → Bool → Type 0
 IsTold (Ok status) err err' failed = err' ≡ err
-IsTold (Err fault) err err' failed = (Appends err err' (fault_line fault) ⊎ Appends err err' (fault_line NoMemory)) ⊎ (failed ≡ true)
+IsTold (Err fault) err err' failed = IsLineTold fault err err' ⊎ (failed ≡ true)

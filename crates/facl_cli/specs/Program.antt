@@ -1,48 +1,49 @@
 -- What the program does, from its words to its last byte.
-use Rattle.std.specs.Prelude.{◌≡◌, ℕ, List, Option, None, Some, Any, ⊤}
+use Rattle.std.specs.Prelude.{◌≡◌, ℕ, List, Option, None, Some, ⊤}
 use Rattle.acl_entry.specs.Check.{rights}
 use Rattle.facl_messages.specs.declared.fault.RunFault.{RunFault}
 use Rattle.facl.specs.Runs.{EndsBy, IsUntouched, RunsTo}
 use Rattle.facl.specs.Setups.{begun}
 use Rattle.facl.specs.declared.setup.Setup.{Setup}
 use Rattle.facl.specs.declared.status.Status.{Status}
-use Rattle.facl_cli.specs.Files.{AreTextsOf, IsOfFile, setup_texts}
+use Rattle.facl_cli.specs.Files.{AreTextsOf, IsFirstUnread, setup_texts}
+use Rattle.facl_cli.specs.Shelves.{Bytes}
 use Rattle.facl_cli.specs.Words.{files_named}
 use Rattle.facl_cli.specs.declared.fault.ProgramFault.{ProgramFault}
 use Rattle.facl_cli.specs.declared.fault.ProgramFault.TheVariants.{Usage, CannotRead, Run, NoMemory}
 
 -- the words name files, and these are their texts
-pub record HaveTexts (bytes_of : List ℕ → Option (List ℕ)) (words : List (List ℕ)) (texts : List (Option (List ℕ))) : Type 0 where
+pub record HaveTexts (bytes_of : List ℕ → Bytes) (words : List (List ℕ)) (texts : List (Option (List ℕ))) : Type 0 where
   pub files : List (Option (List ℕ))
   pub named : files_named words ≡ Some files
   pub read : AreTextsOf bytes_of files texts
 
--- the words name files, of which one cannot be had
-pub record HaveNoText (words : List (List ℕ)) (fault : ProgramFault) : Type 0 where
+-- the words name files, and the fault is that of the first that has no text
+pub record HaveNoText (bytes_of : List ℕ → Bytes) (words : List (List ℕ)) (fault : ProgramFault) : Type 0 where
   pub files : List (Option (List ℕ))
   pub named : files_named words ≡ Some files
-  pub faulty : Any (IsOfFile fault) files
+  pub first : IsFirstUnread bytes_of fault files
 
--- why there are no texts: the words name no files, or one cannot be had, or there is no memory
-abbrev pub IsUnloaded : List (List ℕ) → ProgramFault → Type 0
-IsUnloaded words Usage = files_named words ≡ None
-IsUnloaded words (CannotRead file) = HaveNoText words (CannotRead file)
-IsUnloaded words (Run fault) = ⊥
-IsUnloaded words NoMemory = ⊤
+-- why there are no texts: the words name no files, or one has no text, or there is no memory
+abbrev pub IsUnloaded : (List ℕ → Bytes) → List (List ℕ) → ProgramFault → Type 0
+IsUnloaded bytes_of words Usage = files_named words ≡ None
+IsUnloaded bytes_of words (CannotRead file) = HaveNoText bytes_of words (CannotRead file)
+IsUnloaded bytes_of words (Run fault) = ⊥
+IsUnloaded bytes_of words NoMemory = ⊤
 
 -- The texts of the files that the words name were loaded, and then the script was answered to its end.
-pub record Ran (bytes_of : List ℕ → Option (List ℕ)) (words : List (List ℕ)) (script : List ℕ) (status : Status) (out out' err err' : Option (List ℕ)) : Type 0 where
+pub record Ran (bytes_of : List ℕ → Bytes) (words : List (List ℕ)) (script : List ℕ) (status : Status) (out out' err err' : Option (List ℕ)) : Type 0 where
   pub setup : Setup
   pub texts : HaveTexts bytes_of words (setup_texts setup)
   pub runs : RunsTo rights (begun setup) script status out out' err err'
 
 -- The texts of the files that the words name were there, and then the run ended by a fault.
-pub record Stopped (fault : RunFault) (bytes_of : List ℕ → Option (List ℕ)) (words : List (List ℕ)) (remaining remaining' out out' err err' : Option (List ℕ)) : Type 0 where
+pub record Stopped (fault : RunFault) (bytes_of : List ℕ → Bytes) (words : List (List ℕ)) (remaining remaining' out out' err err' : Option (List ℕ)) : Type 0 where
   pub setup : Setup
   pub texts : HaveTexts bytes_of words (setup_texts setup)
   pub ends : EndsBy fault rights (begun setup) remaining remaining' out out' err err'
 
 -- how the program ends by a fault: before the run nothing is read of the script and nothing written
-abbrev pub FailsBy : ProgramFault → (List ℕ → Option (List ℕ)) → List (List ℕ) → (remaining remaining' out out' err err' : Option (List ℕ)) → Type 0
+abbrev pub FailsBy : ProgramFault → (List ℕ → Bytes) → List (List ℕ) → (remaining remaining' out out' err err' : Option (List ℕ)) → Type 0
 FailsBy (Run fault) bytes_of words remaining remaining' out out' err err' = Stopped fault bytes_of words remaining remaining' out out' err err'
-FailsBy fault bytes_of words remaining remaining' out out' err err' = IsUnloaded words fault × IsUntouched remaining remaining' out out' err err'
+FailsBy fault bytes_of words remaining remaining' out out' err err' = IsUnloaded bytes_of words fault × IsUntouched remaining remaining' out out' err err'

@@ -1,10 +1,12 @@
-//! Why the program ends with 2, and the line that it prints of it.
+//! Why the program ends with 2, and the line that it prints.
 
-ghost use Rattle.std.specs.Prelude.{◌≡◌, ◌++◌, IfOk, OnOk};
+ghost use Rattle.std.specs.Prelude.{◌≡◌, true, false, IfOk, OnOk, OnErr};
+ghost use Rattle.std.specs.Io.KnownBytes.{Appends};
 ghost use Rattle.facl_cli.specs.declared.fault.ProgramFault.TheVariants as faults;
-ghost use Rattle.facl_cli.specs.Lines.{fault_by_words, fault_line, fault_text};
+ghost use Rattle.facl_cli.specs.Lines.{IsLineTold, fault_by_words, fault_line, unread_line};
 
-use facl::{RunFault, WordsFault, append_run_fault};
+use facl::{RunFault, Sink, WordsFault, append_run_fault};
+use facl_script::{ScriptFault, write_whole};
 use std::alloc::{AllocError, Global};
 
 /// Why the program ends with 2.
@@ -47,27 +49,60 @@ impl From<RunFault> for ProgramFault {
     }
 }
 
-/// Adds the text of a fault.
-fn push_fault(line: &mut Vec<u8>, fault: &ProgramFault) -> Result<(), AllocError>
-    ensures { OnOk result (line.new.items ≡ line.old.items ++ fault_text fault.now) }
+/// The line of a fault of the setup, which is composed in memory.
+fn setup_line(alloc: Global, fault: &RunFault) -> Result<Vec<u8>, AllocError>
+    ensures { IfOk result (λ line. line.items ≡ fault_line (faults.Run fault.now)) }
+{
+    let mut line = Vec::from_slice(alloc, b"facl: ")?;
+    append_run_fault(&mut line, fault)?;
+    line.push(b'\n')?;
+    Ok(line)
+}
+
+/// Writes the line of a run's fault.
+fn write_run_fault<E: Sink>(alloc: Global, fault: &RunFault, err: &mut E) -> Result<(), ScriptFault>
+    requires { E.has_failed err.old ≡ false }
+    ensures ok { OnOk result (IsLineTold (faults.Run fault.now) (E.contents err.old) (E.contents err.new)) }
+    ensures err { OnErr result (E.has_failed err.new ≡ true) }
 {
     match fault {
-        ProgramFault::Usage => line.extend_from_slice(b"usage"),
-        ProgramFault::CannotRead { file } => {
-            line.extend_from_slice(file.as_bytes())?;
-            line.extend_from_slice(b": cannot read")
-        }
-        ProgramFault::Run(fault) => append_run_fault(line, fault),
-        ProgramFault::NoMemory => line.extend_from_slice(b"no memory"),
+        RunFault::Read => write_whole(err, b"facl: read fault\n"),
+        RunFault::Write => write_whole(err, b"facl: write fault\n"),
+        RunFault::ScriptTooLong => write_whole(err, b"facl: script too long\n"),
+        RunFault::NoMemory => write_whole(err, b"facl: no memory\n"),
+        RunFault::Setup { .. } => match setup_line(alloc, fault) {
+            Ok(line) => write_whole(err, &line),
+            Err(_) => write_whole(err, b"facl: no memory\n"),
+        },
     }
 }
 
-/// The line that is printed of a fault.
-pub fn fault_line(alloc: Global, fault: &ProgramFault) -> Result<Vec<u8>, AllocError>
-    ensures { IfOk result (λ line. line.items ≡ fault_line fault.now) }
+/// Writes the line of a file that cannot be read.
+fn write_unread<E: Sink>(file: &str, err: &mut E) -> Result<(), ScriptFault>
+    requires { E.has_failed err.old ≡ false }
+    ensures ok { OnOk result (Appends (E.contents err.old) (E.contents err.new) (unread_line file.now)) }
+    ensures err { OnErr result (E.has_failed err.new ≡ true) }
 {
-    let mut line = Vec::from_slice(alloc, b"facl: ")?;
-    push_fault(&mut line, fault)?;
-    line.push(b'\n')?;
-    Ok(line)
+    write_whole(err, b"facl: ")?;
+    write_whole(err, file.as_bytes())?;
+    write_whole(err, b": cannot read\n")
+}
+
+/// Writes the line of a fault. It takes no memory, but for a fault of the setup: where there is none for its line, that of
+/// `no memory` is written.
+pub fn write_fault<E: Sink>(
+    alloc: Global,
+    fault: &ProgramFault,
+    err: &mut E,
+) -> Result<(), ScriptFault>
+    requires { E.has_failed err.old ≡ false }
+    ensures ok { OnOk result (IsLineTold fault.now (E.contents err.old) (E.contents err.new)) }
+    ensures err { OnErr result (E.has_failed err.new ≡ true) }
+{
+    match fault {
+        ProgramFault::Usage => write_whole(err, b"facl: usage\n"),
+        ProgramFault::CannotRead { file } => write_unread(file, err),
+        ProgramFault::Run(fault) => write_run_fault(alloc, fault, err),
+        ProgramFault::NoMemory => write_whole(err, b"facl: no memory\n"),
+    }
 }

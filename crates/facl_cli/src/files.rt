@@ -1,45 +1,52 @@
 //! The texts that are loaded before the script, each read from its file.
 
-ghost use Rattle.std.specs.Prelude.{◌≡◌, ◌⊎◌, IfOk, IfErr, IfSome, Any, List, ℕ, Option, Some, None, option_map, string_bytes, vec_items, if◌then◌else◌};
-ghost use Rattle.facl_cli.specs.declared.fault.ProgramFault.TheVariants as faults;
+ghost use Rattle.std.specs.Prelude.{◌≡◌, ◌≢◌, false, IfOk, IfErr, OnOk, Some, option_map, string_bytes, vec_items, if◌then◌else◌};
 ghost use Rattle.std.specs.IoError.{error_kind};
+ghost use Rattle.facl_cli.specs.declared.files.Unread.TheVariants as unread;
 ghost use Rattle.facl_cli.specs.Words.{names_of};
 ghost use Rattle.facl_cli.specs.Lines.{wants_memory};
-ghost use Rattle.facl_cli.specs.Files.{AreTextsOf, IsOfFile, IsTextOf, file_limit, setup_texts, texts_of, within};
+ghost use Rattle.facl_cli.specs.Shelves.{HasNoText, IsText};
+ghost use Rattle.facl_cli.specs.Files.{AreTextsOf, IsFirstUnread, IsTextOf, IsUnread, file_limit, setup_texts, texts_of};
 
 use crate::args::Files;
 use crate::fault::ProgramFault;
+use crate::shelf::Shelf;
 use facl::Setup;
-use std::alloc::Global;
-use std::fs::File;
+use std::alloc::{AllocError, Global};
 use std::io;
-use std::io::{ErrorKind, Read};
+use std::io::ErrorKind;
 
 /// The greatest number of bytes of a file that is loaded.
-const FILE_LIMIT: u64 = 268_435_456;
+const FILE_LIMIT: usize = 268_435_456;
 
-/// What opens files by their names.
-pub trait Shelf {
-    /// A file that is open.
-    type Opened: Read + Drop;
+/// How many bytes are read at once.
+const CHUNK: usize = 65_536;
 
-    /// The bytes of the file of a name, where they are known.
-    ghost bytes_of: { Self → List ℕ → Option (List ℕ) };
-
-    /// Opens a file.
-    fn open(&self, file: &str) -> io::Result<Self::Opened>
-        ensures { IfOk result (λ opened. IfSome (bytes_of self.now file.now) (λ bytes.
-            Self.Opened.remaining opened ≡ Some bytes)) };
+/// Why there is no text of a file.
+enum Unread {
+    /// It cannot be opened or read, or has more bytes than the limit.
+    NoText,
+    /// A growth of memory was refused.
+    NoMemory,
 }
 
-/// The files of the system. What they hold is not known.
-impl Shelf for HostRuntime {
-    type Opened = File;
+impl From<AllocError> for Unread {
+    ghost from_gives = { λ _ why. why ≡ unread.NoMemory };
 
-    ghost bytes_of = { λ _ _. None };
+    fn from(_: AllocError) -> Unread {
+        Unread::NoMemory
+    }
+}
 
-    fn open(&self, file: &str) -> io::Result<File> {
-        File::open(self, file)
+/// A want of memory of the system itself is one of the program.
+impl From<io::Error> for Unread {
+    ghost from_gives = { λ error why. why ≡ (if wants_memory (error_kind error) then unread.NoMemory else unread.NoText) };
+
+    fn from(error: io::Error) -> Unread {
+        match error.kind() {
+            ErrorKind::OutOfMemory => Unread::NoMemory,
+            _ => Unread::NoText,
+        }
     }
 }
 
@@ -64,60 +71,68 @@ impl Texts {
     }
 }
 
-/// All bytes of a reader; none where they are over the limit. No more than one byte past the limit is read.
-fn read_within<R: Read + Drop>(alloc: Global, reader: R) -> io::Result<Option<Vec<u8>>>
-    ensures { IfOk result (λ found. IfSome (R.remaining reader) (λ bytes.
-        option_map vec_items found ≡ within file_limit bytes)) }
+/// All bytes that the open file has left. Past the limit one byte is read.
+fn read_within<S: Shelf>(alloc: Global, shelf: &mut S) -> Result<Vec<u8>, Unread>
+    requires { S.has_failed shelf.old ≡ false }
+    ensures ok { IfOk result (λ text. IsText file_limit (S.left shelf.old) text.items) }
+    ensures works { OnOk result (S.has_failed shelf.new ≡ false) }
+    ensures err { IfErr result (λ why. why ≢ Unread.NoMemory → HasNoText file_limit (S.left shelf.old)) }
+    ensures same { S.bytes_of shelf.new ≡ S.bytes_of shelf.old }
 {
-    let mut bytes = Vec::new(alloc);
-    let count = reader.take(FILE_LIMIT + 1).read_to_end(&mut bytes)?;
-    if count as u64 <= FILE_LIMIT {
-        Ok(Some(bytes))
-    } else {
-        Ok(None)
+    let mut text = Vec::new(alloc);
+    let mut chunk = [0; CHUNK];
+    loop {
+        let room = CHUNK.min(FILE_LIMIT + 1 - text.len());
+        let count = shelf.read(&mut chunk[..room])?;
+        if count == 0 {
+            return Ok(text);
+        }
+        if text.len() + count > FILE_LIMIT {
+            return Err(Unread::NoText);
+        }
+        text.extend_from_slice(&chunk[..count])?;
     }
 }
 
-/// All bytes of a file; none where they are over the limit.
-fn read_file<S: Shelf>(alloc: Global, shelf: &S, file: &str) -> io::Result<Option<Vec<u8>>>
-    ensures { IfOk result (λ found. IfSome (S.bytes_of shelf.now file.now) (λ bytes.
-        option_map vec_items found ≡ within file_limit bytes)) }
+/// All bytes of a file.
+fn read_file<S: Shelf>(alloc: Global, shelf: &mut S, file: &str) -> Result<Vec<u8>, Unread>
+    requires { S.has_failed shelf.old ≡ false }
+    ensures ok { IfOk result (λ text. IsText file_limit (S.bytes_of shelf.old file.now) text.items) }
+    ensures works { OnOk result (S.has_failed shelf.new ≡ false) }
+    ensures err { IfErr result (λ why. why ≢ Unread.NoMemory → HasNoText file_limit (S.bytes_of shelf.old file.now)) }
+    ensures same { S.bytes_of shelf.new ≡ S.bytes_of shelf.old }
 {
-    read_within(alloc, shelf.open(file)?)
+    shelf.open(file)?;
+    read_within(alloc, shelf)
 }
 
-/// The fault of a file that the system does not give.
-fn unread(file: String, error: &io::Error) -> ProgramFault
-    ensures { result ≡ if wants_memory (error_kind error.now) then faults.NoMemory else faults.CannotRead file }
-{
-    match error.kind() {
-        ErrorKind::OutOfMemory => ProgramFault::NoMemory,
-        _ => ProgramFault::CannotRead { file },
-    }
-}
-
-/// The text of a file. Where it cannot be had, the fault names the file, but for want of memory.
-fn read_text<S: Shelf>(alloc: Global, shelf: &S, file: String) -> Result<Vec<u8>, ProgramFault>
-    ensures ok { IfOk result (λ text. IfSome (S.bytes_of shelf.now (string_bytes file)) (λ bytes.
-        Some (vec_items text) ≡ within file_limit bytes)) }
-    ensures err { IfErr result (λ fault. (fault ≡ faults.NoMemory) ⊎ (fault ≡ faults.CannotRead file)) }
+/// The text of a file. Where there is none, the fault names the file, unless memory ran out.
+fn read_text<S: Shelf>(alloc: Global, shelf: &mut S, file: String) -> Result<Vec<u8>, ProgramFault>
+    requires { S.has_failed shelf.old ≡ false }
+    ensures ok { IfOk result (λ text. IsText file_limit (S.bytes_of shelf.old (string_bytes file)) text.items) }
+    ensures works { OnOk result (S.has_failed shelf.new ≡ false) }
+    ensures err { IfErr result (λ fault. IsUnread (S.bytes_of shelf.old) fault (Some (string_bytes file))) }
+    ensures same { S.bytes_of shelf.new ≡ S.bytes_of shelf.old }
 {
     match read_file(alloc, shelf, &file) {
-        Ok(Some(text)) => Ok(text),
-        Ok(None) => Err(ProgramFault::CannotRead { file }),
-        Err(error) => Err(unread(file, &error)),
+        Ok(text) => Ok(text),
+        Err(Unread::NoText) => Err(ProgramFault::CannotRead { file }),
+        Err(Unread::NoMemory) => Err(ProgramFault::NoMemory),
     }
 }
 
 /// The text of a file, if one is given.
 fn read_given<S: Shelf>(
     alloc: Global,
-    shelf: &S,
+    shelf: &mut S,
     file: Option<String>,
 ) -> Result<Option<Vec<u8>>, ProgramFault>
+    requires { S.has_failed shelf.old ≡ false }
     ensures ok { IfOk result (λ text.
-        IsTextOf (S.bytes_of shelf.now) (option_map string_bytes file) (option_map vec_items text)) }
-    ensures err { IfErr result (λ fault. IsOfFile fault (option_map string_bytes file)) }
+        IsTextOf (S.bytes_of shelf.old) (option_map string_bytes file) (option_map vec_items text)) }
+    ensures works { OnOk result (S.has_failed shelf.new ≡ false) }
+    ensures err { IfErr result (λ fault. IsUnread (S.bytes_of shelf.old) fault (option_map string_bytes file)) }
+    ensures same { S.bytes_of shelf.new ≡ S.bytes_of shelf.old }
 {
     match file {
         Some(file) => Ok(Some(read_text(alloc, shelf, file)?)),
@@ -125,15 +140,23 @@ fn read_given<S: Shelf>(
     }
 }
 
-/// The texts of the files of users, of groups and of a dump, each if it is given, read in this order.
-pub fn read_texts<S: Shelf>(alloc: Global, shelf: &S, files: Files) -> Result<Texts, ProgramFault>
-    ensures ok { IfOk result (λ texts.
-        AreTextsOf (S.bytes_of shelf.now) (names_of files) (texts_of texts)) }
-    ensures err { IfErr result (λ fault. Any (IsOfFile fault) (names_of files)) }
+/// The texts of the files of users, of groups and of a dump, each if it is given, read in this order. The fault is that of the
+/// first file that has no text.
+pub fn read_texts<S: Shelf>(
+    alloc: Global,
+    shelf: &mut S,
+    files: Files,
+) -> Result<Texts, ProgramFault>
+    requires { S.has_failed shelf.old ≡ false }
+    ensures ok { IfOk result (λ texts. AreTextsOf (S.bytes_of shelf.old) (names_of files) (texts_of texts)) }
+    ensures err { IfErr result (λ fault. IsFirstUnread (S.bytes_of shelf.old) fault (names_of files)) }
 {
+    let passwd = read_given(alloc, shelf, files.passwd)?;
+    let group = read_given(alloc, shelf, files.group)?;
+    let dump = read_given(alloc, shelf, files.dump)?;
     Ok(Texts {
-        passwd: read_given(alloc, shelf, files.passwd)?,
-        group: read_given(alloc, shelf, files.group)?,
-        dump: read_given(alloc, shelf, files.dump)?,
+        passwd,
+        group,
+        dump,
     })
 }

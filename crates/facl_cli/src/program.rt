@@ -1,18 +1,18 @@
 //! The program over any words, files and devices: how its parts are joined.
 
-ghost use Rattle.std.specs.Prelude.{◌≡◌, ◌⊎◌, false, IfErr, IfOk, IfSome, OnErr, OnOk, true, map, string_bytes};
-ghost use Rattle.std.specs.Io.KnownBytes.{Appends};
+ghost use Rattle.std.specs.Prelude.{◌≡◌, ◌⊎◌, false, Err, IfErr, IfOk, IfSome, OnOk, true, map, string_bytes};
+ghost use Rattle.std.specs.Io.KnownBytes.{IsAtEnd};
 ghost use Rattle.std.specs.Process.{exit_status};
 ghost use Rattle.facl_cli.specs.Files.{texts_of};
-ghost use Rattle.facl_cli.specs.Lines.{IsTold, fault_line, status_of};
+ghost use Rattle.facl_cli.specs.Lines.{IsTold, status_of};
 ghost use Rattle.facl_cli.specs.Program.{FailsBy, HaveTexts, IsUnloaded, Ran};
-ghost use Rattle.facl_cli.specs.declared.fault.ProgramFault.TheVariants as faults;
+ghost use Rattle.facl_messages.specs.declared.fault.RunFault.TheVariants as runs;
 
 use crate::args::files_named;
-use crate::fault::{ProgramFault, fault_line};
-use crate::files::{Shelf, Texts, read_texts};
+use crate::fault::{ProgramFault, write_fault};
+use crate::files::{Texts, read_texts};
+use crate::shelf::Shelf;
 use facl::{Feed, Sink, Status, run};
-use facl_script::{ScriptFault, write_whole};
 use std::alloc::Global;
 use std::process::ExitCode;
 
@@ -20,10 +20,15 @@ use std::process::ExitCode;
 const FAULT_STATUS: u8 = 2;
 
 /// The texts of the files that the words name.
-fn texts_named<S: Shelf>(alloc: Global, words: &[String], shelf: &S) -> Result<Texts, ProgramFault>
+fn texts_named<S: Shelf>(
+    alloc: Global,
+    words: &[String],
+    shelf: &mut S,
+) -> Result<Texts, ProgramFault>
+    requires { S.has_failed shelf.old ≡ false }
     ensures ok { IfOk result (λ texts.
-        HaveTexts (S.bytes_of shelf.now) (map string_bytes words.now) (texts_of texts)) }
-    ensures err { IfErr result (IsUnloaded (map string_bytes words.now)) }
+        HaveTexts (S.bytes_of shelf.old) (map string_bytes words.now) (texts_of texts)) }
+    ensures err { IfErr result (IsUnloaded (S.bytes_of shelf.old) (map string_bytes words.now)) }
 {
     let files = files_named(alloc, words)?;
     read_texts(alloc, shelf, files)
@@ -34,42 +39,40 @@ fn texts_named<S: Shelf>(alloc: Global, words: &[String], shelf: &S) -> Result<T
 pub fn answer_words<S: Shelf, R: Feed, O: Sink, E: Sink>(
     alloc: Global,
     words: &[String],
-    shelf: &S,
+    shelf: &mut S,
     reader: &mut R,
     out: &mut O,
     err: &mut E,
 ) -> Result<Status, ProgramFault>
+    requires shelf { S.has_failed shelf.old ≡ false }
     requires reader { R.has_failed reader.old ≡ false }
     requires out { O.has_failed out.old ≡ false }
     requires err { E.has_failed err.old ≡ false }
+
     ensures ok { IfOk result (λ status. IfSome (R.remaining reader.old) (λ script.
-        Ran (S.bytes_of shelf.now) (map string_bytes words.now) script status
+        Ran (S.bytes_of shelf.old) (map string_bytes words.now) script status
         (O.contents out.old) (O.contents out.new) (E.contents err.old) (E.contents err.new))) }
     ensures fault { IfErr result (λ fault.
-        FailsBy fault (S.bytes_of shelf.now) (map string_bytes words.now) (R.remaining reader.old) (R.remaining reader.new)
+        FailsBy fault (S.bytes_of shelf.old) (map string_bytes words.now) (R.remaining reader.old) (R.remaining reader.new)
         (O.contents out.old) (O.contents out.new) (E.contents err.old) (E.contents err.new)) }
+
+    // A status is returned only once the reader is at its end, and where no device has failed.
+    ensures end { OnOk result (IsAtEnd (R.remaining reader.new)) }
+    ensures works { OnOk result ((R.has_failed reader.new ≡ false)
+        × (O.has_failed out.new ≡ false) × (E.has_failed err.new ≡ false)) }
+
+    // A fault of a device is returned only where that device has failed.
+    ensures read { result ≡ Err (ProgramFault.Run runs.Read) → R.has_failed reader.new ≡ true }
+    ensures write { result ≡ Err (ProgramFault.Run runs.Write)
+        → (O.has_failed out.new ≡ true) ⊎ (E.has_failed err.new ≡ true) }
 {
     let texts = texts_named(alloc, words, shelf)?;
     let status = run(alloc, &texts.setup(), reader, out, err)?;
     Ok(status)
 }
 
-/// Prints the line of a fault, or that of want of memory where there is none for it.
-fn tell<E: Sink>(alloc: Global, fault: &ProgramFault, err: &mut E) -> Result<(), ScriptFault>
-    requires { E.has_failed err.old ≡ false }
-    ensures ok { OnOk result (
-        Appends (E.contents err.old) (E.contents err.new) (fault_line fault.now)
-        ⊎ Appends (E.contents err.old) (E.contents err.new) (fault_line faults.NoMemory)) }
-    ensures err { OnErr result (E.has_failed err.new ≡ true) }
-{
-    match fault_line(alloc, fault) {
-        Ok(line) => write_whole(err, &line),
-        Err(_) => write_whole(err, b"facl: no memory\n"),
-    }
-}
-
-/// Tells a fault, and says what the program ends with: 0 where every line was accepted, 1 where some line was refused, 2 at
-/// a fault. A fault of standard error itself cannot be told.
+/// Prints the line of a fault, and returns what the program ends with: 0 where every line was accepted, 1 where some line was
+/// refused, 2 at a fault. A fault of standard error itself cannot be printed.
 pub fn end<E: Sink>(alloc: Global, outcome: &Result<Status, ProgramFault>, err: &mut E) -> ExitCode
     requires { E.has_failed err.old ≡ false }
     ensures status { exit_status result ≡ status_of outcome.now }
@@ -78,7 +81,7 @@ pub fn end<E: Sink>(alloc: Global, outcome: &Result<Status, ProgramFault>, err: 
     match outcome {
         Ok(status) => ExitCode::from(status.code()),
         Err(fault) => {
-            let _ = tell(alloc, fault, err);
+            let _ = write_fault(alloc, fault, err);
             ExitCode::from(FAULT_STATUS)
         }
     }

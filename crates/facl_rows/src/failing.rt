@@ -1,6 +1,6 @@
-//! Runs over a reader and writers that fail.
+//! Runs over a reader and writers that fail once. They are called no more, though they would work again.
 
-use crate::devices::{FailingReader, FailingWriter};
+use crate::devices::{RecoveringReader, RecoveringWriter};
 use crate::texts::WHOLE;
 use facl::{RunFault, Status, StdFeed, StdSink, run};
 use std::test::Fail;
@@ -11,7 +11,7 @@ const SCRIPT: &[u8] = b"getfacl -c f\ngetfacl -c log\n";
 /// What they print.
 const OUT: &[u8] = b"user::rw-\ngroup::r--\nother::---\n\nuser::rw-\ngroup::r--\nother::---\n\n";
 
-/// Where a writer fails: how many bytes it takes, and whether it takes nothing then, in place of an error.
+/// Where a writer fails: how many bytes it takes before, and whether it takes nothing then, in place of an error.
 const WRITES: [(usize, bool); 7] = [
     (0, false),
     (0, true),
@@ -25,9 +25,10 @@ const WRITES: [(usize, bool); 7] = [
 #[test]
 fn stops_where_out_fails(rt: HostRuntime) -> Result<(), Fail> {
     for (left, takes_nothing) in WRITES {
-        let mut out = FailingWriter {
+        let mut out = RecoveringWriter {
             held: Vec::new(rt.alloc()),
-            left,
+            calls: 0,
+            faulty_call: left,
             takes_nothing,
         };
         let ended = run(
@@ -43,6 +44,12 @@ fn stops_where_out_fails(rt: HostRuntime) -> Result<(), Fail> {
         };
         assert!(rt; is_told, "at {left}");
         assert!(rt; out.held.as_slice() == &OUT[..left], "at {left}");
+        let calls = if left < OUT.len() {
+            left + 1
+        } else {
+            OUT.len()
+        };
+        assert!(rt; out.calls == calls, "at {left}");
     }
     Ok(())
 }
@@ -54,9 +61,10 @@ const ERR: &[u8] = b"line 1: facl: unknown tool\n";
 fn stops_where_err_fails(rt: HostRuntime) -> Result<(), Fail> {
     for left in [0, 13, 26] {
         let mut out = Vec::new(rt.alloc());
-        let mut err = FailingWriter {
+        let mut err = RecoveringWriter {
             held: Vec::new(rt.alloc()),
-            left,
+            calls: 0,
+            faulty_call: left,
             takes_nothing: false,
         };
         let ended = run(
@@ -69,6 +77,7 @@ fn stops_where_err_fails(rt: HostRuntime) -> Result<(), Fail> {
         assert!(rt; matches!(ended, Err(RunFault::Write)), "at {left}");
         assert!(rt; out.is_empty(), "at {left}");
         assert!(rt; err.held.as_slice() == &ERR[..left], "at {left}");
+        assert!(rt; err.calls == left.saturating_add(1), "at {left}");
     }
     Ok(())
 }
@@ -79,9 +88,10 @@ const READS: [(usize, usize); 6] = [(0, 0), (12, 0), (13, 33), (14, 33), (27, 33
 #[test]
 fn stops_where_the_reader_fails(rt: HostRuntime) -> Result<(), Fail> {
     for (left, printed) in READS {
-        let mut reader = FailingReader {
+        let mut reader = RecoveringReader {
             bytes: SCRIPT,
-            left,
+            calls: 0,
+            faulty_call: left,
         };
         let mut out = Vec::new(rt.alloc());
         let ended = run(
@@ -93,6 +103,7 @@ fn stops_where_the_reader_fails(rt: HostRuntime) -> Result<(), Fail> {
         );
         assert!(rt; matches!(ended, Err(RunFault::Read)), "at {left}");
         assert!(rt; out.as_slice() == &OUT[..printed], "at {left}");
+        assert!(rt; reader.calls == left.saturating_add(1), "at {left}");
     }
     Ok(())
 }

@@ -1,0 +1,58 @@
+#!/bin/sh
+# Compares what the program prints of FILEs, on both streams and with its status, with what it has to print: the worked
+# session of demo/ with demo/stdout and demo/stderr, and FILEs that cannot be read with their line.
+#
+# usage: tools/check_demo.sh [PROGRAM]      PROGRAM: one that is built already
+#
+# It is no part of the gate, which runs the program without FILEs.
+set -eu
+top=$(cd "$(dirname "$0")/.." && pwd)
+program=${1:-$top/crates/facl_cli/out/facl_cli}
+[ $# -gt 0 ] || "$top/tools/prove.py"
+program=$(realpath "$program")
+work=$(mktemp -d)
+trap 'rm -rf "$work"' EXIT
+cd "$work"
+faults=0
+
+# compares the outcome of a run with a status and the files wanted_out and wanted_err
+compare() {
+    name=$1 wanted_status=$2 status=0
+    shift 2
+    "$program" "$@" <script >out 2>err || status=$?
+    if [ $status -ne $wanted_status ] || ! diff wanted_out out >&2 || ! diff wanted_err err >&2; then
+        echo "tools/check_demo.sh: $name: status $status, and not as it has to be" >&2
+        faults=$((faults + 1))
+    fi
+}
+
+# compares a run that has to end with 2 and one line
+ends_with() {
+    line=$1
+    shift
+    echo "$line" >wanted_err
+    compare "$line" 2 "$@"
+}
+
+cp "$top/demo/script" script
+cp "$top/demo/stdout" wanted_out
+cp "$top/demo/stderr" wanted_err
+compare "the worked session" 1 --passwd "$top/demo/passwd" --group "$top/demo/group" --dump "$top/demo/dump"
+compare "the worked session, its FILEs in another order" 1 \
+    --dump "$top/demo/dump" --passwd "$top/demo/passwd" --group "$top/demo/group"
+
+echo 'frob' >script
+: >wanted_out
+: >empty
+truncate -s 268435456 longest
+truncate -s 268435457 too_long
+ends_with 'facl: absent: cannot read' --passwd absent
+ends_with 'facl: first: cannot read' --dump third --group second --passwd first
+ends_with 'facl: second: cannot read' --dump third --group second --passwd empty
+ends_with 'facl: .: cannot read' --group .
+ends_with 'facl: too_long: cannot read' --passwd too_long
+ends_with 'facl: setup: passwd: text line 1: bad row' --passwd longest
+ends_with 'facl: usage' --passwd
+
+[ $faults -eq 0 ] || exit 1
+echo "tools/check_demo.sh: all as it has to be"
