@@ -1,0 +1,11 @@
+pub mod Places
+pub mod Shared
+pub mod Chunks
+pub mod Merges
+pub mod Joined
+pub mod Sorted
+pub mod Convex
+pub mod Ranges
+pub mod Edits
+pub mod Differences
+pub mod Rows

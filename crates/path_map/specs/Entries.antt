@@ -1,0 +1,16 @@
+-- The entries of a map: paths with values, in path order.
+use Rattle.std.specs.Prelude.{ℕ, List, [], ◌∷◌, Option, Some, None, IsTrue}
+use Rattle.std.specs.FinMap.{is_sorted}
+use Rattle.acl_names.specs.Paths.{path_cmp}
+
+abbrev pub PathOf : Type 0
+PathOf = List (List ℕ)
+
+-- the paths rise
+abbrev pub IsInOrder : {V : Type 0} → List (PathOf × V) → Type 0
+IsInOrder es = IsTrue (is_sorted path_cmp es)
+
+-- the first entry, if there is one
+abbrev pub first : {V : Type 0} → List (PathOf × V) → Option (PathOf × V)
+first [] = None
+first (e ∷ es) = Some e

@@ -1,0 +1,72 @@
+//! The entries of a map, one after another.
+
+ghost use Rattle.std.specs.Prelude.{◌≡◌, ◌∷◌, [], MatchOption, option_map};
+ghost use Rattle.path_map.specs.Entries.{first};
+
+use crate::chunk::Chunk;
+use crate::entry::Entry;
+use crate::map::PathMap;
+use std::marker::Model;
+use std::rc::Rc;
+
+/// A cursor over the entries of a map: those that are still to come, in path order.
+#[derive(Drop)]
+pub struct Entries<'a, V> {
+    pub(crate) entries: &'a [Rc<Entry<V>>],
+    pub(crate) chunks: &'a [Rc<Chunk<V>>],
+}
+
+impl<'a, V> Model for Entries<'a, V> {
+    ghost use Rattle.std.specs.Prelude.{List, ◌++◌, map};
+    ghost use Rattle.std.specs.List.{flat_map};
+    ghost use Rattle.path_map.specs.Entries.{PathOf};
+
+    ghost Value = { List (PathOf × V) };
+
+    ghost view = { λ f. map (λ r. r.value) f.entries.now ++ flat_map (λ c. c.value) f.chunks.now };
+}
+
+impl<'a, V> Entries<'a, V> {
+    /// The next entry in path order. Allocates nothing.
+    pub fn next(&mut self) -> Option<&'a Rc<Entry<V>>>
+        ensures { MatchOption result ((self.old ≡ []) × (self.new ≡ [])) (λ entry. self.old ≡ entry.now.value ∷ self.new) }
+    {
+        if self.entries.is_empty() {
+            let [chunk, more @ ..] = self.chunks else {
+                return None;
+            };
+            self.entries = chunk.entries();
+            self.chunks = more;
+        }
+        let [first, rest @ ..] = self.entries else {
+            return None;
+        };
+        self.entries = rest;
+        Some(first)
+    }
+
+    /// The entry that [`Entries::next`] would return. Allocates nothing.
+    pub fn peek(&self) -> Option<&'a Rc<Entry<V>>>
+        ensures { option_map (λ entry. entry.now.value) result ≡ first self.now }
+    {
+        match self.entries {
+            [entry, ..] => Some(entry),
+            [] => match self.chunks {
+                [] => None,
+                [chunk, ..] => Some(&chunk.entries()[0]),
+            },
+        }
+    }
+}
+
+impl<V> PathMap<V> {
+    /// The entries in path order. Allocates nothing.
+    pub fn iter(&self) -> Entries<'_, V>
+        ensures { result ≡ self.now }
+    {
+        Entries {
+            entries: &[],
+            chunks: self.chunks(),
+        }
+    }
+}

@@ -1,0 +1,82 @@
+//! The entries from a path on, and those at or below it, found by search.
+
+ghost use Rattle.std.specs.Prelude.{◌≡◌, ◌∷◌, [], MatchOption};
+ghost use Rattle.path_map.specs.Below.{from, within};
+
+use crate::below::is_within;
+use crate::entry::Entry;
+use crate::iter::Entries;
+use crate::map::{PathMap, count_up_to};
+use crate::place::start;
+use acl_names::Path;
+use std::marker::Model;
+use std::rc::Rc;
+
+/// A cursor over the entries at or below a path: those that are still to come, in path order.
+#[derive(Drop)]
+pub struct Within<'a, V> {
+    rest: Entries<'a, V>,
+    top: &'a Path,
+}
+
+impl<'a, V> Model for Within<'a, V> {
+    ghost use Rattle.std.specs.Prelude.{List};
+    ghost use Rattle.path_map.specs.Entries.{PathOf, IsInOrder};
+    ghost use Rattle.path_map.specs.Below.{within};
+    ghost use Rattle.path_map.specs.Inner.{From};
+
+    ghost Value = { List (PathOf × V) };
+
+    ghost view = { λ w. within w.top.now w.rest };
+
+    ghost invariant = { λ w. IsInOrder w.rest × From w.top.now w.rest };
+}
+
+impl<'a, V> Within<'a, V> {
+    /// The next entry in path order. Allocates nothing.
+    pub fn next(&mut self) -> Option<&'a Rc<Entry<V>>>
+        ensures { MatchOption result ((self.old ≡ []) × (self.new ≡ [])) (λ entry. self.old ≡ entry.now.value ∷ self.new) }
+    {
+        let Some(entry) = self.rest.next() else {
+            return None;
+        };
+        if !is_within(self.top, entry.path()) {
+            return None;
+        }
+        Some(entry)
+    }
+}
+
+impl<V> PathMap<V> {
+    /// The entries that are not before a path. Allocates nothing.
+    pub fn from(&self, path: &Path) -> Entries<'_, V>
+        ensures { result ≡ from path.now self.now }
+    {
+        let chunks = self.chunks();
+        let after = count_up_to(chunks, path);
+        if after == 0 {
+            return Entries {
+                entries: &[],
+                chunks,
+            };
+        }
+        let chunk = &chunks[after - 1];
+        let entries = chunk.entries();
+        let at = start(entries, path);
+        Entries {
+            entries: entries.split_at(at).1,
+            chunks: chunks.split_at(after).1,
+        }
+    }
+
+    /// The entries at or below a path. Allocates nothing.
+    pub fn within<'a>(&'a self, path: &'a Path) -> Within<'a, V>
+        ensures { result ≡ within path.now self.now }
+    {
+        self.is_in_order();
+        Within {
+            rest: self.from(path),
+            top: path,
+        }
+    }
+}
