@@ -20,8 +20,8 @@ use Rattle.acl_edit.specs.declared.node.Node.{Node}
 use Rattle.acl_tree.specs.Files.{PathOf, Files, IsInOrder}
 use Rattle.acl_tree.specs.Changed.{same_entry, same_entries, same_label, is_changed, changed_between, gone_between}
 use Rattle.acl_tree.specs.Inner.{changed_one, changed_by}
-use Rattle.acl_tree.specs.Operands.{is_file, edit_files}
-use Rattle.acl_tree.proofs.Places.{above}
+use Rattle.acl_tree.specs.Operands.{edit_files}
+use Rattle.path_map.proofs.Places.{above}
 
 -- ---- labels
 
@@ -147,36 +147,14 @@ module _ (test : PathOf → Bool) (g : Node → Node) where
   pub gone-edited : (t : Files) → IsInOrder t → gone_between t (edit_files test g t) ≡ []
   gone-edited t order = gone_of [] t order
 
-  pub changed-append : (xs ys : Files) → changed_by test g (xs ++ ys) ≡ changed_by test g xs ++ changed_by test g ys
-  changed-append [] ys = refl
-  changed-append (e ∷ xs) ys = ap (λ l. changed_one (test e.0) g e ++ l) (changed-append xs ys) ∙ sym (append_assoc (changed_one (test e.0) g e) (changed_by test g xs) (changed_by test g ys))
-
-  -- the changes of one file more
-  pub told_push : (old es : Files) (e : PathOf × Node) (told : Files) → told ≡ old ++ changed_by test g es → told ++ changed_one (test e.0) g e ≡ old ++ changed_by test g (es ++ e ∷ [])
-  told_push old es e told is =
-      ap (λ l. l ++ changed_one (test e.0) g e) is
-      ∙ append_assoc old (changed_by test g es) (changed_one (test e.0) g e)
-      ∙ ap (λ l. old ++ (changed_by test g es ++ l)) (sym (append-nil (changed_one (test e.0) g e)))
-      ∙ ap (λ l. old ++ l) (sym (changed-append es (e ∷ [])))
-
-  -- the changes of some files more
-  pub told_more : (old es fs told : Files) → told ≡ old ++ changed_by test g es → told ++ changed_by test g fs ≡ old ++ changed_by test g (es ++ fs)
-  told_more old es fs told is =
-      ap (λ l. l ++ changed_by test g fs) is
-      ∙ append_assoc old (changed_by test g es) (changed_by test g fs)
-      ∙ ap (λ l. old ++ l) (sym (changed-append es fs))
-
-  -- tests that agree at the files
-  pub told_alike : (other : PathOf → Bool) (es : Files) → ((j : ℕ) (d : PathOf × Node) → j < length es → test (get_or es j d).0 ≡ other (get_or es j d).0) → changed_by test g es ≡ changed_by other g es
-  told_alike other [] agree = refl
-  told_alike other (e ∷ es) agree =
-      ap (λ b. changed_one b g e ++ changed_by test g es) (agree 0 e (omega arith))
-      ∙ ap (λ l. changed_one (other e.0) g e ++ l) (told_alike other es (λ j d lt. agree (suc j) d (omega arith)))
-
--- no operand changes no file
-pub told_none : (recursive : Bool) (g : Node → Node) (es : Files) → changed_by (is_file recursive []) g es ≡ []
-told_none recursive g [] = refl
-told_none recursive g (e ∷ es) = told_none recursive g es
+  -- the files that pass the test, all edited, change as much
+  pub changed-all : (t : Files) → changed_by (λ _. true) g (filter (λ e. test e.0) t) ≡ changed_by test g t
+  changed-all [] = refl
+  changed-all (e ∷ t) = by (test e.0) (changed-all t)
+    where
+      by : (b : Bool) → changed_by (λ _. true) g (filter (λ e. test e.0) t) ≡ changed_by test g t → changed_by (λ _. true) g (cond b (e ∷ filter (λ e. test e.0) t) (filter (λ e. test e.0) t)) ≡ changed_one b g e ++ changed_by test g t
+      by true rest = ap (λ l. changed_one true g e ++ l) rest
+      by false rest = rest
 
 -- where no file stood all are new
 pub all_changed : (new : Files) → changed_between [] new ≡ new

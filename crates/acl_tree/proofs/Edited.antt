@@ -22,20 +22,6 @@ sorted-edited test g (e ∷ t) = ap (λ b. b && is_sorted path_cmp (edit_files t
 pub in_order-edited : (test : PathOf → Bool) (g : Node → Node) (t : Files) → IsInOrder t → IsInOrder (edit_files test g t)
 in_order-edited test g t h = sorted-edited test g t ∙ h
 
--- one file more
-pub edited_push : (test : PathOf → Bool) (g : Node → Node) (t : Files) (e x : PathOf × Node) (new : Files) → new ≡ edit_files test g t → x ≡ (e.0, if test e.0 then g e.1 else e.1) → new ++ x ∷ [] ≡ edit_files test g (t ++ e ∷ [])
-edited_push test g t e x new is made =
-    ap (λ l. l ++ x ∷ []) is
-    ∙ ap (λ (y : PathOf × Node). edit_files test g t ++ y ∷ []) made
-    ∙ sym (map_push (λ (y : PathOf × Node). let z : PathOf × Node = (y.0, if test y.0 then g y.1 else y.1) in z) t e)
-
 pub any-map : {A B : Type 0} (p : B → Bool) (f : A → B) (xs : List A) → list_any p (map f xs) ≡ list_any (λ x. p (f x)) xs
 any-map p f [] = refl
 any-map p f (x ∷ xs) = ap (λ b. p (f x) || b) (any-map p f xs)
-
--- some files more
-pub edited_more : (test : PathOf → Bool) (g : Node → Node) (es fs edited new : Files) → new ≡ edit_files test g es → edited ≡ edit_files test g fs → new ++ edited ≡ edit_files test g (es ++ fs)
-edited_more test g es fs edited new is made =
-    ap (λ l. l ++ edited) is
-    ∙ ap (λ l. edit_files test g es ++ l) made
-    ∙ sym (map-append (λ (y : PathOf × Node). let z : PathOf × Node = (y.0, if test y.0 then g y.1 else y.1) in z) es fs)

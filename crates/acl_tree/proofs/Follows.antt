@@ -14,8 +14,8 @@ use Rattle.acl_tree.specs.Files.{PathOf, Files, IsInOrder}
 use Rattle.acl_tree.specs.Below.{is_within, is_below}
 use Rattle.acl_tree.specs.Sound.{holds_below}
 use Rattle.acl_tree.specs.Inner.{next_file_below}
-use Rattle.acl_tree.proofs.Places.{above}
-use Rattle.acl_tree.proofs.Within.{convex}
+use Rattle.path_map.proofs.Convex.{convex}
+pub use Rattle.path_map.proofs.Places.{above}
 
 equal : (o : Ordering) → is_eq o ≡ true → o ≡ Equal
 equal Less h = cc

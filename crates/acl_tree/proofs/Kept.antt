@@ -6,43 +6,43 @@ use Rattle.std.proofs.lemmas.List.{length-map}
 use Rattle.acl_entry.specs.Lists.{KeyMap}
 use Rattle.acl_names.specs.Paths.{path_cmp}
 use Rattle.acl_dump.specs.declared.record.DumpRecord.{DumpRecord}
-use Rattle.acl_edit.specs.Nodes as nodes
 use Rattle.acl_edit.specs.declared.node.Node.{Node}
 use Rattle.acl_edit.specs.declared.node.Kind.TheVariants.{Plain, Directory}
-use Rattle.acl_tree.specs.Files.{PathOf, Files, Recorded}
+use Rattle.acl_tree.specs.Files.{PathOf, Files, Recorded, max_files}
 use Rattle.acl_tree.specs.Below.{is_below}
 use Rattle.acl_tree.specs.Operands.{edit_files}
+use Rattle.acl_tree.specs.Edits.{KeepsPlace}
 use Rattle.acl_tree.specs.Loading.{insert_record, is_directory, node_of, has_below, as_files, files_of, in_path_order}
 use Rattle.acl_tree.specs.Sound.{holds_below, IsPlaced, ArePlaced, IsSoundTree}
 use Rattle.acl_tree.proofs.Edited.{any-map, in_order-edited}
 use Rattle.acl_tree.proofs.Loaded.{files_in_order}
 
--- ---- chmod
+-- ---- an edit
 
 same_below : (test : PathOf → Bool) (g : Node → Node) (es : Files) (p : PathOf) → holds_below (edit_files test g es) p ≡ holds_below es p
 same_below test g [] p = refl
 same_below test g (e ∷ es) p = ap (λ b. is_below p e.0 || b) (same_below test g es p)
 
-module _ (test : PathOf → Bool) (mode : ℕ) where
-  chosen : (all : Files) (e : PathOf × Node) (b : Bool) → IsPlaced all e → IsPlaced (edit_files test (λ n. nodes.chmod n mode) all) (e.0, if b then nodes.chmod e.1 mode else e.1)
+module _ (test : PathOf → Bool) (g : Node → Node) (keeps : (n : Node) → KeepsPlace n (g n)) where
+  chosen : (all : Files) (e : PathOf × Node) (b : Bool) → IsPlaced all e → IsPlaced (edit_files test g all) (e.0, if b then g e.1 else e.1)
   chosen all e true is = record {
-    directory = λ h. is.directory (ap (λ b. eqb (length e.0) 0 || b) (sym (same_below test (λ n. nodes.chmod n mode) all e.0)) ∙ h);
-    default = is.default;
+    directory = λ h. (keeps e.1).kind ∙ is.directory (ap (λ b. eqb (length e.0) 0 || b) (sym (same_below test g all e.0)) ∙ h);
+    default = (keeps e.1).default is.default;
   }
   chosen all e false is = record {
-    directory = λ h. is.directory (ap (λ b. eqb (length e.0) 0 || b) (sym (same_below test (λ n. nodes.chmod n mode) all e.0)) ∙ h);
+    directory = λ h. is.directory (ap (λ b. eqb (length e.0) 0 || b) (sym (same_below test g all e.0)) ∙ h);
     default = is.default;
   }
 
-  edited_placed : (all es : Files) → ArePlaced all es → ArePlaced (edit_files test (λ n. nodes.chmod n mode) all) (edit_files test (λ n. nodes.chmod n mode) es)
+  edited_placed : (all es : Files) → ArePlaced all es → ArePlaced (edit_files test g all) (edit_files test g es)
   edited_placed all [] h = tt
   edited_placed all (e ∷ es) h = (chosen all e (test e.0) h.0, edited_placed all es h.1)
 
-  pub edited_sound : (t : Recorded) → IsSoundTree t → IsSoundTree (record t { files = edit_files test (λ n. nodes.chmod n mode) t.files })
+  pub edited_sound : (t : Recorded) → IsSoundTree t → IsSoundTree (record t { files = edit_files test g t.files })
   edited_sound t sound = record {
-    order = in_order-edited test (λ n. nodes.chmod n mode) t.files sound.order;
-    few = subst (λ n. n ≤ 1048576) (sym (length-map t.files (λ e. (e.0, if test e.0 then nodes.chmod e.1 mode else e.1)))) sound.few;
-    unloaded = λ none. ap (λ es. edit_files test (λ n. nodes.chmod n mode) es) (sound.unloaded none);
+    order = in_order-edited test g t.files sound.order;
+    few = subst (λ n. n ≤ max_files) (sym (length-map t.files (λ e. (e.0, if test e.0 then g e.1 else e.1)))) sound.few;
+    unloaded = λ none. ap (λ es. edit_files test g es) (sound.unloaded none);
     placed = edited_placed t.files t.files sound.placed;
   }
 
@@ -98,7 +98,7 @@ no_more records =
     let within : length sorted ≤ length records = omega (arith, as_many records []) in
     subst (λ n. n ≤ length records) (sym (length-map sorted (λ r. (r.path, node_of (has_below sorted r.path) r)))) within
 
-pub loaded_sound : (records : List DumpRecord) → length records ≤ 1048576 → IsSoundTree (record { files = files_of records; loaded = true })
+pub loaded_sound : (records : List DumpRecord) → length records ≤ max_files → IsSoundTree (record { files = files_of records; loaded = true })
 loaded_sound records within = record {
   order = files_in_order records;
   few = omega (arith, no_more records);

@@ -1,14 +1,10 @@
-pub mod Places
 pub mod Shared
-pub mod Within
-pub mod Chunks
-pub mod Near
 pub mod Edited
 pub mod Follows
 pub mod Loaded
 pub mod Mapped
 pub mod Kept
-pub mod Listed
 pub mod Changes
 pub mod Told
-pub mod Parts
+pub mod Selected
+pub mod Edits

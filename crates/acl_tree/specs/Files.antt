@@ -5,15 +5,17 @@ use Rattle.std.specs.FinMap.{is_sorted}
 use Rattle.acl_names.specs.Paths.{path_cmp}
 use Rattle.acl_edit.specs.declared.node.Node.{Node}
 use Rattle.acl_edit.specs.contracts.node.Node as node_contracts
-
-abbrev pub PathOf : Type 0
-PathOf = List (List ℕ)
+pub use Rattle.path_map.specs.Entries.{PathOf}
 
 abbrev pub Files : Type 0
 Files = List (PathOf × Node)
 
 abbrev pub IsInOrder : Files → Type 0
 IsInOrder es = IsTrue (is_sorted path_cmp es)
+
+-- the largest number of files of a tree
+abbrev pub max_files : ℕ
+max_files = 1048576
 
 -- the recorded files, and whether a dump is loaded
 pub record Recorded : Type 0 where

@@ -7,4 +7,5 @@ pub mod Sound
 pub mod Found
 pub mod Changed
 pub mod Tells
+pub mod Edits
 pub mod Inner

@@ -4,7 +4,7 @@ use Rattle.std.specs.List.{list_any}
 use Rattle.acl_edit.specs.Nodes as nodes
 use Rattle.acl_edit.specs.declared.node.Node.{Node}
 use Rattle.acl_edit.specs.declared.node.Kind.TheVariants.{Directory}
-use Rattle.acl_tree.specs.Files.{PathOf, Files, IsInOrder, Recorded}
+use Rattle.acl_tree.specs.Files.{PathOf, Files, IsInOrder, Recorded, max_files}
 use Rattle.acl_tree.specs.Below.{is_below}
 
 -- whether a file lies below a path
@@ -23,6 +23,6 @@ ArePlaced all (e ∷ es) = IsPlaced all e × ArePlaced all es
 -- the files stand in path order, there are not too many, none stands before a dump is loaded, and each is placed
 pub record IsSoundTree (t : Recorded) : Type 0 where
   pub order : IsInOrder t.files
-  pub few : length t.files ≤ 1048576
+  pub few : length t.files ≤ max_files
   pub unloaded : t.loaded ≡ false → t.files ≡ []
   pub placed : ArePlaced t.files t.files

@@ -17,7 +17,7 @@ use Rattle.acl_tree.specs.declared.command.Table.{Table}
 use Rattle.acl_tree.specs.declared.command.Table.TheVariants.{Passwd, Group, Dump}
 use Rattle.acl_tree.specs.declared.command.TreeFault.{TreeFault}
 use Rattle.acl_tree.specs.declared.command.TreeFault.TheVariants.{NoSuchFile, TooMany, AlreadyLoaded, Text, NoMemory}
-use Rattle.acl_tree.specs.Files.{PathOf, Recorded, coded_recorded}
+use Rattle.acl_tree.specs.Files.{PathOf, Recorded, coded_recorded, max_files}
 use Rattle.acl_tree.specs.Loading.{files_of}
 use Rattle.acl_tree.specs.Operands.{is_file, first_missing, edit_files}
 
@@ -54,7 +54,7 @@ with_people s (Err fault) = Err (tree_fault fault)
 abbrev pub with_records : State → Result (List DumpRecord) TextFault → Result State TreeFault
 with_records s (Err fault) = Err (Text fault)
 with_records s (Ok records) =
-    if nat_lt 1048576 (length records) then Err TooMany
+    if nat_lt max_files (length records) then Err TooMany
     else Ok (record s { tree = record { files = files_of records; loaded = true } })
 
 -- the records of a dump, whose users and groups are looked up

@@ -2,7 +2,7 @@
 
 ghost use Rattle.std.specs.Prelude.{◌≡◌};
 
-use crate::record::Record;
+use crate::tree::Record;
 use acl_edit::Node;
 use acl_names::Path;
 use std::marker::Model;
@@ -33,6 +33,13 @@ impl Found {
         Found { file, has_below }
     }
 
+    /// The file, for those that share it.
+    pub(crate) fn record(&self) -> &Record
+        ensures { result.now ≡ (self.now.path, self.now.node) }
+    {
+        &self.file
+    }
+
     /// The file's path.
     pub fn path(&self) -> &Path
         ensures { result.now ≡ self.now.path }
@@ -44,7 +51,7 @@ impl Found {
     pub fn node(&self) -> &Node
         ensures { result.now ≡ self.now.node }
     {
-        self.file.node()
+        self.file.value()
     }
 
     /// Whether another recorded file lies below it.

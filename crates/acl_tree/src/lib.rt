@@ -2,26 +2,22 @@
 #![tactic(auto)]
 
 mod below;
-mod changing;
-mod chunk;
+mod chmod;
 mod command;
-mod files;
+mod edit;
 mod found;
 mod laws;
-mod listing;
 mod load;
 mod moved;
-mod operands;
 mod prepare;
-mod record;
+mod selection;
 mod staged;
 mod tree;
 
+pub use acl_people::People;
 pub use command::{Command, Paths, Table, TreeFault};
-pub use files::Files;
 pub use found::Found;
 pub use laws::each_record_is_a_file;
 pub use moved::UsersMove;
-pub use record::Record;
 pub use staged::Staged;
-pub use tree::Tree;
+pub use tree::{Files, Record, Tree};

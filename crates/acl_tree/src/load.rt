@@ -1,9 +1,7 @@
 //! A dump as a tree.
 
-ghost use Rattle.std.specs.Prelude.{◌≡◌, ◌≢◌, ◌<◌, ◌≤◌, [], length, true, map, IfOk, unwrap_or};
-ghost use Rattle.std.specs.List.{flat_map};
+ghost use Rattle.std.specs.Prelude.{◌≡◌, ◌≢◌, [], true, map, IfOk, unwrap_or};
 ghost use Rattle.std.specs.BTreeMap.{values};
-ghost use Rattle.acl_tree.specs.Files.{IsInOrder};
 ghost use Rattle.acl_tree.specs.Loading.{in_path_order, is_directory, node_of, files_of};
 ghost use Rattle.acl_tree.specs.Inner.{next_below, files_from};
 ghost use Rattle.acl_tree.specs.Sound.{IsSoundTree};
@@ -12,24 +10,23 @@ ghost use Rattle.acl_tree.specs.Tells.{Tells};
 ghost use Rattle.acl_tree.specs.declared.moved.UsersMove.TheVariants.{Same};
 
 use crate::below::is_below;
-use crate::chunk::{Chunk, MOST_RECORDS};
 use crate::command::TreeFault;
 use crate::moved::UsersMove;
-use crate::record::Record;
 use crate::staged::Staged;
-use crate::tree::Tree;
+use crate::tree::{Record, Tree};
 use acl_dump::{DumpRecord, DumpUse, read_dump};
 use acl_edit::{Kind, Node};
 use acl_entry::{Id, Label};
 use acl_names::Path;
 use acl_people::People;
 use acl_text::{FaultKind, TextFault};
+use path_map::PathMap;
 use std::alloc::{AllocError, Global};
 use std::collections::BTreeMap;
 use std::rc::Rc;
 
-/// The most files of a tree.
-const MOST_FILES: usize = 1048576;
+/// The largest number of files of a tree.
+const MAX_FILES: usize = 1048576;
 
 /// The records by their paths.
 fn places_of<'a>(
@@ -117,32 +114,6 @@ fn files_from(alloc: Global, sorted: &[&DumpRecord]) -> Result<Vec<Rc<Record>>, 
     Ok(files)
 }
 
-/// Files as one chunk.
-fn chunk_of(alloc: Global, files: &[Rc<Record>]) -> Result<Rc<Chunk>, AllocError>
-    requires order { IsInOrder (map (λ r. r.value) files.now) }
-    requires some { 0 < length files.now }
-    requires few { length files.now ≤ 256 }
-    ensures { IfOk result (λ chunk. chunk.value ≡ map (λ r. r.value) files.now) }
-{
-    Ok(Rc::new(alloc, Chunk::new(files.to_vec(alloc)?))?)
-}
-
-/// The files in chunks.
-fn chunks_of(alloc: Global, files: &[Rc<Record>]) -> Result<Vec<Rc<Chunk>>, AllocError>
-    requires { IsInOrder (map (λ r. r.value) files.now) }
-    ensures { IfOk result (λ chunks. flat_map (λ c. c.value) chunks.items ≡ map (λ r. r.value) files.now) }
-{
-    let mut chunks = Vec::new(alloc);
-    let mut rest = files;
-    while !rest.is_empty() {
-        let length = rest.len().min(MOST_RECORDS);
-        let (part, after) = rest.split_at(length);
-        chunks.push(chunk_of(alloc, part)?)?;
-        rest = after;
-    }
-    Ok(chunks)
-}
-
 /// A text's fault, and want of memory as such.
 fn text_fault(fault: TextFault) -> TreeFault
     ensures text { fault.kind ≢ FaultKind.NoMemory → result ≡ TreeFault.Text fault }
@@ -169,7 +140,7 @@ fn tree_of(alloc: Global, files: &[Rc<Record>]) -> Result<Tree, AllocError>
     requires { IsSoundTree (record { files = map (λ r. r.value) files.now; loaded = true }) }
     ensures { IfOk result (λ tree. tree ≡ record { files = map (λ r. r.value) files.now; loaded = true }) }
 {
-    Ok(Tree::of(chunks_of(alloc, files)?, true))
+    Ok(Tree::of(PathMap::from_sorted(alloc, files)?, true))
 }
 
 impl Tree {
@@ -188,7 +159,7 @@ impl Tree {
             Ok(records) => records,
             Err(fault) => return Err(text_fault(fault)),
         };
-        if records.len() > MOST_FILES {
+        if records.len() > MAX_FILES {
             return Err(TreeFault::TooMany);
         }
         let files = files_of(alloc, &records)?;

@@ -1,16 +1,14 @@
 //! Commands on the whole state: each is prepared whole, or refused.
 
 ghost use Rattle.std.specs.Prelude.{◌≡◌, [], true, IfOk, IfErr, OnOk, Err};
-ghost use Rattle.acl_tree.specs.Step.{chmod_all, or_missing, tree_fault, load, is_loaded, loads_again, step, Stages};
+ghost use Rattle.acl_tree.specs.Step.{tree_fault, load, is_loaded, loads_again, step, Stages};
 ghost use Rattle.acl_tree.specs.declared.command.TreeFault.TheVariants.{AlreadyLoaded, NoMemory};
 ghost use Rattle.acl_people.specs.Registers.{Register};
-ghost use Rattle.acl_tree.specs.Operands.{first_missing};
 ghost use Rattle.acl_tree.specs.Sound.{IsSoundTree};
 ghost use Rattle.acl_tree.specs.Tells.{users_move, load_moves, Tells};
-ghost use Rattle.acl_tree.specs.declared.moved.UsersMove.TheVariants.{Same, Loaded};
+ghost use Rattle.acl_tree.specs.declared.moved.UsersMove.TheVariants.{Loaded};
 
-use crate::changing::{chmod_files, look_up};
-use crate::command::{Command, Paths, Table, TreeFault};
+use crate::command::{Command, Table, TreeFault};
 use crate::moved::UsersMove;
 use crate::staged::Staged;
 use crate::tree::Tree;
@@ -104,30 +102,5 @@ impl Tree {
             )),
             Err(fault) => Err(load_fault(fault)),
         }
-    }
-
-    fn chmod(
-        &self,
-        alloc: Global,
-        people: &People,
-        paths: &Paths,
-        mode: u16,
-        recursive: bool,
-    ) -> Result<Staged, TreeFault>
-        ensures made { Stages (λ s. s.state) result (or_missing (first_missing paths.now self.now.files) (record { tree = chmod_all recursive paths.now mode self.now; people = people.now })) }
-        ensures sound { IfOk result (λ staged. IsSoundTree staged.state.tree) }
-        ensures tells { IfOk result (λ staged. Tells (record { tree = self.now; people = people.now }) staged) }
-        ensures moved { IfOk result (λ staged. staged.moved ≡ Same) }
-    {
-        look_up(self, alloc, paths.as_slice())?;
-        let mut changed = Vec::new(alloc);
-        let tree = chmod_files(self, alloc, &mut changed, paths.as_slice(), mode, recursive)?;
-        Ok(Staged::of(
-            tree,
-            people.share()?,
-            changed,
-            Vec::new(alloc),
-            UsersMove::Same,
-        ))
     }
 }

@@ -4,8 +4,7 @@ ghost use Rattle.std.specs.Prelude.{◌≡◌, map};
 ghost use Rattle.acl_tree.specs.Sound.{IsSoundTree};
 
 use crate::moved::UsersMove;
-use crate::record::Record;
-use crate::tree::Tree;
+use crate::tree::{Record, Tree};
 use acl_people::People;
 use std::marker::Model;
 use std::rc::Rc;

@@ -3,30 +3,31 @@
 ghost use Rattle.std.specs.Prelude.{◌≡◌, IfOk};
 ghost use Rattle.std.specs.Option.{option_copied};
 ghost use Rattle.std.specs.FinMap.{find};
-ghost use Rattle.std.specs.List.{flat_map};
 ghost use Rattle.acl_names.specs.Paths.{path_cmp};
-ghost use Rattle.acl_tree.specs.Files.{IsInOrder, no_files};
-ghost use Rattle.acl_tree.specs.Inner.{IsBegun};
+ghost use Rattle.acl_tree.specs.Files.{no_files};
 ghost use Rattle.acl_tree.specs.Sound.{IsSoundTree};
 
-use crate::chunk::Chunk;
 use acl_edit::Node;
 use acl_names::Path;
+use path_map::{Entries, Entry, PathMap};
 use std::alloc::{AllocError, Global};
-use std::cmp::Ordering;
 use std::marker::Model;
-use std::rc::Rc;
 
-/// The files that a dump recorded, in path order. Trees that came from one another share the files that
-/// are alike, by chunks. What is true of every tree is lent by [`Tree::is_sound`].
+/// A file: its path, and its node. Trees share it.
+pub type Record = Entry<Node>;
+
+/// A cursor over the files of a tree: those that are still to come, in path order.
+pub type Files<'a> = Entries<'a, Node>;
+
+/// The files that a dump recorded, in path order. A tree and the trees made from it share the files that are
+/// the same, by chunks. What is true of every tree is the clause of [`Tree::is_sound`].
 #[derive(Drop)]
 pub struct Tree {
-    chunks: Vec<Rc<Chunk>>,
+    files: PathMap<Node>,
     loaded: bool,
 }
 
 impl Model for Tree {
-    ghost use Rattle.std.specs.List.{flat_map};
     ghost use Rattle.acl_tree.specs.Files.{Recorded, coded_recorded};
     ghost use Rattle.acl_tree.specs.Sound.{IsSoundTree};
 
@@ -34,25 +35,9 @@ impl Model for Tree {
 
     ghost coded = { coded_recorded };
 
-    ghost view = { λ t. record { files = flat_map (λ c. c.value) t.chunks.items; loaded = t.loaded } };
+    ghost view = { λ t. record { files = t.files; loaded = t.loaded } };
 
-    ghost invariant = { λ t. IsSoundTree (record { files = flat_map (λ c. c.value) t.chunks.items; loaded = t.loaded }) };
-}
-
-/// How many chunks begin at a path or before it.
-fn begun(chunks: &[Rc<Chunk>], path: &Path) -> usize
-    ensures { IsBegun (λ c. c.value) chunks.now path.now result }
-{
-    let mut low = 0;
-    let mut high = chunks.len();
-    while low < high {
-        let middle = low + (high - low) / 2;
-        match path.order(chunks[middle].first()) {
-            Ordering::Less => high = middle,
-            _ => low = middle + 1,
-        }
-    }
-    low
+    ghost invariant = { λ t. IsSoundTree (record { files = t.files; loaded = t.loaded }) };
 }
 
 impl Tree {
@@ -61,45 +46,44 @@ impl Tree {
         ensures { result ≡ no_files }
     {
         Tree {
-            chunks: Vec::new(alloc),
+            files: PathMap::new(alloc),
             loaded: false,
         }
     }
 
-    /// The tree of these chunks.
-    pub(crate) fn of(chunks: Vec<Rc<Chunk>>, loaded: bool) -> Tree
-        requires { IsSoundTree (record { files = flat_map (λ c. c.value) chunks.items; loaded = loaded }) }
-        ensures { result ≡ record { files = flat_map (λ c. c.value) chunks.items; loaded = loaded } }
+    /// The tree of these files.
+    pub(crate) fn of(files: PathMap<Node>, loaded: bool) -> Tree
+        requires { IsSoundTree (record { files = files; loaded = loaded }) }
+        ensures { result ≡ record { files = files; loaded = loaded } }
     {
-        Tree { chunks, loaded }
+        Tree { files, loaded }
     }
 
-    /// The same tree once more; its files are shared. Refused for want of memory only.
+    /// A copy of the tree that shares its files. Fails only if memory runs out.
     pub(crate) fn share(&self) -> Result<Tree, AllocError>
         ensures { IfOk result (λ tree. tree ≡ self.now) }
     {
         Ok(Tree {
-            chunks: self.chunks.clone()?,
+            files: self.files.share()?,
             loaded: self.loaded,
         })
     }
 
-    /// The files, by chunks.
-    pub(crate) fn chunks(&self) -> &[Rc<Chunk>]
-        ensures all { flat_map (λ c. c.value) result.now ≡ self.now.files }
-        ensures order { IsInOrder self.now.files }
+    /// The files.
+    pub(crate) fn files_by_path(&self) -> &PathMap<Node>
+        ensures all { result.now ≡ self.now.files }
         ensures sound { IsSoundTree self.now }
     {
-        &self.chunks
+        &self.files
     }
 
-    /// Nothing is done. The files stand in path order, each path once, and there are at most 1,048,576; none
-    /// stands before a dump is loaded; the root and what has a file below it are directories, and only
-    /// directories have default lists.
+    /// Proof only: the files are in path order, each path once, and there are at most 1,048,576; there is none
+    /// before a dump is loaded; the root and what has a file below it are directories, and only directories
+    /// have default lists.
     pub fn is_sound(&self)
         ensures { IsSoundTree self.now }
     {
-        let _chunks = self.chunks();
+        let _files = self.files_by_path();
     }
 
     /// Whether a dump was loaded.
@@ -113,7 +97,13 @@ impl Tree {
     pub fn get(&self, path: &Path) -> Option<&Node>
         ensures { option_copied result ≡ find path_cmp path.now self.now.files }
     {
-        let at = begun(&self.chunks, path).checked_sub(1)?;
-        self.chunks[at].get(path)
+        self.files.get(path)
+    }
+
+    /// The files in path order. Allocates nothing.
+    pub fn iter(&self) -> Files<'_>
+        ensures { result ≡ self.now.files }
+    {
+        self.files.iter()
     }
 }

@@ -118,9 +118,9 @@ fn files_come_in_path_order(rt: HostRuntime) -> Result<(), Fail> {
     assert_eq!(rt; directory.path().components().len(), 1);
     let below = files.next().expect(&rt, "d/e");
     assert_eq!(rt; below.path().components().len(), 2);
-    assert_eq!(rt; below.node().label.owner.number(), 1002);
+    assert_eq!(rt; below.value().label.owner.number(), 1002);
     let last = files.next().expect(&rt, "f");
-    assert_eq!(rt; last.node().label.owner.number(), 1001);
+    assert_eq!(rt; last.value().label.owner.number(), 1001);
     assert!(rt; files.next().is_none());
     Ok(())
 }

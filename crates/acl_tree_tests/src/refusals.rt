@@ -8,11 +8,11 @@ use std::test::Fail;
 
 fn is_same_file(file: &Record, other: &Record) -> bool {
     file.path().order(other.path()) == Ordering::Equal
-        && file.node().same_label(other.node())
-        && file.node().kind == other.node().kind
-        && file.node().flags == other.node().flags
-        && file.node().dacl.is_none()
-        && other.node().dacl.is_none()
+        && file.value().same_label(other.value())
+        && file.value().kind == other.value().kind
+        && file.value().flags == other.value().flags
+        && file.value().dacl.is_none()
+        && other.value().dacl.is_none()
 }
 
 /// Whether two trees of a few files, without default lists, hold the same.

@@ -53,7 +53,7 @@ fn file_is_read_again(people: &People, file: &Record)
     ensures { IsReadAgain people.now file.now }
 {
     let _components = file.path().components();
-    let node = file.node();
+    let node = file.value();
     flags_are_three(node.flags);
     user_is_found(people, node.label.owner);
     group_is_found(people, node.label.group);

@@ -12,7 +12,7 @@ pub returns-in-Some : goal.returns-in-Some
 returns-in-Some c =
     let known : Register = c.args.people.now in
     let p : PathOf = c.path.result.now in
-    let n : Node = c.node-node.result.now in
+    let n : Node = c.value-node.result.now in
     let path : list_all is_component p ≡ true = c.components-components.ensures.valid in
     let three : length n.flags ≡ 3 = c.flags_are_three.ensures in
     let dacl : IsListIf (user_id known) (group_id known) (user_name known) (group_name known) n.dacl =
@@ -20,4 +20,4 @@ returns-in-Some c =
     in
     let here : IsReadAgain known (p, n) = record { path = path; owner = c.user_is_found.ensures; group = c.group_is_found.ensures; flags = three; access = c.list_is_read_again.ensures; dacl = dacl } in
     subst (λ (q : PathOf). IsReadAgain known (q, c.args.file.now.1)) c.path.ensures
-    (subst (λ (m : Node). IsReadAgain known (p, m)) c.node-node.ensures here)
+    (subst (λ (m : Node). IsReadAgain known (p, m)) c.value-node.ensures here)

@@ -1,31 +1,36 @@
 use Rattle.std.proofs.Common.{◌≡◌, ◌++◌, Ok, map, sym, ap, ◌∙◌}
+use Rattle.acl_edit.specs.Nodes as nodes
 use Rattle.acl_people.specs.Registers.{Register}
 use Rattle.acl_tree.specs.Files.{Recorded}
 use Rattle.acl_tree.specs.Operands.{first_missing}
 use Rattle.acl_tree.specs.Changed.{changed_between}
 use Rattle.acl_tree.specs.Step.{State, chmod_all, or_missing}
 use Rattle.acl_tree.proofs.Told.{told_change}
+use Rattle.acl_tree.proofs.Edits.{never_fails}
 use Rattle.acl_tree.proofs.tree.Tree.chmod.Goals as goal
 
-pub returns-clause-made : goal.returns-clause-made
-returns-clause-made c =
+pub returns-in_ok-share-in-Ok-clause-made : goal.returns-in_ok-share-in-Ok-clause-made
+returns-in_ok-share-in-Ok-clause-made c =
     let tree : Recorded = chmod_all c.args.recursive c.args.paths.now c.args.mode c.args.self.now in
     let staged : State = record { tree = tree; people = c.args.people.now } in
-    let changed : c.in_ok-tree.tree ≡ tree = c.in_ok-tree.ensures.new ∙ ap (λ ps. chmod_all c.args.recursive ps c.args.mode c.args.self.now) c.as_slice-2.ensures in
+    let changed : c.in-Ok.tree ≡ tree =
+    never_fails (λ n. nodes.chmod n c.args.mode) c.args.recursive c.as_slice-2.result.now c.args.self.now c.in-Ok.tree c.is_sound.ensures.order c.in-Ok.ensures.made
+    ∙ ap (λ ps. chmod_all c.args.recursive ps c.args.mode c.args.self.now) c.as_slice-2.ensures
+    in
     let is : c.of.result.state ≡ staged =
     ap (λ s. s.state) c.of.ensures.all
-    ∙ ap (λ (t : Recorded). record { tree = t; people = c.in_ok-share.field-0 }) changed
-    ∙ ap (λ (p : Register). record { tree = tree; people = p }) c.in_ok-share.ensures
+    ∙ ap (λ (t : Recorded). record { tree = t; people = c.in_ok-share-in-Ok.field-0 }) changed
+    ∙ ap (λ (p : Register). record { tree = tree; people = p }) c.in_ok-share-in-Ok.ensures
     in
     ap (λ missing. or_missing missing staged) (ap (λ ps. first_missing ps c.args.self.now.files) (sym c.as_slice.ensures) ∙ c.in_ok-look_up.ensures.all)
     ∙ ap (λ s. Ok s) (sym is)
 
-pub returns-clause-tells : goal.returns-clause-tells
-returns-clause-tells c =
+pub returns-in_ok-share-in-Ok-clause-tells : goal.returns-in_ok-share-in-Ok-clause-tells
+returns-in_ok-share-in-Ok-clause-tells c =
     let old : State = record { tree = c.args.self.now; people = c.args.people.now } in
-    told_change old c.of.result c.in_ok-tree.tree.files
+    told_change old c.of.result c.in-Ok.tree.files
     (ap (λ s. s.state.tree.files) c.of.ensures.all)
-    (ap (λ s. s.changed) c.of.ensures.all ∙ c.in_ok-tree.ensures.told ∙ ap (λ l. map (λ r. r.value) l ++ changed_between c.args.self.now.files c.in_ok-tree.tree.files) c.new-changed.ensures.items)
-    (ap (λ s. s.gone) c.of.ensures.all ∙ ap (λ l. map (λ r. r.value) l) c.new.ensures.items ∙ sym c.in_ok-tree.ensures.gone)
+    (ap (λ s. s.changed) c.of.ensures.all ∙ c.in-Ok.ensures.told ∙ ap (λ l. map (λ r. r.value) l ++ changed_between c.args.self.now.files c.in-Ok.tree.files) c.new-changed.ensures.items)
+    (ap (λ s. s.gone) c.of.ensures.all ∙ ap (λ l. map (λ r. r.value) l) c.new.ensures.items ∙ sym c.in-Ok.ensures.gone)
     (ap (λ s. s.moved) c.of.ensures.all)
-    (ap (λ s. s.state.people) c.of.ensures.all ∙ c.in_ok-share.ensures)
+    (ap (λ s. s.state.people) c.of.ensures.all ∙ c.in_ok-share-in-Ok.ensures)

@@ -1,7 +1,0 @@
-use Rattle.std.proofs.Common.{◌≡◌, map, drop}
-use Rattle.acl_tree.specs.Below.{is_within}
-use Rattle.acl_tree.proofs.below.is_within.Given as goal
-
-abbrev pub invariant-loop-part : goal.invariant-loop-part
-invariant-loop-part l =
-    is_within (map (λ v. v.items) (drop l.part-index l.part-items)) (map (λ v. v.items) l.rest) ≡ is_within l.top l.path

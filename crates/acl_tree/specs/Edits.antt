@@ -1,0 +1,34 @@
+-- Edits of the files of a command.
+use Rattle.std.specs.Prelude.{◌≡◌, List, [], ◌∷◌, Bool, Result, Ok, Err}
+use Rattle.acl_edit.specs.Nodes as nodes
+use Rattle.acl_edit.specs.declared.edit.EditFault.{EditFault}
+use Rattle.acl_edit.specs.declared.node.Node.{Node}
+use Rattle.path_map.specs.Merged.{put_all}
+use Rattle.acl_tree.specs.declared.edit.FileFault.{FileFault}
+use Rattle.acl_tree.specs.declared.edit.FileFault.TheVariants.{Edit}
+use Rattle.acl_tree.specs.Files.{PathOf, Files, Recorded}
+use Rattle.acl_tree.specs.Operands.{files_meant}
+
+-- a directory stays a directory, and only directories have default lists
+pub record KeepsPlace (old new : Node) : Type 0 where
+  pub kind : new.kind ≡ old.kind
+  pub default : nodes.IsSound old → nodes.IsSound new
+
+-- one file edited, before others
+abbrev pub and_others : PathOf → Result Node EditFault → Result Files FileFault → Result Files FileFault
+and_others p (Err fault) others = Err (Edit p fault)
+and_others p (Ok n) (Err fault) = Err fault
+and_others p (Ok n) (Ok es) = Ok ((p, n) ∷ es)
+
+-- each file edited, or the first fault with its path
+abbrev pub edit_each : (Node → Result Node EditFault) → Files → Result Files FileFault
+edit_each edit [] = Ok []
+edit_each edit (e ∷ es) = and_others e.0 (edit e.1) (edit_each edit es)
+
+abbrev pub with_edits : Recorded → Result Files FileFault → Result Recorded FileFault
+with_edits t (Err fault) = Err fault
+with_edits t (Ok es) = Ok (record t { files = put_all es t.files })
+
+-- the tree with the files of a command edited, or the first fault in path order
+abbrev pub edit_all : (Node → Result Node EditFault) → Bool → List PathOf → Recorded → Result Recorded FileFault
+edit_all edit recursive paths t = with_edits t (edit_each edit (files_meant recursive paths t.files))

@@ -1,0 +1,77 @@
+//! chmod(1): a mode is put into files.
+
+ghost use Rattle.std.specs.Prelude.{◌≡◌, IfOk};
+ghost use Rattle.acl_tree.specs.Operands.{first_missing};
+ghost use Rattle.acl_tree.specs.Sound.{IsSoundTree};
+ghost use Rattle.acl_tree.specs.Step.{chmod_all, or_missing, Stages};
+ghost use Rattle.acl_tree.specs.Tells.{Tells};
+ghost use Rattle.acl_tree.specs.declared.moved.UsersMove.TheVariants.{Same};
+
+use crate::command::{Paths, TreeFault};
+use crate::edit::{NodeEdit, edit_files};
+use crate::moved::UsersMove;
+use crate::selection::look_up;
+use crate::staged::Staged;
+use crate::tree::Tree;
+use acl_edit::{EditFault, Node, chmod};
+use acl_people::People;
+use std::alloc::Global;
+
+/// The low twelve bits of a mode, to be put into a file.
+#[derive(Clone, Copy, Debug)]
+struct Mode {
+    bits: u16,
+}
+
+impl NodeEdit for Mode {
+    ghost use Rattle.std.specs.Prelude.{Ok};
+    ghost use Rattle.acl_edit.specs.Nodes as nodes;
+
+    ghost edited = { λ mode n. Ok (nodes.chmod n mode.bits) };
+
+    fn edited(&self, alloc: Global, node: &Node) -> Result<Node, EditFault> {
+        let mut node = node.try_clone(alloc)?;
+        chmod(&mut node, self.bits);
+        Ok(node)
+    }
+
+    fn keeps_place(&self) {}
+}
+
+impl Tree {
+    pub(crate) fn chmod(
+        &self,
+        alloc: Global,
+        people: &People,
+        paths: &Paths,
+        mode: u16,
+        recursive: bool,
+    ) -> Result<Staged, TreeFault>
+        ensures made { Stages (λ s. s.state) result (or_missing (first_missing paths.now self.now.files) (record { tree = chmod_all recursive paths.now mode self.now; people = people.now })) }
+        ensures sound { IfOk result (λ staged. IsSoundTree staged.state.tree) }
+        ensures tells { IfOk result (λ staged. Tells (record { tree = self.now; people = people.now }) staged) }
+        ensures moved { IfOk result (λ staged. staged.moved ≡ Same) }
+    {
+        self.is_sound();
+        look_up(self, alloc, paths.as_slice())?;
+        let mut changed = Vec::new(alloc);
+        let edit = Mode { bits: mode };
+        match edit_files(
+            self,
+            alloc,
+            &mut changed,
+            paths.as_slice(),
+            recursive,
+            &edit,
+        ) {
+            Ok(tree) => Ok(Staged::of(
+                tree,
+                people.share()?,
+                changed,
+                Vec::new(alloc),
+                UsersMove::Same,
+            )),
+            Err(_) => Err(TreeFault::NoMemory),
+        }
+    }
+}
