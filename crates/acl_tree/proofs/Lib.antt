@@ -3,6 +3,7 @@ pub mod Edited
 pub mod Follows
 pub mod Loaded
 pub mod Mapped
+pub mod SortedRecords
 pub mod Kept
 pub mod Changes
 pub mod Told

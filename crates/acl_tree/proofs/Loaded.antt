@@ -1,14 +1,9 @@
 -- Records of a dump in path order, and which lie below which.
 use Rattle.std.proofs.Common.{◌≡◌, ℕ, List, [], ◌∷◌, ◌++◌, map, Ordering, Less, Equal, Greater, refl, sym, ap, subst, ◌∙◌, append_assoc}
 use Rattle.std.specs.Prelude.{fold}
-use Rattle.std.specs.declared.vec.Vec.{Vec}
-use Rattle.std.specs.declared.alloc.Global.{Global}
-use Rattle.std.specs.Ordering.{match_ordering}
-use Rattle.std.specs.BTreeMap.{insert_entry}
 use Rattle.std.specs.FinMap.{put}
 use Rattle.std.specs.FinMap.Entries.{by_order}
 use Rattle.std.proofs.lemmas.List.{map-append}
-use denote.Ref.{Bor}
 use Rattle.acl_names.specs.Paths.{path_cmp}
 use Rattle.acl_names.proofs.PathOrder.{exact_paths}
 use Rattle.acl_dump.specs.declared.record.DumpRecord.{DumpRecord}
@@ -21,45 +16,6 @@ use Rattle.acl_tree.specs.Inner.{next_below, files_from, next_file_below}
 use Rattle.acl_tree.proofs.Shared.{in_order-put}
 use Rattle.acl_tree.proofs.Edited.{any-map}
 use Rattle.acl_tree.proofs.Follows.{told_by_next}
-
--- ---- the map of the records
-
-abbrev Key : Type 0
-Key = Bor (List (Vec ℕ Global))
-
-abbrev path_of : Key → PathOf
-path_of k = map (λ v. v.items) k.now
-
-abbrev pub Place : Type 0
-Place = Key × Bor DumpRecord
-
--- each record stands under its path
-abbrev pub Keyed : List Place → Type 0
-Keyed [] = Unit {0}
-Keyed (e ∷ es) = (path_of e.0 ≡ e.1.now.path) × Keyed es
-
-module _ (cmp : Key → Key → Ordering) (agrees : (a b : Key) → cmp a b ≡ path_cmp (path_of a) (path_of b)) (k : Key) (v : Bor DumpRecord) (named : path_of k ≡ v.now.path) where
-  compared : (e : Place) → path_of e.0 ≡ e.1.now.path → cmp k e.0 ≡ path_cmp v.now.path e.1.now.path
-  compared e h = agrees k e.0 ∙ ap (λ p. path_cmp p (path_of e.0)) named ∙ ap (λ p. path_cmp v.now.path p) h
-
-  pub inserted : (es : List Place) → Keyed es → map (λ e. e.1.now) (insert_entry cmp es k v) ≡ insert_record v.now (map (λ e. e.1.now) es)
-  inserted [] h = refl
-  inserted (e ∷ es) h = by (path_cmp v.now.path e.1.now.path) (compared e h.0) (inserted es h.1)
-    where
-      by : (o : Ordering) → cmp k e.0 ≡ o → map (λ e. e.1.now) (insert_entry cmp es k v) ≡ insert_record v.now (map (λ e. e.1.now) es)
-          → map (λ e. e.1.now) (match_ordering (cmp k e.0) ((k, v) ∷ e ∷ es) ((e.0, v) ∷ es) (e ∷ insert_entry cmp es k v)) ≡ by_order o (v.now ∷ e.1.now ∷ map (λ e. e.1.now) es) (v.now ∷ map (λ e. e.1.now) es) (e.1.now ∷ insert_record v.now (map (λ e. e.1.now) es))
-      by Less is rest = ap (λ o. map (λ e. e.1.now) (match_ordering o ((k, v) ∷ e ∷ es) ((e.0, v) ∷ es) (e ∷ insert_entry cmp es k v))) is
-      by Equal is rest = ap (λ o. map (λ e. e.1.now) (match_ordering o ((k, v) ∷ e ∷ es) ((e.0, v) ∷ es) (e ∷ insert_entry cmp es k v))) is
-      by Greater is rest = ap (λ o. map (λ e. e.1.now) (match_ordering o ((k, v) ∷ e ∷ es) ((e.0, v) ∷ es) (e ∷ insert_entry cmp es k v))) is ∙ ap (λ l. e.1.now ∷ l) rest
-
-  pub keyed-inserted : (es : List Place) → Keyed es → Keyed (insert_entry cmp es k v)
-  keyed-inserted [] h = (named, tt)
-  keyed-inserted (e ∷ es) h = by (cmp k e.0) refl (keyed-inserted es h.1)
-    where
-      by : (o : Ordering) → cmp k e.0 ≡ o → Keyed (insert_entry cmp es k v) → Keyed (match_ordering o ((k, v) ∷ e ∷ es) ((e.0, v) ∷ es) (e ∷ insert_entry cmp es k v))
-      by Less is rest = (named, h)
-      by Equal is rest = (h.0 ∙ sym (exact_paths v.now.path e.1.now.path (sym (compared e h.0) ∙ is)), h.1)
-      by Greater is rest = (h.0, rest)
 
 -- ---- path order
 
@@ -116,16 +72,3 @@ files_are rs = by_next (λ r. node_of (has_below (in_path_order rs) r.path) r) [
 
 pub files_in_order : (rs : List DumpRecord) → IsInOrder (files_of rs)
 files_in_order rs = in_order-records (λ r. node_of (has_below (in_path_order rs) r.path) r) rs
-
-fold_more : (rs done : List DumpRecord) (r : DumpRecord) → fold (λ sorted r. insert_record r sorted) done (rs ++ r ∷ []) ≡ insert_record r (fold (λ sorted r. insert_record r sorted) done rs)
-fold_more [] done r = refl
-fold_more (s ∷ rs) done r = fold_more rs (insert_record s done) r
-
--- one record more
-pub order_more : (rs : List DumpRecord) (r : DumpRecord) → in_path_order (rs ++ r ∷ []) ≡ insert_record r (in_path_order rs)
-order_more rs r = fold_more rs [] r
-
--- the values of a map
-pub values_seen : (es : List Place) → map (λ v. v.now) (map (λ e. e.1) es) ≡ map (λ e. e.1.now) es
-values_seen [] = refl
-values_seen (e ∷ es) = ap (λ l. e.1.now ∷ l) (values_seen es)

@@ -11,6 +11,7 @@ mod load;
 mod moved;
 mod prepare;
 mod selection;
+mod sorting;
 mod staged;
 mod tree;
 

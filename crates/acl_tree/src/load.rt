@@ -1,8 +1,8 @@
 //! A dump as a tree.
 
 ghost use Rattle.std.specs.Prelude.{◌≡◌, ◌≢◌, [], true, map, IfOk, unwrap_or};
-ghost use Rattle.std.specs.BTreeMap.{values};
-ghost use Rattle.acl_tree.specs.Loading.{in_path_order, is_directory, node_of, files_of};
+ghost use Rattle.acl_dump.specs.OwnPaths.{have_own_paths};
+ghost use Rattle.acl_tree.specs.Loading.{is_directory, node_of, files_of};
 ghost use Rattle.acl_tree.specs.Inner.{next_below, files_from};
 ghost use Rattle.acl_tree.specs.Sound.{IsSoundTree};
 ghost use Rattle.acl_tree.specs.Step.{load_dump, Stages};
@@ -12,6 +12,7 @@ ghost use Rattle.acl_tree.specs.declared.moved.UsersMove.TheVariants.{Same};
 use crate::below::is_below;
 use crate::command::TreeFault;
 use crate::moved::UsersMove;
+use crate::sorting::in_path_order;
 use crate::staged::Staged;
 use crate::tree::{Record, Tree};
 use acl_dump::{DumpRecord, DumpUse, read_dump};
@@ -22,34 +23,11 @@ use acl_people::People;
 use acl_text::{FaultKind, TextFault};
 use path_map::PathMap;
 use std::alloc::{AllocError, Global};
-use std::collections::BTreeMap;
+use std::collections::VecDeque;
 use std::rc::Rc;
 
 /// The largest number of files of a tree.
 const MAX_FILES: usize = 1048576;
-
-/// The records by their paths.
-fn places_of<'a>(
-    alloc: Global,
-    records: &'a [DumpRecord],
-) -> Result<BTreeMap<&'a [Vec<u8>], &'a DumpRecord>, AllocError>
-    ensures { IfOk result (λ places. map (λ e. e.1.now) places.entries ≡ in_path_order records.now) }
-{
-    let mut places: BTreeMap<&[Vec<u8>], &DumpRecord> = BTreeMap::new(alloc);
-    for entry in records {
-        places.insert(entry.path.components(), entry)?;
-    }
-    Ok(places)
-}
-
-fn in_order<'a>(
-    alloc: Global,
-    places: &BTreeMap<&'a [Vec<u8>], &'a DumpRecord>,
-) -> Result<Vec<&'a DumpRecord>, AllocError>
-    ensures { IfOk result (λ sorted. sorted.items ≡ values places.now) }
-{
-    places.values().copied().collect(alloc)
-}
 
 fn kind_of(has_below: bool, entry: &DumpRecord) -> Kind
     ensures { result ≡ (node_of has_below entry.now).kind }
@@ -70,46 +48,43 @@ fn id_or_root(id: Option<Id>) -> Id
     }
 }
 
-fn node_of(alloc: Global, has_below: bool, entry: &DumpRecord) -> Result<Node, AllocError>
-    ensures { IfOk result (λ node. node ≡ node_of has_below entry.now) }
+/// The file of a record.
+fn file_of(alloc: Global, has_below: bool, entry: DumpRecord) -> Result<Rc<Record>, AllocError>
+    ensures { IfOk result (λ file. file.value ≡ (entry.path, node_of has_below entry)) }
 {
-    let acl = entry.access.try_clone(alloc)?;
-    let dacl = match &entry.dacl {
-        Some(dacl) => Some(dacl.try_clone(alloc)?),
-        None => None,
-    };
-    Ok(Node {
-        kind: kind_of(has_below, entry),
+    let kind = kind_of(has_below, &entry);
+    let node = Node {
+        kind,
         label: Label {
             owner: id_or_root(entry.owner),
             group: id_or_root(entry.group),
-            acl,
+            acl: entry.access,
         },
         flags: entry.flags.unwrap_or([false; 3]),
-        dacl,
-    })
+        dacl: entry.dacl,
+    };
+    Ok(Rc::new(alloc, Record::new(Rc::new(alloc, entry.path)?, node))?)
 }
 
-fn next_below(path: &Path, following: &[&DumpRecord]) -> bool
-    ensures { result ≡ next_below path.now (map (λ r. r.now) following.now) }
+/// Whether the first of the records that follow in path order is below a path.
+fn next_below(path: &Path, following: &VecDeque<DumpRecord>) -> bool
+    ensures { result ≡ next_below path.now following.now.items }
 {
-    match following {
-        [] => false,
-        [next, ..] => is_below(path, &next.path),
+    match following.front() {
+        Some(next) => is_below(path, &next.path),
+        None => false,
     }
 }
 
-/// The files of records in path order.
-fn files_from(alloc: Global, sorted: &[&DumpRecord]) -> Result<Vec<Rc<Record>>, AllocError>
-    ensures { IfOk result (λ files. map (λ r. r.value) files.items ≡ files_from (map (λ r. r.now) sorted.now)) }
+/// The files of records that are in path order. Paths and lists are moved out of the records.
+fn files_from(alloc: Global, sorted: Vec<DumpRecord>) -> Result<Vec<Rc<Record>>, AllocError>
+    ensures { IfOk result (λ files. map (λ r. r.value) files.items ≡ files_from sorted.items) }
 {
     let mut files = Vec::with_capacity(alloc, sorted.len())?;
-    let mut rest = sorted;
-    while let [first, following @ ..] = rest {
-        let node = node_of(alloc, next_below(&first.path, following), first)?;
-        let path = Rc::new(alloc, first.path.try_clone(alloc)?)?;
-        files.push(Rc::new(alloc, Record::new(path, node))?)?;
-        rest = following;
+    let mut following = VecDeque::from(sorted);
+    while let Some(entry) = following.pop_front() {
+        let has_below = next_below(&entry.path, &following);
+        files.push(file_of(alloc, has_below, entry)?)?;
     }
     Ok(files)
 }
@@ -127,12 +102,12 @@ fn text_fault(fault: TextFault) -> TreeFault
 }
 
 /// The files of a dump's records.
-fn files_of(alloc: Global, records: &[DumpRecord]) -> Result<Vec<Rc<Record>>, AllocError>
-    ensures { IfOk result (λ files. map (λ r. r.value) files.items ≡ files_of records.now) }
+fn files_of(alloc: Global, records: Vec<DumpRecord>) -> Result<Vec<Rc<Record>>, AllocError>
+    requires { have_own_paths records.items ≡ true }
+    ensures { IfOk result (λ files. map (λ r. r.value) files.items ≡ files_of records.items) }
 {
-    let places = places_of(alloc, records)?;
-    let sorted = in_order(alloc, &places)?;
-    files_from(alloc, &sorted)
+    let sorted = in_path_order(records)?;
+    files_from(alloc, sorted)
 }
 
 /// The files of a dump as a tree.
@@ -162,7 +137,7 @@ impl Tree {
         if records.len() > MAX_FILES {
             return Err(TreeFault::TooMany);
         }
-        let files = files_of(alloc, &records)?;
+        let files = files_of(alloc, records)?;
         let tree = tree_of(alloc, &files)?;
         Ok(Staged::of(
             tree,

@@ -2,8 +2,8 @@ use Rattle.std.proofs.Common.{◌≡◌, ◌++◌, map, length}
 use Rattle.acl_tree.specs.Inner.{files_from}
 use Rattle.acl_tree.proofs.load.files_from.Given as goal
 
-abbrev pub invariant-loop-rest : goal.invariant-loop-rest
-invariant-loop-rest l = map (λ r. r.value) l.files.items ++ files_from (map (λ r. r.now) l.rest) ≡ files_from (map (λ r. r.now) l.sorted)
+abbrev pub invariant-loop-entry : goal.invariant-loop-entry
+invariant-loop-entry l = map (λ r. r.value) l.files.items ++ files_from l.following.items ≡ files_from l.fn.sorted.items
 
-abbrev pub decreases-loop-rest : goal.decreases-loop-rest
-decreases-loop-rest l = length l.rest
+abbrev pub decreases-loop-entry : goal.decreases-loop-entry
+decreases-loop-entry l = length l.following.items

@@ -8,14 +8,14 @@ use Rattle.acl_tree.proofs.tree.Tree.load_dump.Goals as goal
 
 pub tree_of-requires : goal.tree_of-requires
 tree_of-requires c =
-    subst (λ (files : Files). IsSoundTree (record { files = files; loaded = true })) (sym (ap (λ l. map (λ r. r.value) l) c.deref-2.ensures.value ∙ c.in_ok-files.ensures))
-    (loaded_sound c.deref.result.now (omega arith))
+    subst (λ (files : Files). IsSoundTree (record { files = files; loaded = true })) (sym (ap (λ l. map (λ r. r.value) l) c.deref.ensures.value ∙ c.in_ok-files.ensures))
+    (loaded_sound c.in-Ok.records.items (omega arith))
 
 pub returns-clause-tells : goal.returns-clause-tells
 returns-clause-tells c = λ none.
     let old : State = record { tree = c.args.self.now; people = c.args.people.now } in
     told_load old c.of.result none
-    (ap (λ s. s.changed) c.of.ensures.all ∙ sym (ap (λ s. s.state.tree.files) c.of.ensures.all ∙ ap (λ t. t.files) c.in_ok-tree.ensures ∙ ap (λ l. map (λ r. r.value) l) c.deref-2.ensures.value))
+    (ap (λ s. s.changed) c.of.ensures.all ∙ sym (ap (λ s. s.state.tree.files) c.of.ensures.all ∙ ap (λ t. t.files) c.in_ok-tree.ensures ∙ ap (λ l. map (λ r. r.value) l) c.deref.ensures.value))
     (ap (λ s. s.gone) c.of.ensures.all ∙ ap (λ l. map (λ r. r.value) l) c.new.ensures.items)
     (ap (λ s. s.moved) c.of.ensures.all)
     (ap (λ s. s.state.people) c.of.ensures.all ∙ c.in_ok-share.ensures)
