@@ -3,6 +3,8 @@
 use Rattle.std.specs.Prelude.{ℕ, Bool, true, false, ◌&&◌, ◌==◌, List, ◌++◌, codes, decimal, if◌then◌else◌}
 use Rattle.acl_entry.specs.declared.entry.ListFault.{ListFault}
 use Rattle.acl_entry.specs.declared.entry.ListFault.TheVariants as lists
+use Rattle.acl_edit.specs.declared.edit.EditFault.{EditFault}
+use Rattle.acl_edit.specs.declared.edit.EditFault.TheVariants as edits
 use Rattle.acl_names.specs.Names.{escaped}
 use Rattle.acl_names.specs.Paths.{path_text}
 use Rattle.acl_text.specs.declared.form.Form.TheVariants.{Long}
@@ -74,10 +76,24 @@ text_fault_text source fault = if is_of_whole_list fault then kind_text fault.ki
 
 -- ---- commands
 
+abbrev pub edit_text : EditFault → List ℕ
+edit_text edits.DefaultOnFile = codes "only directories have default lists"
+edit_text (edits.List which fault) = list_name which ++ list_text fault
+edit_text edits.NoMemory = codes "no memory"
+
 abbrev pub tree_text : TreeFault → List ℕ
 tree_text (trees.NoSuchFile path) = path_text path ++ codes ": no such file"
+tree_text (trees.NotDirectory path) = path_text path ++ codes ": not a directory"
+tree_text (trees.Exists path) = path_text path ++ codes ": exists"
+tree_text (trees.IsDirectory path) = path_text path ++ codes ": is a directory"
 tree_text (trees.NoSuchUser name) = escaped name ++ codes ": no such user"
+tree_text (trees.NoSuchGroup name) = escaped name ++ codes ": no such group"
+tree_text trees.NotMember = codes "not a member"
+tree_text (trees.Edit path fault) = path_text path ++ codes ": " ++ edit_text fault
 tree_text trees.TooMany = codes "too many files"
 tree_text trees.AlreadyLoaded = codes "already loaded"
 tree_text (trees.Text fault) = placed TextLine fault
+tree_text (trees.UserExists name) = escaped name ++ codes ": user exists"
+tree_text (trees.UidExists id) = decimal id ++ codes ": user id in use"
+tree_text trees.TooManyUsers = codes "too many users"
 tree_text trees.NoMemory = codes "no memory"

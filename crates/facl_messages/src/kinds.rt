@@ -1,7 +1,7 @@
 //! What is told of a text's fault.
 
 ghost use Rattle.std.specs.Prelude.{◌≡◌, ◌++◌, OnOk, OnErr, length, take};
-ghost use Rattle.facl_messages.specs.Texts.{is_of_whole_list, kind_text, list_name, source_name, text_fault_text};
+ghost use Rattle.facl_messages.specs.Texts.{is_of_whole_list, kind_text, list_name, list_text, source_name, text_fault_text};
 
 use crate::fault::Source;
 use crate::lists::{push_list_fault, push_numbered};
@@ -19,8 +19,12 @@ fn list_name(which: Which) -> &'static [u8]
 }
 
 /// Adds the text of a fault of one of a file's lists.
-fn push_file_list(text: &mut Vec<u8>, which: Which, fault: &ListFault) -> Result<(), AllocError>
-    ensures ok { OnOk result (text.new.items ≡ text.old.items ++ kind_text (FaultKind.List which fault.now)) }
+pub(crate) fn push_file_list(
+    text: &mut Vec<u8>,
+    which: Which,
+    fault: &ListFault,
+) -> Result<(), AllocError>
+    ensures ok { OnOk result (text.new.items ≡ text.old.items ++ (list_name which ++ list_text fault.now)) }
     ensures err { OnErr result (take (length text.old.items) text.new.items ≡ text.old.items) }
 {
     text.extend_from_slice(list_name(which))?;

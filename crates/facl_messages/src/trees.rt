@@ -1,16 +1,19 @@
 //! What is told of a command's fault.
 
-ghost use Rattle.std.specs.Prelude.{◌≡◌, ◌++◌, OnOk, OnErr, length, take};
+ghost use Rattle.std.specs.Prelude.{◌≡◌, ◌++◌, OnOk, OnErr, codes, decimal, length, take};
 ghost use Rattle.acl_names.specs.Names.{escaped};
 ghost use Rattle.acl_names.specs.Paths.{path_text};
 ghost use Rattle.facl_messages.specs.declared.fault.Source.TheVariants.{TextLine};
-ghost use Rattle.facl_messages.specs.Texts.{placed, tree_text};
+ghost use Rattle.facl_messages.specs.Texts.{placed, edit_text, tree_text};
 
-use crate::kinds::push_kind;
+use crate::kinds::{push_file_list, push_kind};
 use crate::lists::push_numbered;
+use acl_edit::EditFault;
+use acl_entry::Id;
 use acl_names::{Name, Path, append_name, append_path};
 use acl_text::TextFault;
 use acl_tree::TreeFault;
+use itoa::Buffer;
 use std::alloc::AllocError;
 
 /// Adds a path, and what is wrong with it.
@@ -40,6 +43,39 @@ fn push_in_text(text: &mut Vec<u8>, fault: &TextFault) -> Result<(), AllocError>
     push_kind(text, &fault.kind)
 }
 
+/// Adds the text of why a file is not edited.
+fn push_edit_fault(text: &mut Vec<u8>, fault: &EditFault) -> Result<(), AllocError>
+    ensures ok { OnOk result (text.new.items ≡ text.old.items ++ edit_text fault.now) }
+    ensures err { OnErr result (take (length text.old.items) text.new.items ≡ text.old.items) }
+{
+    match fault {
+        EditFault::DefaultOnFile => {
+            text.extend_from_slice(b"only directories have default lists")
+        }
+        EditFault::List(which, fault) => push_file_list(text, *which, fault),
+        EditFault::NoMemory => text.extend_from_slice(b"no memory"),
+    }
+}
+
+/// Adds a path, and why its file is not edited.
+fn push_edit_of(text: &mut Vec<u8>, path: &Path, fault: &EditFault) -> Result<(), AllocError>
+    ensures ok { OnOk result (text.new.items ≡ text.old.items ++ (path_text path.now ++ codes ": " ++ edit_text fault.now)) }
+    ensures err { OnErr result (take (length text.old.items) text.new.items ≡ text.old.items) }
+{
+    push_of_path(text, path, b": ")?;
+    push_edit_fault(text, fault)
+}
+
+/// Adds the text of an id that another user has.
+fn push_of_id(text: &mut Vec<u8>, id: Id) -> Result<(), AllocError>
+    ensures ok { OnOk result (text.new.items ≡ text.old.items ++ (decimal id ++ codes ": user id in use")) }
+    ensures err { OnErr result (take (length text.old.items) text.new.items ≡ text.old.items) }
+{
+    let mut buffer = Buffer::new();
+    text.extend_from_slice(buffer.format(id.number()).as_bytes())?;
+    text.extend_from_slice(b": user id in use")
+}
+
 /// Adds the text of why a command is refused.
 pub(crate) fn push_tree_fault(text: &mut Vec<u8>, fault: &TreeFault) -> Result<(), AllocError>
     ensures ok { OnOk result (text.new.items ≡ text.old.items ++ tree_text fault.now) }
@@ -47,10 +83,19 @@ pub(crate) fn push_tree_fault(text: &mut Vec<u8>, fault: &TreeFault) -> Result<(
 {
     match fault {
         TreeFault::NoSuchFile { path } => push_of_path(text, path, b": no such file"),
+        TreeFault::NotDirectory { path } => push_of_path(text, path, b": not a directory"),
+        TreeFault::Exists { path } => push_of_path(text, path, b": exists"),
+        TreeFault::IsDirectory { path } => push_of_path(text, path, b": is a directory"),
         TreeFault::NoSuchUser { name } => push_of_name(text, name, b": no such user"),
+        TreeFault::NoSuchGroup { name } => push_of_name(text, name, b": no such group"),
+        TreeFault::NotMember => text.extend_from_slice(b"not a member"),
+        TreeFault::Edit { path, fault } => push_edit_of(text, path, fault),
         TreeFault::TooMany => text.extend_from_slice(b"too many files"),
         TreeFault::AlreadyLoaded => text.extend_from_slice(b"already loaded"),
         TreeFault::Text(fault) => push_in_text(text, fault),
+        TreeFault::UserExists { name } => push_of_name(text, name, b": user exists"),
+        TreeFault::UidExists { id } => push_of_id(text, *id),
+        TreeFault::TooManyUsers => text.extend_from_slice(b"too many users"),
         TreeFault::NoMemory => text.extend_from_slice(b"no memory"),
     }
 }
