@@ -1,14 +1,10 @@
 -- A dump whose records have paths that are apart is read alike whether paths are watched or not.
-use Rattle.std.proofs.Common.{◌≡◌, ℕ, ◌+◌, ◌<◌, Bool, true, false, cond, List, [], ◌∷◌, ◌++◌, length, get_or, map, Option, Some, None, Result, Ok, Err, Less, Ordering, refl, sym, ap, subst, ◌∙◌, append_assoc, arith}
+use Rattle.std.proofs.Common.{◌≡◌, ℕ, Bool, true, false, cond, List, [], ◌∷◌, ◌++◌, Option, Some, None, Result, Ok, Err, refl, sym, ap, subst, ◌∙◌, append_assoc}
 use Rattle.std.specs.Prelude.{◌||◌, if◌then◌else◌}
 use Rattle.std.specs.List.{AllByRecursion, IsDistinct}
-use Rattle.std.specs.List.Sorted.{IsPermutation, IsStrictlySortedBy}
-use Rattle.std.proofs.lemmas.Cmp.{eq_by_cmp_equiv}
-use Rattle.std.proofs.lemmas.List.{append-nil, map-append, get_or-map, length-map}
-use Rattle.std.proofs.lemmas.List.Sorted.{IsPermutation-sym, IsPermutation-map}
-use Rattle.std.proofs.lemmas.Map.Keys.{IsDistinct-head, IsDistinct-tail, IsDistinct-from_sorted, IsDistinct-IsPermutation, sorted_from_all_adjacent}
-use Rattle.acl_names.specs.Paths.{path_of, path_cmp}
-use Rattle.acl_names.proofs.PathOrder.{path_total}
+use Rattle.std.proofs.lemmas.List.{append-nil, map-append}
+use Rattle.std.proofs.lemmas.Map.Keys.{IsDistinct-head, IsDistinct-tail}
+use Rattle.acl_names.specs.Paths.{path_of}
 use Rattle.acl_text.specs.declared.fault.FaultKind.{FaultKind}
 use Rattle.acl_text.specs.declared.fault.FaultKind.TheVariants as kinds
 use Rattle.acl_text.specs.declared.fault.TextFault.{TextFault}
@@ -24,29 +20,10 @@ use Rattle.acl_dump.specs.Lines.{content_of}
 use Rattle.acl_dump.specs.Records.{Numbered, same_path, is_repeated, may_head, with_entry, with_said, add, said_by, begun, begin, begins, list_of, default_list_of, has_headers, whole, record_of, close, judged, line_in, lines_of, dump_of}
 use Rattle.acl_dump.specs.Watched as watched
 use Rattle.acl_dump.specs.Again.{paths}
+use Rattle.acl_dump.proofs.ApartPaths.{flips}
 use Rattle.acl_dump.proofs.Streams.{streamed_by_groups}
 
 -- ---- paths that are apart
-
--- neighbours of a list that is seen through a function
-adjacent : {A B : Type 0} (f : A → B) (cmp : B → B → Ordering) (xs : List A) (e : B) → ((k : ℕ) (d : A) → k + 1 < length xs → cmp (f (get_or xs k d)) (f (get_or xs (k + 1) d)) ≡ Less)
-    → (k : ℕ) → k + 1 < length xs → cmp (get_or (map f xs) k e) (get_or (map f xs) (k + 1) e) ≡ Less
-adjacent f cmp [] e rising k lt = absurd (omega (arith, lt))
-adjacent f cmp (x ∷ xs) e rising k lt =
-    ap (λ a. cmp a (get_or (map f (x ∷ xs)) (k + 1) e)) (get_or-map f (x ∷ xs) k x e (omega (arith, lt)))
-    ∙ ap (λ b. cmp (f (get_or (x ∷ xs) k x)) b) (get_or-map f (x ∷ xs) (k + 1) x e lt)
-    ∙ rising k x lt
-
-pub rising_paths : {A : Type 0} (f : A → List (List ℕ)) (xs : List A) → ((k : ℕ) (d : A) → k + 1 < length xs → path_cmp (f (get_or xs k d)) (f (get_or xs (k + 1) d)) ≡ Less) → IsStrictlySortedBy path_cmp (map f xs)
-rising_paths f xs rising = sorted_from_all_adjacent path_total (map f xs) [] (λ k lt. adjacent f path_cmp xs [] rising k (omega (arith, lt, length-map xs f)))
-
-flips : (x y : List (List ℕ)) → same_path x y ≡ same_path y x
-flips x y = (eq_by_cmp_equiv path_total).symm x y
-
--- paths that rise in some order are apart in any
-pub apart_in_order : {A : Type 0} (f : A → List (List ℕ)) (xs ys : List A) → IsPermutation xs ys → IsStrictlySortedBy path_cmp (map f ys) → IsDistinct same_path (map f xs)
-apart_in_order f xs ys order rising =
-    IsDistinct-IsPermutation same_path flips (map f ys) (map f xs) (IsPermutation-map f ys xs (IsPermutation-sym xs ys order)) (IsDistinct-from_sorted path_cmp (map f ys) rising)
 
 middle : {X : Type 0} (P : X → Type 0) (xs : List X) (x : X) (rest : List X) → AllByRecursion P ((xs ++ x ∷ []) ++ rest) → P x
 middle P [] x rest h = h.0

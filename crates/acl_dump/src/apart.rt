@@ -1,6 +1,6 @@
 //! Whether the paths of records are apart.
 
-ghost use Rattle.std.specs.Prelude.{◌≡◌, ℕ, List, IfOk, true, map};
+ghost use Rattle.std.specs.Prelude.{◌≡◌, ◌↔◌, ℕ, List, IfOk, true, map};
 ghost use Rattle.std.specs.List.{IsDistinct};
 ghost use Rattle.std.specs.List.Sorted.{IsStrictlySortedBy};
 ghost use Rattle.acl_names.specs.Paths.{path_cmp};
@@ -12,10 +12,9 @@ use acl_names::Path;
 use std::alloc::{AllocError, Global};
 use std::cmp::Ordering;
 
-/// Whether no two of the records have one path: true only then. It takes one walk where they come in path
-/// order.
+/// Whether no two of the records have one path. It takes one walk where they come in path order.
 pub(crate) fn are_apart(alloc: Global, records: &[DumpRecord]) -> Result<bool, AllocError>
-    ensures { IfOk result (λ apart. apart ≡ true → IsDistinct same_path (paths records.now)) }
+    ensures { IfOk result (λ apart. (apart ≡ true) ↔ IsDistinct same_path (paths records.now)) }
 {
     let mut paths = paths_of(alloc, records)?;
     paths.sort_by(|a, b| a.order(b))?;
@@ -35,7 +34,7 @@ fn paths_of<'a>(alloc: Global, records: &'a [DumpRecord]) -> Result<Vec<&'a Path
 
 /// Whether each path comes after the one before it.
 fn rise(all: &[&Path]) -> bool
-    ensures { result ≡ true → IsStrictlySortedBy path_cmp (map (λ p. p.now) all.now) }
+    ensures { (result ≡ true) ↔ IsStrictlySortedBy path_cmp (map (λ p. p.now) all.now) }
 {
     let mut place = 1;
     while place < all.len() {

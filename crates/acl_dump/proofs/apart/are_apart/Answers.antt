@@ -1,9 +1,19 @@
-use Rattle.std.proofs.Common.{subst, sym}
+use Rattle.std.proofs.Common.{◌≡◌, subst, sym, ap, rules}
 use Rattle.std.specs.List.{IsDistinct}
-use Rattle.std.specs.List.Sorted.{IsPermutation}
+use Rattle.std.specs.List.Sorted.{IsPermutation, IsSortedBy}
+use Rattle.std.specs.Ordering.{is_lt}
+use Rattle.std.proofs.lemmas.Fn.{always_returns_same}
+use Rattle.std.proofs.lemmas.List.MinMax.{ranks_by}
+use Rattle.acl_names.specs.Paths.{path_cmp}
+use Rattle.acl_names.proofs.PathOrder.{path_total}
 use Rattle.acl_dump.specs.Records.{same_path}
-use Rattle.acl_dump.proofs.WatchedPaths.{apart_in_order}
+use Rattle.acl_dump.proofs.ApartPaths.{apart_in_order, sorted_rise_again}
 use Rattle.acl_dump.proofs.apart.are_apart.Goals as goal
 
 pub returns : goal.returns
-returns c = λ rising. subst (IsDistinct same_path) c.in_ok-paths.ensures (apart_in_order (λ p. p.now) c.in_ok-paths.paths.items c.deref.result.now (subst (λ ys. IsPermutation c.in_ok-paths.paths.items ys) (sym c.deref.ensures.value) c.sort_by.ensures.permutation) (c.rise.ensures rising))
+returns c =
+    let order = subst (λ ys. IsPermutation c.in_ok-paths.paths.items ys) (sym c.deref.ensures.value) c.sort_by.ensures.permutation in
+    let sorted = c.in_ok-sort_by.ensures.sorted (λ x y. is_lt (path_cmp x.now y.now)) (ranks_by path_total (λ p. p.now)) (always_returns_same _ (λ a r. is_lt r ≡ is_lt (path_cmp a.0.now.now a.1.0.now.now)) c.sort_by.new.compare (λ a r f' k. let w : (r ≡ path_cmp a.0.now.now a.1.0.now.now) × (f' ≡ c.sort_by.new.compare) = search rules in (ap is_lt w.0, w.1))) in (
+      λ rising. subst (IsDistinct same_path) c.in_ok-paths.ensures (apart_in_order (λ p. p.now) c.in_ok-paths.paths.items c.deref.result.now order (c.rise.ensures.0 rising)),
+      λ apart. c.rise.ensures.1 (sorted_rise_again (λ p. p.now) c.in_ok-paths.paths.items c.deref.result.now order (subst (IsSortedBy (λ x y. is_lt (path_cmp x.now y.now))) (sym c.deref.ensures.value) sorted) (subst (IsDistinct same_path) (sym c.in_ok-paths.ensures) apart)),
+    )

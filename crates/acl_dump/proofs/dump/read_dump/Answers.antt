@@ -13,7 +13,7 @@ pub returns-then-branch-clause-made : goal.returns-then-branch-clause-made
 returns-then-branch-clause-made g c =
     let user_id = g.N.Names.user_id c.args.names.now in
     let group_id = g.N.Names.group_id c.args.names.now in
-    let apart = subst (λ records. IsDistinct same_path (paths records)) c.deref.ensures.value (c.in_ok-are_apart-in-Ok.ensures c.if-branch.true) in
+    let apart = subst (λ records. IsDistinct same_path (paths records)) c.deref.ensures.value (c.in_ok-are_apart-in-Ok.ensures.0 c.if-branch.true) in
     sym (watched_dump user_id group_id c.args.dump_use c.args.bytes.now)
     ∙ watched_alike user_id group_id c.args.dump_use (lines_of c.args.bytes.now) [] None c.in-Ok.records.items c.in-Ok.ensures apart
 
