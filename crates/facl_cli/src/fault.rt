@@ -1,6 +1,6 @@
 //! Why the program ends with 2, and the line that it prints.
 
-ghost use Rattle.std.specs.Prelude.{◌≡◌, true, false, IfOk, OnOk, OnErr};
+ghost use Rattle.std.specs.Prelude.{◌≡◌, true, false, IfOk, IfErr, OnOk, OnErr};
 ghost use Rattle.std.specs.Io.KnownBytes.{Appends};
 ghost use Rattle.facl_cli.specs.declared.fault.ProgramFault.TheVariants as faults;
 ghost use Rattle.facl_cli.specs.Lines.{IsLineTold, fault_by_words, fault_line, unread_line};
@@ -64,6 +64,7 @@ fn write_run_fault<E: Sink>(alloc: Global, fault: &RunFault, err: &mut E) -> Res
     requires { E.has_failed err.old ≡ false }
     ensures ok { OnOk result (IsLineTold (faults.Run fault.now) (E.contents err.old) (E.contents err.new)) }
     ensures err { OnErr result (E.has_failed err.new ≡ true) }
+    ensures which { IfErr result (λ e. e ≡ ScriptFault.Write) }
 {
     match fault {
         RunFault::Read => write_whole(err, b"facl: read fault\n"),
@@ -82,6 +83,7 @@ fn write_unread<E: Sink>(file: &str, err: &mut E) -> Result<(), ScriptFault>
     requires { E.has_failed err.old ≡ false }
     ensures ok { OnOk result (Appends (E.contents err.old) (E.contents err.new) (unread_line file.now)) }
     ensures err { OnErr result (E.has_failed err.new ≡ true) }
+    ensures which { IfErr result (λ e. e ≡ ScriptFault.Write) }
 {
     write_whole(err, b"facl: ")?;
     write_whole(err, file.as_bytes())?;
@@ -98,6 +100,7 @@ pub fn write_fault<E: Sink>(
     requires { E.has_failed err.old ≡ false }
     ensures ok { OnOk result (IsLineTold fault.now (E.contents err.old) (E.contents err.new)) }
     ensures err { OnErr result (E.has_failed err.new ≡ true) }
+    ensures which { IfErr result (λ e. e ≡ ScriptFault.Write) }
 {
     match fault {
         ProgramFault::Usage => write_whole(err, b"facl: usage\n"),
