@@ -10,14 +10,14 @@ use Rattle.acl_people.specs.declared.fault.LoadFault.{LoadFault}
 use Rattle.acl_people.specs.declared.fault.LoadFault.TheVariants as loads
 use Rattle.acl_people.specs.contracts.people.People as people_contracts
 use Rattle.acl_people.specs.Rolls.{id_named}
-use Rattle.acl_people.specs.Registers.{Register, users_of, groups_of, load_passwd, load_group}
+use Rattle.acl_people.specs.Registers.{Register, nobody, users_of, groups_of, load_passwd, load_group}
 use Rattle.acl_tree.specs.declared.command.Command.{Command}
 use Rattle.acl_tree.specs.declared.command.Command.TheVariants.{Load, Chmod}
 use Rattle.acl_tree.specs.declared.command.Table.{Table}
 use Rattle.acl_tree.specs.declared.command.Table.TheVariants.{Passwd, Group, Dump}
 use Rattle.acl_tree.specs.declared.command.TreeFault.{TreeFault}
 use Rattle.acl_tree.specs.declared.command.TreeFault.TheVariants.{NoSuchFile, TooMany, AlreadyLoaded, Text, NoMemory}
-use Rattle.acl_tree.specs.Files.{PathOf, Recorded, coded_recorded, max_files}
+use Rattle.acl_tree.specs.Files.{PathOf, Recorded, coded_recorded, no_files, max_files}
 use Rattle.acl_tree.specs.Loading.{files_of}
 use Rattle.acl_tree.specs.Operands.{is_file, first_missing, edit_files}
 
@@ -29,6 +29,13 @@ pub record State : Type 0 where
 abbrev pub coded_state : Coded State
 coded_state =
     code_by (Recorded × Register) (coded× coded_recorded people_contracts.the_row.coded) (λ s. (s.tree, s.people)) (λ p. record { tree = p.0; people = p.1 }) (λ _. refl)
+
+abbrev pub state_from : Recorded → Register → State
+state_from tree people = record { tree = tree; people = people }
+
+-- no file is recorded, and nobody is known
+abbrev pub nothing : State
+nothing = state_from no_files nobody
 
 -- ---- chmod
 
@@ -84,7 +91,7 @@ loads_again s (Chmod paths mode recursive) = false
 
 -- the state after a command, or its first fault
 abbrev pub step : State → Command → Result State TreeFault
-step s (Load which bytes) = load s which bytes.items
+step s (Load which bytes) = load s which bytes.now
 step s (Chmod paths mode recursive) = or_missing (first_missing paths s.tree.files) (record s { tree = chmod_all recursive paths mode s.tree })
 
 -- A call stages the state after a step, or tells exactly its fault, unless memory ran out.

@@ -3,7 +3,7 @@
 ghost use Rattle.std.specs.Prelude.{◌≡◌, IfOk};
 ghost use Rattle.acl_tree.specs.Operands.{first_missing};
 ghost use Rattle.acl_tree.specs.Sound.{IsSoundTree};
-ghost use Rattle.acl_tree.specs.Step.{chmod_all, or_missing, Stages};
+ghost use Rattle.acl_tree.specs.Step.{chmod_all, or_missing, Stages, state_from};
 ghost use Rattle.acl_tree.specs.Tells.{Tells};
 ghost use Rattle.acl_tree.specs.declared.moved.UsersMove.TheVariants.{Same};
 
@@ -47,9 +47,9 @@ impl Tree {
         mode: u16,
         recursive: bool,
     ) -> Result<Staged, TreeFault>
-        ensures made { Stages (λ s. s.state) result (or_missing (first_missing paths.now self.now.files) (record { tree = chmod_all recursive paths.now mode self.now; people = people.now })) }
+        ensures made { Stages (λ s. s.state) result (or_missing (first_missing paths.now self.now.files) (state_from (chmod_all recursive paths.now mode self.now) people.now)) }
         ensures sound { IfOk result (λ staged. IsSoundTree staged.state.tree) }
-        ensures tells { IfOk result (λ staged. Tells (record { tree = self.now; people = people.now }) staged) }
+        ensures tells { IfOk result (λ staged. Tells (state_from self.now people.now) staged) }
         ensures moved { IfOk result (λ staged. staged.moved ≡ Same) }
     {
         self.is_sound();

@@ -51,13 +51,13 @@ impl Paths {
     }
 }
 
-/// A command on the whole state.
+/// A command on the whole state. It borrows the text that it loads.
 #[derive(Debug, Drop)]
-pub enum Command {
+pub enum Command<'a> {
     /// Loads a text. Each kind is loaded once, and people before files.
     Load {
         which: Table,
-        bytes: Vec<u8>,
+        bytes: &'a [u8],
     },
     /// Puts the low twelve bits of a mode into the operands, with `recursive` also into all files below
     /// them: chmod(1).

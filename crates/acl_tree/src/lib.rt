@@ -13,6 +13,7 @@ mod prepare;
 mod selection;
 mod sorting;
 mod staged;
+mod state;
 mod tree;
 
 pub use acl_people::People;
@@ -21,4 +22,5 @@ pub use found::Found;
 pub use laws::each_record_is_a_file;
 pub use moved::UsersMove;
 pub use staged::Staged;
+pub use state::State;
 pub use tree::{Files, Record, Tree};

@@ -5,7 +5,7 @@ ghost use Rattle.acl_dump.specs.OwnPaths.{have_own_paths};
 ghost use Rattle.acl_tree.specs.Loading.{is_directory, node_of, files_of};
 ghost use Rattle.acl_tree.specs.Inner.{next_below, files_from};
 ghost use Rattle.acl_tree.specs.Sound.{IsSoundTree};
-ghost use Rattle.acl_tree.specs.Step.{load_dump, Stages};
+ghost use Rattle.acl_tree.specs.Step.{load_dump, Stages, state_from};
 ghost use Rattle.acl_tree.specs.Tells.{Tells};
 ghost use Rattle.acl_tree.specs.declared.moved.UsersMove.TheVariants.{Same};
 
@@ -125,9 +125,9 @@ impl Tree {
         people: &People,
         bytes: &[u8],
     ) -> Result<Staged, TreeFault>
-        ensures made { Stages (λ s. s.state) result (load_dump (record { tree = self.now; people = people.now }) bytes.now) }
+        ensures made { Stages (λ s. s.state) result (load_dump (state_from self.now people.now) bytes.now) }
         ensures sound { IfOk result (λ staged. IsSoundTree staged.state.tree) }
-        ensures tells { IfOk result (λ staged. self.now.files ≡ [] → Tells (record { tree = self.now; people = people.now }) staged) }
+        ensures tells { IfOk result (λ staged. self.now.files ≡ [] → Tells (state_from self.now people.now) staged) }
         ensures moved { IfOk result (λ staged. staged.moved ≡ Same) }
     {
         let records = match read_dump(alloc, bytes, DumpUse::Load, people) {

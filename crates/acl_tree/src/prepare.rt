@@ -1,7 +1,7 @@
 //! Commands on the whole state: each is prepared whole, or refused.
 
 ghost use Rattle.std.specs.Prelude.{◌≡◌, [], true, IfOk, IfErr, OnOk, Err};
-ghost use Rattle.acl_tree.specs.Step.{tree_fault, load, is_loaded, loads_again, step, Stages};
+ghost use Rattle.acl_tree.specs.Step.{tree_fault, load, is_loaded, loads_again, step, Stages, state_from};
 ghost use Rattle.acl_tree.specs.declared.command.TreeFault.TheVariants.{AlreadyLoaded, NoMemory};
 ghost use Rattle.acl_people.specs.Registers.{Register};
 ghost use Rattle.acl_tree.specs.Sound.{IsSoundTree};
@@ -38,12 +38,12 @@ impl Tree {
         &self,
         alloc: Global,
         people: &People,
-        command: &Command,
+        command: &Command<'_>,
     ) -> Result<Staged, TreeFault>
-        ensures made { Stages (λ s. s.state) result (step (record { tree = self.now; people = people.now }) command.now) }
-        ensures loaded { loads_again (record { tree = self.now; people = people.now }) command.now ≡ true → result ≡ Err AlreadyLoaded }
+        ensures made { Stages (λ s. s.state) result (step (state_from self.now people.now) command.now) }
+        ensures loaded { loads_again (state_from self.now people.now) command.now ≡ true → result ≡ Err AlreadyLoaded }
         ensures sound { IfOk result (λ staged. IsSoundTree staged.state.tree) }
-        ensures tells { IfOk result (λ staged. Tells (record { tree = self.now; people = people.now }) staged) }
+        ensures tells { IfOk result (λ staged. Tells (state_from self.now people.now) staged) }
         ensures moved { IfOk result (λ staged. staged.moved ≡ users_move command.now) }
     {
         match command {
@@ -63,10 +63,10 @@ impl Tree {
         which: Table,
         bytes: &[u8],
     ) -> Result<Staged, TreeFault>
-        ensures made { Stages (λ s. s.state) result (load (record { tree = self.now; people = people.now }) which bytes.now) }
-        ensures loaded { is_loaded (record { tree = self.now; people = people.now }) which ≡ true → result ≡ Err AlreadyLoaded }
+        ensures made { Stages (λ s. s.state) result (load (state_from self.now people.now) which bytes.now) }
+        ensures loaded { is_loaded (state_from self.now people.now) which ≡ true → result ≡ Err AlreadyLoaded }
         ensures sound { IfOk result (λ staged. IsSoundTree staged.state.tree) }
-        ensures tells { IfOk result (λ staged. Tells (record { tree = self.now; people = people.now }) staged) }
+        ensures tells { IfOk result (λ staged. Tells (state_from self.now people.now) staged) }
         ensures moved { IfOk result (λ staged. staged.moved ≡ load_moves which) }
     {
         self.is_sound();
@@ -85,10 +85,10 @@ impl Tree {
         alloc: Global,
         loaded: Result<People, LoadFault>,
     ) -> Result<Staged, TreeFault>
-        ensures ok { IfOk loaded (λ people. IfOk result (λ staged. staged ≡ record { state = record { tree = self.now; people = people }; changed = []; gone = []; moved = Loaded })) }
+        ensures ok { IfOk loaded (λ people. IfOk result (λ staged. staged ≡ record { state = state_from self.now people; changed = []; gone = []; moved = Loaded })) }
         ensures moved { IfOk result (λ staged. staged.moved ≡ Loaded) }
         ensures sound { IfOk result (λ staged. IsSoundTree staged.state.tree) }
-        ensures tells { IfOk result (λ staged. (people : Register) → self.now.files ≡ [] → Tells (record { tree = self.now; people = people }) staged) }
+        ensures tells { IfOk result (λ staged. (people : Register) → self.now.files ≡ [] → Tells (state_from self.now people) staged) }
         ensures err { IfErr loaded (λ fault. result ≡ Err (tree_fault fault)) }
         ensures memory { OnOk loaded (IfErr result (λ fault. fault ≡ NoMemory)) }
     {

@@ -10,9 +10,9 @@ use std::test::Fail;
 fn dump_fault(alloc: Global, text: &[u8]) -> Result<Option<TextFault>, Fail> {
     let mut tree = Tree::new(alloc);
     let mut people = People::new(alloc)?;
-    let passwd = load(alloc, Table::Passwd, PASSWD)?;
-    let group = load(alloc, Table::Group, GROUP)?;
-    let dump = load(alloc, Table::Dump, text)?;
+    let passwd = load(Table::Passwd, PASSWD);
+    let group = load(Table::Group, GROUP);
+    let dump = load(Table::Dump, text);
     let _ = run(alloc, &mut tree, &mut people, &passwd);
     let _ = run(alloc, &mut tree, &mut people, &group);
     let refused = run(alloc, &mut tree, &mut people, &dump);
@@ -71,7 +71,7 @@ fn texts_are_loaded_once_and_people_first(rt: HostRuntime) -> Result<(), Fail> {
     let mut tree = Tree::new(alloc);
     let mut people = People::new(alloc)?;
     assert!(rt; !tree.is_loaded());
-    let passwd = load(alloc, Table::Passwd, PASSWD)?;
+    let passwd = load(Table::Passwd, PASSWD);
     assert!(rt; run(alloc, &mut tree, &mut people, &passwd).is_none());
     assert!(rt;
         matches!(
@@ -80,10 +80,9 @@ fn texts_are_loaded_once_and_people_first(rt: HostRuntime) -> Result<(), Fail> {
         )
     );
     let dump = load(
-        alloc,
         Table::Dump,
         b"# file: a/\n# owner: 4294967294\n# group: 50\nuser::rwx\ngroup::r-x\nother::r-x\n",
-    )?;
+    );
     assert!(rt; run(alloc, &mut tree, &mut people, &dump).is_none());
     assert!(rt; tree.is_loaded());
     let name = path(&rt, alloc, b"a")?;
@@ -96,7 +95,7 @@ fn texts_are_loaded_once_and_people_first(rt: HostRuntime) -> Result<(), Fail> {
             Some(TreeFault::AlreadyLoaded)
         )
     );
-    let group = load(alloc, Table::Group, b"not a row")?;
+    let group = load(Table::Group, b"not a row");
     assert!(rt;
         matches!(
             run(alloc, &mut tree, &mut people, &group),

@@ -22,20 +22,17 @@ pub const DUMP: &[u8] =
 pub fn setup(rt: &impl Abort, alloc: Global) -> Result<(Tree, People), Fail> {
     let mut tree = Tree::new(alloc);
     let mut people = People::new(alloc)?;
-    let passwd = load(alloc, Table::Passwd, PASSWD)?;
-    let group = load(alloc, Table::Group, GROUP)?;
-    let dump = load(alloc, Table::Dump, DUMP)?;
+    let passwd = load(Table::Passwd, PASSWD);
+    let group = load(Table::Group, GROUP);
+    let dump = load(Table::Dump, DUMP);
     assert!(rt; run(alloc, &mut tree, &mut people, &passwd).is_none());
     assert!(rt; run(alloc, &mut tree, &mut people, &group).is_none());
     assert!(rt; run(alloc, &mut tree, &mut people, &dump).is_none());
     Ok((tree, people))
 }
 
-pub fn load(alloc: Global, which: Table, bytes: &[u8]) -> Result<Command, Fail> {
-    Ok(Command::Load {
-        which,
-        bytes: Vec::from_slice(alloc, bytes)?,
-    })
+pub fn load(which: Table, bytes: &[u8]) -> Command<'_> {
+    Command::Load { which, bytes }
 }
 
 /// Runs a command, which is refused where a fault is given back.
@@ -43,7 +40,7 @@ pub fn run(
     alloc: Global,
     tree: &mut Tree,
     people: &mut People,
-    command: &Command,
+    command: &Command<'_>,
 ) -> Option<TreeFault> {
     match tree.prepare(alloc, people, command) {
         Ok(staged) => {
@@ -64,7 +61,7 @@ pub fn chmod(
     mode: u16,
     recursive: bool,
     names: &[&[u8]],
-) -> Result<Command, Fail> {
+) -> Result<Command<'static>, Fail> {
     let mut paths = Vec::new(alloc);
     for name in names {
         paths.push(path(rt, alloc, name)?)?;

@@ -40,7 +40,7 @@ fn are_same_people(people: &People, other: &People) -> bool {
 fn changes_nothing(
     alloc: Global,
     state: &mut (Tree, People),
-    command: &Command,
+    command: &Command<'_>,
     other: &(Tree, People),
 ) -> bool {
     let (tree, people) = state;
@@ -55,9 +55,9 @@ fn refusals_leave_a_loaded_state(rt: HostRuntime) -> Result<(), Fail> {
     let mut state = setup(&rt, alloc)?;
     let other = setup(&rt, alloc)?;
     let refused = [
-        load(alloc, Table::Passwd, PASSWD)?,
-        load(alloc, Table::Group, GROUP)?,
-        load(alloc, Table::Dump, DUMP)?,
+        load(Table::Passwd, PASSWD),
+        load(Table::Group, GROUP),
+        load(Table::Dump, DUMP),
         chmod(&rt, alloc, 0o777, true, &[b"d", b"nosuch"])?,
     ];
     for command in &refused {
@@ -73,12 +73,11 @@ fn faulty_texts_leave_an_empty_state(rt: HostRuntime) -> Result<(), Fail> {
     let other = (Tree::new(alloc), People::new(alloc)?);
     let refused = [
         load(
-            alloc,
             Table::Passwd,
             b"lisa:x:1001:50:Lisa:/home/lisa:/bin/sh\nno row\n",
-        )?,
-        load(alloc, Table::Group, b"staff:x:50:\nno row\n")?,
-        load(alloc, Table::Dump, b"# file: a\n# owner: lisa\n")?,
+        ),
+        load(Table::Group, b"staff:x:50:\nno row\n"),
+        load(Table::Dump, b"# file: a\n# owner: lisa\n"),
     ];
     for command in &refused {
         assert!(rt; changes_nothing(alloc, &mut state, command, &other));

@@ -9,9 +9,9 @@ fn a_dump_tells_every_file(rt: HostRuntime) -> Result<(), Fail> {
     let alloc = rt.alloc();
     let mut tree = Tree::new(alloc);
     let mut people = People::new(alloc)?;
-    let passwd = load(alloc, Table::Passwd, PASSWD)?;
-    let group = load(alloc, Table::Group, GROUP)?;
-    let dump = load(alloc, Table::Dump, DUMP)?;
+    let passwd = load(Table::Passwd, PASSWD);
+    let group = load(Table::Group, GROUP);
+    let dump = load(Table::Dump, DUMP);
     let _ = run(alloc, &mut tree, &mut people, &passwd);
     let staged = tree.prepare(alloc, &people, &group)?;
     let moved = matches!(staged.moved(), UsersMove::Loaded);

@@ -1,19 +1,13 @@
 -- What stands before the first line of a script.
 use Rattle.std.specs.Prelude.{ℕ, List, Option, None, Some, option_map, Result, Ok, Err}
-use Rattle.acl_people.specs.Registers.{nobody}
 use Rattle.acl_tree.specs.declared.command.Table.{Table}
 use Rattle.acl_tree.specs.declared.command.Table.TheVariants.{Passwd, Group, Dump}
 use Rattle.acl_tree.specs.declared.command.TreeFault.{TreeFault}
-use Rattle.acl_tree.specs.Files.{no_files}
-use Rattle.acl_tree.specs.Step.{State, load}
+use Rattle.acl_tree.specs.Step.{State, nothing, load}
 use Rattle.facl_messages.specs.declared.fault.RunFault.{RunFault}
 use Rattle.facl_messages.specs.declared.fault.RunFault.TheVariants as runs
 use Rattle.facl.specs.declared.setup.Setup.{Setup}
 use Rattle.facl.specs.Replies.{after}
-
--- nobody is known, and no file
-abbrev pub nothing : State
-nothing = record { tree = no_files; people = nobody }
 
 abbrev pub set_up : Table → Result State TreeFault → Result State RunFault
 set_up which (Ok s) = Ok s

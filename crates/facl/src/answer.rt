@@ -7,7 +7,7 @@ ghost use Rattle.facl.specs.Sessions.{state_of, out_of, err_of};
 
 use crate::line::is_silent;
 use crate::session::Facl;
-use crate::state::State;
+use acl_tree::State;
 use facl_script::{Session, UnitFound};
 
 impl Session for Facl {

@@ -6,9 +6,9 @@ ghost use Rattle.facl.specs.Tools.{can_at, can_line, can_user};
 
 use crate::effect::Effect;
 use crate::operands::{file_at, path_at, user_meant};
-use crate::state::State;
 use acl_entry::{Subject, granted};
 use acl_names::Path;
+use acl_tree::State;
 use facl_listings::append_requests;
 use facl_messages::LineFault;
 use facl_words::Words;
@@ -19,7 +19,7 @@ use std::alloc::Global;
 fn can_user(alloc: Global, state: &State, path: Path, user: &Subject) -> Result<Effect, LineFault>
     ensures { Gives (left state.now) result (can_user rights state.now path user.now) }
 {
-    let node = file_at(&state.tree, path)?;
+    let node = file_at(state.tree(), path)?;
     let mut out = Vec::new(alloc);
     append_requests(&mut out, granted(user, &node.label))?;
     Ok(Effect::Prints(out))
@@ -29,7 +29,7 @@ fn can_user(alloc: Global, state: &State, path: Path, user: &Subject) -> Result<
 fn can_at(alloc: Global, state: &State, word: &str, path: Path) -> Result<Effect, LineFault>
     ensures { Gives (left state.now) result (can_at rights state.now word.now path) }
 {
-    let user = user_meant(alloc, &state.people, word)?;
+    let user = user_meant(alloc, state.people(), word)?;
     can_user(alloc, state, path, user)
 }
 

@@ -4,15 +4,18 @@ ghost use Rattle.facl.specs.Replies.{Gives, left, changed};
 ghost use Rattle.acl_tree.specs.Step.{step};
 
 use crate::effect::Effect;
-use crate::state::State;
-use acl_tree::Command;
+use acl_tree::{Command, State};
 use facl_messages::LineFault;
 use std::alloc::Global;
 
 /// The state after a command, prepared. The state that stands is left as it is.
-pub(crate) fn prepare(alloc: Global, state: &State, command: &Command) -> Result<Effect, LineFault>
+pub(crate) fn prepare(
+    alloc: Global,
+    state: &State,
+    command: &Command<'_>,
+) -> Result<Effect, LineFault>
     ensures { Gives (left state.now) result (changed (step state.now command.now)) }
 {
-    let staged = state.tree.prepare(alloc, &state.people, command)?;
+    let staged = state.prepare(alloc, command)?;
     Ok(Effect::Changes(staged))
 }

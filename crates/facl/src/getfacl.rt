@@ -6,8 +6,8 @@ ghost use Rattle.facl.specs.Tools.{effective_for, options_of, getfacl_line};
 
 use crate::effect::Effect;
 use crate::operands::paths_of;
-use crate::state::State;
 use acl_dump::Effective;
+use acl_tree::State;
 use facl_listings::{Options, append_listing};
 use facl_messages::LineFault;
 use facl_words::Words;
@@ -46,8 +46,10 @@ pub(crate) fn getfacl(alloc: Global, state: &State, words: &Words) -> Result<Eff
     ensures { Gives (left state.now) result (getfacl_line state.now words.now) }
 {
     let paths = paths_of(alloc, words.operands.starting_at(FILES))?;
-    let files = state.tree.files(alloc, &paths, words.flags.has(RECURSIVE))?;
+    let files = state
+        .tree()
+        .files(alloc, &paths, words.flags.has(RECURSIVE))?;
     let mut out = Vec::new(alloc);
-    append_listing(&mut out, &state.people, &options_of(words), &files)?;
+    append_listing(&mut out, state.people(), &options_of(words), &files)?;
     Ok(Effect::Prints(out))
 }

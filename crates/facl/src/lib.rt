@@ -17,7 +17,6 @@ mod operands;
 mod program;
 mod session;
 mod setup;
-mod state;
 mod status;
 mod tools;
 

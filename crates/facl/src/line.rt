@@ -9,8 +9,8 @@ ghost use Rattle.facl.specs.Replies.{Gives, left};
 ghost use Rattle.facl.specs.Units.{is_silent, words_said, tool_or_fault, text_or_fault, words_or_fault, reply, tool_word};
 
 use crate::effect::Effect;
-use crate::state::State;
 use crate::tools::{is_served, tool_line};
+use acl_tree::State;
 use facl_messages::LineFault;
 use facl_script::{TextFound, says_nothing, split_words};
 use facl_words::{Tool, read_words};

@@ -8,8 +8,7 @@ ghost use Rattle.facl.specs.Tools.{table_named, load_line};
 
 use crate::change::prepare;
 use crate::effect::Effect;
-use crate::state::State;
-use acl_tree::{Command, Table};
+use acl_tree::{Command, State, Table};
 use facl_messages::LineFault;
 use facl_words::Words;
 use facl_words::places::load::TABLE;
@@ -36,7 +35,7 @@ pub(crate) fn load(
 {
     let command = Command::Load {
         which: table_named(words.operands.get(TABLE)),
-        bytes: Vec::from_slice(alloc, text)?,
+        bytes: text,
     };
     prepare(alloc, state, &command)
 }

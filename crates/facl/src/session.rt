@@ -12,7 +12,7 @@ ghost use Rattle.facl.specs.Sessions.{state_of, out_of, err_of, wants_memory, Is
 
 use crate::effect::Effect;
 use crate::line::{reply, tool_word, words_said};
-use crate::state::State;
+use acl_tree::State;
 use facl_messages::{LineFault, Spare, append_message};
 use facl_script::{TextFound, UnitFound};
 use std::alloc::{AllocError, Global};

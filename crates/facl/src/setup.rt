@@ -4,8 +4,7 @@ ghost use Rattle.std.specs.Prelude.{◌≡◌, ◌≢◌, Ok, Err, MatchResult, 
 ghost use Rattle.facl_messages.specs.declared.fault.RunFault.TheVariants.{NoMemory};
 ghost use Rattle.facl.specs.Setups.{with_text, begun};
 
-use crate::state::State;
-use acl_tree::{Command, Table, TreeFault};
+use acl_tree::{Command, State, Table, TreeFault};
 use facl_messages::RunFault;
 use std::alloc::Global;
 
@@ -34,11 +33,8 @@ fn with_text(
     let Some(text) = text else {
         return Ok(state);
     };
-    let command = Command::Load {
-        which,
-        bytes: Vec::from_slice(alloc, text)?,
-    };
-    match state.tree.prepare(alloc, &state.people, &command) {
+    let command = Command::Load { which, bytes: text };
+    match state.prepare(alloc, &command) {
         Ok(staged) => {
             state.commit(staged);
             Ok(state)

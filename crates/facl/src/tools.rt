@@ -11,7 +11,7 @@ use crate::chmod::chmod;
 use crate::effect::Effect;
 use crate::getfacl::getfacl;
 use crate::load::load;
-use crate::state::State;
+use acl_tree::State;
 use facl_messages::LineFault;
 use facl_words::{Tool, Words};
 use std::alloc::Global;

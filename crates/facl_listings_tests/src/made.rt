@@ -28,10 +28,7 @@ fn load(
     which: Table,
     text: &[u8],
 ) -> Result<(), Fail> {
-    let command = Command::Load {
-        which,
-        bytes: Vec::from_slice(alloc, text)?,
-    };
+    let command = Command::Load { which, bytes: text };
     assert!(rt; run(alloc, tree, people, &command).is_none());
     Ok(())
 }
@@ -41,7 +38,7 @@ fn run(
     alloc: Global,
     tree: &mut Tree,
     people: &mut People,
-    command: &Command,
+    command: &Command<'_>,
 ) -> Option<TreeFault> {
     match tree.prepare(alloc, people, command) {
         Ok(staged) => {

@@ -1,0 +1,79 @@
+//! The whole state: the recorded files, and the users and groups.
+
+ghost use Rattle.std.specs.Prelude.{◌≡◌, true, IfOk, Err};
+ghost use Rattle.acl_tree.specs.Sound.{IsSoundTree};
+ghost use Rattle.acl_tree.specs.Step.{nothing, loads_again, step, Stages};
+ghost use Rattle.acl_tree.specs.Tells.{users_move, Tells};
+ghost use Rattle.acl_tree.specs.declared.command.TreeFault.TheVariants.{AlreadyLoaded};
+
+use crate::command::{Command, TreeFault};
+use crate::staged::Staged;
+use crate::tree::Tree;
+use acl_people::People;
+use std::alloc::{AllocError, Global};
+use std::marker::Model;
+
+/// The recorded files, and the users and groups.
+#[derive(Drop)]
+pub struct State {
+    tree: Tree,
+    people: People,
+}
+
+impl Model for State {
+    ghost use Rattle.acl_tree.specs.Step.{State as Whole, coded_state};
+
+    ghost Value = { Whole };
+
+    ghost coded = { coded_state };
+
+    ghost view = { λ s. record { tree = s.tree; people = s.people } };
+}
+
+impl State {
+    /// No file, and nobody is known. Fails only if memory runs out.
+    pub fn new(alloc: Global) -> Result<State, AllocError>
+        ensures { IfOk result (λ state. state ≡ nothing) }
+    {
+        Ok(State {
+            tree: Tree::new(alloc),
+            people: People::new(alloc)?,
+        })
+    }
+
+    /// The recorded files.
+    pub fn tree(&self) -> &Tree
+        ensures { result.now ≡ self.now.tree }
+    {
+        &self.tree
+    }
+
+    /// The users and groups.
+    pub fn people(&self) -> &People
+        ensures { result.now ≡ self.now.people }
+    {
+        &self.people
+    }
+
+    /// The state after a command: see [`Tree::prepare`].
+    ///
+    /// # Errors
+    ///
+    /// Those of [`Tree::prepare`].
+    pub fn prepare(&self, alloc: Global, command: &Command<'_>) -> Result<Staged, TreeFault>
+        ensures made { Stages (λ s. s.state) result (step self.now command.now) }
+        ensures loaded { loads_again self.now command.now ≡ true → result ≡ Err AlreadyLoaded }
+        ensures sound { IfOk result (λ staged. IsSoundTree staged.state.tree) }
+        ensures tells { IfOk result (λ staged. Tells self.now staged) }
+        ensures moved { IfOk result (λ staged. staged.moved ≡ users_move command.now) }
+    {
+        self.tree.prepare(alloc, &self.people, command)
+    }
+
+    /// Puts a prepared state in place of this one. Allocates nothing.
+    pub fn commit(&mut self, staged: Staged)
+        ensures { self.new ≡ staged.state }
+    {
+        self.tree.commit(&mut self.people, staged);
+    }
+}
