@@ -6,13 +6,14 @@ use Rattle.std.specs.Str.{bytes_eq}
 use Rattle.std.specs.Cmp.Lexicographic.{nat_list_eq_equiv}
 use Rattle.std.proofs.lemmas.List.{map_push, length-map, get_or-map, get_or_append_left, get_or_push, take-map}
 use Rattle.std.proofs.lemmas.Bool.{cases_lt, and_parts}
+use Rattle.std.proofs.lemmas.Bool.Decides.{nat_tests}
 use Rattle.acl_names.specs.Pieces.{pieces, is_byte}
 use Rattle.acl_text.specs.declared.fault.FaultKind.{FaultKind}
 use Rattle.acl_text.specs.declared.fault.FaultKind.TheVariants.{TooMany}
 use Rattle.acl_text.specs.declared.fault.TextFault.{TextFault}
 use Rattle.acl_text.specs.Told.{told_from, at_place}
 use Rattle.acl_text.specs.Rows.{is_repeated, counted, one_line, says_nothing}
-use Rattle.acl_people.specs.Rolls.{Named, is_name, AreNames}
+use Rattle.acl_people.specs.Rolls.{Named, is_name, AreNames, AreCounted}
 use Rattle.acl_people.proofs.Bytes.{are_texts, pieces_made}
 use Rattle.acl_people.proofs.Places.{position-cons, position-push, position-before}
 
@@ -22,7 +23,7 @@ err_is_not_ok e x h = cc
 ok_same : {A : Type 0} (E : Type 0) (x y : A) → (let a : Result A E = Ok x in a ≡ Ok y) → x ≡ y
 ok_same E x y h = cc
 
-pub no_names : AreNames []
+no_names : AreNames []
 no_names = record { once = λ i d lt. absurd (omega arith); filled = λ i d lt. absurd (omega arith); made_of_bytes = λ i d lt. absurd (omega arith) }
 
 -- a text that may be a name
@@ -64,6 +65,12 @@ names_push es y names new text = record { once = once; filled = each_filled; mad
           rw (get_or_push es y d i last) text.made_of_bytes
     ]
 
+pub none_counted : AreCounted []
+none_counted = record { names = no_names; few = omega arith }
+
+pub counted_push : (es : List Named) (y : Named) → AreCounted es → position (is_name y.0) es ≡ None → IsNameText y.0 → length es < 65536 → AreCounted (es ++ y ∷ [])
+counted_push es y known new text room = record { names = names_push es y known.names new text; few = omega (arith, length-append es (y ∷ [])) }
+
 both_false : (a b : Bool) → (a || b) ≡ false → (a ≡ false) × (b ≡ false)
 both_false true b h = absurd (true_is_not_false h)
   where
@@ -83,38 +90,39 @@ module _ {R : Type 0} (name_of : R → List ℕ) (id_of : R → ℕ) where
       ∙ ap (λ b. cond b (Some 0) (option_map (λ k. k + 1) (position (is_name name) (entries rows)))) (nat_list_eq_equiv.symm name (name_of r) ∙ apart.0)
       ∙ ap (λ o. option_map (λ k. k + 1) o) (not_there name rows apart.1)
 
-  counted_keeps : (rows new : List R) (o : Option R) → ((row : R) → o ≡ Some row → IsNameText (name_of row)) → AreNames (entries rows) → counted name_of rows o ≡ Ok new → AreNames (entries new)
-  counted_keeps rows new None text names is = absurd (err_is_not_ok _ new is)
-  counted_keeps rows new (Some row) text names is = known (is_repeated name_of rows (name_of row)) refl is
+  counted_keeps : (rows new : List R) (o : Option R) → ((row : R) → o ≡ Some row → IsNameText (name_of row)) → AreCounted (entries rows) → counted name_of rows o ≡ Ok new → AreCounted (entries new)
+  counted_keeps rows new None text known is = absurd (err_is_not_ok _ new is)
+  counted_keeps rows new (Some row) text known is = by (is_repeated name_of rows (name_of row)) refl is
     where
-      full : (b : Bool) → is_repeated name_of rows (name_of row) ≡ false → (let many : Result (List R) FaultKind = Err TooMany in (if b then many else Ok (rows ++ row ∷ [])) ≡ Ok new) → AreNames (entries new)
-      full true apart e = absurd (err_is_not_ok _ new e)
-      full false apart e =
-          subst (λ rs. AreNames (entries rs)) (ok_same FaultKind (rows ++ row ∷ []) new e)
-          (let pushed : entries (rows ++ row ∷ []) ≡ entries rows ++ (name_of row, id_of row) ∷ [] = map_push (λ r. (name_of r, id_of r)) rows row in rw pushed (names_push (entries rows) (name_of row, id_of row) names (not_there (name_of row) rows apart) (text row refl)))
+      full : (b : Bool) → nat_le 65536 (length rows) ≡ b → is_repeated name_of rows (name_of row) ≡ false → (let many : Result (List R) FaultKind = Err TooMany in (if b then many else Ok (rows ++ row ∷ [])) ≡ Ok new) → AreCounted (entries new)
+      full true room apart e = absurd (err_is_not_ok _ new e)
+      full false room apart e =
+          subst (λ rs. AreCounted (entries rs)) (ok_same FaultKind (rows ++ row ∷ []) new e)
+          (let pushed : entries (rows ++ row ∷ []) ≡ entries rows ++ (name_of row, id_of row) ∷ [] = map_push (λ r. (name_of r, id_of r)) rows row in
+          rw pushed (counted_push (entries rows) (name_of row, id_of row) known (not_there (name_of row) rows apart) (text row refl) (let as_long : length (entries rows) ≡ length rows = length-map rows (λ r. (name_of r, id_of r)) in grind (arith, nat_tests))))
 
-      known : (b : Bool) → is_repeated name_of rows (name_of row) ≡ b → (let many : Result (List R) FaultKind = Err TooMany in (if b then Ok rows else (if nat_le 65536 (length rows) then many else Ok (rows ++ row ∷ []))) ≡ Ok new) → AreNames (entries new)
-      known true there e = subst (λ rs. AreNames (entries rs)) (ok_same FaultKind rows new e) names
-      known false apart e = full (nat_le 65536 (length rows)) apart e
+      by : (b : Bool) → is_repeated name_of rows (name_of row) ≡ b → (let many : Result (List R) FaultKind = Err TooMany in (if b then Ok rows else (if nat_le 65536 (length rows) then many else Ok (rows ++ row ∷ []))) ≡ Ok new) → AreCounted (entries new)
+      by true there e = subst (λ rs. AreCounted (entries rs)) (ok_same FaultKind rows new e) known
+      by false apart e = full (nat_le 65536 (length rows)) refl apart e
 
   module _ (row_of : List (List ℕ) → Option R) (text : (fields : List (List ℕ)) → are_texts fields ≡ true → (row : R) → row_of fields ≡ Some row → IsNameText (name_of row)) where
-    line_keeps : (rows new : List R) (line : List ℕ) → list_all is_byte line ≡ true → AreNames (entries rows) → one_line name_of row_of rows line ≡ Ok new → AreNames (entries new)
-    line_keeps rows new line made names is = by (says_nothing line) is
+    line_keeps : (rows new : List R) (line : List ℕ) → list_all is_byte line ≡ true → AreCounted (entries rows) → one_line name_of row_of rows line ≡ Ok new → AreCounted (entries new)
+    line_keeps rows new line made known is = by (says_nothing line) is
       where
-        by : (b : Bool) → (if b then Ok rows else counted name_of rows (row_of (pieces 58 line))) ≡ Ok new → AreNames (entries new)
-        by true e = subst (λ rs. AreNames (entries rs)) (ok_same FaultKind rows new e) names
-        by false e = counted_keeps rows new (row_of (pieces 58 line)) (λ row is. text (pieces 58 line) (pieces_made 58 line made) row is) names e
+        by : (b : Bool) → (if b then Ok rows else counted name_of rows (row_of (pieces 58 line))) ≡ Ok new → AreCounted (entries new)
+        by true e = subst (λ rs. AreCounted (entries rs)) (ok_same FaultKind rows new e) known
+        by false e = counted_keeps rows new (row_of (pieces 58 line)) (λ row is. text (pieces 58 line) (pieces_made 58 line made) row is) known e
 
     -- the rows that are counted of all lines
-    pub told_keeps : (at : ℕ) (rows new : List R) (ls : List (List ℕ)) → are_texts ls ≡ true → AreNames (entries rows) → told_from (λ at rows line. one_line name_of row_of rows line) at rows ls ≡ Ok new → AreNames (entries new)
-    told_keeps at rows new [] made names is = subst (λ rs. AreNames (entries rs)) (ok_same TextFault rows new is) names
-    told_keeps at rows new (l ∷ ls) made names is =
+    pub told_keeps : (at : ℕ) (rows new : List R) (ls : List (List ℕ)) → are_texts ls ≡ true → AreCounted (entries rows) → told_from (λ at rows line. one_line name_of row_of rows line) at rows ls ≡ Ok new → AreCounted (entries new)
+    told_keeps at rows new [] made known is = subst (λ rs. AreCounted (entries rs)) (ok_same TextFault rows new is) known
+    told_keeps at rows new (l ∷ ls) made known is =
         let parts = and_parts (list_all is_byte l) (are_texts ls) made in
         by parts.0 (one_line name_of row_of rows l) refl is (λ mid more e. told_keeps (at + 1) mid new ls parts.1 more e)
       where
         by : list_all is_byte l ≡ true → (r : Result (List R) FaultKind) → one_line name_of row_of rows l ≡ r → at_place at r (λ more. told_from (λ at rows line. one_line name_of row_of rows line) (at + 1) more ls) ≡ Ok new
-            → ((mid : List R) → AreNames (entries mid) → told_from (λ at rows line. one_line name_of row_of rows line) (at + 1) mid ls ≡ Ok new → AreNames (entries new)) → AreNames (entries new)
-        by line (Ok mid) e is more = more mid (line_keeps rows mid l line names e) is
+            → ((mid : List R) → AreCounted (entries mid) → told_from (λ at rows line. one_line name_of row_of rows line) (at + 1) mid ls ≡ Ok new → AreCounted (entries new)) → AreCounted (entries new)
+        by line (Ok mid) e is more = more mid (line_keeps rows mid l line known e) is
         by line (Err kind) e is more = absurd (err_is_not_ok _ new is)
 
   -- the name of a row is not among those before it

@@ -1,3 +1,4 @@
+pub mod Pointers
 pub mod Places
 pub mod Rolled
 pub mod Joined

@@ -2,3 +2,5 @@ pub mod Rolls
 pub mod Entries
 pub mod Registers
 pub mod Members
+pub mod Changes
+pub mod Moves

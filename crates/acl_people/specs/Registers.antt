@@ -1,5 +1,5 @@
 -- The users and groups that are known: the counted rows of passwd(5) and group(5).
-use Rattle.std.specs.Prelude.{◌≡◌, ◌≢◌, ℕ, List, [], ◌∷◌, map, filter, slice_get, Bool, true, false, Option, option_map, Result, Ok, Err, MatchResult, if◌then◌else◌}
+use Rattle.std.specs.Prelude.{◌≡◌, ◌≢◌, ◌≤◌, ℕ, List, [], ◌∷◌, map, filter, length, slice_get, Bool, true, false, Option, option_map, Result, Ok, Err, MatchResult, if◌then◌else◌}
 use Rattle.std.specs.List.{list_any}
 use Rattle.std.specs.Str.{bytes_eq}
 use Rattle.std.specs.FinSet.{from_list}
@@ -10,7 +10,7 @@ use Rattle.acl_text.specs.declared.fault.TextFault.{TextFault}
 use Rattle.acl_text.specs.Rows.{passwd_of, group_of}
 use Rattle.acl_people.specs.declared.fault.LoadFault.{LoadFault}
 use Rattle.acl_people.specs.declared.fault.LoadFault.TheVariants.{AlreadyLoaded, Text, NoMemory}
-use Rattle.acl_people.specs.Rolls.{Named}
+use Rattle.acl_people.specs.Rolls.{Named, AreNames}
 use Rattle.acl_people.specs.Entries.{user_entry, group_entry}
 
 -- the counted rows, and which texts were loaded
@@ -44,6 +44,10 @@ gids_of groups row = row.gid ∷ map (λ group. group.gid) (filter (names_user r
 abbrev pub person : List GroupRow → PasswdRow → Person
 person groups row = record { uid = row.uid; groups = from_list (gids_of groups row) }
 
+-- every user, in the order of the rows
+abbrev pub persons : Register → List Person
+persons known = map (person known.groups) known.users
+
 -- the user at a place
 abbrev pub subject : Register → ℕ → Option Person
 subject known at = option_map (person known.groups) (slice_get known.users at)
@@ -67,3 +71,10 @@ load_group known bytes =
 -- A load gives what it is to give, or exactly the fault, unless memory ran out.
 abbrev pub Loads : {A : Type 0} → (A → Register) → Result A LoadFault → Result Register LoadFault → Type 0
 Loads view result is = MatchResult result (λ people. is ≡ Ok (view people)) (λ fault. fault ≢ NoMemory → is ≡ Err fault)
+
+-- what is true of all people: at most 65,536 users and as many groups, each name in one row
+pub record IsSound (known : Register) : Type 0 where
+  pub few_users : length known.users ≤ 65536
+  pub few_groups : length known.groups ≤ 65536
+  pub user_names : AreNames (users_of known)
+  pub group_names : AreNames (groups_of known)

@@ -1,5 +1,5 @@
 -- Names with their ids, in the order of their rows.
-use Rattle.std.specs.Prelude.{◌≡◌, ◌<◌, ℕ, List, length, slice_index_or, Bool, true, not, ◌&&◌, ◌==◌, Option, Some, option_map, option_and_then, find, position, if◌then◌else◌}
+use Rattle.std.specs.Prelude.{◌≡◌, ◌<◌, ◌≤◌, ℕ, List, length, slice_index_or, Bool, true, not, ◌&&◌, ◌==◌, Option, Some, option_map, option_and_then, find, position, if◌then◌else◌}
 use Rattle.std.specs.List.{list_all}
 use Rattle.std.specs.Str.{bytes_eq}
 use Rattle.acl_names.specs.Pieces.{is_byte}
@@ -39,6 +39,11 @@ pub record AreNames (es : List Named) : Type 0 where
   pub once : (i : ℕ) (d : Named) → i < length es → position (is_name (slice_index_or es i d).0) es ≡ Some i
   pub filled : (i : ℕ) (d : Named) → i < length es → 0 < length (slice_index_or es i d).0
   pub made_of_bytes : (i : ℕ) (d : Named) → i < length es → list_all is_byte (slice_index_or es i d).0 ≡ true
+
+-- the names and ids of counted rows: each name stands once, and there are at most 65,536
+pub record AreCounted (es : List Named) : Type 0 where
+  pub names : AreNames es
+  pub few : length es ≤ 65536
 
 -- Each name that an id prints as is found under that id, is made of bytes, is not empty, and is not digits alone.
 abbrev pub IsNaming : (List ℕ → Option ℕ) → (ℕ → Option (List ℕ)) → Type 0

@@ -1,45 +1,70 @@
 //! The rows of group(5), looked up by name and by id.
 
-ghost use Rattle.std.specs.Prelude.{◌≡◌, [], map};
+ghost use Rattle.std.specs.Prelude.{◌≡◌, [], map, IfOk};
 ghost use Rattle.acl_text.specs.Told.{Gives};
 ghost use Rattle.acl_text.specs.Rows.{group_of};
-ghost use Rattle.acl_people.specs.Rolls.{AreNames};
+ghost use Rattle.acl_people.specs.Rolls.{AreNames, AreCounted};
 ghost use Rattle.acl_people.specs.Entries.{group_entry};
 
+use crate::group::Group;
 use crate::roll::Roll;
 use acl_text::{GroupRow, TextFault, read_group};
-use std::alloc::Global;
+use std::alloc::{AllocError, Global};
 use std::marker::Model;
+use std::rc::Rc;
 
-/// The counted rows of group(5), in their order.
+/// The counted rows of group(5), in their order. The rows are shared among copies.
 #[derive(Drop)]
 pub struct Groups {
-    rows: Vec<GroupRow>,
-    roll: Roll,
+    rows: Vec<Rc<Group>>,
+    roll: Rc<Roll>,
 }
 
 impl Model for Groups {
     ghost use Rattle.std.specs.Prelude.{◌≡◌, List, map};
     ghost use Rattle.acl_text.specs.declared.rows.GroupRow.{GroupRow};
-    ghost use Rattle.acl_people.specs.Rolls.{AreNames};
+    ghost use Rattle.acl_people.specs.Rolls.{AreCounted};
     ghost use Rattle.acl_people.specs.Entries.{group_entry};
 
     ghost Value = { List GroupRow };
 
-    ghost view = { λ g. g.rows.items };
+    ghost view = { λ g. map (λ r. r.value) g.rows.items };
 
-    ghost invariant = { λ g. (g.roll ≡ map group_entry g.rows.items) × AreNames (map group_entry g.rows.items) };
+    ghost invariant = { λ g. (g.roll.value ≡ map group_entry (map (λ r. r.value) g.rows.items)) × AreCounted (map group_entry (map (λ r. r.value) g.rows.items)) };
+}
+
+/// The names and ids of the rows.
+fn roll_of(alloc: Global, rows: &[GroupRow]) -> Result<Roll, AllocError>
+    requires { AreNames (map group_entry rows.now) }
+    ensures { IfOk result (λ roll. roll ≡ map group_entry rows.now) }
+{
+    let mut roll = Roll::new(alloc);
+    for row in rows {
+        roll = roll.with(alloc, row.name.as_bytes(), row.gid)?;
+    }
+    Ok(roll)
+}
+
+/// The rows, shared among copies.
+fn shared_rows(alloc: Global, rows: Vec<GroupRow>) -> Result<Vec<Rc<Group>>, AllocError>
+    ensures { IfOk result (λ groups. map (λ r. r.value) groups.items ≡ rows.items) }
+{
+    let mut groups = Vec::with_capacity(alloc, rows.len())?;
+    for row in rows {
+        groups.push(Rc::new(alloc, Group::new(alloc, row)?)?)?;
+    }
+    Ok(groups)
 }
 
 impl Groups {
-    /// No groups.
-    pub fn new(alloc: Global) -> Groups
-        ensures { result ≡ [] }
+    /// No groups. Fails only if memory runs out.
+    pub fn new(alloc: Global) -> Result<Groups, AllocError>
+        ensures { IfOk result (λ groups. groups ≡ []) }
     {
-        Groups {
+        Ok(Groups {
             rows: Vec::new(alloc),
-            roll: Roll::new(alloc),
-        }
+            roll: Rc::new(alloc, Roll::new(alloc))?,
+        })
     }
 
     /// The groups of a group text.
@@ -47,16 +72,14 @@ impl Groups {
         ensures { Gives (λ groups. groups) result (group_of bytes.now) }
     {
         let rows = read_group(alloc, bytes)?;
-        let mut roll = Roll::new(alloc);
-        for row in &rows {
-            roll = roll.with(alloc, row.name.as_bytes(), row.gid)?;
-        }
+        let roll = Rc::new(alloc, roll_of(alloc, &rows)?)?;
+        let rows = shared_rows(alloc, rows)?;
         Ok(Groups { rows, roll })
     }
 
     /// The rows.
-    pub fn rows(&self) -> &[GroupRow]
-        ensures { result.now ≡ self.now }
+    pub fn rows(&self) -> &[Rc<Group>]
+        ensures { map (λ r. r.value) result.now ≡ self.now }
     {
         &self.rows
     }
@@ -64,7 +87,7 @@ impl Groups {
     /// The names and ids.
     pub fn roll(&self) -> &Roll
         ensures all { result.now ≡ map group_entry self.now }
-        ensures names { AreNames (map group_entry self.now) }
+        ensures counted { AreCounted (map group_entry self.now) }
     {
         &self.roll
     }

@@ -3,10 +3,12 @@
 #![tactic(auto)]
 
 mod fault;
+mod group;
 mod groups;
 mod members;
 mod people;
 mod roll;
+mod shared;
 mod subjects;
 mod users;
 

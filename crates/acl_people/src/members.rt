@@ -4,10 +4,11 @@ ghost use Rattle.std.specs.Prelude.{◌≡◌, ◌++◌, ◌∷◌, [], if◌the
 ghost use Rattle.std.specs.Str.{bytes_eq};
 ghost use Rattle.acl_people.specs.Members.{gids_at, row_gids, rows_gids};
 
+use crate::group::Group;
 use acl_entry::Id;
-use acl_text::GroupRow;
 use std::alloc::{AllocError, Global};
 use std::collections::HashMap;
+use std::rc::Rc;
 
 /// Notes a group for a name.
 fn join<'a>(
@@ -31,12 +32,12 @@ fn join<'a>(
 fn add_row<'a>(
     alloc: Global,
     members: &mut HashMap<&'a [u8], Vec<Id>>,
-    row: &'a GroupRow,
+    row: &'a Group,
 ) -> Result<(), AllocError>
     ensures { OnOk result ((name : List ℕ) → gids_at members.new name ≡ gids_at members.old name ++ row_gids name row.now) }
 {
-    for name in row.names.as_slice() {
-        join(alloc, members, name.as_bytes(), row.gid)?;
+    for name in row.members() {
+        join(alloc, members, name.as_bytes(), row.gid())?;
     }
     Ok(())
 }
@@ -44,9 +45,9 @@ fn add_row<'a>(
 /// The groups whose rows name a user, by the user's name: one pass over the rows.
 pub fn members_of<'a>(
     alloc: Global,
-    rows: &'a [GroupRow],
+    rows: &'a [Rc<Group>],
 ) -> Result<HashMap<&'a [u8], Vec<Id>>, AllocError>
-    ensures { IfOk result (λ members. (name : List ℕ) → gids_at members name ≡ rows_gids name rows.now) }
+    ensures { IfOk result (λ members. (name : List ℕ) → gids_at members name ≡ rows_gids name (map (λ r. r.value) rows.now)) }
 {
     let mut members = HashMap::new(alloc);
     for row in rows {

@@ -4,7 +4,7 @@ ghost use Rattle.std.specs.Prelude.{◌≡◌, length, map, slice_get, true, Err
 ghost use Rattle.acl_people.specs.declared.fault.LoadFault.TheVariants.{AlreadyLoaded};
 ghost use Rattle.std.specs.Option.{option_copied};
 ghost use Rattle.acl_people.specs.Rolls.{id_named, name_shown, place_of_word, IsNaming};
-ghost use Rattle.acl_people.specs.Registers.{nobody, users_of, groups_of, person, subject, load_passwd, load_group, Loads};
+ghost use Rattle.acl_people.specs.Registers.{nobody, users_of, groups_of, persons, subject, IsSound, load_passwd, load_group, Loads};
 
 use crate::fault::{LoadFault, text_fault};
 use crate::groups::Groups;
@@ -22,7 +22,7 @@ use std::rc::Rc;
 pub struct People {
     users: Rc<Users>,
     groups: Rc<Groups>,
-    subjects: Rc<Vec<Subject>>,
+    subjects: Rc<Vec<Rc<Subject>>>,
     passwd_loaded: bool,
     group_loaded: bool,
 }
@@ -35,7 +35,7 @@ impl Model for People {
 
     ghost view = { λ p. record { users = p.users.value; groups = p.groups.value; passwd_loaded = p.passwd_loaded; group_loaded = p.group_loaded } };
 
-    ghost invariant = { λ p. p.subjects.value.items ≡ map (person p.groups.value) p.users.value };
+    ghost invariant = { λ p. map (λ s. s.value) p.subjects.value.items ≡ map (person p.groups.value) p.users.value };
 }
 
 impl People {
@@ -44,8 +44,8 @@ impl People {
         ensures { IfOk result (λ people. people ≡ nobody) }
     {
         Ok(People {
-            users: Rc::new(alloc, Users::new(alloc))?,
-            groups: Rc::new(alloc, Groups::new(alloc))?,
+            users: Rc::new(alloc, Users::new(alloc)?)?,
+            groups: Rc::new(alloc, Groups::new(alloc)?)?,
             subjects: Rc::new(alloc, Vec::new(alloc))?,
             passwd_loaded: false,
             group_loaded: false,
@@ -94,6 +94,14 @@ impl People {
         self.users.roll().place_of_word(word)
     }
 
+    /// The place of the group that a word stands for: digits alone are the first group of that id, any other
+    /// word is a name.
+    pub fn find_group(&self, word: &[u8]) -> Option<usize>
+        ensures { result ≡ place_of_word word.now (groups_of self.now) }
+    {
+        self.groups.roll().place_of_word(word)
+    }
+
     /// The name in the user's row; none past the last user.
     pub fn name(&self, user: usize) -> Option<&[u8]>
         ensures { option_copied result ≡ option_map (λ row. row.name) (slice_get self.now.users user) }
@@ -108,12 +116,15 @@ impl People {
     pub fn subject(&self, user: usize) -> Option<&Subject>
         ensures { option_copied result ≡ subject self.now user }
     {
-        self.subjects().get(user)
+        match self.subjects().get(user) {
+            Some(subject) => Some(subject),
+            None => None,
+        }
     }
 
     /// Every user's id and groups, in the order of their rows.
-    pub fn subjects(&self) -> &[Subject]
-        ensures { result.now ≡ map (person self.now.groups) self.now.users }
+    pub fn subjects(&self) -> &[Rc<Subject>]
+        ensures { map (λ s. s.value) result.now ≡ persons self.now }
     {
         &self.subjects
     }
@@ -162,6 +173,14 @@ impl People {
             passwd_loaded: self.passwd_loaded,
             group_loaded: true,
         })
+    }
+
+    /// Proof only. There are at most 65,536 users and as many groups, and each name is in one row.
+    pub fn is_sound(&self)
+        ensures { IsSound self.now }
+    {
+        let _users = self.users.roll();
+        let _groups = self.groups.roll();
     }
 
     /// Nothing is done: the names that ids print as are found under these ids, are made of bytes, are not

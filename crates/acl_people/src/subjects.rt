@@ -5,11 +5,13 @@ ghost use Rattle.std.specs.FinSet as sets;
 ghost use Rattle.acl_people.specs.Members.{gids_at};
 ghost use Rattle.acl_people.specs.Registers.{person};
 
+use crate::group::Group;
 use crate::members::members_of;
 use acl_entry::{Id, Subject};
-use acl_text::{GroupRow, PasswdRow};
+use acl_text::PasswdRow;
 use std::alloc::{AllocError, Global};
 use std::collections::HashMap;
+use std::rc::Rc;
 
 fn subject_of(
     alloc: Global,
@@ -30,15 +32,15 @@ fn subject_of(
 /// the users.
 pub fn subjects_of(
     alloc: Global,
-    users: &[PasswdRow],
-    groups: &[GroupRow],
-) -> Result<Vec<Subject>, AllocError>
-    ensures { IfOk result (λ subjects. subjects.items ≡ map (person groups.now) users.now) }
+    users: &[Rc<PasswdRow>],
+    groups: &[Rc<Group>],
+) -> Result<Vec<Rc<Subject>>, AllocError>
+    ensures { IfOk result (λ subjects. map (λ s. s.value) subjects.items ≡ map (person (map (λ r. r.value) groups.now)) (map (λ r. r.value) users.now)) }
 {
     let members = members_of(alloc, groups)?;
-    let mut subjects = Vec::new(alloc);
+    let mut subjects = Vec::with_capacity(alloc, users.len())?;
     for row in users {
-        subjects.push(subject_of(alloc, &members, row)?)?;
+        subjects.push(Rc::new(alloc, subject_of(alloc, &members, row)?)?)?;
     }
     Ok(subjects)
 }

@@ -1,45 +1,65 @@
 //! The rows of passwd(5), looked up by name and by id.
 
-ghost use Rattle.std.specs.Prelude.{◌≡◌, [], map};
+ghost use Rattle.std.specs.Prelude.{◌≡◌, [], map, IfOk};
 ghost use Rattle.acl_text.specs.Told.{Gives};
 ghost use Rattle.acl_text.specs.Rows.{passwd_of};
-ghost use Rattle.acl_people.specs.Rolls.{AreNames};
+ghost use Rattle.acl_people.specs.Rolls.{AreNames, AreCounted};
 ghost use Rattle.acl_people.specs.Entries.{user_entry};
 
 use crate::roll::Roll;
+use crate::shared::shared;
 use acl_text::{PasswdRow, TextFault, read_passwd};
-use std::alloc::Global;
+use std::alloc::{AllocError, Global};
 use std::marker::Model;
+use std::rc::Rc;
 
-/// The counted rows of passwd(5), in their order.
+/// The counted rows of passwd(5), in their order. The rows are shared among copies.
 #[derive(Drop)]
 pub struct Users {
-    rows: Vec<PasswdRow>,
-    roll: Roll,
+    rows: Vec<Rc<PasswdRow>>,
+    roll: Rc<Roll>,
 }
 
 impl Model for Users {
     ghost use Rattle.std.specs.Prelude.{◌≡◌, List, map};
     ghost use Rattle.acl_text.specs.declared.rows.PasswdRow.{PasswdRow};
-    ghost use Rattle.acl_people.specs.Rolls.{AreNames};
+    ghost use Rattle.acl_people.specs.Rolls.{AreCounted};
     ghost use Rattle.acl_people.specs.Entries.{user_entry};
 
     ghost Value = { List PasswdRow };
 
-    ghost view = { λ u. u.rows.items };
+    ghost view = { λ u. map (λ r. r.value) u.rows.items };
 
-    ghost invariant = { λ u. (u.roll ≡ map user_entry u.rows.items) × AreNames (map user_entry u.rows.items) };
+    ghost invariant = { λ u. (u.roll.value ≡ map user_entry (map (λ r. r.value) u.rows.items)) × AreCounted (map user_entry (map (λ r. r.value) u.rows.items)) };
+}
+
+/// The names and ids of the rows.
+fn roll_of(alloc: Global, rows: &[Rc<PasswdRow>]) -> Result<Roll, AllocError>
+    requires { AreNames (map user_entry (map (λ r. r.value) rows.now)) }
+    ensures { IfOk result (λ roll. roll ≡ map user_entry (map (λ r. r.value) rows.now)) }
+{
+    let mut roll = Roll::new(alloc);
+    for row in rows {
+        roll = roll.with(alloc, row.name.as_bytes(), row.uid)?;
+    }
+    Ok(roll)
 }
 
 impl Users {
-    /// No users.
-    pub fn new(alloc: Global) -> Users
-        ensures { result ≡ [] }
+    /// No users. Fails only if memory runs out.
+    pub fn new(alloc: Global) -> Result<Users, AllocError>
+        ensures { IfOk result (λ users. users ≡ []) }
     {
-        Users {
-            rows: Vec::new(alloc),
-            roll: Roll::new(alloc),
-        }
+        Users::of(alloc, Vec::new(alloc))
+    }
+
+    /// The users of these rows. Fails only if memory runs out.
+    pub fn of(alloc: Global, rows: Vec<Rc<PasswdRow>>) -> Result<Users, AllocError>
+        requires { AreCounted (map user_entry (map (λ r. r.value) rows.items)) }
+        ensures { IfOk result (λ users. users ≡ map (λ r. r.value) rows.items) }
+    {
+        let roll = Rc::new(alloc, roll_of(alloc, &rows)?)?;
+        Ok(Users { rows, roll })
     }
 
     /// The users of a passwd text.
@@ -47,16 +67,13 @@ impl Users {
         ensures { Gives (λ users. users) result (passwd_of bytes.now) }
     {
         let rows = read_passwd(alloc, bytes)?;
-        let mut roll = Roll::new(alloc);
-        for row in &rows {
-            roll = roll.with(alloc, row.name.as_bytes(), row.uid)?;
-        }
-        Ok(Users { rows, roll })
+        let users = Users::of(alloc, shared(alloc, rows)?)?;
+        Ok(users)
     }
 
     /// The rows.
-    pub fn rows(&self) -> &[PasswdRow]
-        ensures { result.now ≡ self.now }
+    pub fn rows(&self) -> &[Rc<PasswdRow>]
+        ensures { map (λ r. r.value) result.now ≡ self.now }
     {
         &self.rows
     }
@@ -64,7 +81,7 @@ impl Users {
     /// The names and ids.
     pub fn roll(&self) -> &Roll
         ensures all { result.now ≡ map user_entry self.now }
-        ensures names { AreNames (map user_entry self.now) }
+        ensures counted { AreCounted (map user_entry self.now) }
     {
         &self.roll
     }

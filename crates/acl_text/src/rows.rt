@@ -48,4 +48,11 @@ impl NameList {
     {
         &self.names
     }
+
+    /// The names themselves, in their order.
+    pub fn into_names(self) -> Vec<Name>
+        ensures { result.items ≡ self }
+    {
+        self.names
+    }
 }

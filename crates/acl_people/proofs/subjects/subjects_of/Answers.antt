@@ -1,15 +1,19 @@
-use Rattle.std.proofs.Common.{◌≡◌, ◌∷◌, nat_cmp, ap, ◌∙◌, arith}
+use Rattle.std.proofs.Common.{◌≡◌, ◌∷◌, nat_cmp, map, ap, ◌∙◌, arith}
 use Rattle.std.specs.FinSet as sets
 use Rattle.std.proofs.lemmas.Grind.{common_steps}
 use Rattle.acl_people.specs.Registers.{person}
 use Rattle.acl_people.proofs.Gids.{person_is}
+use Rattle.acl_people.proofs.Pointers.{map_take_more}
 use Rattle.acl_people.proofs.subjects.subjects_of.Goals as goal
 
 pub loop-row-preserved : goal.loop-row-preserved
 loop-row-preserved c =
-    let is : c.in_ok-subject_of.field-0 ≡ person c.args.groups.now c.row-item.result =
+    let row = c.row-item.result.value in
+    let groups = map (λ r. r.value) c.args.groups.now in
+    let is : c.in_ok-subject_of.field-0 ≡ person groups c.deref.result.now =
     c.in_ok-subject_of.ensures
-    ∙ ap (λ gids. record { uid = c.row-item.result.uid; groups = sets.from_list {R = nat_cmp} (c.row-item.result.gid ∷ gids) }) (c.in_ok-members.ensures c.row-item.result.name)
-    ∙ person_is c.args.groups.now c.row-item.result
+    ∙ ap (λ gids. record { uid = c.deref.result.now.uid; groups = sets.from_list {R = nat_cmp} (c.deref.result.now.gid ∷ gids) }) (c.in_ok-members.ensures c.deref.result.now.name)
+    ∙ person_is groups c.deref.result.now
     in
-    grind (arith, common_steps, is)
+    let more = map_take_more (λ r. r.value) c.args.users.now c.loop-row.row-index c.row-item.result c.loop-row-test.true c.row-item.is in
+    grind (arith, common_steps, is, more)

@@ -1,22 +1,9 @@
-use Rattle.std.proofs.Common.{map, position, sym, ap, subst, ◌∙◌, take_all}
+use Rattle.std.proofs.Common.{map, sym, subst}
 use Rattle.acl_names.proofs.Bytes.{all_bytes}
-use Rattle.acl_text.specs.Rows.{passwd_name}
-use Rattle.acl_people.specs.Rolls.{AreNames, is_name}
+use Rattle.acl_people.specs.Rolls.{AreCounted}
 use Rattle.acl_people.specs.Entries.{user_entry}
-use Rattle.acl_people.proofs.Counted.{fresh}
-use Rattle.acl_people.proofs.Texts.{passwd_names}
+use Rattle.acl_people.proofs.Texts.{passwd_counted}
 use Rattle.acl_people.proofs.users.Users.read.Goals as goal
 
-pub with-requires : goal.with-requires
-with-requires c =
-    let names : AreNames (map user_entry c.deref-row-items.result.now) = subst (λ rows. AreNames (map user_entry rows)) (sym c.deref-row-items.ensures.value) (passwd_names c.args.bytes.now c.in_ok-rows.rows.items (all_bytes c.args.bytes.now c.type_inv.bytes) c.in_ok-rows.ensures) in
-    ap (λ n. position (is_name n) c.loop-row.roll) c.as_bytes.ensures
-    ∙ ap (λ es. position (is_name c.row-item.result.name) es) c.loop-row.invariant
-    ∙ fresh passwd_name (λ row. row.uid) c.deref-row-items.result.now c.loop-row.row-index c.row-item.result names c.loop-row-test.true c.row-item.is
-
-pub invariant_of-result : goal.invariant_of-result
-invariant_of-result c = (
-  c.loop-row.invariant
-      ∙ ap (λ rows. map user_entry rows) (take_all c.loop-row.row-index c.deref-row-items.result.now c.loop-row-test.false ∙ c.deref-row-items.ensures.value),
-  passwd_names c.args.bytes.now c.in_ok-rows.rows.items (all_bytes c.args.bytes.now c.type_inv.bytes) c.in_ok-rows.ensures,
-)
+pub of-requires : goal.of-requires
+of-requires c = subst (λ rows. AreCounted (map user_entry rows)) (sym c.in_ok-shared.ensures) (passwd_counted c.args.bytes.now c.in_ok-rows.rows.items (all_bytes c.args.bytes.now c.type_inv.bytes) c.in_ok-rows.ensures)

@@ -1,0 +1,29 @@
+-- Lists of pointers, and what they point to.
+use Rattle.std.proofs.Common.{◌≡◌, ℕ, ◌+◌, ◌<◌, Bool, ◌||◌, List, [], ◌∷◌, ◌++◌, length, map, take, get_or, slice_get, Some, option_map, refl, ap, sym, subst, ◌∙◌}
+use Rattle.std.specs.List.{list_any, AllZip}
+use Rattle.std.proofs.lemmas.Option.{slice_get-map, slice_get_read}
+use Rattle.std.proofs.lemmas.List.{take_more, get_or-map, length-map}
+
+pub list_any-map : {A B : Type 0} (p : B → Bool) (f : A → B) (xs : List A) → list_any p (map f xs) ≡ list_any (λ x. p (f x)) xs
+list_any-map p f [] = refl
+list_any-map p f (x ∷ xs) = ap (λ b. p (f x) || b) (list_any-map p f xs)
+
+-- clones of pointers point to the same values
+pub same_values : {A B : Type 0} (f : A → B) (xs ys : List A) → AllZip (λ x y. f y ≡ f x) xs ys → map f ys ≡ map f xs
+same_values f [] [] h = refl
+same_values f [] (y ∷ ys) h = absurd h
+same_values f (x ∷ xs) [] h = absurd h
+same_values f (x ∷ xs) (y ∷ ys) h = λ i. h.0 i ∷ same_values f xs ys h.1 i
+
+-- one value more
+pub map_take_more : {A B : Type 0} (f : A → B) (xs : List A) (i : ℕ) (x : A) → i < length xs → x ≡ get_or xs i x → take (i + 1) (map f xs) ≡ take i (map f xs) ++ f x ∷ []
+map_take_more f xs i x lt is =
+    take_more (map f xs) i (f x) (subst (λ n. i < n) (sym (length-map xs f)) lt)
+    ∙ ap (λ y. take i (map f xs) ++ y ∷ []) (get_or-map f xs i x (f x) lt ∙ ap f (sym is))
+
+-- the value at a place
+pub value_is : {A B : Type 0} (f : A → B) (xs : List A) (i : ℕ) (x : A) → i < length xs → x ≡ get_or xs i x → f x ≡ get_or (map f xs) i (f x)
+value_is f xs i x lt is = ap f is ∙ sym (get_or-map f xs i x (f x) lt)
+
+pub value_at : {A B : Type 0} (f : A → B) (xs : List A) (i : ℕ) (x : A) → i < length xs → x ≡ get_or xs i x → slice_get (map f xs) i ≡ Some (f x)
+value_at f xs i x lt is = slice_get-map f xs i ∙ ap (λ o. option_map f o) (slice_get_read xs (length xs) i x refl lt is)

@@ -1,0 +1,84 @@
+-- Changes of users and groups: gpasswd(1), usermod(8), useradd(8), userdel(8).
+use Rattle.std.specs.Prelude.{◌≡◌, ℕ, List, [], ◌∷◌, ◌++◌, map, filter, slice_get, slice_set, Bool, true, false, not, if◌then◌else◌}
+use Rattle.std.specs.List.{remove}
+use Rattle.std.specs.Option.{option_map_or}
+use Rattle.std.specs.Str.{bytes_eq}
+use Rattle.std.specs.FinSet.{contains}
+use Rattle.acl_text.specs.declared.rows.PasswdRow.{PasswdRow}
+use Rattle.acl_text.specs.declared.rows.GroupRow.{GroupRow}
+use Rattle.acl_people.specs.Registers.{Register, names_user, person}
+
+-- the rows with the one at a place changed
+abbrev pub change_at : {R : Type 0} → ℕ → (R → R) → List R → List R
+change_at at change rows = option_map_or (λ row. slice_set rows at (change row)) (slice_get rows at) rows
+
+-- the name of the user at a place
+abbrev pub name_of : ℕ → Register → List ℕ
+name_of user known = option_map_or (λ row. row.name) (slice_get known.users user) []
+
+-- the id of the group at a place
+abbrev pub gid_of : ℕ → Register → ℕ
+gid_of group known = option_map_or (λ row. row.gid) (slice_get known.groups group) 0
+
+-- a group's row with one more name, the last
+abbrev pub name_added : List ℕ → GroupRow → GroupRow
+name_added name row = record { name = row.name; gid = row.gid; names = row.names ++ name ∷ [] }
+
+-- a group's row without a name, however often it stands there
+abbrev pub name_removed : List ℕ → GroupRow → GroupRow
+name_removed name row = record { name = row.name; gid = row.gid; names = filter (λ member. not (bytes_eq member name)) row.names }
+
+-- the row of the group names the user
+abbrev pub is_member : ℕ → ℕ → Register → Bool
+is_member user group known = option_map_or (names_user (name_of user known)) (slice_get known.groups group) false
+
+-- gpasswd -a: the row of the group names the user, last where it did not before
+abbrev pub with_member : ℕ → ℕ → Register → Register
+with_member user group known =
+    if is_member user group known then known
+    else record {
+      users = known.users;
+      groups = change_at group (name_added (name_of user known)) known.groups;
+      passwd_loaded = known.passwd_loaded;
+      group_loaded = known.group_loaded;
+    }
+
+-- gpasswd -d: the row of the group does not name the user
+abbrev pub without_member : ℕ → ℕ → Register → Register
+without_member user group known = record {
+  users = known.users;
+  groups = change_at group (name_removed (name_of user known)) known.groups;
+  passwd_loaded = known.passwd_loaded;
+  group_loaded = known.group_loaded;
+}
+
+-- a user's row with another primary group
+abbrev pub with_gid : ℕ → PasswdRow → PasswdRow
+with_gid gid row = record { name = row.name; uid = row.uid; gid = gid }
+
+-- usermod -g: the user's primary group is this one
+abbrev pub with_primary_group : ℕ → ℕ → Register → Register
+with_primary_group user group known = record {
+  users = change_at user (with_gid (gid_of group known)) known.users;
+  groups = known.groups;
+  passwd_loaded = known.passwd_loaded;
+  group_loaded = known.group_loaded;
+}
+
+-- useradd: one more user, the last, whose primary group is this one; the users count as loaded
+abbrev pub with_user : List ℕ → ℕ → ℕ → Register → Register
+with_user name uid group known = record {
+  users = known.users ++ record { name = name; uid = uid; gid = gid_of group known } ∷ [];
+  groups = known.groups;
+  passwd_loaded = true;
+  group_loaded = known.group_loaded;
+}
+
+-- userdel: the user's row is gone, and no group's row names the user
+abbrev pub without_user : ℕ → Register → Register
+without_user user known = record {
+  users = remove known.users user;
+  groups = map (name_removed (name_of user known)) known.groups;
+  passwd_loaded = known.passwd_loaded;
+  group_loaded = known.group_loaded;
+}

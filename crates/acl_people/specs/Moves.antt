@@ -1,0 +1,38 @@
+-- How the users of two states differ, as the check of access sees them.
+use Rattle.std.specs.Prelude.{◌≡◌, ◌<◌, ℕ, List, [], ◌∷◌, ◌++◌, length, slice_get, slice_set, Bool, not, Some, if◌then◌else◌}
+use Rattle.std.specs.List.{remove}
+use Rattle.std.specs.FinSet.{contains}
+use Rattle.std.specs.List.Sorted.{IsStrictlyIncreasing}
+use Rattle.acl_entry.specs.Mentions.{is_one_of}
+use Rattle.acl_entry.specs.Person.{Person}
+
+-- one user may have other groups; the user's id and all other users are as they were
+pub record ChangesUser (old new : List Person) (user : ℕ) : Type 0 where
+  pub before : Person
+  pub after : Person
+  pub was : slice_get old user ≡ Some before
+  pub becomes : new ≡ slice_set old user after
+  pub uid : after.uid ≡ before.uid
+
+abbrev pub in_just_one : Bool → Bool → Bool
+in_just_one a b = if a then not b else b
+
+-- ids of groups, rising, each once: exactly those that one of the two has and the other has not
+pub record AreMoved (before after : Person) (ids : List ℕ) : Type 0 where
+  pub rising : IsStrictlyIncreasing ids
+  pub just : (gid : ℕ) → is_one_of gid ids ≡ in_just_one (contains before.groups gid) (contains after.groups gid)
+
+-- a user's groups are other ones: these ids joined or left
+pub record MovesUser (old new : List Person) (user : ℕ) (ids : List ℕ) : Type 0 where
+  pub change : ChangesUser old new user
+  pub moved : AreMoved change.before change.after ids
+
+-- a user came, the last in order
+pub record JoinsUser (old new : List Person) : Type 0 where
+  pub next : Person
+  pub becomes : new ≡ old ++ next ∷ []
+
+-- a user went
+pub record LeavesUser (old new : List Person) (user : ℕ) : Type 0 where
+  pub was : user < length old
+  pub becomes : new ≡ remove old user

@@ -1,0 +1,70 @@
+//! A row of group(5).
+
+ghost use Rattle.std.specs.Prelude.{◌≡◌, map, IfOk};
+ghost use Rattle.acl_people.specs.Registers.{names_user};
+
+use crate::shared::shared;
+use acl_entry::Id;
+use acl_names::Name;
+use acl_text::GroupRow;
+use std::alloc::{AllocError, Global};
+use std::marker::Model;
+use std::rc::Rc;
+
+/// A counted row of group(5). Its names are shared among copies.
+#[derive(Drop)]
+pub struct Group {
+    name: Rc<Name>,
+    gid: Id,
+    members: Vec<Rc<Name>>,
+}
+
+impl Model for Group {
+    ghost use Rattle.std.specs.Prelude.{map};
+    ghost use Rattle.acl_text.specs.declared.rows.GroupRow.{GroupRow};
+
+    ghost Value = { GroupRow };
+
+    ghost view = { λ g. record { name = g.name.value; gid = g.gid; names = map (λ n. n.value) g.members.items } };
+}
+
+impl Group {
+    /// The row, its names behind pointers. Fails only if memory runs out.
+    pub fn new(alloc: Global, row: GroupRow) -> Result<Group, AllocError>
+        ensures { IfOk result (λ group. group ≡ row) }
+    {
+        Ok(Group {
+            name: Rc::new(alloc, row.name)?,
+            gid: row.gid,
+            members: shared(alloc, row.names.into_names())?,
+        })
+    }
+
+    /// The group's name.
+    pub fn name(&self) -> &[u8]
+        ensures { result.now ≡ self.now.name }
+    {
+        self.name.as_bytes()
+    }
+
+    /// The group's id.
+    pub fn gid(&self) -> Id
+        ensures { result ≡ self.now.gid }
+    {
+        self.gid
+    }
+
+    /// The names in the row, in their order.
+    pub fn members(&self) -> &[Rc<Name>]
+        ensures { map (λ n. n.value) result.now ≡ self.now.names }
+    {
+        &self.members
+    }
+
+    /// Whether the row names the user.
+    pub fn names_user(&self, name: &[u8]) -> bool
+        ensures { result ≡ names_user name.now self.now }
+    {
+        self.members.iter().any(|member| member.as_bytes() == name)
+    }
+}
