@@ -1,10 +1,13 @@
 -- The names of counted rows stand once, are not empty, and are made of bytes.
 use Rattle.std.proofs.Common.{◌≡◌, ℕ, ◌+◌, ◌<◌, Bool, true, false, ◌||◌, cond, List, [], ◌∷◌, ◌++◌, length, map, get_or, take, position, Option, Some, None, option_map, Result, Ok, Err, if◌then◌else◌, nat_le, refl, sym, ap, subst, ◌∙◌, inl, inr, arith, length-append}
-use Rattle.std.specs.List.{list_all}
+use Rattle.std.specs.List.{list_all, position_or_len, remove}
 use Rattle.std.specs.Option.{option_or}
 use Rattle.std.specs.Str.{bytes_eq}
 use Rattle.std.specs.Cmp.Lexicographic.{nat_list_eq_equiv}
 use Rattle.std.proofs.lemmas.List.{map_push, length-map, get_or-map, get_or_append_left, get_or_push, take-map}
+use Rattle.std.proofs.lemmas.List.Edits.{length-remove, get_or-remove_below, get_or-remove_above}
+use Rattle.std.proofs.lemmas.List.Quantifiers.{position-Some}
+use Rattle.std.proofs.lemmas.List.Sums.{position_or_len_is}
 use Rattle.std.proofs.lemmas.Bool.{cases_lt, and_parts}
 use Rattle.std.proofs.lemmas.Bool.Decides.{nat_tests}
 use Rattle.acl_names.specs.Pieces.{pieces, is_byte}
@@ -70,6 +73,42 @@ none_counted = record { names = no_names; few = omega arith }
 
 pub counted_push : (es : List Named) (y : Named) → AreCounted es → position (is_name y.0) es ≡ None → IsNameText y.0 → length es < 65536 → AreCounted (es ++ y ∷ [])
 counted_push es y known new text room = record { names = names_push es y known.names new text; few = omega (arith, length-append es (y ∷ [])) }
+
+first_is : {X : Type 0} (p : X → Bool) (xs : List X) (i : ℕ) (d : X) → i < length xs → ((k : ℕ) → k < i → p (get_or xs k d) ≡ false) → p (get_or xs i d) ≡ true → position p xs ≡ Some i
+first_is p xs i d lt fails passes =
+    let at : position_or_len p xs ≡ i = position_or_len_is p xs i d (omega arith) fails (λ _. passes) in
+    grind (arith, nat_tests)
+
+-- one name less
+pub counted_remove : (es : List Named) (u : ℕ) → u < length es → AreCounted es → AreCounted (remove es u)
+counted_remove es u within known = record { names = record { once = once; filled = each_filled; made_of_bytes = each_made }; few = omega (arith, length-remove es u within, known.few) }
+  where
+    once : (i : ℕ) (d : Named) → i < length (remove es u) → position (is_name (get_or (remove es u) i d).0) (remove es u) ≡ Some i
+    once i d lt = elim (cases_lt i u) [
+      | inl below ↦
+          let same = get_or-remove_below es u d i below within in
+          let first = position-Some (is_name (get_or es i d).0) es i d (known.names.once i d (omega arith)) in
+          rw same (first_is (is_name (get_or es i d).0) (remove es u) i d lt (λ k before. rw (get_or-remove_below es u d k (omega arith) within) (first.2 k before)) (rw same first.1))
+      | inr above ↦
+          let same = get_or-remove_above es u d i above within in
+          let first = position-Some (is_name (get_or es (i + 1) d).0) es (i + 1) d (known.names.once (i + 1) d (omega (arith, length-remove es u within))) in
+          rw same (first_is (is_name (get_or es (i + 1) d).0) (remove es u) i d lt (λ k before. elim (cases_lt k u) [
+            | inl low ↦ rw (get_or-remove_below es u d k low within) (first.2 k (omega arith))
+            | inr high ↦ rw (get_or-remove_above es u d k high within) (first.2 (k + 1) (omega arith))
+          ]) (rw same first.1))
+    ]
+
+    each_filled : (i : ℕ) (d : Named) → i < length (remove es u) → 0 < length (get_or (remove es u) i d).0
+    each_filled i d lt = elim (cases_lt i u) [
+      | inl below ↦ rw (get_or-remove_below es u d i below within) (known.names.filled i d (omega arith))
+      | inr above ↦ rw (get_or-remove_above es u d i above within) (known.names.filled (i + 1) d (omega (arith, length-remove es u within)))
+    ]
+
+    each_made : (i : ℕ) (d : Named) → i < length (remove es u) → list_all is_byte (get_or (remove es u) i d).0 ≡ true
+    each_made i d lt = elim (cases_lt i u) [
+      | inl below ↦ rw (get_or-remove_below es u d i below within) (known.names.made_of_bytes i d (omega arith))
+      | inr above ↦ rw (get_or-remove_above es u d i above within) (known.names.made_of_bytes (i + 1) d (omega (arith, length-remove es u within)))
+    ]
 
 both_false : (a b : Bool) → (a || b) ≡ false → (a ≡ false) × (b ≡ false)
 both_false true b h = absurd (true_is_not_false h)

@@ -1,10 +1,12 @@
 -- A user's groups, however often a row names the user.
-use Rattle.std.proofs.Common.{◌≡◌, ℕ, Bool, true, false, ◌||◌, ◌&&◌, cond, nat_eq, nat_cmp, List, [], ◌∷◌, map, filter, refl, sym, ap, ◌∙◌}
+use Rattle.std.proofs.Common.{◌≡◌, ℕ, Bool, true, false, ◌||◌, ◌&&◌, cond, nat_eq, nat_cmp, List, [], ◌∷◌, ◌++◌, map, filter, refl, sym, ap, ◌∙◌}
 use Rattle.std.specs.List.{list_any}
 use Rattle.std.specs.Str.{bytes_eq}
 use Rattle.std.specs.FinSet as sets
 use Rattle.std.specs.FinSet.{contains-from_list_nat, same_set, nat_cmp-IsAntisymmetric}
 use Rattle.std.proofs.lemmas.Cmp.{nat_cmp_total}
+use Rattle.std.proofs.lemmas.List.{map-append}
+use Rattle.std.proofs.lemmas.List.Elements.{filter-append}
 use Rattle.std.proofs.lemmas.List.Folds.{list_any-append}
 use Rattle.acl_text.specs.declared.rows.GroupRow.{GroupRow}
 use Rattle.acl_text.specs.declared.rows.PasswdRow.{PasswdRow}
@@ -39,3 +41,11 @@ person_is groups row =
     contains-from_list_nat (row.gid ∷ rows_gids row.name groups) q
     ∙ ap (λ b. nat_eq row.gid q || b) (any-rows (λ y. nat_eq y q) row.name groups)
     ∙ sym (contains-from_list_nat (gids_of groups row) q)))
+
+-- one row more
+pub gids_more : (name : List ℕ) (gs : List GroupRow) (g : GroupRow) → map (λ row. row.gid) (filter (names_user name) (gs ++ g ∷ [])) ≡ map (λ row. row.gid) (filter (names_user name) gs) ++ cond (names_user name g) (g.gid ∷ []) []
+gids_more name gs g =
+    ap (λ rows. map (λ row. row.gid) rows) (filter-append (names_user name) gs (g ∷ []))
+    ∙ map-append (λ row. row.gid) (filter (names_user name) gs) (filter (names_user name) (g ∷ []))
+    ∙ ap (λ ids. map (λ row. row.gid) (filter (names_user name) gs) ++ ids)
+    (elim (names_user name g) as (λ b. map (λ row. row.gid) (cond b (g ∷ []) []) ≡ cond b (g.gid ∷ []) []) [ true ↦ refl | false ↦ refl ])

@@ -1,4 +1,5 @@
 pub mod Pointers
+pub mod Changed
 pub mod Places
 pub mod Rolled
 pub mod Joined

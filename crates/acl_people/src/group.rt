@@ -2,6 +2,7 @@
 
 ghost use Rattle.std.specs.Prelude.{◌≡◌, map, IfOk};
 ghost use Rattle.acl_people.specs.Registers.{names_user};
+ghost use Rattle.acl_people.specs.Changes.{name_added, name_removed};
 
 use crate::shared::shared;
 use acl_entry::Id;
@@ -66,5 +67,34 @@ impl Group {
         ensures { result ≡ names_user name.now self.now }
     {
         self.members.iter().any(|member| member.as_bytes() == name)
+    }
+    /// The row with one more name, the last. Fails only if memory runs out.
+    pub fn with_name(&self, alloc: Global, name: &[u8]) -> Result<Group, AllocError>
+        ensures { IfOk result (λ group. group ≡ name_added name.now self.now) }
+    {
+        let mut members = self.members.clone()?;
+        members.push(Rc::new(alloc, Name::from_bytes(alloc, name)?)?)?;
+        Ok(Group {
+            name: self.name.clone()?,
+            gid: self.gid,
+            members,
+        })
+    }
+
+    /// The row without a name, however often it is there. Fails only if memory runs out.
+    pub fn without_name(&self, alloc: Global, name: &[u8]) -> Result<Group, AllocError>
+        ensures { IfOk result (λ group. group ≡ name_removed name.now self.now) }
+    {
+        let mut members = Vec::with_capacity(alloc, self.members.len())?;
+        for member in &self.members {
+            if member.as_bytes() != name {
+                members.push(member.clone()?)?;
+            }
+        }
+        Ok(Group {
+            name: self.name.clone()?,
+            gid: self.gid,
+            members,
+        })
     }
 }

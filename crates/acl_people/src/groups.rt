@@ -1,10 +1,11 @@
 //! The rows of group(5), looked up by name and by id.
 
-ghost use Rattle.std.specs.Prelude.{◌≡◌, [], map, IfOk};
+ghost use Rattle.std.specs.Prelude.{◌≡◌, ◌<◌, [], map, length, slice_set, IfOk};
 ghost use Rattle.acl_text.specs.Told.{Gives};
 ghost use Rattle.acl_text.specs.Rows.{group_of};
 ghost use Rattle.acl_people.specs.Rolls.{AreNames, AreCounted};
 ghost use Rattle.acl_people.specs.Entries.{group_entry};
+ghost use Rattle.acl_people.specs.Changes.{change_at, name_added, name_removed};
 
 use crate::group::Group;
 use crate::roll::Roll;
@@ -56,6 +57,32 @@ fn shared_rows(alloc: Global, rows: Vec<GroupRow>) -> Result<Vec<Rc<Group>>, All
     Ok(groups)
 }
 
+/// The row without a name. A row that does not contain it is shared.
+fn row_without(alloc: Global, row: &Rc<Group>, name: &[u8]) -> Result<Rc<Group>, AllocError>
+    ensures { IfOk result (λ group. group.value ≡ name_removed name.now row.now.value) }
+{
+    if row.names_user(name) {
+        Ok(Rc::new(alloc, row.without_name(alloc, name)?)?)
+    } else {
+        Ok(row.clone()?)
+    }
+}
+
+/// The rows without a name.
+fn rows_without(
+    alloc: Global,
+    rows: &[Rc<Group>],
+    name: &[u8],
+) -> Result<Vec<Rc<Group>>, AllocError>
+    ensures { IfOk result (λ groups. map (λ r. r.value) groups.items ≡ map (name_removed name.now) (map (λ r. r.value) rows.now)) }
+{
+    let mut groups = Vec::with_capacity(alloc, rows.len())?;
+    for row in rows {
+        groups.push(row_without(alloc, row, name)?)?;
+    }
+    Ok(groups)
+}
+
 impl Groups {
     /// No groups. Fails only if memory runs out.
     pub fn new(alloc: Global) -> Result<Groups, AllocError>
@@ -90,5 +117,49 @@ impl Groups {
         ensures counted { AreCounted (map group_entry self.now) }
     {
         &self.roll
+    }
+    /// These groups with another row at a place, of the same name and id. Fails only if memory runs out.
+    fn with_row(&self, alloc: Global, at: usize, row: Group) -> Result<Groups, AllocError>
+        requires within { at < length self.now }
+        requires entry { map group_entry (slice_set self.now at row) ≡ map group_entry self.now }
+        ensures { IfOk result (λ groups. groups ≡ slice_set self.now at row) }
+    {
+        let mut rows = self.rows.clone()?;
+        rows[at] = Rc::new(alloc, row)?;
+        Ok(Groups {
+            rows,
+            roll: self.roll.clone()?,
+        })
+    }
+
+    /// These groups with one more name in a row, the last. Fails only if memory runs out.
+    pub fn with_name(&self, alloc: Global, at: usize, name: &[u8]) -> Result<Groups, AllocError>
+        requires { at < length self.now }
+        ensures { IfOk result (λ groups. groups ≡ change_at at (name_added name.now) self.now) }
+    {
+        let row = self.rows[at].with_name(alloc, name)?;
+        let groups = self.with_row(alloc, at, row)?;
+        Ok(groups)
+    }
+
+    /// These groups without a name in a row. Fails only if memory runs out.
+    pub fn without_name(&self, alloc: Global, at: usize, name: &[u8]) -> Result<Groups, AllocError>
+        requires { at < length self.now }
+        ensures { IfOk result (λ groups. groups ≡ change_at at (name_removed name.now) self.now) }
+    {
+        let row = self.rows[at].without_name(alloc, name)?;
+        let groups = self.with_row(alloc, at, row)?;
+        Ok(groups)
+    }
+
+    /// These groups without a name in any row. Fails only if memory runs out.
+    pub fn without_user(&self, alloc: Global, name: &[u8]) -> Result<Groups, AllocError>
+        ensures { IfOk result (λ groups. groups ≡ map (name_removed name.now) self.now) }
+    {
+        let rows = rows_without(alloc, &self.rows, name)?;
+        Ok(Groups {
+            rows,
+            roll: self.roll.clone()?,
+        })
     }
 }

@@ -44,3 +44,22 @@ pub fn subjects_of(
     }
     Ok(subjects)
 }
+
+/// One user's id and groups: a pass over the group rows. Fails only if memory runs out.
+pub fn person_of(
+    alloc: Global,
+    groups: &[Rc<Group>],
+    user: &PasswdRow,
+) -> Result<Subject, AllocError>
+    ensures { IfOk result (λ subject. subject ≡ person (map (λ r. r.value) groups.now) user.now) }
+{
+    let mut gids = Vec::new(alloc);
+    gids.push(user.gid)?;
+    for group in groups {
+        if group.names_user(user.name.as_bytes()) {
+            gids.push(group.gid())?;
+        }
+    }
+    let subject = Subject::from_groups(alloc, user.uid, &gids)?;
+    Ok(subject)
+}

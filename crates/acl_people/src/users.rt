@@ -1,13 +1,16 @@
 //! The rows of passwd(5), looked up by name and by id.
 
-ghost use Rattle.std.specs.Prelude.{◌≡◌, [], map, IfOk};
+ghost use Rattle.std.specs.Prelude.{◌≡◌, ◌<◌, ◌++◌, ◌∷◌, [], map, length, IfOk};
+ghost use Rattle.std.specs.List.{remove};
 ghost use Rattle.acl_text.specs.Told.{Gives};
 ghost use Rattle.acl_text.specs.Rows.{passwd_of};
 ghost use Rattle.acl_people.specs.Rolls.{AreNames, AreCounted};
 ghost use Rattle.acl_people.specs.Entries.{user_entry};
+ghost use Rattle.acl_people.specs.Changes.{change_at, with_gid};
 
 use crate::roll::Roll;
 use crate::shared::shared;
+use acl_entry::Id;
 use acl_text::{PasswdRow, TextFault, read_passwd};
 use std::alloc::{AllocError, Global};
 use std::marker::Model;
@@ -84,5 +87,45 @@ impl Users {
         ensures counted { AreCounted (map user_entry self.now) }
     {
         &self.roll
+    }
+    /// These users, one of them with another primary group. Fails only if memory runs out.
+    pub fn with_gid(&self, alloc: Global, user: usize, gid: Id) -> Result<Users, AllocError>
+        requires { user < length self.now }
+        ensures { IfOk result (λ users. users ≡ change_at user (with_gid gid) self.now) }
+    {
+        let row = &self.rows[user];
+        let changed = PasswdRow {
+            name: row.name.try_clone(alloc)?,
+            uid: row.uid,
+            gid,
+        };
+        let mut rows = self.rows.clone()?;
+        rows[user] = Rc::new(alloc, changed)?;
+        Ok(Users {
+            rows,
+            roll: self.roll.clone()?,
+        })
+    }
+
+    /// These users and one more, the last. Fails only if memory runs out.
+    pub fn with_row(&self, alloc: Global, row: PasswdRow) -> Result<Users, AllocError>
+        requires { AreCounted (map user_entry (self.now ++ row ∷ [])) }
+        ensures { IfOk result (λ users. users ≡ self.now ++ row ∷ []) }
+    {
+        let mut rows = self.rows.clone()?;
+        rows.push(Rc::new(alloc, row)?)?;
+        let users = Users::of(alloc, rows)?;
+        Ok(users)
+    }
+
+    /// These users without one of them. Fails only if memory runs out.
+    pub fn without_row(&self, alloc: Global, user: usize) -> Result<Users, AllocError>
+        requires { user < length self.now }
+        ensures { IfOk result (λ users. users ≡ remove self.now user) }
+    {
+        let mut rows = self.rows.clone()?;
+        let _gone = rows.remove(user);
+        let users = Users::of(alloc, rows)?;
+        Ok(users)
     }
 }
