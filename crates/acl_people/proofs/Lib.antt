@@ -8,3 +8,5 @@ pub mod Bytes
 pub mod Counted
 pub mod Naming
 pub mod Texts
+pub mod Moving
+pub mod Moved

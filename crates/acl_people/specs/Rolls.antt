@@ -1,6 +1,7 @@
 -- Names with their ids, in the order of their rows.
 use Rattle.std.specs.Prelude.{◌≡◌, ◌<◌, ◌≤◌, ℕ, List, length, slice_index_or, Bool, true, not, ◌&&◌, ◌==◌, Option, Some, option_map, option_and_then, find, position, if◌then◌else◌}
 use Rattle.std.specs.List.{list_all}
+use Rattle.std.specs.Option.{is_some}
 use Rattle.std.specs.Str.{bytes_eq}
 use Rattle.acl_names.specs.Pieces.{is_byte}
 use Rattle.acl_text.specs.Ids.{is_number, id_of}
@@ -27,6 +28,14 @@ id_named name es = option_map (λ e. e.1) (find (is_name name) es)
 -- the name that an id prints as: that of the first row of the id whose name is not digits alone
 abbrev pub name_shown : ℕ → List Named → Option (List ℕ)
 name_shown id es = option_map (λ e. e.0) (find (prints id) es)
+
+-- a row has this name
+abbrev pub has_name : List ℕ → List Named → Bool
+has_name name es = is_some (position (is_name name) es)
+
+-- a row has this id
+abbrev pub has_id : ℕ → List Named → Bool
+has_id id es = is_some (position (is_id id) es)
 
 -- the place of the row that a word stands for: digits alone are always an id, any other word is a name
 abbrev pub place_of_word : List ℕ → List Named → Option ℕ

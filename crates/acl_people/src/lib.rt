@@ -2,10 +2,13 @@
 //! groups.
 #![tactic(auto)]
 
+mod accounts;
 mod fault;
 mod group;
 mod groups;
 mod members;
+mod memberships;
+mod moves;
 mod people;
 mod roll;
 mod shared;

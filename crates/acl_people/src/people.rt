@@ -1,17 +1,20 @@
 //! People: who is known by passwd(5) and group(5).
 
-ghost use Rattle.std.specs.Prelude.{◌≡◌, length, map, slice_get, true, Err, IfOk, option_map};
+ghost use Rattle.std.specs.Prelude.{◌≡◌, ◌<◌, ◌++◌, ◌∷◌, [], length, map, slice_get, true, Err, IfOk, option_map};
 ghost use Rattle.acl_people.specs.declared.fault.LoadFault.TheVariants.{AlreadyLoaded};
 ghost use Rattle.std.specs.Option.{option_copied};
-ghost use Rattle.acl_people.specs.Rolls.{id_named, name_shown, place_of_word, IsNaming};
-ghost use Rattle.acl_people.specs.Registers.{nobody, users_of, groups_of, persons, subject, IsSound, load_passwd, load_group, Loads};
+ghost use Rattle.acl_people.specs.Rolls.{id_named, name_shown, place_of_word, IsNaming, AreCounted};
+ghost use Rattle.acl_people.specs.Entries.{user_entry};
+ghost use Rattle.acl_people.specs.Moves.{ChangesUser, LeavesUser};
+ghost use Rattle.acl_people.specs.Changes.{name_of};
+ghost use Rattle.acl_people.specs.Registers.{person, nobody, users_of, groups_of, persons, subject, IsSound, load_passwd, load_group, Loads};
 
 use crate::fault::{LoadFault, text_fault};
 use crate::groups::Groups;
-use crate::subjects::subjects_of;
+use crate::subjects::{person_of, subjects_of};
 use crate::users::Users;
 use acl_entry::{Id, Subject};
-use acl_text::Names;
+use acl_text::{Names, PasswdRow};
 use std::alloc::{AllocError, Global};
 use std::marker::Model;
 use std::rc::Rc;
@@ -172,6 +175,95 @@ impl People {
             subjects: Rc::new(alloc, subjects)?,
             passwd_loaded: self.passwd_loaded,
             group_loaded: true,
+        })
+    }
+
+    /// The rows of users.
+    pub(crate) fn user_rows(&self) -> &Rc<Users>
+        ensures rows { result.now.value ≡ self.now.users }
+        ensures sound { IsSound self.now }
+    {
+        self.is_sound();
+        &self.users
+    }
+
+    /// The rows of groups.
+    pub(crate) fn group_rows(&self) -> &Rc<Groups>
+        ensures rows { result.now.value ≡ self.now.groups }
+        ensures sound { IsSound self.now }
+    {
+        self.is_sound();
+        &self.groups
+    }
+
+    /// The name in the row of a user.
+    pub(crate) fn name_of(&self, user: usize) -> &[u8]
+        requires { user < length self.now.users }
+        ensures { result.now ≡ name_of user self.now }
+    {
+        self.users.rows()[user].name.as_bytes()
+    }
+
+    /// The people of these rows, where one user's groups may have changed: only that user's groups are
+    /// computed. Fails only if memory runs out.
+    pub(crate) fn with_rows(
+        &self,
+        alloc: Global,
+        users: Rc<Users>,
+        groups: Rc<Groups>,
+        user: usize,
+    ) -> Result<People, AllocError>
+        requires { ChangesUser (persons self.now) (map (person groups.value) users.value) user }
+        ensures { IfOk result (λ people. people ≡ record { users = users.value; groups = groups.value; passwd_loaded = self.now.passwd_loaded; group_loaded = self.now.group_loaded }) }
+    {
+        let subject = person_of(alloc, groups.rows(), &users.rows()[user])?;
+        let mut subjects = self.subjects().to_vec(alloc)?;
+        subjects[user] = Rc::new(alloc, subject)?;
+        Ok(People {
+            users,
+            groups,
+            subjects: Rc::new(alloc, subjects)?,
+            passwd_loaded: self.passwd_loaded,
+            group_loaded: self.group_loaded,
+        })
+    }
+
+    /// These people and one user more, the last. The users count as loaded. Fails only if memory runs out.
+    pub(crate) fn with_user_row(&self, alloc: Global, row: PasswdRow) -> Result<People, AllocError>
+        requires { AreCounted (map user_entry (self.now.users ++ row ∷ [])) }
+        ensures { IfOk result (λ people. people ≡ record { users = self.now.users ++ row ∷ []; groups = self.now.groups; passwd_loaded = true; group_loaded = self.now.group_loaded }) }
+    {
+        let subject = person_of(alloc, self.groups.rows(), &row)?;
+        let mut subjects = self.subjects().to_vec(alloc)?;
+        subjects.push(Rc::new(alloc, subject)?)?;
+        Ok(People {
+            users: Rc::new(alloc, self.users.with_row(alloc, row)?)?,
+            groups: self.groups.clone()?,
+            subjects: Rc::new(alloc, subjects)?,
+            passwd_loaded: true,
+            group_loaded: self.group_loaded,
+        })
+    }
+
+    /// The people of these rows, where a user is gone and no other changed. Fails only if memory runs out.
+    pub(crate) fn with_fewer(
+        &self,
+        alloc: Global,
+        users: Rc<Users>,
+        groups: Rc<Groups>,
+        user: usize,
+    ) -> Result<People, AllocError>
+        requires { LeavesUser (persons self.now) (map (person groups.value) users.value) user }
+        ensures { IfOk result (λ people. people ≡ record { users = users.value; groups = groups.value; passwd_loaded = self.now.passwd_loaded; group_loaded = self.now.group_loaded }) }
+    {
+        let mut subjects = self.subjects().to_vec(alloc)?;
+        let _gone = subjects.remove(user);
+        Ok(People {
+            users,
+            groups,
+            subjects: Rc::new(alloc, subjects)?,
+            passwd_loaded: self.passwd_loaded,
+            group_loaded: self.group_loaded,
         })
     }
 

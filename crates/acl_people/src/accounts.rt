@@ -1,0 +1,81 @@
+//! Users that come and go: useradd(8) and userdel(8).
+
+ghost use Rattle.std.specs.Prelude.{◌≡◌, ◌<◌, ◌↔◌, IsTrue, false, length, IfOk};
+ghost use Rattle.acl_people.specs.Rolls.{has_name, has_id};
+ghost use Rattle.acl_people.specs.Registers.{users_of, persons};
+ghost use Rattle.acl_people.specs.Changes.{gid_of, with_user, without_user};
+ghost use Rattle.acl_people.specs.Moves.{JoinsUser, LeavesUser};
+
+use crate::people::People;
+use acl_entry::Id;
+use acl_names::Name;
+use acl_text::PasswdRow;
+use std::alloc::{AllocError, Global};
+use std::rc::Rc;
+
+/// The most users.
+const MAX_USERS: usize = 65536;
+
+impl People {
+    /// Whether a user has this name.
+    pub fn has_user_named(&self, name: &[u8]) -> bool
+        ensures { result ≡ has_name name.now (users_of self.now) }
+    {
+        self.user_rows().roll().place_of_name(name).is_some()
+    }
+
+    /// Whether a user has this id.
+    pub fn has_user_id(&self, id: Id) -> bool
+        ensures { result ≡ has_id id (users_of self.now) }
+    {
+        self.user_rows().roll().place_of_id(id).is_some()
+    }
+
+    /// Whether there is no room for one more user.
+    pub fn is_full(&self) -> bool
+        ensures { IsTrue result ↔ (length self.now.users ≡ 65536) }
+    {
+        self.user_rows().rows().len() >= MAX_USERS
+    }
+
+    /// These people and one user more, the last, with a group as the primary group. Fails only if memory
+    /// runs out.
+    pub fn with_user(
+        &self,
+        alloc: Global,
+        name: &[u8],
+        uid: Id,
+        group: usize,
+    ) -> Result<People, AllocError>
+        requires filled { 0 < length name.now }
+        requires new { has_name name.now (users_of self.now) ≡ false }
+        requires room { length self.now.users < 65536 }
+        requires group { group < length self.now.groups }
+        ensures rows { IfOk result (λ people. people ≡ with_user name.now uid group self.now) }
+        ensures joins { IfOk result (λ people. JoinsUser (persons self.now) (persons people)) }
+    {
+        self.is_sound();
+        let row = PasswdRow {
+            name: Name::from_bytes(alloc, name)?,
+            uid,
+            gid: self.gid_of(group),
+        };
+        let people = self.with_user_row(alloc, row)?;
+        Ok(people)
+    }
+
+    /// These people without a user, whose name is in no row of a group. Fails only if memory runs out.
+    pub fn without_user(&self, alloc: Global, user: usize) -> Result<People, AllocError>
+        requires { user < length self.now.users }
+        ensures rows { IfOk result (λ people. people ≡ without_user user self.now) }
+        ensures leaves { IfOk result (λ people. LeavesUser (persons self.now) (persons people) user) }
+    {
+        let users = Rc::new(alloc, self.user_rows().without_row(alloc, user)?)?;
+        let groups = Rc::new(
+            alloc,
+            self.group_rows().without_user(alloc, self.name_of(user))?,
+        )?;
+        let people = self.with_fewer(alloc, users, groups, user)?;
+        Ok(people)
+    }
+}
