@@ -10,3 +10,5 @@ pub mod Naming
 pub mod Texts
 pub mod Moving
 pub mod Moved
+pub mod Undone
+pub mod Otherwise

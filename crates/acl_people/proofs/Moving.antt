@@ -115,13 +115,13 @@ other_name users names u i x y at here apart = by (bytes_eq x.name y.name) refl
 
 -- ---- how the users move
 
-row_at : (users : List PasswdRow) (u : ℕ) → u < length users → slice_get users u ≡ Some (get_or users u (user_row [] 0 0))
+pub row_at : (users : List PasswdRow) (u : ℕ) → u < length users → slice_get users u ≡ Some (get_or users u (user_row [] 0 0))
 row_at users u lt = slice_get-get_or users u (user_row [] 0 0) lt
 
 named : (known : Register) (u : ℕ) (row : PasswdRow) → slice_get known.users u ≡ Some row → name_of u known ≡ row.name
 named known u row at = ap (λ o. option_map_or (λ r. r.name) o []) at
 
-person_at : (known : Register) (u : ℕ) (row : PasswdRow) → slice_get known.users u ≡ Some row → slice_get (persons known) u ≡ Some (person known.groups row)
+pub person_at : (known : Register) (u : ℕ) (row : PasswdRow) → slice_get known.users u ≡ Some row → slice_get (persons known) u ≡ Some (person known.groups row)
 person_at known u row at = slice_get-map (person known.groups) known.users u ∙ ap (λ o. option_map (person known.groups) o) at
 
 changes_none : (old : List Person) (u : ℕ) (p : Person) → slice_get old u ≡ Some p → ChangesUser old old u

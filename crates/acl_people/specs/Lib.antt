@@ -4,3 +4,4 @@ pub mod Registers
 pub mod Members
 pub mod Changes
 pub mod Moves
+pub mod Laws

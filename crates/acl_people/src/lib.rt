@@ -6,6 +6,7 @@ mod accounts;
 mod fault;
 mod group;
 mod groups;
+mod laws;
 mod members;
 mod memberships;
 mod moves;
@@ -16,4 +17,5 @@ mod subjects;
 mod users;
 
 pub use fault::LoadFault;
+pub use laws::{added_member_is_removed, added_user_is_removed, group_held_otherwise_stays};
 pub use people::People;
