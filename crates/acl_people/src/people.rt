@@ -1,6 +1,6 @@
 //! People: who is known by passwd(5) and group(5).
 
-ghost use Rattle.std.specs.Prelude.{◌≡◌, ◌<◌, ◌++◌, ◌∷◌, [], length, map, slice_get, true, Err, IfOk, option_map};
+ghost use Rattle.std.specs.Prelude.{◌≡◌, ◌<◌, ◌++◌, ◌∷◌, [], length, map, slice_get, true, Err, IfOk, IfSome, option_map};
 ghost use Rattle.acl_people.specs.declared.fault.LoadFault.TheVariants.{AlreadyLoaded};
 ghost use Rattle.std.specs.Option.{option_copied};
 ghost use Rattle.acl_people.specs.Rolls.{id_named, name_shown, place_of_word, IsNaming, AreCounted};
@@ -92,7 +92,8 @@ impl People {
     /// The place of the user that a word stands for: digits alone are the first user of that id, any other
     /// word is a name.
     pub fn find_user(&self, word: &[u8]) -> Option<usize>
-        ensures { result ≡ place_of_word word.now (users_of self.now) }
+        ensures found { result ≡ place_of_word word.now (users_of self.now) }
+        ensures within { IfSome result (λ user. user < length self.now.users) }
     {
         self.users.roll().place_of_word(word)
     }
@@ -100,7 +101,8 @@ impl People {
     /// The place of the group that a word stands for: digits alone are the first group of that id, any other
     /// word is a name.
     pub fn find_group(&self, word: &[u8]) -> Option<usize>
-        ensures { result ≡ place_of_word word.now (groups_of self.now) }
+        ensures found { result ≡ place_of_word word.now (groups_of self.now) }
+        ensures within { IfSome result (λ group. group < length self.now.groups) }
     {
         self.groups.roll().place_of_word(word)
     }

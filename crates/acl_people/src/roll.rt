@@ -1,6 +1,6 @@
 //! Names with their ids, looked up by name and by id.
 
-ghost use Rattle.std.specs.Prelude.{◌≡◌, ◌++◌, ◌∷◌, [], ℕ, ◌==◌, nat_eq, length, position, Some, None, IfOk, OnOk, option_map, slice_get, if◌then◌else◌};
+ghost use Rattle.std.specs.Prelude.{◌≡◌, ◌<◌, ◌++◌, ◌∷◌, [], ℕ, ◌==◌, nat_eq, length, position, Some, None, IfOk, IfSome, OnOk, option_map, slice_get, if◌then◌else◌};
 ghost use Rattle.std.specs.HashMap.{get};
 ghost use Rattle.std.specs.Option.{option_copied, option_or};
 ghost use Rattle.acl_people.specs.Rolls.{is_name, is_id, prints, id_named, name_shown, place_of_word};
@@ -92,7 +92,8 @@ impl Roll {
 
     /// The place that a word stands for: digits alone are an id, any other word is a name.
     pub fn place_of_word(&self, word: &[u8]) -> Option<usize>
-        ensures { result ≡ place_of_word word.now self.now }
+        ensures found { result ≡ place_of_word word.now self.now }
+        ensures within { IfSome result (λ at. at < length self.now) }
     {
         if is_number(word) {
             match read_id(word) {

@@ -69,6 +69,7 @@ fn ids_print_as_names(rt: HostRuntime) -> Result<(), Fail> {
     assert_eq!(rt; people.group_id(b"other"), Some(id(&rt, 60)));
     assert_eq!(rt; people.group_id(b"joe"), None);
     people.naming_is_read_back();
+    people.is_sound();
     Ok(())
 }
 
