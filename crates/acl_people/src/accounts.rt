@@ -1,6 +1,6 @@
 //! Users that come and go: useradd(8) and userdel(8).
 
-ghost use Rattle.std.specs.Prelude.{◌≡◌, ◌<◌, ◌↔◌, IsTrue, false, length, IfOk};
+ghost use Rattle.std.specs.Prelude.{◌≡◌, ◌<◌, nat_le, false, length, IfOk};
 ghost use Rattle.acl_people.specs.Rolls.{has_name, has_id};
 ghost use Rattle.acl_people.specs.Registers.{users_of, persons};
 ghost use Rattle.acl_people.specs.Changes.{gid_of, with_user, without_user};
@@ -33,7 +33,7 @@ impl People {
 
     /// Whether there is no room for one more user.
     pub fn is_full(&self) -> bool
-        ensures { IsTrue result ↔ (length self.now.users ≡ 65536) }
+        ensures { result ≡ nat_le 65536 (length self.now.users) }
     {
         self.user_rows().rows().len() >= MAX_USERS
     }
