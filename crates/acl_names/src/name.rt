@@ -57,7 +57,7 @@ impl Name {
 pub fn read_name(alloc: Global, text: &[u8]) -> Result<Name, AllocError>
     ensures { IfOk result (λ name. name ≡ decoded text.now) }
 {
-    let mut bytes = Vec::new(alloc);
+    let mut bytes = Vec::with_capacity(alloc, text.len())?;
     let mut rest = text;
     while let [first, after @ ..] = rest {
         let (byte, more) = unit(*first, after);
