@@ -17,7 +17,7 @@ use Rattle.acl_edit.specs.declared.edit.Change.{Change}
 use Rattle.acl_edit.specs.declared.edit.Edit.{Edit}
 use Rattle.acl_edit.specs.declared.edit.Edit.TheVariants as edits
 use Rattle.acl_edit.specs.declared.edit.EditFault.{EditFault}
-use Rattle.acl_edit.specs.declared.edit.EditFault.TheVariants.{DefaultOnFile, List as ListIs}
+use Rattle.acl_edit.specs.declared.edit.EditFault.TheVariants.{DefaultOnFile, NoMemory, List as ListIs}
 use Rattle.acl_edit.specs.declared.node.Kind.{Kind}
 use Rattle.acl_edit.specs.declared.node.Kind.TheVariants.{Plain, Directory}
 use Rattle.acl_edit.specs.declared.node.Node.{Node}
@@ -101,6 +101,17 @@ module _ (n : Node) (c : Change) (r : Bool) where
   only_default false None Directory false (Some g) e h = (refl, refl, refl, cc)
   only_default false None Directory false None e h = cc
 
+  no_memory : (b : Bool) (f : Option ListFault) (k : Kind) (z : Bool) (g : Option ListFault) → outcome b f k z g ≢ Err NoMemory
+  no_memory true f k z g = λ h. cc
+  no_memory false (Some f) k z g = λ h. cc
+  no_memory false None Plain z g = λ h. cc
+  no_memory false None Directory true g = λ h. cc
+  no_memory false None Directory false (Some g) = λ h. cc
+  no_memory false None Directory false None = λ h. cc
+
+  pub line_takes_no_memory : edit n (edits.Change c) r ≢ Err NoMemory
+  line_takes_no_memory h = no_memory (misplaces_default n (edits.Change c) r) (fault (entries left)) n.kind none_given (fault (entries left_default)) (sym outcome_is ∙ h)
+
   -- ---- lists with entries
 
   some_entries : (es : List Entry) → eqb (length es) 0 ≡ false → es ≢ []
@@ -168,6 +179,12 @@ module _ (n : Node) (r : Bool) where
   no_list Plain true (Some d) f which e = λ h. cc
   no_list Plain false (Some d) f which e = λ h. cc
 
+  memory_given : {A : Type 0} (k : Kind) (b : Bool) (o : Option KeyMap) (f : Option KeyMap → A) → (allowed k b o >>= λ d. Ok (f d)) ≢ Err NoMemory
+  memory_given Directory b o f = λ h. cc
+  memory_given Plain b None f = λ h. cc
+  memory_given Plain true (Some d) f = λ h. cc
+  memory_given Plain false (Some d) f = λ h. cc
+
 pub misplaced : (n : Node) (e : Edit) (r : Bool) → (edit n e r ≡ Err DefaultOnFile) ↔ (misplaces_default n e r ≡ true)
 unfolding steps.put steps.restore
 misplaced n (edits.Change c) r = line_misplaced n c r
@@ -195,3 +212,10 @@ refuses_no_list n (edits.Restore access dacl owner group flags) r = λ which f. 
 
 pub misplaces : (n : Node) (e : Edit) (r : Bool) → misplaces_default n e r ≡ true → edit n e r ≡ Err DefaultOnFile
 misplaces n e r h = (misplaced n e r).1 h
+
+pub takes_no_memory : (n : Node) (e : Edit) (r : Bool) → edit n e r ≢ Err NoMemory
+unfolding steps.put steps.restore
+takes_no_memory n (edits.Change c) r = line_takes_no_memory n c r
+takes_no_memory n (edits.Put access dacl) r = memory_given n r n.kind r dacl _
+takes_no_memory n (edits.Flatten access dacl) r = λ h. cc
+takes_no_memory n (edits.Restore access dacl owner group flags) r = memory_given n r n.kind r dacl _
