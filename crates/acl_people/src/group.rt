@@ -1,6 +1,7 @@
 //! A row of group(5).
 
-ghost use Rattle.std.specs.Prelude.{◌≡◌, map, IfOk};
+ghost use Rattle.std.specs.Prelude.{◌≡◌, ◌++◌, ◌∷◌, [], map, filter, not, IfOk, OnOk};
+ghost use Rattle.std.specs.Str.{bytes_eq};
 ghost use Rattle.acl_people.specs.Registers.{names_user};
 ghost use Rattle.acl_people.specs.Changes.{name_added, name_removed};
 
@@ -27,6 +28,16 @@ impl Model for Group {
     ghost Value = { GroupRow };
 
     ghost view = { λ g. record { name = g.name.value; gid = g.gid; names = map (λ n. n.value) g.members.items } };
+}
+
+/// Adds a name, unless it is this one.
+fn push_other(members: &mut Vec<Rc<Name>>, member: &Rc<Name>, name: &[u8]) -> Result<(), AllocError>
+    ensures { OnOk result (map (λ n. n.value) members.new.items ≡ map (λ n. n.value) members.old.items ++ filter (λ m. not (bytes_eq m name.now)) (member.now.value ∷ [])) }
+{
+    if member.as_bytes() != name {
+        members.push(member.clone()?)?;
+    }
+    Ok(())
 }
 
 impl Group {
@@ -87,9 +98,7 @@ impl Group {
     {
         let mut members = Vec::with_capacity(alloc, self.members.len())?;
         for member in &self.members {
-            if member.as_bytes() != name {
-                members.push(member.clone()?)?;
-            }
+            push_other(&mut members, member, name)?;
         }
         Ok(Group {
             name: self.name.clone()?,

@@ -3,12 +3,8 @@ use Rattle.std.proofs.lemmas.Grind.{common_steps}
 use Rattle.std.proofs.lemmas.List.Elements.{filter-append}
 use Rattle.acl_people.proofs.Pointers.{map_take_more}
 use Rattle.acl_people.proofs.group.Group.without_name.Goals as goal
-use Rattle.acl_people.proofs.group.Group.without_name.Goals.{then-ne+in_ok-clone+in_ok-push, else-ne}
 
 pub loop-member-preserved : goal.loop-member-preserved
 loop-member-preserved c =
     let more = map_take_more (λ n. n.value) c.deref-member-items.result.now c.loop-member.member-index c.member-item.result c.loop-member-test.true c.member-item.is in
-    elim c.if-ne.branch [
-      | then-ne+in_ok-clone+in_ok-push w ↦ grind (arith, common_steps, filter-append, more)
-      | else-ne w ↦ grind (arith, common_steps, filter-append, more)
-    ]
+    grind (arith, common_steps, filter-append, more)
