@@ -1,5 +1,5 @@
 -- Rows of which one is changed, and names put into a row or taken out of it.
-use Rattle.std.proofs.Common.{◌≡◌, ℕ, Bool, true, false, not, ◌||◌, cond, List, [], ◌∷◌, ◌++◌, map, filter, slice_get, slice_set, Option, Some, None, refl, sym, ap, ◌∙◌}
+use Rattle.std.proofs.Common.{◌≡◌, ℕ, Bool, true, false, not, ◌||◌, cond, List, [], ◌∷◌, map, filter, slice_get, slice_set, Option, Some, None, refl, sym, ap, ◌∙◌}
 use Rattle.std.specs.List.{list_any}
 use Rattle.std.specs.Option.{option_map_or}
 use Rattle.std.specs.Str.{bytes_eq}
@@ -8,7 +8,7 @@ use Rattle.std.proofs.lemmas.Option.{get_or_from_slice_get}
 use Rattle.acl_text.specs.declared.rows.PasswdRow.{PasswdRow}
 use Rattle.acl_text.specs.declared.rows.GroupRow.{GroupRow}
 use Rattle.acl_people.specs.Registers.{names_user}
-use Rattle.acl_people.specs.Changes.{change_at, name_added, name_removed}
+use Rattle.acl_people.specs.Changes.{change_at, name_removed}
 
 abbrev pub user_row : List ℕ → ℕ → ℕ → PasswdRow
 user_row name uid gid = record { name = name; uid = uid; gid = gid }

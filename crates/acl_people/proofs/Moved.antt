@@ -1,12 +1,12 @@
 -- The groups that a user joined or left.
-use Rattle.std.proofs.Common.{◌≡◌, ℕ, ◌<◌, Bool, true, false, not, ◌&&◌, ◌||◌, nat_cmp, List, [], length, map, get_or, slice_get, slice_set, Some, refl, sym, ap, subst, ◌∙◌}
+use Rattle.std.proofs.Common.{◌≡◌, ℕ, ◌<◌, Bool, true, false, not, ◌&&◌, ◌||◌, List, [], length, map, get_or, slice_get, slice_set, Some, refl, sym, ap, subst, ◌∙◌}
 use Rattle.std.specs.FinSet as sets
 use Rattle.std.specs.FinSet.{same_set, nat_cmp-IsAntisymmetric}
 use Rattle.std.proofs.lemmas.Cmp.{nat_cmp_total}
 use Rattle.std.proofs.lemmas.List.{set-get_or, length-map}
 use Rattle.std.proofs.lemmas.Option.{get_or_from_slice_get, slice_get_within}
 use Rattle.acl_entry.specs.Person.{Person}
-use Rattle.acl_people.specs.Moves.{ChangesUser, AreMoved, MovesUser, in_just_one}
+use Rattle.acl_people.specs.Moves.{ChangesUser, AreMoved, in_just_one}
 use Rattle.acl_people.proofs.Pointers.{value_at}
 
 pub in_one : (a b : Bool) → ((false || (a && not b)) || (b && not a)) ≡ in_just_one a b

@@ -1,6 +1,6 @@
 -- Which users a change of rows concerns.
-use Rattle.std.proofs.Common.{◌≡◌, ◌≢◌, ℕ, zero, suc, ◌+◌, ◌<◌, Bool, true, false, not, ◌||◌, cond, List, [], ◌∷◌, ◌++◌, length, map, filter, take, drop, get_or, slice_get, slice_set, position, Option, Some, None, option_map, refl, sym, ap, subst, ◌∙◌, arith}
-use Rattle.std.specs.List.{list_any, remove, flat_map}
+use Rattle.std.proofs.Common.{◌≡◌, ◌≢◌, ℕ, zero, suc, ◌<◌, Bool, true, false, not, ◌||◌, cond, List, [], ◌∷◌, ◌++◌, length, map, filter, get_or, slice_get, slice_set, position, Some, option_map, refl, sym, ap, subst, ◌∙◌, arith}
+use Rattle.std.specs.List.{remove, flat_map}
 use Rattle.std.specs.Option.{option_map_or}
 use Rattle.std.specs.Str.{bytes_eq}
 use Rattle.std.specs.FinSet as sets
@@ -13,10 +13,10 @@ use Rattle.std.proofs.lemmas.Slice.Eq.{bytes_eq-Decides}
 use Rattle.acl_entry.specs.Person.{Person}
 use Rattle.acl_text.specs.declared.rows.PasswdRow.{PasswdRow}
 use Rattle.acl_text.specs.declared.rows.GroupRow.{GroupRow}
-use Rattle.acl_people.specs.Rolls.{Named, is_name, AreNames}
-use Rattle.acl_people.specs.Entries.{user_entry, group_entry}
-use Rattle.acl_people.specs.Registers.{Register, users_of, names_user, gids_of, person, persons, IsSound}
-use Rattle.acl_people.specs.Changes.{change_at, name_of, gid_of, name_added, name_removed, is_member, with_member, without_member, with_gid, with_primary_group, with_user, without_user}
+use Rattle.acl_people.specs.Rolls.{is_name, AreNames}
+use Rattle.acl_people.specs.Entries.{user_entry}
+use Rattle.acl_people.specs.Registers.{Register, users_of, names_user, person, persons, IsSound}
+use Rattle.acl_people.specs.Changes.{change_at, name_of, gid_of, name_added, name_removed, without_member, with_gid, with_primary_group, with_user, without_user}
 use Rattle.acl_people.specs.Moves.{ChangesUser, JoinsUser, LeavesUser}
 use Rattle.acl_people.proofs.Changed.{user_row, change_at-set, map-change_at}
 

@@ -1,5 +1,5 @@
 -- A group that the primary group or another row gives.
-use Rattle.std.proofs.Common.{◌≡◌, ℕ, zero, suc, Bool, true, false, ◌&&◌, ◌||◌, cond, if◌then◌else◌, nat_eq, nat_cmp, List, [], ◌∷◌, map, filter, length, get_or, slice_get, slice_set, Option, Some, None, ◌<◌, refl, sym, ap, subst, ◌∙◌}
+use Rattle.std.proofs.Common.{◌≡◌, ℕ, zero, suc, Bool, true, false, ◌&&◌, ◌||◌, cond, if◌then◌else◌, nat_eq, nat_cmp, List, [], ◌∷◌, map, filter, length, get_or, slice_get, slice_set, Option, Some, None, ◌<◌, refl, sym, ap, ◌∙◌}
 use Rattle.std.specs.List.{list_any, remove}
 use Rattle.std.specs.Option.{option_map_or}
 use Rattle.std.specs.FinSet as sets
@@ -12,7 +12,7 @@ use Rattle.acl_entry.specs.Person.{Person}
 use Rattle.acl_text.specs.declared.rows.PasswdRow.{PasswdRow}
 use Rattle.acl_text.specs.declared.rows.GroupRow.{GroupRow}
 use Rattle.acl_people.specs.Registers.{Register, names_user, gids_of, person, persons, IsSound}
-use Rattle.acl_people.specs.Changes.{change_at, name_of, gid_of, name_added, name_removed, is_member, with_member, without_member}
+use Rattle.acl_people.specs.Changes.{change_at, name_of, gid_of, name_added, name_removed, is_member}
 use Rattle.acl_people.specs.Laws.{has_otherwise, GroupHeldOtherwiseStays}
 use Rattle.acl_people.specs.Moves.{ChangesUser}
 use Rattle.acl_people.proofs.Changed.{change_at-set, user_row}

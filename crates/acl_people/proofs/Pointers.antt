@@ -1,6 +1,6 @@
 -- Lists of pointers, and what they point to.
-use Rattle.std.proofs.Common.{◌≡◌, ℕ, ◌+◌, ◌<◌, Bool, ◌||◌, List, [], ◌∷◌, ◌++◌, length, map, take, get_or, slice_get, Some, option_map, refl, ap, sym, subst, ◌∙◌}
-use Rattle.std.specs.List.{list_any, AllZip}
+use Rattle.std.proofs.Common.{◌≡◌, ℕ, zero, suc, ◌+◌, ◌<◌, Bool, ◌||◌, List, [], ◌∷◌, ◌++◌, length, map, take, get_or, slice_get, Some, option_map, refl, ap, sym, subst, ◌∙◌}
+use Rattle.std.specs.List.{list_any, AllZip, remove}
 use Rattle.std.proofs.lemmas.Option.{slice_get-map, slice_get_read}
 use Rattle.std.proofs.lemmas.List.{take_more, get_or-map, length-map}
 
@@ -27,3 +27,9 @@ value_is f xs i x lt is = ap f is ∙ sym (get_or-map f xs i x (f x) lt)
 
 pub value_at : {A B : Type 0} (f : A → B) (xs : List A) (i : ℕ) (x : A) → i < length xs → x ≡ get_or xs i x → slice_get (map f xs) i ≡ Some (f x)
 value_at f xs i x lt is = slice_get-map f xs i ∙ ap (λ o. option_map f o) (slice_get_read xs (length xs) i x refl lt is)
+
+pub map-remove : {A B : Type 0} (f : A → B) (i : ℕ) (xs : List A) → map f (remove xs i) ≡ remove (map f xs) i
+map-remove f zero [] = refl
+map-remove f (suc i) [] = refl
+map-remove f zero (x ∷ xs) = refl
+map-remove f (suc i) (x ∷ xs) = ap (λ l. f x ∷ l) (map-remove f i xs)

@@ -1,17 +1,16 @@
 -- Members and users that are added and removed again.
-use Rattle.std.proofs.Common.{◌≡◌, ℕ, ◌+◌, ◌-◌, Bool, true, false, not, ◌||◌, cond, if◌then◌else◌, List, [], ◌∷◌, ◌++◌, length, map, filter, slice_get, slice_set, Option, Some, None, refl, sym, ap, subst, ◌∙◌, arith}
+use Rattle.std.proofs.Common.{◌≡◌, ℕ, Bool, true, false, not, ◌||◌, cond, if◌then◌else◌, List, [], ◌∷◌, ◌++◌, length, map, filter, slice_get, slice_set, Option, Some, None, refl, sym, ap, ◌∙◌}
 use Rattle.std.specs.List.{list_any, remove}
 use Rattle.std.specs.Option.{option_map_or}
 use Rattle.std.specs.Str.{bytes_eq}
 use Rattle.std.specs.Cmp.Lexicographic.{nat_list_eq_equiv}
 use Rattle.std.proofs.lemmas.List.{set-set, set-get_or}
-use Rattle.std.proofs.lemmas.List.Edits.{remove-append_right}
 use Rattle.std.proofs.lemmas.List.Elements.{filter-append}
 use Rattle.std.proofs.lemmas.Option.{get_or_from_slice_get}
 use Rattle.acl_text.specs.declared.rows.PasswdRow.{PasswdRow}
 use Rattle.acl_text.specs.declared.rows.GroupRow.{GroupRow}
 use Rattle.acl_people.specs.Registers.{Register, names_user}
-use Rattle.acl_people.specs.Changes.{change_at, name_of, gid_of, name_added, name_removed, is_member, with_member, without_member, with_user, without_user}
+use Rattle.acl_people.specs.Changes.{change_at, name_of, gid_of, name_added, name_removed, without_member, with_user}
 use Rattle.acl_people.specs.Laws.{AddedMemberIsRemoved, AddedUserIsRemoved}
 use Rattle.acl_people.proofs.Changed.{change_at-set, name_removed-absent, group_row, user_row}
 use Rattle.acl_people.proofs.Moving.{slice_get-set_same}

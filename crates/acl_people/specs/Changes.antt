@@ -1,12 +1,11 @@
 -- Changes of users and groups: gpasswd(1), usermod(8), useradd(8), userdel(8).
-use Rattle.std.specs.Prelude.{◌≡◌, ℕ, List, [], ◌∷◌, ◌++◌, map, filter, slice_get, slice_set, Bool, true, false, not, if◌then◌else◌}
+use Rattle.std.specs.Prelude.{ℕ, List, [], ◌∷◌, ◌++◌, map, filter, slice_get, slice_set, Bool, true, false, not, if◌then◌else◌}
 use Rattle.std.specs.List.{remove}
 use Rattle.std.specs.Option.{option_map_or}
 use Rattle.std.specs.Str.{bytes_eq}
-use Rattle.std.specs.FinSet.{contains}
 use Rattle.acl_text.specs.declared.rows.PasswdRow.{PasswdRow}
 use Rattle.acl_text.specs.declared.rows.GroupRow.{GroupRow}
-use Rattle.acl_people.specs.Registers.{Register, names_user, person}
+use Rattle.acl_people.specs.Registers.{Register, names_user}
 
 -- the rows with the one at a place changed
 abbrev pub change_at : {R : Type 0} → ℕ → (R → R) → List R → List R
@@ -24,7 +23,7 @@ gid_of group known = option_map_or (λ row. row.gid) (slice_get known.groups gro
 abbrev pub name_added : List ℕ → GroupRow → GroupRow
 name_added name row = record { name = row.name; gid = row.gid; names = row.names ++ name ∷ [] }
 
--- a group's row without a name, however often it stands there
+-- a group's row without a name, however often it is there
 abbrev pub name_removed : List ℕ → GroupRow → GroupRow
 name_removed name row = record { name = row.name; gid = row.gid; names = filter (λ member. not (bytes_eq member name)) row.names }
 

@@ -49,7 +49,7 @@ pub record AreNames (es : List Named) : Type 0 where
   pub filled : (i : ℕ) (d : Named) → i < length es → 0 < length (slice_index_or es i d).0
   pub made_of_bytes : (i : ℕ) (d : Named) → i < length es → list_all is_byte (slice_index_or es i d).0 ≡ true
 
--- the names and ids of counted rows: each name stands once, and there are at most 65,536
+-- the names and ids of counted rows: each name is in one row, and there are at most 65,536
 pub record AreCounted (es : List Named) : Type 0 where
   pub names : AreNames es
   pub few : length es ≤ 65536

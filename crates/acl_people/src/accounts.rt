@@ -75,7 +75,7 @@ impl People {
             alloc,
             self.group_rows().without_user(alloc, self.name_of(user))?,
         )?;
-        let people = self.with_fewer(alloc, users, groups, user)?;
+        let people = self.without_subject(alloc, users, groups, user)?;
         Ok(people)
     }
 }

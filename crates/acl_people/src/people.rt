@@ -248,7 +248,7 @@ impl People {
     }
 
     /// The people of these rows, where a user is gone and no other changed. Fails only if memory runs out.
-    pub(crate) fn with_fewer(
+    pub(crate) fn without_subject(
         &self,
         alloc: Global,
         users: Rc<Users>,

@@ -1,4 +1,4 @@
-use Rattle.std.proofs.Common.{map, position, ap, ◌∙◌}
+use Rattle.std.proofs.Common.{position, ap, ◌∙◌}
 use Rattle.acl_text.specs.Rows.{group_name}
 use Rattle.acl_people.specs.Rolls.{is_name}
 use Rattle.acl_people.proofs.Counted.{fresh}

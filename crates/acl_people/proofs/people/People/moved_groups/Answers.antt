@@ -1,4 +1,4 @@
-use Rattle.std.proofs.Common.{◌≡◌, ℕ, List, [], slice_get, Some, sym, ap, subst, ◌∙◌}
+use Rattle.std.proofs.Common.{◌≡◌, ℕ, List, slice_get, Some, ap, subst, ◌∙◌}
 use Rattle.acl_entry.specs.Person.{Person}
 use Rattle.acl_people.specs.Registers.{persons}
 use Rattle.acl_people.specs.Moves.{AreMoved}

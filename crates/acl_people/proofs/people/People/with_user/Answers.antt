@@ -1,11 +1,11 @@
-use Rattle.std.proofs.Common.{◌≡◌, ◌<◌, ◌≤◌, ℕ, List, ◌∷◌, ◌++◌, [], Bool, true, false, Option, Some, None, length, map, position, refl, sym, subst, ap, ◌∙◌}
+use Rattle.std.proofs.Common.{◌≡◌, ◌<◌, ◌≤◌, ℕ, List, ◌∷◌, ◌++◌, [], true, false, Option, Some, None, length, map, position, refl, sym, subst, ap, ◌∙◌}
 use Rattle.std.specs.Option.{is_some}
 use Rattle.std.proofs.lemmas.List.{map_push, length-map}
 use Rattle.acl_names.proofs.Bytes.{all_bytes}
 use Rattle.acl_people.specs.Rolls.{is_name, AreCounted}
 use Rattle.acl_people.specs.Entries.{user_entry}
 use Rattle.acl_people.specs.Registers.{Register, persons, users_of}
-use Rattle.acl_people.specs.Changes.{gid_of, with_user}
+use Rattle.acl_people.specs.Changes.{with_user}
 use Rattle.acl_people.specs.Moves.{JoinsUser}
 use Rattle.acl_people.proofs.Changed.{user_row}
 use Rattle.acl_people.proofs.Counted.{IsNameText, counted_push}

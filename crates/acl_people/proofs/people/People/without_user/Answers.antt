@@ -19,8 +19,8 @@ leaving c =
     let users : c.in_ok-users.users.value ≡ remove known.users c.args.user = c.in_ok-users.ensures.ok ∙ c.in_ok-without_row.ensures ∙ ap (λ rows. remove rows c.args.user) (c.deref.ensures ∙ c.user_rows.ensures.rows) in
     leaves_as (persons known) _ _ _ _ c.args.user groups users (leaves known c.user_rows.ensures.sound c.args.user c.requires)
 
-pub with_fewer-requires : goal.with_fewer-requires
-with_fewer-requires c = leaving c
+pub without_subject-requires : goal.without_subject-requires
+without_subject-requires c = leaving c
 
 pub returns-clause-leaves : goal.returns-clause-leaves
 returns-clause-leaves c = subst (λ people. LeavesUser (persons c.args.self.now) (persons people) c.args.user) (sym c.in_ok-people.ensures) (leaving (goal.at.returns-clause-leaves c).In_ok-groups)

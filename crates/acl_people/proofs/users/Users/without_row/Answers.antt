@@ -1,10 +1,9 @@
-use Rattle.std.proofs.Common.{◌≡◌, ◌<◌, length, map, sym, subst, ap, ◌∙◌, arith}
+use Rattle.std.proofs.Common.{◌≡◌, ◌<◌, length, map, sym, subst, ap, ◌∙◌}
 use Rattle.std.specs.List.{remove}
 use Rattle.std.proofs.lemmas.List.{length-map}
-use Rattle.indexmap.proofs.SetLemmas.{map-remove}
 use Rattle.acl_people.specs.Rolls.{AreCounted}
 use Rattle.acl_people.specs.Entries.{user_entry}
-use Rattle.acl_people.proofs.Pointers.{same_values}
+use Rattle.acl_people.proofs.Pointers.{same_values, map-remove}
 use Rattle.acl_people.proofs.Counted.{counted_remove}
 use Rattle.acl_people.proofs.users.Users.without_row.Goals as goal
 use Rattle.acl_people.proofs.users.Users.without_row.Goals.{After-remove-gone}
@@ -13,13 +12,13 @@ use Rattle.acl_people.proofs.users.Users.without_row.Goals.{After-remove-gone}
 rows : (c : After-remove-gone) → map (λ r. r.value) c.remove-gone.new.self.items ≡ remove c.args.self.now c.args.user
 rows c =
     ap (λ rs. map (λ r. r.value) rs) c.remove-gone.ensures.items
-    ∙ map-remove (λ r. r.value) c.in_ok-rows.rows.items c.args.user
+    ∙ map-remove (λ r. r.value) c.args.user c.in_ok-rows.rows.items
     ∙ ap (λ rs. remove rs c.args.user) (same_values (λ r. r.value) c.self.inside.rows.items c.in_ok-rows.rows.items c.in_ok-rows.ensures.cases.0 ∙ c.self.view_is)
 
 pub of-requires : goal.of-requires
 of-requires c =
     let entries : map user_entry (map (λ r. r.value) c.remove-gone.new.self.items) ≡ remove (map user_entry c.args.self.now) c.args.user =
-    ap (λ rs. map user_entry rs) (rows c) ∙ map-remove user_entry c.args.self.now c.args.user
+    ap (λ rs. map user_entry rs) (rows c) ∙ map-remove user_entry c.args.user c.args.self.now
     in
     let within : c.args.user < length (map user_entry c.args.self.now) = subst (λ n. c.args.user < n) (sym (length-map c.args.self.now user_entry)) c.requires in
     subst AreCounted (sym entries) (counted_remove (map user_entry c.args.self.now) c.args.user within (subst (λ rs. AreCounted (map user_entry rs)) c.self.view_is c.self.invariant.1))
