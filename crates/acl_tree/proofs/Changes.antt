@@ -1,5 +1,5 @@
 -- What an edit of files changes.
-use Rattle.std.proofs.Common.{◌≡◌, Bool, true, false, ◌&&◌, not, cond, eqb, if◌then◌else◌, is_some, IsTrue, List, [], ◌∷◌, ◌++◌, filter, Some, Ordering, Less, Equal, Greater, refl, sym, ap, subst, ◌∙◌, append_assoc, append-nil, ℕ, suc, ◌<◌, length, get_or, arith}
+use Rattle.std.proofs.Common.{◌≡◌, Bool, true, false, ◌&&◌, not, cond, eqb, if◌then◌else◌, is_some, IsTrue, List, [], ◌∷◌, ◌++◌, filter, Some, Ordering, Less, Equal, Greater, refl, sym, ap, subst, ◌∙◌, append_assoc}
 use Rattle.std.specs.Bool.{Decides}
 use Rattle.std.specs.Option.{option_map_or}
 use Rattle.std.specs.Ordering.{is_eq, is_lt}

@@ -1,5 +1,5 @@
 -- The files that operands in path order mean.
-use Rattle.std.proofs.Common.{◌≡◌, ◌≢◌, ℕ, suc, ◌+◌, ◌<◌, ◌≤◌, arith, length, get_or, take, drop, take-append-drop, Bool, true, false, not, cond, ◌||◌, ◌&&◌, List, [], ◌∷◌, ◌++◌, filter, map, Option, Some, None, Ordering, Less, Equal, Greater, refl, sym, ap, subst, ◌∙◌, append_assoc, true≢false}
+use Rattle.std.proofs.Common.{◌≡◌, ◌≢◌, ℕ, suc, ◌+◌, ◌<◌, arith, length, get_or, take, drop, take-append-drop, Bool, true, false, not, cond, ◌||◌, ◌&&◌, List, [], ◌∷◌, ◌++◌, filter, map, Option, Some, None, Ordering, Less, Equal, Greater, refl, sym, ap, subst, ◌∙◌, append_assoc, true≢false}
 use Rattle.std.specs.Option.{option_map_or}
 use Rattle.std.specs.List.Sorted.{IsSortedBy}
 use Rattle.std.specs.Ordering.{is_eq, is_gt, is_lt, nat_cmp, eq_by_cmp}
@@ -23,7 +23,7 @@ use Rattle.acl_tree.specs.Files.{PathOf, Files, IsInOrder}
 use Rattle.acl_tree.specs.Below.{is_within}
 use Rattle.acl_tree.specs.Operands.{means, is_file}
 use Rattle.acl_tree.specs.Sound.{holds_below}
-use Rattle.acl_tree.specs.Found.{FoundFile, found_file, found_in, files_found}
+use Rattle.acl_tree.specs.Found.{found_file, found_in, files_found}
 use Rattle.acl_tree.specs.Inner.{next_file_below, NoneBefore, Ascend}
 use Rattle.acl_tree.proofs.Follows.{told_by_next}
 

@@ -1,5 +1,5 @@
 -- For inner functions: no public contract names these definitions.
-use Rattle.std.specs.Prelude.{◌≡◌, ◌≢◌, ⊤, List, [], ◌∷◌, ◌++◌, Bool, false, ◌&&◌, not, if◌then◌else◌, Result, Ok, Err}
+use Rattle.std.specs.Prelude.{◌≢◌, ⊤, List, [], ◌∷◌, ◌++◌, Bool, false, ◌&&◌, not, if◌then◌else◌, Result, Ok, Err}
 use Rattle.std.specs.declared.cmp.Ordering.TheVariants.{Greater}
 use Rattle.acl_names.specs.Paths.{path_cmp}
 use Rattle.acl_dump.specs.declared.record.DumpRecord.{DumpRecord}

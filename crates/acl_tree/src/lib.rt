@@ -4,6 +4,7 @@
 mod below;
 mod chmod;
 mod command;
+mod dump;
 mod edit;
 mod found;
 mod laws;

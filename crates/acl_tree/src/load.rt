@@ -1,150 +1,77 @@
-//! A dump as a tree.
+//! The loads of users, groups and files.
 
-ghost use Rattle.std.specs.Prelude.{◌≡◌, ◌≢◌, [], true, map, IfOk, unwrap_or};
-ghost use Rattle.acl_dump.specs.OwnPaths.{have_own_paths};
-ghost use Rattle.acl_tree.specs.Loading.{is_directory, node_of, files_of};
-ghost use Rattle.acl_tree.specs.Inner.{next_below, files_from};
+ghost use Rattle.std.specs.Prelude.{◌≡◌, [], true, IfOk, IfErr, OnOk, Err};
+ghost use Rattle.acl_people.specs.Registers.{Register};
+ghost use Rattle.acl_tree.specs.Step.{tree_fault, load, is_loaded, Stages, state_from};
+ghost use Rattle.acl_tree.specs.declared.command.TreeFault.TheVariants.{AlreadyLoaded, NoMemory};
 ghost use Rattle.acl_tree.specs.Sound.{IsSoundTree};
-ghost use Rattle.acl_tree.specs.Step.{load_dump, Stages, state_from};
-ghost use Rattle.acl_tree.specs.Tells.{Tells};
-ghost use Rattle.acl_tree.specs.declared.moved.UsersMove.TheVariants.{Same};
+ghost use Rattle.acl_tree.specs.Tells.{load_moves, Tells};
+ghost use Rattle.acl_tree.specs.declared.moved.UsersMove.TheVariants.{Loaded};
 
-use crate::below::is_below;
-use crate::command::TreeFault;
+use crate::command::{Table, TreeFault};
 use crate::moved::UsersMove;
-use crate::sorting::in_path_order;
 use crate::staged::Staged;
-use crate::tree::{Record, Tree};
-use acl_dump::{DumpRecord, DumpUse, read_dump};
-use acl_edit::{Kind, Node};
-use acl_entry::{Id, Label};
-use acl_names::Path;
-use acl_people::People;
-use acl_text::{FaultKind, TextFault};
-use path_map::PathMap;
-use std::alloc::{AllocError, Global};
-use std::collections::VecDeque;
-use std::rc::Rc;
+use crate::tree::Tree;
+use acl_people::{LoadFault, People};
+use std::alloc::Global;
 
-/// The largest number of files of a tree.
-const MAX_FILES: usize = 1048576;
-
-fn kind_of(has_below: bool, entry: &DumpRecord) -> Kind
-    ensures { result ≡ (node_of has_below entry.now).kind }
+fn load_fault(fault: LoadFault) -> TreeFault
+    ensures { result ≡ tree_fault fault }
 {
-    if entry.slash || entry.path.components().is_empty() || entry.dacl.is_some() || has_below {
-        Kind::Directory
-    } else {
-        Kind::Plain
+    match fault {
+        LoadFault::AlreadyLoaded => TreeFault::AlreadyLoaded,
+        LoadFault::Text(fault) => TreeFault::Text(fault),
+        LoadFault::NoMemory => TreeFault::NoMemory,
     }
-}
-
-fn id_or_root(id: Option<Id>) -> Id
-    ensures { result ≡ unwrap_or id 0 }
-{
-    match id {
-        Some(id) => id,
-        None => Id::new(0).unwrap(),
-    }
-}
-
-/// The file of a record.
-fn file_of(alloc: Global, has_below: bool, entry: DumpRecord) -> Result<Rc<Record>, AllocError>
-    ensures { IfOk result (λ file. file.value ≡ (entry.path, node_of has_below entry)) }
-{
-    let kind = kind_of(has_below, &entry);
-    let node = Node {
-        kind,
-        label: Label {
-            owner: id_or_root(entry.owner),
-            group: id_or_root(entry.group),
-            acl: entry.access,
-        },
-        flags: entry.flags.unwrap_or([false; 3]),
-        dacl: entry.dacl,
-    };
-    Ok(Rc::new(alloc, Record::new(Rc::new(alloc, entry.path)?, node))?)
-}
-
-/// Whether the first of the records that follow in path order is below a path.
-fn next_below(path: &Path, following: &VecDeque<DumpRecord>) -> bool
-    ensures { result ≡ next_below path.now following.now.items }
-{
-    match following.front() {
-        Some(next) => is_below(path, &next.path),
-        None => false,
-    }
-}
-
-/// The files of records that are in path order. Paths and lists are moved out of the records.
-fn files_from(alloc: Global, sorted: Vec<DumpRecord>) -> Result<Vec<Rc<Record>>, AllocError>
-    ensures { IfOk result (λ files. map (λ r. r.value) files.items ≡ files_from sorted.items) }
-{
-    let mut files = Vec::with_capacity(alloc, sorted.len())?;
-    let mut following = VecDeque::from(sorted);
-    while let Some(entry) = following.pop_front() {
-        let has_below = next_below(&entry.path, &following);
-        files.push(file_of(alloc, has_below, entry)?)?;
-    }
-    Ok(files)
-}
-
-/// A text's fault, and want of memory as such.
-fn text_fault(fault: TextFault) -> TreeFault
-    ensures text { fault.kind ≢ FaultKind.NoMemory → result ≡ TreeFault.Text fault }
-    ensures memory { fault.kind ≡ FaultKind.NoMemory → result ≡ TreeFault.NoMemory }
-{
-    if fault.kind == FaultKind::NoMemory {
-        TreeFault::NoMemory
-    } else {
-        TreeFault::Text(fault)
-    }
-}
-
-/// The files of a dump's records.
-fn files_of(alloc: Global, records: Vec<DumpRecord>) -> Result<Vec<Rc<Record>>, AllocError>
-    requires { have_own_paths records.items ≡ true }
-    ensures { IfOk result (λ files. map (λ r. r.value) files.items ≡ files_of records.items) }
-{
-    let sorted = in_path_order(records)?;
-    files_from(alloc, sorted)
-}
-
-/// The files of a dump as a tree.
-fn tree_of(alloc: Global, files: &[Rc<Record>]) -> Result<Tree, AllocError>
-    requires { IsSoundTree (record { files = map (λ r. r.value) files.now; loaded = true }) }
-    ensures { IfOk result (λ tree. tree ≡ record { files = map (λ r. r.value) files.now; loaded = true }) }
-{
-    Ok(Tree::of(PathMap::from_sorted(alloc, files)?, true))
 }
 
 impl Tree {
-    pub(crate) fn load_dump(
+    /// Loads a text: users and groups before a dump, each once.
+    pub(crate) fn load(
         &self,
         alloc: Global,
         people: &People,
+        which: Table,
         bytes: &[u8],
     ) -> Result<Staged, TreeFault>
-        ensures made { Stages (λ s. s.state) result (load_dump (state_from self.now people.now) bytes.now) }
+        ensures made { Stages (λ s. s.state) result (load (state_from self.now people.now) which bytes.now) }
+        ensures loaded { is_loaded (state_from self.now people.now) which ≡ true → result ≡ Err AlreadyLoaded }
         ensures sound { IfOk result (λ staged. IsSoundTree staged.state.tree) }
-        ensures tells { IfOk result (λ staged. self.now.files ≡ [] → Tells (state_from self.now people.now) staged) }
-        ensures moved { IfOk result (λ staged. staged.moved ≡ Same) }
+        ensures tells { IfOk result (λ staged. Tells (state_from self.now people.now) staged) }
+        ensures moved { IfOk result (λ staged. staged.moved ≡ load_moves which) }
     {
-        let records = match read_dump(alloc, bytes, DumpUse::Load, people) {
-            Ok(records) => records,
-            Err(fault) => return Err(text_fault(fault)),
-        };
-        if records.len() > MAX_FILES {
-            return Err(TreeFault::TooMany);
+        self.is_sound();
+        if self.is_loaded() {
+            return Err(TreeFault::AlreadyLoaded);
         }
-        let files = files_of(alloc, records)?;
-        let tree = tree_of(alloc, &files)?;
-        Ok(Staged::of(
-            tree,
-            people.share()?,
-            files,
-            Vec::new(alloc),
-            UsersMove::Same,
-        ))
+        match which {
+            Table::Passwd => self.with_people(alloc, people.load_passwd(alloc, bytes)),
+            Table::Group => self.with_people(alloc, people.load_group(alloc, bytes)),
+            Table::Dump => self.load_dump(alloc, people, bytes),
+        }
+    }
+
+    fn with_people(
+        &self,
+        alloc: Global,
+        loaded: Result<People, LoadFault>,
+    ) -> Result<Staged, TreeFault>
+        ensures ok { IfOk loaded (λ people. IfOk result (λ staged. staged ≡ record { state = state_from self.now people; changed = []; gone = []; moved = Loaded })) }
+        ensures moved { IfOk result (λ staged. staged.moved ≡ Loaded) }
+        ensures sound { IfOk result (λ staged. IsSoundTree staged.state.tree) }
+        ensures tells { IfOk result (λ staged. (people : Register) → self.now.files ≡ [] → Tells (state_from self.now people) staged) }
+        ensures err { IfErr loaded (λ fault. result ≡ Err (tree_fault fault)) }
+        ensures memory { OnOk loaded (IfErr result (λ fault. fault ≡ NoMemory)) }
+    {
+        match loaded {
+            Ok(people) => Ok(Staged::of(
+                self.share()?,
+                people,
+                Vec::new(alloc),
+                Vec::new(alloc),
+                UsersMove::Loaded,
+            )),
+            Err(fault) => Err(load_fault(fault)),
+        }
     }
 }

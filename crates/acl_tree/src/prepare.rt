@@ -1,29 +1,16 @@
 //! Commands on the whole state: each is prepared whole, or refused.
 
-ghost use Rattle.std.specs.Prelude.{◌≡◌, [], true, IfOk, IfErr, OnOk, Err};
-ghost use Rattle.acl_tree.specs.Step.{tree_fault, load, is_loaded, loads_again, step, Stages, state_from};
-ghost use Rattle.acl_tree.specs.declared.command.TreeFault.TheVariants.{AlreadyLoaded, NoMemory};
-ghost use Rattle.acl_people.specs.Registers.{Register};
+ghost use Rattle.std.specs.Prelude.{◌≡◌, true, IfOk, Err};
+ghost use Rattle.acl_tree.specs.Step.{loads_again, step, Stages, state_from};
+ghost use Rattle.acl_tree.specs.declared.command.TreeFault.TheVariants.{AlreadyLoaded};
 ghost use Rattle.acl_tree.specs.Sound.{IsSoundTree};
-ghost use Rattle.acl_tree.specs.Tells.{users_move, load_moves, Tells};
-ghost use Rattle.acl_tree.specs.declared.moved.UsersMove.TheVariants.{Loaded};
+ghost use Rattle.acl_tree.specs.Tells.{users_move, Tells};
 
-use crate::command::{Command, Table, TreeFault};
-use crate::moved::UsersMove;
+use crate::command::{Command, TreeFault};
 use crate::staged::Staged;
 use crate::tree::Tree;
-use acl_people::{LoadFault, People};
+use acl_people::People;
 use std::alloc::Global;
-
-fn load_fault(fault: LoadFault) -> TreeFault
-    ensures { result ≡ tree_fault fault }
-{
-    match fault {
-        LoadFault::AlreadyLoaded => TreeFault::AlreadyLoaded,
-        LoadFault::Text(fault) => TreeFault::Text(fault),
-        LoadFault::NoMemory => TreeFault::NoMemory,
-    }
-}
 
 impl Tree {
     /// The state after a command. This tree and these people stay as they are: a refused command changes
@@ -53,54 +40,6 @@ impl Tree {
                 mode,
                 recursive,
             } => self.chmod(alloc, people, paths, *mode, *recursive),
-        }
-    }
-
-    fn load(
-        &self,
-        alloc: Global,
-        people: &People,
-        which: Table,
-        bytes: &[u8],
-    ) -> Result<Staged, TreeFault>
-        ensures made { Stages (λ s. s.state) result (load (state_from self.now people.now) which bytes.now) }
-        ensures loaded { is_loaded (state_from self.now people.now) which ≡ true → result ≡ Err AlreadyLoaded }
-        ensures sound { IfOk result (λ staged. IsSoundTree staged.state.tree) }
-        ensures tells { IfOk result (λ staged. Tells (state_from self.now people.now) staged) }
-        ensures moved { IfOk result (λ staged. staged.moved ≡ load_moves which) }
-    {
-        self.is_sound();
-        if self.is_loaded() {
-            return Err(TreeFault::AlreadyLoaded);
-        }
-        match which {
-            Table::Passwd => self.with_people(alloc, people.load_passwd(alloc, bytes)),
-            Table::Group => self.with_people(alloc, people.load_group(alloc, bytes)),
-            Table::Dump => self.load_dump(alloc, people, bytes),
-        }
-    }
-
-    fn with_people(
-        &self,
-        alloc: Global,
-        loaded: Result<People, LoadFault>,
-    ) -> Result<Staged, TreeFault>
-        ensures ok { IfOk loaded (λ people. IfOk result (λ staged. staged ≡ record { state = state_from self.now people; changed = []; gone = []; moved = Loaded })) }
-        ensures moved { IfOk result (λ staged. staged.moved ≡ Loaded) }
-        ensures sound { IfOk result (λ staged. IsSoundTree staged.state.tree) }
-        ensures tells { IfOk result (λ staged. (people : Register) → self.now.files ≡ [] → Tells (state_from self.now people) staged) }
-        ensures err { IfErr loaded (λ fault. result ≡ Err (tree_fault fault)) }
-        ensures memory { OnOk loaded (IfErr result (λ fault. fault ≡ NoMemory)) }
-    {
-        match loaded {
-            Ok(people) => Ok(Staged::of(
-                self.share()?,
-                people,
-                Vec::new(alloc),
-                Vec::new(alloc),
-                UsersMove::Loaded,
-            )),
-            Err(fault) => Err(load_fault(fault)),
         }
     }
 }

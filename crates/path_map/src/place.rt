@@ -18,16 +18,7 @@ pub(crate) fn start<V>(entries: &[Rc<Entry<V>>], path: &Path) -> usize
     requires { IsInOrder (map (λ r. r.value) entries.now) }
     ensures { IsStart (map (λ r. r.value) entries.now) path.now result }
 {
-    let mut low = 0;
-    let mut high = entries.len();
-    while low < high {
-        let middle = low + (high - low) / 2;
-        match path.order(entries[middle].path()) {
-            Ordering::Greater => low = middle + 1,
-            _ => high = middle,
-        }
-    }
-    low
+    entries.partition_point(|entry| path.order(entry.path()).is_gt())
 }
 
 /// The value of a path.

@@ -1,10 +1,10 @@
 use Rattle.std.proofs.Common.{◌≡◌, ◌++◌, true, Ok, map, sym, ap, subst, ◌∙◌}
 use Rattle.std.proofs.lemmas.Result.{err_from_is_err_and}
 use Rattle.path_map.specs.Merged.{put_all}
-use Rattle.acl_tree.specs.Files.{PathOf, Files, Recorded, IsInOrder}
+use Rattle.acl_tree.specs.Files.{Files, Recorded, IsInOrder}
 use Rattle.acl_tree.specs.Sound.{IsSoundTree}
 use Rattle.acl_tree.specs.Changed.{changed_between, gone_between}
-use Rattle.acl_tree.specs.Edits.{edit_each, edit_all, with_edits}
+use Rattle.acl_tree.specs.Edits.{edit_each, with_edits}
 use Rattle.acl_tree.specs.Inner.{file_of, node_after, changed_by}
 use Rattle.acl_tree.specs.Operands.{is_file, edit_files, files_meant}
 use Rattle.acl_tree.proofs.Kept.{edited_sound}

@@ -1,10 +1,10 @@
-use Rattle.std.proofs.Common.{◌≡◌, ◌++◌, ◌∷◌, [], Bool, false, true, cond, filter, refl, sym, ap, subst, ◌∙◌, append-nil, append_assoc}
+use Rattle.std.proofs.Common.{◌≡◌, ◌++◌, ◌∷◌, [], false, true, cond, filter, sym, ap, subst, ◌∙◌, append-nil, append_assoc}
 use Rattle.acl_edit.specs.declared.node.Node.{Node}
 use Rattle.path_map.specs.Below.{from}
 use Rattle.acl_tree.specs.Files.{PathOf, Files}
 use Rattle.acl_tree.specs.Operands.{means}
 use Rattle.acl_tree.specs.Sound.{holds_below}
-use Rattle.acl_tree.specs.Found.{FoundFile, found_file, found_in}
+use Rattle.acl_tree.specs.Found.{found_file, found_in}
 use Rattle.acl_tree.specs.Inner.{next_file_below}
 use Rattle.acl_tree.proofs.Selected.{IsAtEnd, end_begins, end_more, meant_from, none_meant, next_at_end}
 use Rattle.acl_tree.proofs.selection.push_meant.Goals as goal

@@ -1,6 +1,6 @@
 use Rattle.std.proofs.Common.{◌≡◌, ◌+◌, ◌++◌, ◌∷◌, [], true, false, refl, Some, List, map, take, drop, filter, sym, ap, subst, ◌∙◌}
 use Rattle.std.specs.Prelude.{option_map}
-use Rattle.acl_tree.specs.Files.{PathOf, Files}
+use Rattle.acl_tree.specs.Files.{PathOf}
 use Rattle.acl_tree.specs.Operands.{means, is_file}
 use Rattle.acl_tree.specs.Found.{found_in, files_found}
 use Rattle.acl_tree.specs.Inner.{Ascend}
