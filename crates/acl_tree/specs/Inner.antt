@@ -1,5 +1,5 @@
 -- For inner functions: no public contract names these definitions.
-use Rattle.std.specs.Prelude.{◌≢◌, ⊤, List, [], ◌∷◌, ◌++◌, Bool, false, ◌&&◌, not, if◌then◌else◌, Result, Ok, Err}
+use Rattle.std.specs.Prelude.{◌≡◌, ◌≢◌, ⊤, List, [], ◌∷◌, ◌++◌, Bool, false, ◌&&◌, not, if◌then◌else◌, Result, Ok, Err, IfOk}
 use Rattle.std.specs.declared.cmp.Ordering.TheVariants.{Greater}
 use Rattle.acl_names.specs.Paths.{path_cmp}
 use Rattle.acl_dump.specs.declared.record.DumpRecord.{DumpRecord}
@@ -11,6 +11,20 @@ use Rattle.acl_tree.specs.Below.{is_below}
 use Rattle.acl_tree.specs.Found.{FoundFile}
 use Rattle.acl_tree.specs.Loading.{node_of}
 use Rattle.acl_tree.specs.Changed.{same_label}
+use Rattle.acl_tree.specs.Sound.{IsSoundTree}
+use Rattle.acl_tree.specs.Step.{State, Stages}
+use Rattle.acl_tree.specs.Tells.{StagedState, Tells}
+use Rattle.acl_tree.specs.declared.command.TreeFault.{TreeFault}
+use Rattle.acl_tree.specs.declared.moved.UsersMove.{UsersMove}
+
+-- ---- a command
+
+-- A call prepares the state after a step: a sound tree, with what it changes. Or it returns the step's fault.
+pub record Prepares (old : State) (is : Result State TreeFault) (move : UsersMove) (result : Result StagedState TreeFault) : Type 0 where
+  pub made : Stages (λ s. s.state) result is
+  pub sound : IfOk result (λ staged. IsSoundTree staged.state.tree)
+  pub tells : IfOk result (λ staged. Tells old staged)
+  pub moved : IfOk result (λ staged. staged.moved ≡ move)
 
 -- ---- the next file in path order
 

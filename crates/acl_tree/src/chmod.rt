@@ -1,10 +1,8 @@
 //! chmod(1): a mode is put into files.
 
-ghost use Rattle.std.specs.Prelude.{◌≡◌, IfOk};
+ghost use Rattle.acl_tree.specs.Inner.{Prepares};
 ghost use Rattle.acl_tree.specs.Operands.{first_missing};
-ghost use Rattle.acl_tree.specs.Sound.{IsSoundTree};
-ghost use Rattle.acl_tree.specs.Step.{chmod_all, or_missing, Stages, state_from};
-ghost use Rattle.acl_tree.specs.Tells.{Tells};
+ghost use Rattle.acl_tree.specs.Step.{chmod_all, or_missing, state_from};
 ghost use Rattle.acl_tree.specs.declared.moved.UsersMove.TheVariants.{Same};
 
 use crate::command::{Paths, TreeFault};
@@ -47,10 +45,7 @@ impl Tree {
         mode: u16,
         recursive: bool,
     ) -> Result<Staged, TreeFault>
-        ensures made { Stages (λ s. s.state) result (or_missing (first_missing paths.now self.now.files) (state_from (chmod_all recursive paths.now mode self.now) people.now)) }
-        ensures sound { IfOk result (λ staged. IsSoundTree staged.state.tree) }
-        ensures tells { IfOk result (λ staged. Tells (state_from self.now people.now) staged) }
-        ensures moved { IfOk result (λ staged. staged.moved ≡ Same) }
+        ensures { Prepares (state_from self.now people.now) (or_missing (first_missing paths.now self.now.files) (state_from (chmod_all recursive paths.now mode self.now) people.now)) Same result }
     {
         self.is_sound();
         look_up(self, alloc, paths.as_slice())?;

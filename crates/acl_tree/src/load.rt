@@ -2,8 +2,9 @@
 
 ghost use Rattle.std.specs.Prelude.{◌≡◌, [], true, IfOk, IfErr, OnOk, Err};
 ghost use Rattle.acl_people.specs.Registers.{Register};
-ghost use Rattle.acl_tree.specs.Step.{tree_fault, load, is_loaded, Stages, state_from};
+ghost use Rattle.acl_tree.specs.Step.{tree_fault, load, is_loaded, state_from};
 ghost use Rattle.acl_tree.specs.declared.command.TreeFault.TheVariants.{AlreadyLoaded, NoMemory};
+ghost use Rattle.acl_tree.specs.Inner.{Prepares};
 ghost use Rattle.acl_tree.specs.Sound.{IsSoundTree};
 ghost use Rattle.acl_tree.specs.Tells.{load_moves, Tells};
 ghost use Rattle.acl_tree.specs.declared.moved.UsersMove.TheVariants.{Loaded};
@@ -34,11 +35,8 @@ impl Tree {
         which: Table,
         bytes: &[u8],
     ) -> Result<Staged, TreeFault>
-        ensures made { Stages (λ s. s.state) result (load (state_from self.now people.now) which bytes.now) }
+        ensures prepares { Prepares (state_from self.now people.now) (load (state_from self.now people.now) which bytes.now) (load_moves which) result }
         ensures loaded { is_loaded (state_from self.now people.now) which ≡ true → result ≡ Err AlreadyLoaded }
-        ensures sound { IfOk result (λ staged. IsSoundTree staged.state.tree) }
-        ensures tells { IfOk result (λ staged. Tells (state_from self.now people.now) staged) }
-        ensures moved { IfOk result (λ staged. staged.moved ≡ load_moves which) }
     {
         self.is_sound();
         if self.is_loaded() {

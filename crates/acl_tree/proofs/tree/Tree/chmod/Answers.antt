@@ -1,7 +1,8 @@
-use Rattle.std.proofs.Common.{◌≡◌, ◌++◌, Ok, map, sym, ap, ◌∙◌}
+use Rattle.std.proofs.Common.{◌≡◌, ◌++◌, Ok, map, sym, ap, subst, ◌∙◌}
 use Rattle.acl_edit.specs.Nodes as nodes
 use Rattle.acl_people.specs.Registers.{Register}
 use Rattle.acl_tree.specs.Files.{Recorded}
+use Rattle.acl_tree.specs.Sound.{IsSoundTree}
 use Rattle.acl_tree.specs.Operands.{first_missing}
 use Rattle.acl_tree.specs.Changed.{changed_between}
 use Rattle.acl_tree.specs.Step.{State, chmod_all, or_missing}
@@ -9,8 +10,8 @@ use Rattle.acl_tree.proofs.Told.{told_change}
 use Rattle.acl_tree.proofs.Edits.{never_fails}
 use Rattle.acl_tree.proofs.tree.Tree.chmod.Goals as goal
 
-pub returns-in_ok-share-in-Ok-clause-made : goal.returns-in_ok-share-in-Ok-clause-made
-returns-in_ok-share-in-Ok-clause-made c =
+pub returns-in_ok-share-in-Ok : goal.returns-in_ok-share-in-Ok
+returns-in_ok-share-in-Ok c =
     let tree : Recorded = chmod_all c.args.recursive c.args.paths.now c.args.mode c.args.self.now in
     let staged : State = record { tree = tree; people = c.args.people.now } in
     let changed : c.in-Ok.tree ≡ tree =
@@ -22,15 +23,18 @@ returns-in_ok-share-in-Ok-clause-made c =
     ∙ ap (λ (t : Recorded). record { tree = t; people = c.in_ok-share-in-Ok.field-0 }) changed
     ∙ ap (λ (p : Register). record { tree = tree; people = p }) c.in_ok-share-in-Ok.ensures
     in
-    ap (λ missing. or_missing missing staged) (ap (λ ps. first_missing ps c.args.self.now.files) (sym c.as_slice.ensures) ∙ c.in_ok-look_up.ensures.all)
-    ∙ ap (λ s. Ok s) (sym is)
-
-pub returns-in_ok-share-in-Ok-clause-tells : goal.returns-in_ok-share-in-Ok-clause-tells
-returns-in_ok-share-in-Ok-clause-tells c =
     let old : State = record { tree = c.args.self.now; people = c.args.people.now } in
-    told_change old c.of.result c.in-Ok.tree.files
-    (ap (λ s. s.state.tree.files) c.of.ensures.all)
-    (ap (λ s. s.changed) c.of.ensures.all ∙ c.in-Ok.ensures.told ∙ ap (λ l. map (λ r. r.value) l ++ changed_between c.args.self.now.files c.in-Ok.tree.files) c.new-changed.ensures.items)
-    (ap (λ s. s.gone) c.of.ensures.all ∙ ap (λ l. map (λ r. r.value) l) c.new.ensures.items ∙ sym c.in-Ok.ensures.gone)
-    (ap (λ s. s.moved) c.of.ensures.all)
-    (ap (λ s. s.state.people) c.of.ensures.all ∙ c.in_ok-share-in-Ok.ensures)
+    record {
+      made =
+          ap (λ missing. or_missing missing staged) (ap (λ ps. first_missing ps c.args.self.now.files) (sym c.as_slice.ensures) ∙ c.in_ok-look_up.ensures.all)
+          ∙ ap (λ s. Ok s) (sym is);
+      sound = subst (λ (t : Recorded). IsSoundTree t) (sym (ap (λ s. s.state.tree) c.of.ensures.all)) c.of.ensures.sound;
+      tells =
+          told_change old c.of.result c.in-Ok.tree.files
+          (ap (λ s. s.state.tree.files) c.of.ensures.all)
+          (ap (λ s. s.changed) c.of.ensures.all ∙ c.in-Ok.ensures.told ∙ ap (λ l. map (λ r. r.value) l ++ changed_between c.args.self.now.files c.in-Ok.tree.files) c.new-changed.ensures.items)
+          (ap (λ s. s.gone) c.of.ensures.all ∙ ap (λ l. map (λ r. r.value) l) c.new.ensures.items ∙ sym c.in-Ok.ensures.gone)
+          (ap (λ s. s.moved) c.of.ensures.all)
+          (ap (λ s. s.state.people) c.of.ensures.all ∙ c.in_ok-share-in-Ok.ensures);
+      moved = ap (λ s. s.moved) c.of.ensures.all;
+    }
