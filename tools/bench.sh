@@ -2,21 +2,23 @@
 # Measures the program as the kit's LLVM builds it, on trees of several sizes, beside getfacl(1) and setfacl(1) where
 # those are installed and the temporary folder takes lists.
 #
-# usage: tools/bench.sh [--program FILE] [--runs N] [--users N] [FILES..]
+# usage: tools/bench.sh [--program FILE] [--runs N] [--users N] [--real FOLDER] [FILES..]
 #
 #   --program FILE    a program that is built already; else tools/prove.py proves and builds crates/facl_cli
 #   --runs N          the best of N runs is taken (3)
 #   --users N         users of passwd, and a tenth as many groups (1000)
+#   --real FOLDER     also loads what getfacl(1) `-R` prints of this folder, lists it, and compares the records
 #   FILES             sizes of trees, from 102 to 1048576 (10000 100000 1000000)
 set -eu
 here=$(cd "$(dirname "$0")" && pwd)
-program= runs=3 users=1000 sizes=()
+program= runs=3 users=1000 real= sizes=()
 while [ $# -gt 0 ]; do
     case $1 in
     --program) program=$2 && shift 2 ;;
     --runs) runs=$2 && shift 2 ;;
     --users) users=$2 && shift 2 ;;
-    -*) sed -n '2,11s/^# \{0,1\}//p' "$0" >&2 && exit 2 ;;
+    --real) real=$2 && shift 2 ;;
+    -*) sed -n '2,12s/^# \{0,1\}//p' "$0" >&2 && exit 2 ;;
     *) sizes+=("$1") && shift ;;
     esac
 done
@@ -31,6 +33,9 @@ python3 "$here/measure.py" "$program" "$runs" "$users" "${sizes[@]}"
 files=10000
 if ! command -v getfacl >/dev/null || ! command -v setfacl >/dev/null; then
     echo && echo "getfacl(1) and setfacl(1) are not installed here: nothing is compared." && exit 0
+fi
+if [ -n "$real" ]; then
+    echo && python3 "$here/real_dump.py" "$program" "$real"
 fi
 folder=$(mktemp -d)
 trap 'rm -rf "$folder"' EXIT
