@@ -34,6 +34,19 @@ user::rw-
 group::r--
 other::---
 
+# file: log
+# owner: lisa
+# group: adm
+user::rw-
+user:lisa:r--
+user:joe:r--
+user:ann:rw-
+group::r--
+group:cool:r--
+group:adm:r--
+mask::rw-
+other::---
+
 # file: pub/
 # owner: ann
 # group: users
@@ -50,6 +63,8 @@ default:mask::r-x
 default:other::---
 """
 
+# The list of `log` has nine entries, one more than a list holds without memory of its own.
+
 # Each unit: the lines that it takes.
 QUESTIONS = [
     ["getfacl -R ."],
@@ -59,6 +74,7 @@ QUESTIONS = [
     ["getfacl -e -n pub f"],
     ["chmod -R 640 ."],
     ["can 'lisa' pub"],
+    ["chmod 660 log"],
     ["getfacl -c nosuch"],
     ["getfacl a/../b"],
     ["frob -", "a text", "."],
