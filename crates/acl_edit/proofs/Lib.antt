@@ -8,3 +8,4 @@ pub mod Lines
 pub mod Refused
 pub mod Restored
 pub mod Sizes
+pub mod Placed

@@ -102,12 +102,12 @@ find_it (q ∷ pre) e es order =
 
 -- ---- edits
 
-module _ (test : PathOf → Bool) (g : Node → Node) where
+module _ (test : PathOf → Bool) (g : PathOf → Node → Node) where
   one_changed : (b : Bool) (e : PathOf × Node) (more : Files)
-      → cond (not (same_label e.1.label (if b then g e.1 else e.1).label)) ((e.0, if b then g e.1 else e.1) ∷ more) more ≡ changed_one b g e ++ more
-  one_changed true e more = by (not (same_label e.1.label (g e.1).label))
+      → cond (not (same_label e.1.label (if b then g e.0 e.1 else e.1).label)) ((e.0, if b then g e.0 e.1 else e.1) ∷ more) more ≡ changed_one b g e ++ more
+  one_changed true e more = by (not (same_label e.1.label (g e.0 e.1).label))
     where
-      by : (c : Bool) → cond c ((e.0, g e.1) ∷ more) more ≡ (if c then (e.0, g e.1) ∷ [] else []) ++ more
+      by : (c : Bool) → cond c ((e.0, g e.0 e.1) ∷ more) more ≡ (if c then (e.0, g e.0 e.1) ∷ [] else []) ++ more
       by true = refl
       by false = refl
   one_changed false e more = ap (λ b. cond (not b) ((e.0, e.1) ∷ more) more) (label_itself e.1.label)
@@ -116,7 +116,7 @@ module _ (test : PathOf → Bool) (g : Node → Node) where
   changed_of pre [] order = refl
   changed_of pre (e ∷ es) order =
       let moved : pre ++ e ∷ es ≡ (pre ++ e ∷ []) ++ es = sym (append_assoc pre (e ∷ []) es) in
-      let new : Node = if test e.0 then g e.1 else e.1 in
+      let new : Node = if test e.0 then g e.0 e.1 else e.1 in
       let rest = filter (is_changed (pre ++ e ∷ es)) (edit_files test g es) in
       ap (λ o. cond (option_map_or (λ n. not (same_label n.label new.label)) o true) ((e.0, new) ∷ rest) rest) (find_it pre e es order)
       ∙ one_changed (test e.0) e rest
@@ -130,7 +130,7 @@ module _ (test : PathOf → Bool) (g : Node → Node) where
   found_edited p [] = refl
   found_edited p (e ∷ t) = by (is_eq (path_cmp p e.0)) (found_edited p t)
     where
-      by : (b : Bool) → is_some (find path_cmp p (edit_files test g t)) ≡ is_some (find path_cmp p t) → is_some (cond b (Some (if test e.0 then g e.1 else e.1)) (find path_cmp p (edit_files test g t))) ≡ is_some (cond b (Some e.1) (find path_cmp p t))
+      by : (b : Bool) → is_some (find path_cmp p (edit_files test g t)) ≡ is_some (find path_cmp p t) → is_some (cond b (Some (if test e.0 then g e.0 e.1 else e.1)) (find path_cmp p (edit_files test g t))) ≡ is_some (cond b (Some e.1) (find path_cmp p t))
       by true rest = refl
       by false rest = rest
 

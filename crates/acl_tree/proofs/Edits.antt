@@ -24,25 +24,25 @@ pub files_seen : (all es : Files) → map file_of (found_in all es) ≡ es
 files_seen all [] = refl
 files_seen all (e ∷ es) = ap (λ l. e ∷ l) (files_seen all es)
 
-module _ (edit : Node → Result Node EditFault) where
-  pub edits_are : (es ns : Files) → edit_each edit es ≡ Ok ns → ns ≡ map (λ e. (e.0, node_after edit e.1)) es
+module _ (edit : PathOf → Node → Result Node EditFault) where
+  pub edits_are : (es ns : Files) → edit_each edit es ≡ Ok ns → ns ≡ map (λ e. (e.0, node_after edit e.0 e.1)) es
   edits_are [] ns h = sym (ap edits_of h)
-  edits_are (e ∷ es) ns h = by (edit e.1) refl (edit_each edit es) (λ os is. edits_are es os is) h
+  edits_are (e ∷ es) ns h = by (edit e.0 e.1) refl (edit_each edit es) (λ os is. edits_are es os is) h
     where
-      by : (o : Result Node EditFault) → edit e.1 ≡ o → (r : Result Files FileFault) → ((os : Files) → r ≡ Ok os → os ≡ map (λ e. (e.0, node_after edit e.1)) es) → and_others e.0 o r ≡ Ok ns → ns ≡ (e.0, node_after edit e.1) ∷ map (λ e. (e.0, node_after edit e.1)) es
+      by : (o : Result Node EditFault) → edit e.0 e.1 ≡ o → (r : Result Files FileFault) → ((os : Files) → r ≡ Ok os → os ≡ map (λ e. (e.0, node_after edit e.0 e.1)) es) → and_others e.0 o r ≡ Ok ns → ns ≡ (e.0, node_after edit e.0 e.1) ∷ map (λ e. (e.0, node_after edit e.0 e.1)) es
       by (Err fault) is r rest h = absurd (err_is_not_ok _ _ h)
       by (Ok n) is (Err fault) rest h = absurd (err_is_not_ok _ _ h)
       by (Ok n) is (Ok os) rest h = sym (ap edits_of h) ∙ (λ i. (e.0, sym (ap (ok_or e.1) is) i) ∷ rest os refl i)
 
-  pub keeps_after : ((n m : Node) → edit n ≡ Ok m → KeepsPlace n m) → (n : Node) → KeepsPlace n (node_after edit n)
-  keeps_after law n = by (edit n) refl
+  pub keeps_after : ((p : PathOf) (n m : Node) → edit p n ≡ Ok m → KeepsPlace n m) → (p : PathOf) (n : Node) → KeepsPlace n (node_after edit p n)
+  keeps_after law p n = by (edit p n) refl
     where
-      by : (o : Result Node EditFault) → edit n ≡ o → KeepsPlace n (ok_or n o)
-      by (Ok m) is = law n m is
+      by : (o : Result Node EditFault) → edit p n ≡ o → KeepsPlace n (ok_or n o)
+      by (Ok m) is = law p n m is
       by (Err fault) is = record { kind = refl; default = λ h. h }
 
   -- one file more, in a loop
-  pub edits_more : (old : Files) (e : PathOf × Node) (n : Node) (es : Files) (all : Result Files FileFault) → edit e.1 ≡ Ok n → all ≡ after_edits old (edit_each edit (e ∷ es)) → all ≡ after_edits (old ++ (e.0, n) ∷ []) (edit_each edit es)
+  pub edits_more : (old : Files) (e : PathOf × Node) (n : Node) (es : Files) (all : Result Files FileFault) → edit e.0 e.1 ≡ Ok n → all ≡ after_edits old (edit_each edit (e ∷ es)) → all ≡ after_edits (old ++ (e.0, n) ∷ []) (edit_each edit es)
   edits_more old e n es all is whole = whole ∙ ap (λ o. after_edits old (and_others e.0 o (edit_each edit es))) is ∙ by (edit_each edit es)
     where
       by : (r : Result Files FileFault) → after_edits old (and_others e.0 (Ok n) r) ≡ after_edits (old ++ (e.0, n) ∷ []) r
@@ -51,7 +51,7 @@ module _ (edit : Node → Result Node EditFault) where
 
   -- a file whose edit fails
   pub edits_stop : (old : Files) (e : PathOf × Node) (es : Files) (fault : FileFault) → edit_each edit (e ∷ []) ≡ Err fault → after_edits old (edit_each edit (e ∷ es)) ≡ Err fault
-  edits_stop old e es fault h = by (edit e.1) h
+  edits_stop old e es fault h = by (edit e.0 e.1) h
     where
       by : (o : Result Node EditFault) → and_others e.0 o (Ok []) ≡ Err fault → after_edits old (and_others e.0 o (edit_each edit es)) ≡ Err fault
       by (Err f) h = h
@@ -67,12 +67,12 @@ module _ (edit : Node → Result Node EditFault) where
 
 -- ---- an edit that never fails
 
-module _ (f : Node → Node) where
-  each_edited : (es : Files) → edit_each (λ n. Ok (f n)) es ≡ Ok (map (λ e. (e.0, f e.1)) es)
+module _ (f : PathOf → Node → Node) where
+  each_edited : (es : Files) → edit_each (λ p n. Ok (f p n)) es ≡ Ok (map (λ e. (e.0, f e.0 e.1)) es)
   each_edited [] = refl
-  each_edited (e ∷ es) = ap (λ r. and_others e.0 (Ok (f e.1)) r) (each_edited es)
+  each_edited (e ∷ es) = ap (λ r. and_others e.0 (Ok (f e.0 e.1)) r) (each_edited es)
 
-  all_edited : (recursive : Bool) (paths : List PathOf) (t : Recorded) → IsInOrder t.files → edit_all (λ n. Ok (f n)) recursive paths t ≡ Ok (record t { files = edit_files (is_file recursive paths) f t.files })
+  all_edited : (recursive : Bool) (paths : List PathOf) (t : Recorded) → IsInOrder t.files → edit_all (λ p n. Ok (f p n)) recursive paths t ≡ Ok (record t { files = edit_files (is_file recursive paths) f t.files })
   all_edited recursive paths t order =
       ap (λ r. with_edits t r) (each_edited (files_meant recursive paths t.files))
       ∙ ap (λ es. Ok (record t { files = es })) (put_edited (is_file recursive paths) f t.files order)
@@ -81,5 +81,5 @@ module _ (f : Node → Node) where
   tree_or t (Ok new) = new
   tree_or t (Err fault) = t
 
-  pub never_fails : (recursive : Bool) (paths : List PathOf) (t new : Recorded) → IsInOrder t.files → edit_all (λ n. Ok (f n)) recursive paths t ≡ Ok new → new ≡ record t { files = edit_files (is_file recursive paths) f t.files }
+  pub never_fails : (recursive : Bool) (paths : List PathOf) (t new : Recorded) → IsInOrder t.files → edit_all (λ p n. Ok (f p n)) recursive paths t ≡ Ok new → new ≡ record t { files = edit_files (is_file recursive paths) f t.files }
   never_fails recursive paths t new order h = ap (tree_or t) (sym h ∙ all_edited recursive paths t order)

@@ -19,15 +19,15 @@ use Rattle.acl_tree.proofs.Loaded.{files_in_order}
 
 -- ---- an edit
 
-same_below : (test : PathOf → Bool) (g : Node → Node) (es : Files) (p : PathOf) → holds_below (edit_files test g es) p ≡ holds_below es p
+same_below : (test : PathOf → Bool) (g : PathOf → Node → Node) (es : Files) (p : PathOf) → holds_below (edit_files test g es) p ≡ holds_below es p
 same_below test g [] p = refl
 same_below test g (e ∷ es) p = ap (λ b. is_below p e.0 || b) (same_below test g es p)
 
-module _ (test : PathOf → Bool) (g : Node → Node) (keeps : (n : Node) → KeepsPlace n (g n)) where
-  chosen : (all : Files) (e : PathOf × Node) (b : Bool) → IsPlaced all e → IsPlaced (edit_files test g all) (e.0, if b then g e.1 else e.1)
+module _ (test : PathOf → Bool) (g : PathOf → Node → Node) (keeps : (p : PathOf) (n : Node) → KeepsPlace n (g p n)) where
+  chosen : (all : Files) (e : PathOf × Node) (b : Bool) → IsPlaced all e → IsPlaced (edit_files test g all) (e.0, if b then g e.0 e.1 else e.1)
   chosen all e true is = record {
-    directory = λ h. (keeps e.1).kind ∙ is.directory (ap (λ b. eqb (length e.0) 0 || b) (sym (same_below test g all e.0)) ∙ h);
-    default = (keeps e.1).default is.default;
+    directory = λ h. (keeps e.0 e.1).kind ∙ is.directory (ap (λ b. eqb (length e.0) 0 || b) (sym (same_below test g all e.0)) ∙ h);
+    default = (keeps e.0 e.1).default is.default;
   }
   chosen all e false is = record {
     directory = λ h. is.directory (ap (λ b. eqb (length e.0) 0 || b) (sym (same_below test g all e.0)) ∙ h);
@@ -41,7 +41,7 @@ module _ (test : PathOf → Bool) (g : Node → Node) (keeps : (n : Node) → Ke
   pub edited_sound : (t : Recorded) → IsSoundTree t → IsSoundTree (record t { files = edit_files test g t.files })
   edited_sound t sound = record {
     order = in_order-edited test g t.files sound.order;
-    few = subst (λ n. n ≤ max_files) (sym (length-map t.files (λ e. (e.0, if test e.0 then g e.1 else e.1)))) sound.few;
+    few = subst (λ n. n ≤ max_files) (sym (length-map t.files (λ e. (e.0, if test e.0 then g e.0 e.1 else e.1)))) sound.few;
     unloaded = λ none. ap (λ es. edit_files test g es) (sound.unloaded none);
     placed = edited_placed t.files t.files sound.placed;
   }

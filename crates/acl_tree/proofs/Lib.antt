@@ -9,3 +9,4 @@ pub mod Changes
 pub mod Told
 pub mod Selected
 pub mod Edits
+pub mod Placed

@@ -21,14 +21,14 @@ and_others p (Ok n) (Err fault) = Err fault
 and_others p (Ok n) (Ok es) = Ok ((p, n) ∷ es)
 
 -- each file edited, or the first fault with its path
-abbrev pub edit_each : (Node → Result Node EditFault) → Files → Result Files FileFault
+abbrev pub edit_each : (PathOf → Node → Result Node EditFault) → Files → Result Files FileFault
 edit_each edit [] = Ok []
-edit_each edit (e ∷ es) = and_others e.0 (edit e.1) (edit_each edit es)
+edit_each edit (e ∷ es) = and_others e.0 (edit e.0 e.1) (edit_each edit es)
 
 abbrev pub with_edits : Recorded → Result Files FileFault → Result Recorded FileFault
 with_edits t (Err fault) = Err fault
 with_edits t (Ok es) = Ok (record t { files = put_all es t.files })
 
 -- the tree with the files of a command edited, or the first fault in path order
-abbrev pub edit_all : (Node → Result Node EditFault) → Bool → List PathOf → Recorded → Result Recorded FileFault
+abbrev pub edit_all : (PathOf → Node → Result Node EditFault) → Bool → List PathOf → Recorded → Result Recorded FileFault
 edit_all edit recursive paths t = with_edits t (edit_each edit (files_meant recursive paths t.files))

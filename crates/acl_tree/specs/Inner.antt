@@ -65,8 +65,8 @@ abbrev pub ok_or : Node → Result Node EditFault → Node
 ok_or n (Ok m) = m
 ok_or n (Err fault) = n
 
-abbrev pub node_after : (Node → Result Node EditFault) → Node → Node
-node_after edit n = ok_or n (edit n)
+abbrev pub node_after : (PathOf → Node → Result Node EditFault) → PathOf → Node → Node
+node_after edit p n = ok_or n (edit p n)
 
 -- files edited, before others
 abbrev pub after_edits : Files → Result Files FileFault → Result Files FileFault
@@ -76,10 +76,10 @@ after_edits edits (Err fault) = Err fault
 -- ---- what an edit changes
 
 -- a file as an edit leaves it, if that changes it
-abbrev pub changed_one : Bool → (Node → Node) → PathOf × Node → Files
-changed_one edited edit e = if edited && not (same_label e.1.label (edit e.1).label) then (e.0, edit e.1) ∷ [] else []
+abbrev pub changed_one : Bool → (PathOf → Node → Node) → PathOf × Node → Files
+changed_one edited edit e = if edited && not (same_label e.1.label (edit e.0 e.1).label) then (e.0, edit e.0 e.1) ∷ [] else []
 
 -- the files that an edit of those that pass a test changes
-abbrev pub changed_by : (PathOf → Bool) → (Node → Node) → Files → Files
+abbrev pub changed_by : (PathOf → Bool) → (PathOf → Node → Node) → Files → Files
 changed_by test edit [] = []
 changed_by test edit (e ∷ es) = changed_one (test e.0) edit e ++ changed_by test edit es

@@ -8,4 +8,5 @@ pub mod Found
 pub mod Changed
 pub mod Tells
 pub mod Edits
+pub mod EditCommand
 pub mod Inner

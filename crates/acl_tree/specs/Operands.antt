@@ -24,8 +24,8 @@ first_missing [] t = None
 first_missing (p ∷ ps) t = if is_some (find path_cmp p t) then first_missing ps t else Some p
 
 -- an edit of the files that pass a test
-abbrev pub edit_files : (PathOf → Bool) → (Node → Node) → Files → Files
-edit_files test edit t = map (λ e. (e.0, if test e.0 then edit e.1 else e.1)) t
+abbrev pub edit_files : (PathOf → Bool) → (PathOf → Node → Node) → Files → Files
+edit_files test edit t = map (λ e. (e.0, if test e.0 then edit e.0 e.1 else e.1)) t
 
 -- the fault names that operand
 abbrev pub IsMissing : TreeFault → Option PathOf → Type 0

@@ -12,6 +12,7 @@ use crate::selection::look_up;
 use crate::staged::Staged;
 use crate::tree::Tree;
 use acl_edit::{EditFault, Node, chmod};
+use acl_names::Path;
 use acl_people::People;
 use std::alloc::Global;
 
@@ -25,9 +26,9 @@ impl NodeEdit for Mode {
     ghost use Rattle.std.specs.Prelude.{Ok};
     ghost use Rattle.acl_edit.specs.Nodes as nodes;
 
-    ghost edited = { λ mode n. Ok (nodes.chmod n mode.bits) };
+    ghost edited = { λ mode _ n. Ok (nodes.chmod n mode.bits) };
 
-    fn edited(&self, alloc: Global, node: &Node) -> Result<Node, EditFault> {
+    fn edited(&self, alloc: Global, _path: &Path, node: &Node) -> Result<Node, EditFault> {
         let mut node = node.try_clone(alloc)?;
         chmod(&mut node, self.bits);
         Ok(node)

@@ -3,7 +3,7 @@
 ghost use Rattle.std.specs.Prelude.{◌≡◌};
 ghost use Rattle.acl_tree.specs.declared.command.TreeFault.TheVariants.{NoMemory};
 
-use acl_edit::EditFault;
+use acl_edit::{Edit, EditFault};
 use acl_entry::Id;
 use acl_names::{Name, Path};
 use acl_text::TextFault;
@@ -64,6 +64,12 @@ pub enum Command<'a> {
     Chmod {
         paths: Paths,
         mode: u16,
+        recursive: bool,
+    },
+    /// Edits the lists of the operands, with `recursive` also of all files below them: setfacl(1), chacl(1).
+    Edit {
+        paths: Paths,
+        edit: Edit,
         recursive: bool,
     },
 }

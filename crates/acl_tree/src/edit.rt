@@ -4,31 +4,39 @@ ghost use Rattle.std.specs.Prelude.{◌≡◌, ◌≢◌, ◌↔◌, IsTrue, ◌
 ghost use Rattle.acl_edit.specs.declared.edit.EditFault as edit_faults;
 ghost use Rattle.acl_edit.specs.declared.edit.EditFault.TheVariants as no_edit;
 ghost use Rattle.acl_edit.specs.declared.node.Node as nodes;
+ghost use Rattle.acl_tree.specs.Files.{PathOf};
 ghost use Rattle.acl_tree.specs.Changed.{same_label, changed_between, gone_between};
 ghost use Rattle.acl_tree.specs.Edits.{KeepsPlace, edit_each, edit_all};
 ghost use Rattle.acl_tree.specs.Inner.{file_of, node_after, changed_one, changed_by};
+ghost use Rattle.acl_tree.specs.Sound.{IsSoundTree};
+ghost use Rattle.acl_tree.specs.Tells.{Tells};
+ghost use Rattle.acl_tree.specs.declared.moved.UsersMove.TheVariants.{Same};
 ghost use Rattle.acl_tree.specs.declared.edit.FileFault.TheVariants.{NoMemory};
 
+use crate::command::TreeFault;
 use crate::found::Found;
+use crate::moved::UsersMove;
 use crate::selection::select;
+use crate::staged::Staged;
 use crate::tree::{Record, Tree};
 use acl_edit::{EditFault, Node};
 use acl_names::Path;
+use acl_people::People;
 use std::alloc::{AllocError, AllocFailed, Global};
 use std::rc::Rc;
 
 /// What a command does to each of its files.
 pub(crate) trait NodeEdit {
-    ghost edited: { Self → nodes.Node → Result nodes.Node edit_faults.EditFault };
+    ghost edited: { Self → PathOf → nodes.Node → Result nodes.Node edit_faults.EditFault };
 
     /// The node after the edit.
-    fn edited(&self, alloc: Global, node: &Node) -> Result<Node, EditFault>
-        ensures made { IfOk result (λ n. edited self.now node.now ≡ Ok n) }
-        ensures fault { IfErr result (λ fault. fault ≢ no_edit.NoMemory → edited self.now node.now ≡ Err fault) };
+    fn edited(&self, alloc: Global, path: &Path, node: &Node) -> Result<Node, EditFault>
+        ensures made { IfOk result (λ n. edited self.now path.now node.now ≡ Ok n) }
+        ensures fault { IfErr result (λ fault. fault ≢ no_edit.NoMemory → edited self.now path.now node.now ≡ Err fault) };
 
     /// Proof only: a directory stays one, and only directories have default lists.
     fn keeps_place(&self)
-        ensures { (n m : nodes.Node) → edited self.now n ≡ Ok m → KeepsPlace n m };
+        ensures { (p : PathOf) (n m : nodes.Node) → edited self.now p n ≡ Ok m → KeepsPlace n m };
 }
 
 /// Why the files of a command are not edited.
@@ -56,6 +64,19 @@ impl<T: Drop> From<AllocFailed<T>> for FileFault {
     }
 }
 
+impl From<FileFault> for TreeFault {
+    ghost use Rattle.acl_tree.specs.EditCommand.{file_fault};
+
+    ghost from_gives = { λ file fault. fault ≡ file_fault file };
+
+    fn from(fault: FileFault) -> TreeFault {
+        match fault {
+            FileFault::Edit { path, fault } => TreeFault::Edit { path, fault },
+            FileFault::NoMemory => TreeFault::NoMemory,
+        }
+    }
+}
+
 /// Whether both nodes have the same owner, group and access list.
 fn is_same_label(old: &Node, new: &Node) -> bool
     ensures computed { result ≡ same_label old.now.label new.now.label }
@@ -73,7 +94,7 @@ fn push_edited(
     node: Node,
 ) -> Result<(), AllocError>
     ensures made { OnOk result (map (λ r. r.value) edits.new.items ≡ map (λ r. r.value) edits.old.items ++ (file.now.0, node) ∷ []) }
-    ensures told { OnOk result (map (λ r. r.value) changed.new.items ≡ map (λ r. r.value) changed.old.items ++ changed_one true (λ _. node) file.now) }
+    ensures told { OnOk result (map (λ r. r.value) changed.new.items ≡ map (λ r. r.value) changed.old.items ++ changed_one true (λ _ _. node) file.now) }
 {
     let is_changed = !is_same_label(file.value(), &node);
     let edited = Rc::new(alloc, Record::new(file.shared_path().clone()?, node))?;
@@ -86,10 +107,10 @@ fn push_edited(
 
 /// A file's node edited, or the fault with its path.
 fn edit_one<E: NodeEdit>(alloc: Global, edit: &E, file: &Record) -> Result<Node, FileFault>
-    ensures made { IfOk result (λ n. E.edited edit.now file.now.1 ≡ Ok n) }
+    ensures made { IfOk result (λ n. E.edited edit.now file.now.0 file.now.1 ≡ Ok n) }
     ensures fault { IfErr result (λ fault. fault ≢ NoMemory → edit_each (E.edited edit.now) (file.now ∷ []) ≡ Err fault) }
 {
-    match edit.edited(alloc, file.value()) {
+    match edit.edited(alloc, file.path(), file.value()) {
         Ok(node) => Ok(node),
         Err(EditFault::NoMemory) => Err(FileFault::NoMemory),
         Err(fault) => Err(FileFault::Edit {
@@ -139,4 +160,31 @@ pub(crate) fn edit_files<E: NodeEdit>(
     let edits = edit_each(alloc, changed, &files, edit)?;
     let by_path = tree.files_by_path().put_all(alloc, &edits)?;
     Ok(Tree::of(by_path, tree.is_loaded()))
+}
+
+/// The state with the files of a command edited. The people stay as they are.
+pub(crate) fn stage_edits<E: NodeEdit>(
+    tree: &Tree,
+    alloc: Global,
+    people: &People,
+    operands: &[Path],
+    recursive: bool,
+    edit: &E,
+) -> Result<Staged, FileFault>
+    ensures made { IfOk result (λ staged. edit_all (E.edited edit.now) recursive operands.now tree.now ≡ Ok staged.state.tree) }
+    ensures people { IfOk result (λ staged. staged.state.people ≡ people.now) }
+    ensures fault { IfErr result (λ fault. fault ≢ NoMemory → edit_all (E.edited edit.now) recursive operands.now tree.now ≡ Err fault) }
+    ensures sound { IfOk result (λ staged. IsSoundTree staged.state.tree) }
+    ensures tells { IfOk result (λ staged. Tells (record { tree = tree.now; people = people.now }) staged) }
+    ensures moved { IfOk result (λ staged. staged.moved ≡ Same) }
+{
+    let mut changed = Vec::new(alloc);
+    let edited = edit_files(tree, alloc, &mut changed, operands, recursive, edit)?;
+    Ok(Staged::of(
+        edited,
+        people.share()?,
+        changed,
+        Vec::new(alloc),
+        UsersMove::Same,
+    ))
 }

@@ -6,6 +6,7 @@ mod chmod;
 mod command;
 mod dump;
 mod edit;
+mod edit_command;
 mod found;
 mod laws;
 mod load;

@@ -40,6 +40,11 @@ impl Tree {
                 mode,
                 recursive,
             } => self.chmod(alloc, people, paths, *mode, *recursive),
+            Command::Edit {
+                paths,
+                edit,
+                recursive,
+            } => self.edit(alloc, people, paths, edit, *recursive),
         }
     }
 }

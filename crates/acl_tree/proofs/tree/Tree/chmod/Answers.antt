@@ -15,7 +15,7 @@ returns-in_ok-share-in-Ok c =
     let tree : Recorded = chmod_all c.args.recursive c.args.paths.now c.args.mode c.args.self.now in
     let staged : State = record { tree = tree; people = c.args.people.now } in
     let changed : c.in-Ok.tree ≡ tree =
-    never_fails (λ n. nodes.chmod n c.args.mode) c.args.recursive c.as_slice-2.result.now c.args.self.now c.in-Ok.tree c.is_sound.ensures.order c.in-Ok.ensures.made
+    never_fails (λ _ n. nodes.chmod n c.args.mode) c.args.recursive c.as_slice-2.result.now c.args.self.now c.in-Ok.tree c.is_sound.ensures.order c.in-Ok.ensures.made
     ∙ ap (λ ps. chmod_all c.args.recursive ps c.args.mode c.args.self.now) c.as_slice-2.ensures
     in
     let is : c.of.result.state ≡ staged =
