@@ -10,3 +10,4 @@ pub mod Told
 pub mod Selected
 pub mod Edits
 pub mod Placed
+pub mod Restored

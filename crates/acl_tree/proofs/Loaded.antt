@@ -8,7 +8,8 @@ use Rattle.acl_names.specs.Paths.{path_cmp}
 use Rattle.acl_names.proofs.PathOrder.{exact_paths}
 use Rattle.acl_dump.specs.declared.record.DumpRecord.{DumpRecord}
 use Rattle.acl_edit.specs.declared.node.Node.{Node}
-use Rattle.acl_tree.specs.Files.{PathOf, Files, IsInOrder}
+use Rattle.path_map.specs.Entries.{IsInOrder}
+use Rattle.acl_tree.specs.Files.{PathOf, Files}
 use Rattle.acl_tree.specs.Below.{is_below}
 use Rattle.acl_tree.specs.Loading.{insert_record, in_path_order, node_of, has_below, as_files, files_of}
 use Rattle.acl_tree.specs.Sound.{holds_below}
@@ -19,12 +20,13 @@ use Rattle.acl_tree.proofs.Follows.{told_by_next}
 
 -- ---- path order
 
-abbrev pub seen : (DumpRecord → Node) → List DumpRecord → Files
+-- what the records become, by their paths
+abbrev pub seen : {V : Type 0} → (DumpRecord → V) → List DumpRecord → List (PathOf × V)
 seen h rs = map (λ s. (s.path, h s)) rs
 
-pub put_insert : (h : DumpRecord → Node) (r : DumpRecord) (rs : List DumpRecord) → seen h (insert_record r rs) ≡ put path_cmp r.path (h r) (seen h rs)
+pub put_insert : {V : Type 0} (h : DumpRecord → V) (r : DumpRecord) (rs : List DumpRecord) → seen h (insert_record r rs) ≡ put path_cmp r.path (h r) (seen h rs)
 put_insert h r [] = refl
-put_insert h r (s ∷ rs) = by (path_cmp r.path s.path) refl (put_insert h r rs)
+put_insert {V = V} h r (s ∷ rs) = by (path_cmp r.path s.path) refl (put_insert h r rs)
   where
     by : (o : Ordering) → path_cmp r.path s.path ≡ o → seen h (insert_record r rs) ≡ put path_cmp r.path (h r) (seen h rs)
         → seen h (by_order o (r ∷ s ∷ rs) (r ∷ rs) (s ∷ insert_record r rs)) ≡ by_order o ((r.path, h r) ∷ seen h (s ∷ rs)) ((s.path, h r) ∷ seen h rs) ((s.path, h s) ∷ put path_cmp r.path (h r) (seen h rs))
@@ -32,12 +34,12 @@ put_insert h r (s ∷ rs) = by (path_cmp r.path s.path) refl (put_insert h r rs)
     by Equal is rest = ap (λ p. (p, h r) ∷ seen h rs) (exact_paths r.path s.path is)
     by Greater is rest = ap (λ l. (s.path, h s) ∷ l) rest
 
-in_order-fold : (h : DumpRecord → Node) (rs done : List DumpRecord) → IsInOrder (seen h done) → IsInOrder (seen h (fold (λ sorted r. insert_record r sorted) done rs))
+in_order-fold : {V : Type 0} (h : DumpRecord → V) (rs done : List DumpRecord) → IsInOrder (seen h done) → IsInOrder (seen h (fold (λ sorted r. insert_record r sorted) done rs))
 in_order-fold h [] done order = order
-in_order-fold h (r ∷ rs) done order = in_order-fold h rs (insert_record r done) (subst IsInOrder (sym (put_insert h r done)) (in_order-put r.path (h r) (seen h done) order))
+in_order-fold {V = V} h (r ∷ rs) done order = in_order-fold h rs (insert_record r done) (subst (λ (es : List (PathOf × V)). IsInOrder es) (sym (put_insert h r done)) (in_order-put r.path (h r) (seen h done) order))
 
--- the records are in path order, whatever nodes they become
-pub in_order-records : (h : DumpRecord → Node) (rs : List DumpRecord) → IsInOrder (seen h (in_path_order rs))
+-- the records are in path order, whatever they become
+pub in_order-records : {V : Type 0} (h : DumpRecord → V) (rs : List DumpRecord) → IsInOrder (seen h (in_path_order rs))
 in_order-records h rs = in_order-fold h rs [] refl
 
 -- ---- below

@@ -1,8 +1,10 @@
 -- For inner functions: no public contract names these definitions.
-use Rattle.std.specs.Prelude.{◌≡◌, ◌≢◌, ⊤, List, [], ◌∷◌, ◌++◌, Bool, false, ◌&&◌, not, if◌then◌else◌, Result, Ok, Err, IfOk}
+use Rattle.std.specs.Prelude.{◌≡◌, ◌≢◌, ⊤, List, [], ◌∷◌, ◌++◌, map, Bool, false, ◌&&◌, not, if◌then◌else◌, Result, Ok, Err, IfOk}
+use Rattle.std.specs.FinMap.{find}
 use Rattle.std.specs.declared.cmp.Ordering.TheVariants.{Greater}
 use Rattle.acl_names.specs.Paths.{path_cmp}
 use Rattle.acl_dump.specs.declared.record.DumpRecord.{DumpRecord}
+use Rattle.acl_edit.specs.declared.edit.Edit.{Edit}
 use Rattle.acl_edit.specs.declared.edit.EditFault.{EditFault}
 use Rattle.acl_edit.specs.declared.node.Node.{Node}
 use Rattle.acl_tree.specs.declared.edit.FileFault.{FileFault}
@@ -11,6 +13,7 @@ use Rattle.acl_tree.specs.Below.{is_below}
 use Rattle.acl_tree.specs.Found.{FoundFile}
 use Rattle.acl_tree.specs.Loading.{node_of}
 use Rattle.acl_tree.specs.Changed.{same_label}
+use Rattle.acl_tree.specs.Restoring.{edit_of, edit_if_some}
 use Rattle.acl_tree.specs.Sound.{IsSoundTree}
 use Rattle.acl_tree.specs.Step.{State, Stages}
 use Rattle.acl_tree.specs.Tells.{StagedState, Tells}
@@ -83,3 +86,13 @@ changed_one edited edit e = if edited && not (same_label e.1.label (edit e.0 e.1
 abbrev pub changed_by : (PathOf → Bool) → (PathOf → Node → Node) → Files → Files
 changed_by test edit [] = []
 changed_by test edit (e ∷ es) = changed_one (test e.0) edit e ++ changed_by test edit es
+
+-- ---- restored files
+
+-- the edits of records, by their paths
+abbrev pub edits_by_path : List DumpRecord → List (PathOf × Edit)
+edits_by_path records = map (λ r. (r.path, edit_of r)) records
+
+-- a file edited by what is found for its path
+abbrev pub edit_by_path : List (PathOf × Edit) → PathOf → Node → Result Node EditFault
+edit_by_path edits p n = edit_if_some (find path_cmp p edits) n

@@ -9,4 +9,5 @@ pub mod Changed
 pub mod Tells
 pub mod Edits
 pub mod EditCommand
+pub mod Restoring
 pub mod Inner

@@ -6,7 +6,7 @@ use Rattle.acl_tree.specs.declared.moved.UsersMove.{UsersMove}
 use Rattle.acl_tree.specs.declared.moved.UsersMove.TheVariants.{Same, Loaded}
 use Rattle.acl_tree.specs.contracts.moved.UsersMove as moved_contracts
 use Rattle.acl_tree.specs.declared.command.Command.{Command}
-use Rattle.acl_tree.specs.declared.command.Command.TheVariants.{Load, Chmod, Edit}
+use Rattle.acl_tree.specs.declared.command.Command.TheVariants.{Load, Chmod, Edit, Restore}
 use Rattle.acl_tree.specs.declared.command.Table.{Table}
 use Rattle.acl_tree.specs.declared.command.Table.TheVariants.{Passwd, Group, Dump}
 use Rattle.acl_tree.specs.Files.{Files}
@@ -38,6 +38,7 @@ abbrev pub users_move : Command → UsersMove
 users_move (Load which bytes) = load_moves which
 users_move (Chmod paths mode recursive) = Same
 users_move (Edit paths e recursive) = Same
+users_move (Restore records) = Same
 
 -- no user has other groups, or there is no file whose check could differ
 abbrev pub UsersMoved : State → State → UsersMove → Type 0

@@ -4,6 +4,7 @@ ghost use Rattle.std.specs.Prelude.{◌≡◌};
 ghost use Rattle.acl_tree.specs.declared.command.TreeFault.TheVariants.{NoMemory};
 
 use acl_edit::{Edit, EditFault};
+use crate::restore::DumpRecords;
 use acl_entry::Id;
 use acl_names::{Name, Path};
 use acl_text::TextFault;
@@ -72,6 +73,8 @@ pub enum Command<'a> {
         edit: Edit,
         recursive: bool,
     },
+    /// Gives the files of records the lists, flags, owners and groups that these have: setfacl(1) --restore.
+    Restore { records: DumpRecords },
 }
 
 /// Why a command is refused. A refused command changes nothing.

@@ -45,6 +45,7 @@ impl Tree {
                 edit,
                 recursive,
             } => self.edit(alloc, people, paths, edit, *recursive),
+            Command::Restore { records } => self.restore(alloc, people, records),
         }
     }
 }
