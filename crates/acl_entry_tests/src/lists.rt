@@ -1,222 +1,234 @@
 //! Lists: what is refused, list order, the mode.
-use crate::made::{ADM, JOE, entry, group, id, list, perm, user};
+use crate::made::Who::{Group, Mask, Other, Owner, OwningGroup, User};
+use crate::made::{
+    ADM, JOE, Row, Who, entries, expect_entries, id, key, list, perm, push, push_rows,
+};
 use acl_entry::{
-    Acl, Draft, Entry, INLINE_ENTRIES, Key, ListFault, MOST_ENTRIES, limits_are_as_told,
+    Acl, Draft, Entry, INLINE_ENTRIES, Id, Key, ListFault, MOST_ENTRIES, Perm, limits_are_as_told,
 };
 use std::alloc::Global;
 use std::process::Abort;
-use std::test::Fail;
 
-// Named users 1, 2, .. up to `named`, and after them the base entries and a mask.
-fn with_users(rt: &impl Abort, alloc: Global, named: u32) -> Result<Vec<Entry>, Fail> {
+// Entries, and the fault of their list, where it has one.
+static FAULTS: [(&[Row], &str); 8] = [
+    // A base entry is missing.
+    (&[], "Some(MissingBase { key: Owner })"),
+    (&[(Owner, 4)], "Some(MissingBase { key: OwningGroup })"),
+    (
+        &[(Mask, 4), (OwningGroup, 4), (Owner, 4)],
+        "Some(MissingBase { key: Other })",
+    ),
+    // A key is repeated.
+    (
+        &[(OwningGroup, 4), (Owner, 4), (Owner, 4), (OwningGroup, 4)],
+        "Some(Repeated { at: 3 })",
+    ),
+    (
+        &[(User(JOE), 4), (User(JOE), 4)],
+        "Some(Repeated { at: 2 })",
+    ),
+    (
+        &[(User(JOE), 4), (Group(JOE), 4)],
+        "Some(MissingBase { key: Owner })",
+    ),
+    // A mask is missing.
+    (
+        &[
+            (Owner, 4),
+            (Group(ADM), 4),
+            (User(JOE), 4),
+            (OwningGroup, 4),
+            (Other, 4),
+        ],
+        "Some(MissingMask { at: 2 })",
+    ),
+    (
+        &[
+            (Other, 4),
+            (User(JOE), 4),
+            (Mask, 4),
+            (OwningGroup, 4),
+            (Owner, 4),
+        ],
+        "None",
+    ),
+];
+
+// The fault of the entries' list reads like this.
+fn expect_fault(rt: &impl Abort, alloc: Global, entries: &[Entry], want: &str) {
+    let fault = Acl::from_entries(alloc, entries).err();
+    let found = format!(in alloc; "{fault:?}").expect(rt, "memory");
+    assert!(rt; found.as_str() == want, "not {want}");
+}
+
+#[test]
+fn lists_are_refused(rt: HostRuntime) {
+    for (rows, want) in &FAULTS {
+        let entries = entries(&rt, rt.alloc(), rows);
+        expect_fault(&rt, rt.alloc(), &entries, want);
+    }
+}
+
+static BASE_AND_MASK: [Row; 4] = [(Owner, 6), (OwningGroup, 4), (Mask, 7), (Other, 0)];
+
+// The named users 0, 1, .., so many, and after them the base entries and a mask.
+fn with_users(rt: &impl Abort, alloc: Global, named: u32) -> Vec<Entry> {
     let mut entries = Vec::new(alloc);
     for number in 0..named {
-        entries.push(entry(rt, user(rt, number), 4))?;
+        push(rt, &mut entries, Key::User(id(rt, number)), 4);
     }
-    entries.push(entry(rt, Key::Owner, 6))?;
-    entries.push(entry(rt, Key::OwningGroup, 4))?;
-    entries.push(entry(rt, Key::Mask, 7))?;
-    entries.push(entry(rt, Key::Other, 0))?;
-    Ok(entries)
+    push_rows(rt, &mut entries, &BASE_AND_MASK);
+    entries
 }
 
-// What is wrong with entries of these keys, if anything is.
-fn fault(rt: &impl Abort, alloc: Global, keys: &[Key]) -> Result<Option<ListFault>, Fail> {
-    let mut entries = Vec::new(alloc);
-    for key in keys {
-        entries.push(entry(rt, *key, 4))?;
-    }
-    Ok(Acl::from_entries(alloc, &entries).err())
-}
-
-#[test]
-fn a_base_entry_is_missing(rt: HostRuntime) -> Result<(), Fail> {
-    let none = fault(&rt, rt.alloc(), &[])?;
-    assert_eq!(rt; none, Some(ListFault::MissingBase { key: Key::Owner }));
-    let owner = fault(&rt, rt.alloc(), &[Key::Owner])?;
-    assert_eq!(rt;
-        owner,
-        Some(ListFault::MissingBase {
-            key: Key::OwningGroup
-        })
+// A list of so many named users, the base entries and a mask has so many entries.
+fn expect_kept(rt: &impl Abort, alloc: Global, named: u32, want: usize) {
+    let acl = Acl::from_entries(alloc, &with_users(rt, alloc, named)).expect(rt, "a valid list");
+    assert!(rt; acl.entries().len() == want, "not {want} entries");
+    let last = id(rt, named.saturating_sub(1));
+    assert!(rt;
+        acl.get(Key::User(last)) == Some(perm(rt, 4)),
+        "the last user"
     );
-    let no_others = fault(&rt, rt.alloc(), &[Key::Mask, Key::OwningGroup, Key::Owner])?;
-    assert_eq!(rt; no_others, Some(ListFault::MissingBase { key: Key::Other }));
-    Ok(())
+    let copy = acl.try_clone(alloc).expect(rt, "memory");
+    assert!(rt; copy.same(&acl), "a copy");
 }
 
 #[test]
-fn a_key_is_repeated(rt: HostRuntime) -> Result<(), Fail> {
-    let base = fault(
-        &rt,
-        rt.alloc(),
-        &[Key::OwningGroup, Key::Owner, Key::Owner, Key::OwningGroup],
-    )?;
-    assert_eq!(rt; base, Some(ListFault::Repeated { at: 3 }));
-    let named = fault(&rt, rt.alloc(), &[user(&rt, JOE), user(&rt, JOE)])?;
-    assert_eq!(rt; named, Some(ListFault::Repeated { at: 2 }));
-    let apart = fault(&rt, rt.alloc(), &[user(&rt, JOE), group(&rt, JOE)])?;
-    assert_eq!(rt; apart, Some(ListFault::MissingBase { key: Key::Owner }));
-    Ok(())
-}
-
-#[test]
-fn a_mask_is_missing(rt: HostRuntime) -> Result<(), Fail> {
-    let two = fault(
-        &rt,
-        rt.alloc(),
-        &[
-            Key::Owner,
-            group(&rt, ADM),
-            user(&rt, JOE),
-            Key::OwningGroup,
-            Key::Other,
-        ],
-    )?;
-    assert_eq!(rt; two, Some(ListFault::MissingMask { at: 2 }));
-    let masked = fault(
-        &rt,
-        rt.alloc(),
-        &[
-            Key::Other,
-            user(&rt, JOE),
-            Key::Mask,
-            Key::OwningGroup,
-            Key::Owner,
-        ],
-    )?;
-    assert_eq!(rt; masked, None);
-    Ok(())
-}
-
-#[test]
-fn keeps_eight_and_nine_entries(rt: HostRuntime) -> Result<(), Fail> {
+fn keeps_the_most_entries_and_not_one_more(rt: HostRuntime) {
     limits_are_as_told();
-    assert_eq!(rt; INLINE_ENTRIES, 8);
-    for named in [4, 5] {
-        let entries = with_users(&rt, rt.alloc(), named)?;
-        let acl = list(&rt, rt.alloc(), &entries);
-        assert_eq!(rt; acl.entries().len(), entries.len());
-        assert_eq!(rt; acl.get(user(&rt, named - 1)), Some(perm(&rt, 4)));
-        let copy = acl.try_clone(rt.alloc())?;
-        assert!(rt; copy.same(&acl));
-    }
-    Ok(())
+    assert!(rt; INLINE_ENTRIES == 8);
+    assert!(rt; MOST_ENTRIES == 4096);
+    expect_kept(&rt, rt.alloc(), 4, 8);
+    expect_kept(&rt, rt.alloc(), 5, 9);
+    expect_kept(&rt, rt.alloc(), 4092, 4096);
+    let more = with_users(&rt, rt.alloc(), 4093);
+    expect_fault(&rt, rt.alloc(), &more, "Some(TooLong)");
 }
 
-#[test]
-fn keeps_the_most_entries_and_not_one_more(rt: HostRuntime) -> Result<(), Fail> {
-    let most = with_users(&rt, rt.alloc(), 4092)?;
-    assert_eq!(rt; most.len(), MOST_ENTRIES);
-    let acl = list(&rt, rt.alloc(), &most);
-    assert_eq!(rt; acl.entries().len(), 4096);
-    let more = with_users(&rt, rt.alloc(), 4093)?;
-    let fault = Acl::from_entries(rt.alloc(), &more).err();
-    assert_eq!(rt; fault, Some(ListFault::TooLong));
-    Ok(())
-}
+static SHUFFLED: [Row; 8] = [
+    (Other, 0),
+    (Mask, 6),
+    (Group(9), 1),
+    (Group(8), 2),
+    (OwningGroup, 4),
+    (User(4294967294), 5),
+    (User(0), 4),
+    (Owner, 7),
+];
+
+static IN_ORDER: [Row; 8] = [
+    (Owner, 7),
+    (User(0), 4),
+    (User(4294967294), 5),
+    (OwningGroup, 4),
+    (Group(8), 2),
+    (Group(9), 1),
+    (Mask, 6),
+    (Other, 0),
+];
 
 #[test]
-fn stands_in_list_order(rt: HostRuntime) -> Result<(), Fail> {
-    let entries = [
-        entry(&rt, Key::Other, 0),
-        entry(&rt, Key::Mask, 6),
-        entry(&rt, group(&rt, 9), 1),
-        entry(&rt, group(&rt, 8), 2),
-        entry(&rt, Key::OwningGroup, 4),
-        entry(&rt, user(&rt, 4294967294), 5),
-        entry(&rt, user(&rt, 0), 4),
-        entry(&rt, Key::Owner, 7),
-    ];
-    let acl = list(&rt, rt.alloc(), &entries);
-    let in_order = [
-        entry(&rt, Key::Owner, 7),
-        entry(&rt, user(&rt, 0), 4),
-        entry(&rt, user(&rt, 4294967294), 5),
-        entry(&rt, Key::OwningGroup, 4),
-        entry(&rt, group(&rt, 8), 2),
-        entry(&rt, group(&rt, 9), 1),
-        entry(&rt, Key::Mask, 6),
-        entry(&rt, Key::Other, 0),
-    ];
-    assert_eq!(rt; acl.entries(), in_order.as_slice());
-    assert_eq!(rt; acl.class_union(), perm(&rt, 7));
+fn entries_are_in_list_order(rt: HostRuntime) {
+    let acl = list(&rt, rt.alloc(), &SHUFFLED);
+    expect_entries(&rt, rt.alloc(), &acl, &IN_ORDER);
+    assert!(rt; acl.class_union() == perm(&rt, 7));
     assert!(rt; !acl.is_minimal());
-    Ok(())
 }
 
-// The entry for joe that setfacl makes in a file of mode 0640 shows its mask in the mode.
+// The entry for joe that setfacl makes in a file of mode 0640.
+static NAMED_USER: [Row; 5] = [
+    (Owner, 6),
+    (User(JOE), 7),
+    (OwningGroup, 4),
+    (Mask, 7),
+    (Other, 0),
+];
+
+// A key of that list, its permissions after `chmod 600`, and those of them that are in effect.
+static MASKED: [(Who, u8, u8); 3] = [(User(JOE), 7, 0), (OwningGroup, 4, 0), (Owner, 6, 6)];
+
 #[test]
-fn mode_shows_the_mask(rt: HostRuntime) -> Result<(), Fail> {
-    let entries = [
-        entry(&rt, Key::Owner, 6),
-        entry(&rt, user(&rt, JOE), 7),
-        entry(&rt, Key::OwningGroup, 4),
-        entry(&rt, Key::Mask, 7),
-        entry(&rt, Key::Other, 0),
-    ];
-    let mut acl = list(&rt, rt.alloc(), &entries);
-    assert_eq!(rt; acl.mode(), 0o670);
+fn mode_shows_the_mask(rt: HostRuntime) {
+    let mut acl = list(&rt, rt.alloc(), &NAMED_USER);
+    assert!(rt; acl.mode() == 0o670);
     acl.chmod(0o600);
-    assert_eq!(rt; acl.get(user(&rt, JOE)), Some(perm(&rt, 7)));
-    assert_eq!(rt; acl.get(Key::OwningGroup), Some(perm(&rt, 4)));
-    assert_eq!(rt; acl.effective(user(&rt, JOE)), Some(perm(&rt, 0)));
-    assert_eq!(rt; acl.effective(Key::OwningGroup), Some(perm(&rt, 0)));
-    assert_eq!(rt; acl.effective(Key::Owner), Some(perm(&rt, 6)));
-    assert_eq!(rt; acl.mode(), 0o600);
-    Ok(())
+    assert!(rt; acl.mode() == 0o600);
+    for (who, is, effective) in &MASKED {
+        assert!(rt; acl.get(key(&rt, who)) == Some(perm(&rt, *is)));
+        assert!(rt; acl.effective(key(&rt, who)) == Some(perm(&rt, *effective)));
+    }
 }
 
 #[test]
-fn mode_of_a_minimal_list(rt: HostRuntime) -> Result<(), Fail> {
-    let mut acl = Acl::minimal(rt.alloc(), 0o2750)?;
+fn mode_of_a_minimal_list(rt: HostRuntime) {
+    let mut acl = Acl::minimal(rt.alloc(), 0o2750).expect(&rt, "memory");
     assert!(rt; acl.is_minimal());
-    assert_eq!(rt; acl.mode(), 0o750);
+    assert!(rt; acl.mode() == 0o750);
     acl.chmod(0o705);
-    let entries = [
-        entry(&rt, Key::Owner, 7),
-        entry(&rt, Key::OwningGroup, 0),
-        entry(&rt, Key::Other, 5),
-    ];
-    assert_eq!(rt; acl.entries(), entries.as_slice());
-    acl.restrict(0o644);
-    assert_eq!(rt; acl.mode(), 0o604);
-    Ok(())
-}
-
-#[test]
-fn a_draft_becomes_a_list(rt: HostRuntime) -> Result<(), Fail> {
-    let acl = Acl::minimal(rt.alloc(), 0o640)?;
-    let mut draft = Draft::of(rt.alloc(), &acl)?;
-    draft.insert(user(&rt, JOE), perm(&rt, 7))?;
-    draft.insert(Key::Mask, perm(&rt, 5))?;
-    draft.insert(Key::Mask, perm(&rt, 7))?;
-    draft.remove(&Key::Other);
-    assert_eq!(rt; draft.get(Key::Other), None);
-    draft.insert(Key::Other, perm(&rt, 0))?;
-    assert_eq!(rt; draft.entries().len(), 5);
-    let edited = draft.finish().expect(&rt, "a valid list");
-    assert_eq!(rt; edited.mode(), 0o670);
-    let empty = Draft::new(rt.alloc());
-    assert_eq!(rt;
-        empty.finish().err(),
-        Some(ListFault::MissingBase { key: Key::Owner })
+    expect_entries(
+        &rt,
+        rt.alloc(),
+        &acl,
+        &[(Owner, 7), (OwningGroup, 0), (Other, 5)],
     );
-    Ok(())
+    acl.restrict(0o644);
+    assert!(rt; acl.mode() == 0o604);
+}
+
+// Entries that a draft of the list of mode 0640 takes in turn, the mask twice.
+static INSERTED: [Row; 3] = [(User(JOE), 7), (Mask, 5), (Mask, 7)];
+
+fn insert(rt: &impl Abort, draft: &mut Draft, who: &Who, number: u8) {
+    let perm = perm(rt, number);
+    draft.insert(key(rt, who), perm).expect(rt, "memory");
+}
+
+fn draft(rt: &impl Abort, alloc: Global) -> Draft {
+    let acl = Acl::minimal(alloc, 0o640).expect(rt, "memory");
+    Draft::of(alloc, &acl).expect(rt, "memory")
 }
 
 #[test]
-fn keys_and_permissions(rt: HostRuntime) -> Result<(), Fail> {
-    assert_eq!(rt; perm(&rt, 5).text().as_slice(), b"r-x".as_slice());
-    assert_eq!(rt; perm(&rt, 2).text().as_slice(), b"-w-".as_slice());
-    assert_eq!(rt; perm(&rt, 6).number(), 6);
-    assert!(rt; acl_entry::Perm::from_number(8).is_none());
-    assert!(rt; acl_entry::Id::new(4294967295).is_none());
-    assert_eq!(rt; id(&rt, 4294967294).number(), 4294967294);
-    assert_eq!(rt; user(&rt, JOE).id(), Some(id(&rt, JOE)));
+fn a_draft_becomes_a_list(rt: HostRuntime) {
+    let mut draft = draft(&rt, rt.alloc());
+    for (who, number) in &INSERTED {
+        insert(&rt, &mut draft, who, *number);
+    }
+    draft.remove(&Key::Other);
+    assert!(rt; draft.get(Key::Other).is_none());
+    insert(&rt, &mut draft, &Other, 0);
+    assert!(rt; draft.entries().len() == 5);
+    let edited = draft.finish().expect(&rt, "a valid list");
+    assert!(rt; edited.mode() == 0o670);
+}
+
+#[test]
+fn an_empty_draft_is_refused(rt: HostRuntime) {
+    let fault = Draft::new(rt.alloc()).finish().err();
+    assert!(rt; fault == Some(ListFault::MissingBase { key: Key::Owner }));
+}
+
+// Permissions, and how they are written.
+static TEXTS: [(u8, &[u8]); 2] = [(5, b"r-x"), (2, b"-w-")];
+
+#[test]
+fn permissions(rt: HostRuntime) {
+    for (number, want) in &TEXTS {
+        assert!(rt; perm(&rt, *number).text().as_slice() == *want);
+    }
+    assert!(rt; perm(&rt, 6).number() == 6);
+    assert!(rt; Perm::from_number(8).is_none());
+}
+
+#[test]
+fn keys(rt: HostRuntime) {
+    assert!(rt; Id::new(4294967295).is_none());
+    assert!(rt; id(&rt, 4294967294).number() == 4294967294);
+    let joe = Key::User(id(&rt, JOE));
+    assert!(rt; joe.id() == Some(id(&rt, JOE)));
     assert!(rt; Key::OwningGroup.is_class());
     assert!(rt; Key::Other.is_base());
-    assert!(rt; group(&rt, ADM).is_named());
-    assert!(rt; user(&rt, JOE) < Key::OwningGroup);
-    Ok(())
+    assert!(rt; Key::Group(id(&rt, ADM)).is_named());
+    assert!(rt; joe < Key::OwningGroup);
 }
