@@ -6,7 +6,6 @@ use acl_people::{
 use acl_text::Names;
 use std::alloc::Global;
 use std::process::Abort;
-use std::test::Fail;
 
 const PASSWD: &[u8] = b"lisa:x:1001:50:Lisa:/home/lisa:/bin/sh\n\
 joe:x:1000:100:Joe:/home/joe:/bin/sh\n\
@@ -15,12 +14,10 @@ ann:x:1002:100:Ann:/home/ann:/bin/sh\n";
 const GROUP: &[u8] = b"staff:x:50:\nusers:x:100:\ncool:x:60:lisa,joe,lisa\n\
 adm:x:70:\nbob:x:80:bob\nsquad:x:60:joe\n";
 
-fn known(alloc: Global) -> Result<People, Fail> {
-    Ok(
-        People::new(alloc)?
-            .load_passwd(alloc, PASSWD)?
-            .load_group(alloc, GROUP)?,
-    )
+fn known(rt: &impl Abort, alloc: Global) -> People {
+    let nobody = People::new(alloc).expect(rt, "memory");
+    let users = nobody.load_passwd(alloc, PASSWD).expect(rt, "users");
+    users.load_group(alloc, GROUP).expect(rt, "groups")
 }
 
 fn id(rt: &impl Abort, number: u32) -> Id {
@@ -35,173 +32,296 @@ fn are(ids: &[Id], numbers: &[u32]) -> bool {
             .all(|(id, number)| id.number() == *number)
 }
 
-/// Whether these are the user's groups.
-fn is_of(rt: &impl Abort, people: &People, name: &[u8], numbers: &[u32]) -> bool {
+/// A change of a user's groups.
+enum Command {
+    /// `gpasswd -a USER GROUP`
+    Add,
+    /// `gpasswd -d USER GROUP`
+    Remove,
+    /// `usermod -g GROUP USER`
+    Primary,
+}
+
+/// A change, the groups that the user joins or leaves by it, and what holds afterwards.
+struct Step {
+    command: Command,
+    user: &'static [u8],
+    group: &'static [u8],
+    moved: &'static [u32],
+    /// Users, and all their groups.
+    groups: &'static [(&'static [u8], &'static [u32])],
+    /// A user, a group, and whether the user is a member.
+    members: &'static [(&'static [u8], &'static [u8], bool)],
+}
+
+static ADDED: [Step; 4] = [
+    Step {
+        command: Command::Add,
+        user: b"joe",
+        group: b"adm",
+        moved: &[70],
+        groups: &[
+            (b"joe", &[60, 70, 100]),
+            (b"lisa", &[50, 60]),
+            (b"ann", &[100]),
+        ],
+        members: &[],
+    },
+    // The row names joe already.
+    Step {
+        command: Command::Add,
+        user: b"joe",
+        group: b"adm",
+        moved: &[],
+        groups: &[],
+        members: &[],
+    },
+    // The primary group of joe.
+    Step {
+        command: Command::Add,
+        user: b"joe",
+        group: b"users",
+        moved: &[],
+        groups: &[],
+        members: &[(b"joe", b"users", true)],
+    },
+    // One name was in the row.
+    Step {
+        command: Command::Remove,
+        user: b"joe",
+        group: b"adm",
+        moved: &[70],
+        groups: &[],
+        members: &[(b"joe", b"adm", false)],
+    },
+];
+
+static REMOVED: [Step; 3] = [
+    // The row had the name twice.
+    Step {
+        command: Command::Remove,
+        user: b"lisa",
+        group: b"cool",
+        moved: &[60],
+        groups: &[],
+        members: &[(b"lisa", b"cool", false), (b"joe", b"cool", true)],
+    },
+    // squad has the same id.
+    Step {
+        command: Command::Remove,
+        user: b"joe",
+        group: b"cool",
+        moved: &[],
+        groups: &[],
+        members: &[],
+    },
+    Step {
+        command: Command::Remove,
+        user: b"joe",
+        group: b"squad",
+        moved: &[60],
+        groups: &[(b"joe", &[100])],
+        members: &[],
+    },
+];
+
+static PRIMARY: [Step; 3] = [
+    Step {
+        command: Command::Primary,
+        user: b"joe",
+        group: b"staff",
+        moved: &[50, 100],
+        groups: &[(b"joe", &[50, 60])],
+        members: &[],
+    },
+    Step {
+        command: Command::Primary,
+        user: b"joe",
+        group: b"staff",
+        moved: &[],
+        groups: &[],
+        members: &[],
+    },
+    // joe is of group 60 already.
+    Step {
+        command: Command::Primary,
+        user: b"joe",
+        group: b"cool",
+        moved: &[50],
+        groups: &[(b"ann", &[100])],
+        members: &[],
+    },
+];
+
+fn added(rt: &impl Abort, alloc: Global, people: &People, step: &Step) -> People {
+    let user = people.find_user(step.user).expect(rt, "a user");
+    let group = people.find_group(step.group).expect(rt, "a group");
+    let next = people.with_member(alloc, user, group).expect(rt, "memory");
+    let joined = people.moved_groups(alloc, &next, user).expect(rt, "memory");
+    assert!(rt; are(&joined, step.moved));
+    next
+}
+
+fn removed(rt: &impl Abort, alloc: Global, people: &People, step: &Step) -> People {
+    let user = people.find_user(step.user).expect(rt, "a user");
+    let group = people.find_group(step.group).expect(rt, "a group");
+    let next = people
+        .without_member(alloc, user, group)
+        .expect(rt, "memory");
+    let left = people.moved_groups(alloc, &next, user).expect(rt, "memory");
+    assert!(rt; are(&left, step.moved));
+    next
+}
+
+fn with_primary(rt: &impl Abort, alloc: Global, people: &People, step: &Step) -> People {
+    let user = people.find_user(step.user).expect(rt, "a user");
+    let group = people.find_group(step.group).expect(rt, "a group");
+    let next = people
+        .with_primary_group(alloc, user, group)
+        .expect(rt, "memory");
+    let moved = people.moved_groups(alloc, &next, user).expect(rt, "memory");
+    assert!(rt; are(&moved, step.moved));
+    next
+}
+
+fn changed(rt: &impl Abort, alloc: Global, people: &People, step: &Step) -> People {
+    match step.command {
+        Command::Add => added(rt, alloc, people, step),
+        Command::Remove => removed(rt, alloc, people, step),
+        Command::Primary => with_primary(rt, alloc, people, step),
+    }
+}
+
+/// These are the user's groups.
+fn expect_groups(rt: &impl Abort, people: &People, name: &[u8], numbers: &[u32]) {
     let user = people.find_user(name).expect(rt, "a user");
-    are(people.subject(user).expect(rt, "a user").groups(), numbers)
+    let subject = people.subject(user).expect(rt, "a user");
+    assert!(rt; are(subject.groups(), numbers));
 }
 
-/// `gpasswd -a USER GROUP`, and the groups that the user joined.
-fn add(
-    rt: &impl Abort,
-    alloc: Global,
-    people: &People,
-    user: &[u8],
-    group: &[u8],
-) -> Result<(People, Vec<Id>), Fail> {
+fn expect_member(rt: &impl Abort, people: &People, user: &[u8], group: &[u8], want: bool) {
     let user = people.find_user(user).expect(rt, "a user");
     let group = people.find_group(group).expect(rt, "a group");
-    let next = people.with_member(alloc, user, group)?;
-    let joined = people.moved_groups(alloc, &next, user)?;
-    Ok((next, joined))
+    assert!(rt; people.is_member(user, group) == want);
 }
 
-/// `gpasswd -d USER GROUP`, and the groups that the user left.
-fn remove(
-    rt: &impl Abort,
-    alloc: Global,
-    people: &People,
-    user: &[u8],
-    group: &[u8],
-) -> Result<(People, Vec<Id>), Fail> {
-    let user = people.find_user(user).expect(rt, "a user");
-    let group = people.find_group(group).expect(rt, "a group");
-    let next = people.without_member(alloc, user, group)?;
-    let left = people.moved_groups(alloc, &next, user)?;
-    Ok((next, left))
+fn expect_all_groups(rt: &impl Abort, people: &People, step: &Step) {
+    for (user, numbers) in step.groups {
+        expect_groups(rt, people, user, numbers);
+    }
 }
 
-/// `usermod -g GROUP USER`, and the groups that the user joined or left.
-fn change(
-    rt: &impl Abort,
-    alloc: Global,
-    people: &People,
-    user: &[u8],
-    group: &[u8],
-) -> Result<(People, Vec<Id>), Fail> {
-    let user = people.find_user(user).expect(rt, "a user");
-    let group = people.find_group(group).expect(rt, "a group");
-    let next = people.with_primary_group(alloc, user, group)?;
-    let moved = people.moved_groups(alloc, &next, user)?;
-    Ok((next, moved))
+fn expect_members(rt: &impl Abort, people: &People, step: &Step) {
+    for (user, group, want) in step.members {
+        expect_member(rt, people, user, group, *want);
+    }
 }
 
-/// `userdel USER`.
-fn delete(rt: &impl Abort, alloc: Global, people: &People, user: &[u8]) -> Result<People, Fail> {
-    let user = people.find_user(user).expect(rt, "a user");
-    Ok(people.without_user(alloc, user)?)
-}
-
-fn is_member(rt: &impl Abort, people: &People, user: &[u8], group: &[u8]) -> bool {
-    let user = people.find_user(user).expect(rt, "a user");
-    let group = people.find_group(group).expect(rt, "a group");
-    people.is_member(user, group)
+fn expect_steps(rt: &impl Abort, alloc: Global, steps: &[Step]) {
+    let mut people = known(rt, alloc);
+    for step in steps {
+        people = changed(rt, alloc, &people, step);
+        expect_all_groups(rt, &people, step);
+        expect_members(rt, &people, step);
+    }
 }
 
 #[test]
-fn words_name_groups(rt: HostRuntime) -> Result<(), Fail> {
-    let people = known(rt.alloc())?;
-    assert_eq!(rt; people.find_group(b"adm"), Some(3));
-    assert_eq!(rt; people.find_group(b"60"), Some(2), "the first of two rows");
-    assert_eq!(rt; people.find_group(b"0080"), Some(4));
-    assert_eq!(rt; people.find_group(b"99"), None);
-    assert_eq!(rt; people.find_group(b"lisa"), None);
-    Ok(())
+fn members_are_added(rt: HostRuntime) {
+    expect_steps(&rt, rt.alloc(), &ADDED);
 }
 
 #[test]
-fn members_are_added(rt: HostRuntime) -> Result<(), Fail> {
-    let alloc = rt.alloc();
-    let people = known(alloc)?;
-    let (people, joined) = add(&rt, alloc, &people, b"joe", b"adm")?;
-    assert!(rt; are(&joined, &[70]));
-    assert!(rt; is_of(&rt, &people, b"joe", &[60, 70, 100]));
-    assert!(rt; is_of(&rt, &people, b"lisa", &[50, 60]) && is_of(&rt, &people, b"ann", &[100]));
-    let (people, joined) = add(&rt, alloc, &people, b"joe", b"adm")?;
-    assert!(rt; joined.is_empty(), "the row names joe already");
-    let (people, joined) = add(&rt, alloc, &people, b"joe", b"users")?;
-    assert!(rt; joined.is_empty(), "the primary group of joe");
-    assert!(rt; is_member(&rt, &people, b"joe", b"users"));
-    let (people, left) = remove(&rt, alloc, &people, b"joe", b"adm")?;
-    assert!(rt; are(&left, &[70]));
-    assert!(rt;
-        !is_member(&rt, &people, b"joe", b"adm"),
-        "one name was in the row"
-    );
-    Ok(())
-}
-
-#[test]
-fn members_are_removed(rt: HostRuntime) -> Result<(), Fail> {
-    let alloc = rt.alloc();
-    let people = known(alloc)?;
-    let (people, left) = remove(&rt, alloc, &people, b"lisa", b"cool")?;
-    assert!(rt; are(&left, &[60]), "the row had the name twice");
-    assert!(rt; !is_member(&rt, &people, b"lisa", b"cool"));
-    assert!(rt; is_member(&rt, &people, b"joe", b"cool"));
-    let (people, left) = remove(&rt, alloc, &people, b"joe", b"cool")?;
-    assert!(rt; left.is_empty(), "squad has the same id");
-    let (people, left) = remove(&rt, alloc, &people, b"joe", b"squad")?;
-    assert!(rt; are(&left, &[60]));
-    assert!(rt; is_of(&rt, &people, b"joe", &[100]));
+fn members_are_removed(rt: HostRuntime) {
+    expect_steps(&rt, rt.alloc(), &REMOVED);
     added_member_is_removed();
     group_held_otherwise_stays();
-    Ok(())
 }
 
 #[test]
-fn primary_groups_change(rt: HostRuntime) -> Result<(), Fail> {
-    let alloc = rt.alloc();
-    let people = known(alloc)?;
-    let (people, moved) = change(&rt, alloc, &people, b"joe", b"staff")?;
-    assert!(rt; are(&moved, &[50, 100]));
-    assert!(rt; is_of(&rt, &people, b"joe", &[50, 60]));
-    let (people, moved) = change(&rt, alloc, &people, b"joe", b"staff")?;
-    assert!(rt; moved.is_empty());
-    let (people, moved) = change(&rt, alloc, &people, b"joe", b"cool")?;
-    assert!(rt; are(&moved, &[50]), "joe is of group 60 already");
-    assert!(rt; is_of(&rt, &people, b"ann", &[100]));
-    Ok(())
+fn primary_groups_change(rt: HostRuntime) {
+    expect_steps(&rt, rt.alloc(), &PRIMARY);
+}
+
+// A word, and the place of the group that it names.
+static WORDS: [(&[u8], Option<usize>); 5] = [
+    (b"adm", Some(3)),
+    // The first of two rows.
+    (b"60", Some(2)),
+    (b"0080", Some(4)),
+    (b"99", None),
+    (b"lisa", None),
+];
+
+#[test]
+fn words_name_groups(rt: HostRuntime) {
+    let people = known(&rt, rt.alloc());
+    for (word, want) in &WORDS {
+        assert!(rt; people.find_group(word) == *want);
+    }
+}
+
+/// `useradd -u NUMBER -g GROUP NAME`
+fn with_user(
+    rt: &impl Abort,
+    alloc: Global,
+    people: &People,
+    name: &[u8],
+    number: u32,
+    group: &[u8],
+) -> People {
+    let group = people.find_group(group).expect(rt, "a group");
+    assert!(rt; !name.is_empty(), "no name");
+    assert!(rt; !people.has_user_named(name), "the name of a user");
+    assert!(rt; !people.is_full(), "no room");
+    people
+        .with_user(alloc, name, id(rt, number), group)
+        .expect(rt, "memory")
 }
 
 #[test]
-fn users_come(rt: HostRuntime) -> Result<(), Fail> {
-    let alloc = rt.alloc();
-    let people = known(alloc)?;
+fn names_and_ids_of_users(rt: HostRuntime) {
+    let people = known(&rt, rt.alloc());
     assert!(rt; people.has_user_named(b"joe") && !people.has_user_named(b"bob"));
     assert!(rt; people.has_user_id(id(&rt, 1000)) && !people.has_user_id(id(&rt, 1003)));
     assert!(rt; !people.has_user_named(b"1000"), "an id is no name");
-    let staff = people.find_group(b"staff").expect(&rt, "a group");
-    if people.is_full() || people.has_user_named(b"bob") {
-        return Err(Fail::from("no room"));
-    }
-    let people = people.with_user(alloc, b"bob", id(&rt, 1003), staff)?;
-    assert_eq!(rt; people.find_user(b"bob"), Some(3));
-    assert_eq!(rt; people.find_user(b"1003"), Some(3));
-    assert!(rt; people.user_name(id(&rt, 1003)) == Some(b"bob".as_slice()));
-    assert!(rt;
-        is_of(&rt, &people, b"bob", &[50, 80]),
-        "a row named bob before"
-    );
-    assert!(rt; is_of(&rt, &people, b"joe", &[60, 100]));
-    Ok(())
 }
 
 #[test]
-fn users_go(rt: HostRuntime) -> Result<(), Fail> {
+fn users_come(rt: HostRuntime) {
     let alloc = rt.alloc();
-    let people = delete(&rt, alloc, &known(alloc)?, b"joe")?;
-    assert_eq!(rt; people.users(), 2);
-    assert_eq!(rt; people.find_user(b"joe"), None);
-    assert_eq!(rt; people.find_user(b"ann"), Some(1));
+    let people = with_user(&rt, alloc, &known(&rt, alloc), b"bob", 1003, b"staff");
+    assert!(rt; people.find_user(b"bob") == Some(3));
+    assert!(rt; people.find_user(b"1003") == Some(3));
+    assert!(rt; people.user_name(id(&rt, 1003)) == Some(b"bob".as_slice()));
+    // A row named bob before.
+    expect_groups(&rt, &people, b"bob", &[50, 80]);
+    expect_groups(&rt, &people, b"joe", &[60, 100]);
+}
+
+/// `userdel joe`
+fn without_joe(rt: &impl Abort, alloc: Global) -> People {
+    let people = known(rt, alloc);
+    let user = people.find_user(b"joe").expect(rt, "a user");
+    people.without_user(alloc, user).expect(rt, "memory")
+}
+
+#[test]
+fn users_go(rt: HostRuntime) {
+    let people = without_joe(&rt, rt.alloc());
+    assert!(rt; people.users() == 2);
+    assert!(rt; people.find_user(b"joe").is_none());
+    assert!(rt; people.find_user(b"ann") == Some(1));
     assert!(rt; people.user_name(id(&rt, 1000)).is_none());
-    assert!(rt; is_of(&rt, &people, b"lisa", &[50, 60]) && is_of(&rt, &people, b"ann", &[100]));
-    let users = people.find_group(b"users").expect(&rt, "a group");
-    if people.is_full() || people.has_user_named(b"joe") {
-        return Err(Fail::from("no room"));
-    }
-    let people = people.with_user(alloc, b"joe", id(&rt, 1000), users)?;
-    assert!(rt; is_of(&rt, &people, b"joe", &[100]), "no row names joe");
+    expect_groups(&rt, &people, b"lisa", &[50, 60]);
+    expect_groups(&rt, &people, b"ann", &[100]);
     added_user_is_removed();
-    Ok(())
+}
+
+// No row names joe.
+#[test]
+fn users_come_again(rt: HostRuntime) {
+    let alloc = rt.alloc();
+    let people = with_user(&rt, alloc, &without_joe(&rt, alloc), b"joe", 1000, b"users");
+    expect_groups(&rt, &people, b"joe", &[100]);
 }

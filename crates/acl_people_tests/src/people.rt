@@ -1,10 +1,9 @@
 //! Users, groups, and the words and ids that stand for them.
-use acl_entry::{Id, Subject};
+use acl_entry::Id;
 use acl_people::{LoadFault, People};
 use acl_text::{FaultKind, Names, TextFault};
 use std::alloc::Global;
 use std::process::Abort;
-use std::test::Fail;
 
 const PASSWD: &[u8] = b"lisa:x:1001:50:Lisa:/home/lisa:/bin/sh\n\
 joe:x:1000:100:Joe:/home/joe:/bin/sh\n\
@@ -15,49 +14,49 @@ joe:x:9:9:Again:/:/bin/sh\n";
 const GROUP: &[u8] = b"staff:x:50:\nusers:x:100:joe\ncool:x:60:lisa,joe,lisa\n\
 8:x:8:\nwheel:x:8:twin\nother:x:60:twin\n";
 
-fn known(rt: &impl Abort, alloc: Global) -> Result<People, Fail> {
-    let nobody = People::new(alloc)?;
+fn nobody(rt: &impl Abort, alloc: Global) -> People {
+    People::new(alloc).expect(rt, "memory")
+}
+
+fn known(rt: &impl Abort, alloc: Global) -> People {
+    let nobody = nobody(rt, alloc);
     assert!(rt; !nobody.passwd_loaded() && !nobody.group_loaded());
-    let with_users = nobody.load_passwd(alloc, PASSWD)?;
+    let with_users = nobody.load_passwd(alloc, PASSWD).expect(rt, "users");
     assert!(rt; with_users.passwd_loaded() && !with_users.group_loaded());
-    Ok(with_users.load_group(alloc, GROUP)?)
+    with_users.load_group(alloc, GROUP).expect(rt, "groups")
 }
 
 fn id(rt: &impl Abort, number: u32) -> Id {
     Id::new(number).expect(rt, "an id")
 }
 
-fn groups(rt: &impl Abort, subject: Option<&Subject>, number: u32) -> bool {
-    subject.expect(rt, "a user").is_of(id(rt, number))
-}
+// A word, and the place of the user that it names.
+static WORDS: [(&[u8], Option<usize>); 7] = [
+    (b"joe", Some(1)),
+    // An id, though a user has this name.
+    (b"1001", Some(0)),
+    (b"7", Some(2)),
+    (b"0001000", Some(1)),
+    // A repeated row is not counted.
+    (b"9", None),
+    (b"4294967295", None),
+    (b"nosuch", None),
+];
 
 #[test]
-fn words_name_users(rt: HostRuntime) -> Result<(), Fail> {
-    let people = known(&rt, rt.alloc())?;
-    assert_eq!(rt; people.users(), 4);
-    assert_eq!(rt; people.find_user(b"joe"), Some(1));
-    assert_eq!(rt;
-        people.find_user(b"1001"),
-        Some(0),
-        "an id, though a user has this name"
-    );
-    assert_eq!(rt; people.find_user(b"7"), Some(2));
-    assert_eq!(rt; people.find_user(b"0001000"), Some(1));
-    assert_eq!(rt;
-        people.find_user(b"9"),
-        None,
-        "a repeated row is not counted"
-    );
-    assert_eq!(rt; people.find_user(b"4294967295"), None);
-    assert_eq!(rt; people.find_user(b"nosuch"), None);
+fn words_name_users(rt: HostRuntime) {
+    let people = known(&rt, rt.alloc());
+    assert!(rt; people.users() == 4);
+    for (word, want) in &WORDS {
+        assert!(rt; people.find_user(word) == *want);
+    }
     assert!(rt; people.name(3) == Some(b"twin".as_slice()));
     assert!(rt; people.name(4).is_none());
-    Ok(())
 }
 
 #[test]
-fn ids_print_as_names(rt: HostRuntime) -> Result<(), Fail> {
-    let people = known(&rt, rt.alloc())?;
+fn ids_print_as_names(rt: HostRuntime) {
+    let people = known(&rt, rt.alloc());
     assert!(rt; people.user_name(id(&rt, 1001)) == Some(b"lisa".as_slice()));
     assert!(rt;
         people.user_name(id(&rt, 7)).is_none(),
@@ -65,55 +64,84 @@ fn ids_print_as_names(rt: HostRuntime) -> Result<(), Fail> {
     );
     assert!(rt; people.group_name(id(&rt, 8)) == Some(b"wheel".as_slice()));
     assert!(rt; people.group_name(id(&rt, 60)) == Some(b"cool".as_slice()));
-    assert_eq!(rt; people.user_id(b"twin"), Some(id(&rt, 1001)));
-    assert_eq!(rt; people.group_id(b"other"), Some(id(&rt, 60)));
-    assert_eq!(rt; people.group_id(b"joe"), None);
+}
+
+#[test]
+fn names_have_ids(rt: HostRuntime) {
+    let people = known(&rt, rt.alloc());
+    assert!(rt; people.user_id(b"twin") == Some(id(&rt, 1001)));
+    assert!(rt; people.group_id(b"other") == Some(id(&rt, 60)));
+    assert!(rt; people.group_id(b"joe").is_none());
     people.naming_is_read_back();
     people.is_sound();
-    Ok(())
+}
+
+// The place of a user, a group, and whether it is one of the user's groups.
+static GROUPS: [(usize, u32, bool); 10] = [
+    (0, 50, true),
+    (0, 60, true),
+    (0, 100, false),
+    (0, 8, false),
+    (1, 100, true),
+    (1, 60, true),
+    (1, 50, false),
+    (3, 100, true),
+    (3, 8, true),
+    (3, 60, true),
+];
+
+fn shared(rt: &impl Abort, alloc: Global) -> People {
+    known(rt, alloc).share().expect(rt, "memory")
 }
 
 #[test]
-fn users_have_their_groups(rt: HostRuntime) -> Result<(), Fail> {
-    let people = known(&rt, rt.alloc())?;
-    let shared = people.share()?;
-    assert_eq!(rt; shared.subjects().len(), 4);
-    let lisa = shared.subject(0);
-    assert_eq!(rt; lisa.expect(&rt, "lisa").uid(), id(&rt, 1001));
-    assert!(rt; groups(&rt, lisa, 50) && groups(&rt, lisa, 60));
-    assert!(rt; !groups(&rt, lisa, 100) && !groups(&rt, lisa, 8));
-    let joe = shared.subject(1);
-    assert!(rt; groups(&rt, joe, 100) && groups(&rt, joe, 60) && !groups(&rt, joe, 50));
-    let twin = shared.subject(3);
-    assert!(rt; groups(&rt, twin, 100) && groups(&rt, twin, 8) && groups(&rt, twin, 60));
+fn users_have_their_groups(rt: HostRuntime) {
+    let shared = shared(&rt, rt.alloc());
+    for (user, group, want) in &GROUPS {
+        let subject = shared.subject(*user).expect(&rt, "a user");
+        assert!(rt; subject.is_of(id(&rt, *group)) == *want);
+    }
+}
+
+#[test]
+fn people_are_shared(rt: HostRuntime) {
+    let shared = shared(&rt, rt.alloc());
+    assert!(rt; shared.subjects().len() == 4);
+    let lisa = shared.subject(0).expect(&rt, "lisa");
+    assert!(rt; lisa.uid() == id(&rt, 1001));
     assert!(rt; shared.subject(4).is_none());
-    Ok(())
+}
+
+fn expect_fault(rt: &impl Abort, loaded: Result<People, LoadFault>, want: LoadFault) {
+    assert!(rt; loaded.err() == Some(want));
 }
 
 #[test]
-fn texts_are_loaded_once(rt: HostRuntime) -> Result<(), Fail> {
-    let alloc = rt.alloc();
-    let people = known(&rt, alloc)?;
-    assert_eq!(rt;
-        people.load_passwd(alloc, b"not a row").err(),
-        Some(LoadFault::AlreadyLoaded)
-    );
-    assert_eq!(rt;
-        people.load_group(alloc, b"").err(),
-        Some(LoadFault::AlreadyLoaded)
-    );
-    let nobody = People::new(alloc)?;
+fn texts_are_loaded_once(rt: HostRuntime) {
+    let people = known(&rt, rt.alloc());
+    let users = people.load_passwd(rt.alloc(), b"not a row");
+    expect_fault(&rt, users, LoadFault::AlreadyLoaded);
+    let groups = people.load_group(rt.alloc(), b"");
+    expect_fault(&rt, groups, LoadFault::AlreadyLoaded);
+}
+
+#[test]
+fn bad_rows_are_not_loaded(rt: HostRuntime) {
+    let nobody = nobody(&rt, rt.alloc());
     let bad = TextFault {
         kind: FaultKind::BadRow,
         at: 2,
     };
-    assert_eq!(rt;
-        nobody.load_group(alloc, b"a:x:1:\nnot a row").err(),
-        Some(LoadFault::Text(bad))
-    );
+    let groups = nobody.load_group(rt.alloc(), b"a:x:1:\nnot a row");
+    expect_fault(&rt, groups, LoadFault::Text(bad));
     assert!(rt; !nobody.group_loaded());
-    let empty = nobody.load_passwd(alloc, b"")?;
+}
+
+#[test]
+fn no_users_are_loaded(rt: HostRuntime) {
+    let empty = nobody(&rt, rt.alloc())
+        .load_passwd(rt.alloc(), b"")
+        .expect(&rt, "users");
     assert!(rt; empty.passwd_loaded());
-    assert_eq!(rt; empty.users(), 0);
-    Ok(())
+    assert!(rt; empty.users() == 0);
 }
