@@ -117,6 +117,16 @@ impl People {
         }
     }
 
+    /// The user's row; None past the last user.
+    pub fn user_row(&self, user: usize) -> Option<&PasswdRow>
+        ensures { option_copied result ≡ slice_get self.now.users user }
+    {
+        match self.users.rows().get(user) {
+            Some(row) => Some(row),
+            None => None,
+        }
+    }
+
     /// The user's id and groups; none past the last user.
     pub fn subject(&self, user: usize) -> Option<&Subject>
         ensures { option_copied result ≡ subject self.now user }

@@ -22,7 +22,7 @@ equal Less h = cc
 equal Equal h = refl
 equal Greater h = cc
 
-below_within : (p q : PathOf) → is_below p q ≡ true → is_within p q ≡ true
+pub below_within : (p q : PathOf) → is_below p q ≡ true → is_within p q ≡ true
 below_within [] q h = refl
 below_within (x ∷ p) [] h = h
 below_within (x ∷ p) (y ∷ q) h = let parts = and_parts (is_eq (slice_cmp nat_cmp x y)) (is_below p q) h in ap (λ b. b && is_within p q) parts.0 ∙ below_within p q parts.1
@@ -34,7 +34,7 @@ below_less [] (y ∷ q) h = refl
 below_less (x ∷ p) [] h = cc
 below_less (x ∷ p) (y ∷ q) h = let parts = and_parts (is_eq (slice_cmp nat_cmp x y)) (is_below p q) h in ap (λ o. ordering_then o (slice_cmp (slice_cmp nat_cmp) p q)) (equal (slice_cmp nat_cmp x y) parts.0) ∙ below_less p q parts.1
 
-within_below : (p q : PathOf) → is_within p q ≡ true → path_cmp p q ≡ Less → is_below p q ≡ true
+pub within_below : (p q : PathOf) → is_within p q ≡ true → path_cmp p q ≡ Less → is_below p q ≡ true
 unfolding path_cmp
 within_below [] [] w h = cc
 within_below [] (y ∷ q) w h = refl
@@ -98,7 +98,7 @@ order-right : (pre es : Files) → IsInOrder (pre ++ es) → IsInOrder es
 order-right [] es order = order
 order-right (q ∷ pre) es order = order-right pre es (and_parts (below_all path_cmp q.0 (pre ++ es)) (is_sorted path_cmp (pre ++ es)) order).1
 
-not_below_itself : (p : PathOf) → is_below p p ≡ false
+pub not_below_itself : (p : PathOf) → is_below p p ≡ false
 not_below_itself p = false_from (is_below p p) (λ below. equal_is_not_less (sym (tied_itself path_total p) ∙ below_less p p below))
   where
     equal_is_not_less : Equal ≡ Less → ⊥

@@ -11,3 +11,4 @@ pub mod Selected
 pub mod Edits
 pub mod Placed
 pub mod Restored
+pub mod NewFiles

@@ -1,14 +1,17 @@
 -- For inner functions: no public contract names these definitions.
-use Rattle.std.specs.Prelude.{◌≡◌, ◌≢◌, ⊤, List, [], ◌∷◌, ◌++◌, map, Bool, false, ◌&&◌, not, if◌then◌else◌, Result, Ok, Err, IfOk}
+use Rattle.std.specs.Prelude.{◌≡◌, ◌≢◌, ◌<◌, ⊤, List, length, Some, [], ◌∷◌, ◌++◌, map, Bool, false, ◌&&◌, not, if◌then◌else◌, Result, Ok, Err, IfOk}
 use Rattle.std.specs.FinMap.{find}
 use Rattle.std.specs.declared.cmp.Ordering.TheVariants.{Greater}
 use Rattle.acl_names.specs.Paths.{path_cmp}
 use Rattle.acl_dump.specs.declared.record.DumpRecord.{DumpRecord}
 use Rattle.acl_edit.specs.declared.edit.Edit.{Edit}
 use Rattle.acl_edit.specs.declared.edit.EditFault.{EditFault}
+use Rattle.acl_edit.specs.Nodes as nodes
 use Rattle.acl_edit.specs.declared.node.Node.{Node}
+use Rattle.acl_edit.specs.declared.node.Kind.TheVariants.{Directory}
 use Rattle.acl_tree.specs.declared.edit.FileFault.{FileFault}
-use Rattle.acl_tree.specs.Files.{PathOf, Files}
+use Rattle.acl_tree.specs.Files.{PathOf, Files, max_files}
+use Rattle.acl_tree.specs.Creat.{exists, parent}
 use Rattle.acl_tree.specs.Below.{is_below}
 use Rattle.acl_tree.specs.Found.{FoundFile}
 use Rattle.acl_tree.specs.Loading.{node_of}
@@ -96,3 +99,14 @@ edits_by_path records = map (λ r. (r.path, edit_of r)) records
 -- a file edited by what is found for its path
 abbrev pub edit_by_path : List (PathOf × Edit) → PathOf → Node → Result Node EditFault
 edit_by_path edits p n = edit_if_some (find path_cmp p edits) n
+
+-- ---- a new file
+
+-- a file that may be put among others: none is at its path or below it, its parent is a directory, and there is room
+pub record IsNewIn (t : Files) (e : PathOf × Node) : Type 0 where
+  pub absent : exists e.0 t ≡ false
+  pub directory : Node
+  pub recorded : find path_cmp (parent e.0) t ≡ Some directory
+  pub is_directory : directory.kind ≡ Directory
+  pub room : length t < max_files
+  pub default : nodes.IsSound e.1

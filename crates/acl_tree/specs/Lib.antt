@@ -2,6 +2,7 @@ pub mod Files
 pub mod Below
 pub mod Operands
 pub mod Loading
+pub mod Creat
 pub mod Step
 pub mod Sound
 pub mod Found

@@ -12,13 +12,14 @@ use Rattle.acl_people.specs.contracts.people.People as people_contracts
 use Rattle.acl_people.specs.Rolls.{id_named}
 use Rattle.acl_people.specs.Registers.{Register, nobody, users_of, groups_of, load_passwd, load_group}
 use Rattle.acl_tree.specs.declared.command.Command.{Command}
-use Rattle.acl_tree.specs.declared.command.Command.TheVariants.{Load, Chmod, Edit, Restore}
+use Rattle.acl_tree.specs.declared.command.Command.TheVariants.{Load, Chmod, Edit, Restore, Creat}
 use Rattle.acl_tree.specs.declared.command.Table.{Table}
 use Rattle.acl_tree.specs.declared.command.Table.TheVariants.{Passwd, Group, Dump}
 use Rattle.acl_tree.specs.declared.command.TreeFault.{TreeFault}
 use Rattle.acl_tree.specs.declared.command.TreeFault.TheVariants.{NoSuchFile, TooMany, AlreadyLoaded, Text, NoMemory}
 use Rattle.acl_tree.specs.Files.{PathOf, Recorded, coded_recorded, no_files, max_files}
 use Rattle.acl_tree.specs.Loading.{files_of}
+use Rattle.acl_tree.specs.Creat.{creat}
 use Rattle.acl_tree.specs.Operands.{is_file, first_missing, edit_files}
 use Rattle.acl_tree.specs.EditCommand.{edited_tree}
 use Rattle.acl_tree.specs.Restoring.{restored_tree}
@@ -49,6 +50,12 @@ abbrev pub or_missing : Option PathOf → State → Result State TreeFault
 or_missing None s = Ok s
 or_missing (Some p) s = Err (NoSuchFile p)
 
+-- ---- commands on the tree alone
+
+abbrev pub with_tree : State → Result Recorded TreeFault → Result State TreeFault
+with_tree s (Ok tree) = Ok (record s { tree = tree })
+with_tree s (Err fault) = Err fault
+
 -- ---- load
 
 abbrev pub tree_fault : LoadFault → TreeFault
@@ -78,12 +85,6 @@ load s Passwd bytes = if s.tree.loaded then Err AlreadyLoaded else with_people s
 load s Group bytes = if s.tree.loaded then Err AlreadyLoaded else with_people s (load_group s.people bytes)
 load s Dump bytes = if s.tree.loaded then Err AlreadyLoaded else load_dump s bytes
 
--- ---- edit, restore
-
-abbrev pub with_tree : State → Result Recorded TreeFault → Result State TreeFault
-with_tree s (Ok t) = Ok (record s { tree = t })
-with_tree s (Err fault) = Err fault
-
 -- ---- all commands
 
 -- whether a text was loaded, or can be no more: users and groups are loaded before a dump
@@ -98,6 +99,7 @@ loads_again s (Load which bytes) = is_loaded s which
 loads_again s (Chmod paths mode recursive) = false
 loads_again s (Edit paths e recursive) = false
 loads_again s (Restore records) = false
+loads_again s (Creat new) = false
 
 -- the state after a command, or its first fault
 abbrev pub step : State → Command → Result State TreeFault
@@ -105,6 +107,7 @@ step s (Load which bytes) = load s which bytes.now
 step s (Chmod paths mode recursive) = or_missing (first_missing paths s.tree.files) (record s { tree = chmod_all recursive paths mode s.tree })
 step s (Edit paths e recursive) = with_tree s (edited_tree recursive paths e s.tree)
 step s (Restore records) = with_tree s (restored_tree records s.tree)
+step s (Creat new) = with_tree s (creat new s.people s.tree)
 
 -- A call stages the state after a step, or tells exactly its fault, unless memory ran out.
 abbrev pub Stages : {A : Type 0} → (A → State) → Result A TreeFault → Result State TreeFault → Type 0

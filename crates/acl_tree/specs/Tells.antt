@@ -1,16 +1,18 @@
 -- What a command that is prepared tells of the state after it.
-use Rattle.std.specs.Prelude.{◌≡◌, [], refl}
+use Rattle.std.specs.Prelude.{◌≡◌, [], false, refl}
+use Rattle.std.specs.List.{AllByRecursion}
 use Rattle.std.specs.Coded.{Coded, code_by, coded×, coded_ℕ, coded_list}
 use Rattle.acl_edit.specs.contracts.node.Node as node_contracts
 use Rattle.acl_tree.specs.declared.moved.UsersMove.{UsersMove}
 use Rattle.acl_tree.specs.declared.moved.UsersMove.TheVariants.{Same, Loaded}
 use Rattle.acl_tree.specs.contracts.moved.UsersMove as moved_contracts
 use Rattle.acl_tree.specs.declared.command.Command.{Command}
-use Rattle.acl_tree.specs.declared.command.Command.TheVariants.{Load, Chmod, Edit, Restore}
+use Rattle.acl_tree.specs.declared.command.Command.TheVariants.{Load, Chmod, Edit, Restore, Creat}
 use Rattle.acl_tree.specs.declared.command.Table.{Table}
 use Rattle.acl_tree.specs.declared.command.Table.TheVariants.{Passwd, Group, Dump}
 use Rattle.acl_tree.specs.Files.{Files}
 use Rattle.acl_tree.specs.Changed.{changed_between, gone_between}
+use Rattle.acl_tree.specs.Sound.{holds_below}
 use Rattle.acl_tree.specs.Step.{State, coded_state}
 
 -- the state after a command, the files that it changed, those that are gone, and how the users moved
@@ -39,14 +41,16 @@ users_move (Load which bytes) = load_moves which
 users_move (Chmod paths mode recursive) = Same
 users_move (Edit paths e recursive) = Same
 users_move (Restore records) = Same
+users_move (Creat new) = Same
 
 -- no user has other groups, or there is no file whose check could differ
 abbrev pub UsersMoved : State → State → UsersMove → Type 0
 UsersMoved old new Same = new.people ≡ old.people
 UsersMoved old new Loaded = new.tree.files ≡ []
 
--- exactly what differs between the state that stood and the one that is staged
+-- exactly what differs between the state before and the one that is staged; no file is left below one that is gone
 pub record Tells (old : State) (staged : StagedState) : Type 0 where
   pub changed : staged.changed ≡ changed_between old.tree.files staged.state.tree.files
   pub gone : staged.gone ≡ gone_between old.tree.files staged.state.tree.files
+  pub apart : AllByRecursion (λ e. holds_below staged.state.tree.files e.0 ≡ false) staged.gone
   pub users : UsersMoved old staged.state staged.moved

@@ -3,8 +3,8 @@
 ghost use Rattle.std.specs.Prelude.{◌≡◌};
 ghost use Rattle.acl_tree.specs.declared.command.TreeFault.TheVariants.{NoMemory};
 
-use acl_edit::{Edit, EditFault};
 use crate::restore::DumpRecords;
+use acl_edit::{Edit, EditFault, Kind};
 use acl_entry::Id;
 use acl_names::{Name, Path};
 use acl_text::TextFault;
@@ -52,6 +52,17 @@ impl Paths {
     }
 }
 
+/// A new file: see [`Command::Creat`].
+#[derive(Debug, Drop)]
+pub struct NewFile {
+    pub path: Path,
+    pub kind: Kind,
+    /// The word for the user who creates it: digits alone are an id, any other word is a name.
+    pub user: Name,
+    pub mode: u16,
+    pub umask: u16,
+}
+
 /// A command on the whole state. It borrows the text that it loads.
 #[derive(Debug, Drop)]
 pub enum Command<'a> {
@@ -74,7 +85,12 @@ pub enum Command<'a> {
         recursive: bool,
     },
     /// Gives the files of records the lists, flags, owners and groups that these have: setfacl(1) --restore.
-    Restore { records: DumpRecords },
+    Restore {
+        records: DumpRecords,
+    },
+    /// Makes a plain file or a directory. Its parent is recorded, is a directory and is what it inherits from:
+    /// acl(5), "OBJECT CREATION AND DEFAULT ACLs".
+    Creat(NewFile),
 }
 
 /// Why a command is refused. A refused command changes nothing.

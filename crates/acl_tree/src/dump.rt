@@ -27,7 +27,7 @@ use std::collections::VecDeque;
 use std::rc::Rc;
 
 /// The largest number of files of a tree.
-const MAX_FILES: usize = 1048576;
+pub(crate) const MAX_FILES: usize = 1048576;
 
 fn kind_of(has_below: bool, entry: &DumpRecord) -> Kind
     ensures { result ≡ (node_of has_below entry.now).kind }

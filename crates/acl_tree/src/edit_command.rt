@@ -52,13 +52,6 @@ impl Tree {
     {
         look_up(self, alloc, paths.as_slice())?;
         let each = EachFile { edit, recursive };
-        Ok(stage_edits(
-            self,
-            alloc,
-            people,
-            paths.as_slice(),
-            recursive,
-            &each,
-        )?)
+        Ok(stage_edits(self, alloc, people, paths.as_slice(), recursive, &each)?)
     }
 }

@@ -4,6 +4,7 @@
 mod below;
 mod chmod;
 mod command;
+mod creat;
 mod dump;
 mod edit;
 mod edit_command;
@@ -20,7 +21,7 @@ mod state;
 mod tree;
 
 pub use acl_people::People;
-pub use command::{Command, Paths, Table, TreeFault};
+pub use command::{Command, NewFile, Paths, Table, TreeFault};
 pub use found::Found;
 pub use laws::each_record_is_a_file;
 pub use moved::UsersMove;

@@ -46,6 +46,7 @@ impl Tree {
                 recursive,
             } => self.edit(alloc, people, paths, edit, *recursive),
             Command::Restore { records } => self.restore(alloc, people, records),
+            Command::Creat(new) => self.creat(alloc, people, new),
         }
     }
 }

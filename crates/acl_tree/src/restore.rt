@@ -186,13 +186,6 @@ impl Tree {
         let paths = paths_of(alloc, records.as_slice())?;
         look_up(self, alloc, &paths)?;
         let restoration = Restoration::of(alloc, records)?;
-        Ok(stage_edits(
-            self,
-            alloc,
-            people,
-            &paths,
-            false,
-            &restoration,
-        )?)
+        Ok(stage_edits(self, alloc, people, &paths, false, &restoration)?)
     }
 }

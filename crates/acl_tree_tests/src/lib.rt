@@ -6,6 +6,8 @@
 #[cfg(test)]
 mod chmod;
 #[cfg(test)]
+mod creat;
+#[cfg(test)]
 mod loads;
 #[cfg(test)]
 mod made;

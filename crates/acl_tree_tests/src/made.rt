@@ -1,9 +1,10 @@
 //! Short ways to make a state and to look at it in tests.
 use acl_edit::Kind;
-use acl_names::{Path, read_path};
+use acl_names::{Name, Path, read_path};
 use acl_people::People;
-use acl_tree::{Command, Paths, Table, Tree, TreeFault};
+use acl_tree::{Command, NewFile, Paths, Table, Tree, TreeFault};
 use std::alloc::Global;
+use std::cmp::Ordering;
 use std::process::Abort;
 use std::test::Fail;
 
@@ -71,6 +72,29 @@ pub fn chmod(
         mode,
         recursive,
     })
+}
+
+/// A new file of a user, under the umask 022.
+pub fn creat(
+    rt: &impl Abort,
+    alloc: Global,
+    user: &[u8],
+    kind: Kind,
+    mode: u16,
+    name: &[u8],
+) -> Result<Command, Fail> {
+    Ok(Command::Creat(NewFile {
+        path: path(rt, alloc, name)?,
+        kind,
+        user: Name::from_bytes(alloc, user)?,
+        mode,
+        umask: 0o22,
+    }))
+}
+
+/// Whether a path is that of a text.
+pub fn is_path(rt: &impl Abort, alloc: Global, found: &Path, text: &[u8]) -> Result<bool, Fail> {
+    Ok(found.order(&path(rt, alloc, text)?) == Ordering::Equal)
 }
 
 pub fn mode_at(tree: &Tree, path: &Path) -> Option<u16> {

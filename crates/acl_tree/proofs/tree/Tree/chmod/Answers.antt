@@ -33,7 +33,8 @@ returns-in_ok-share-in-Ok c =
           told_change old c.of.result c.in-Ok.tree.files
           (ap (λ s. s.state.tree.files) c.of.ensures.all)
           (ap (λ s. s.changed) c.of.ensures.all ∙ c.in-Ok.ensures.told ∙ ap (λ l. map (λ r. r.value) l ++ changed_between c.args.self.now.files c.in-Ok.tree.files) c.new-changed.ensures.items)
-          (ap (λ s. s.gone) c.of.ensures.all ∙ ap (λ l. map (λ r. r.value) l) c.new.ensures.items ∙ sym c.in-Ok.ensures.gone)
+          (ap (λ s. s.gone) c.of.ensures.all ∙ ap (λ l. map (λ r. r.value) l) c.new.ensures.items)
+          c.in-Ok.ensures.gone
           (ap (λ s. s.moved) c.of.ensures.all)
           (ap (λ s. s.state.people) c.of.ensures.all ∙ c.in_ok-share-in-Ok.ensures);
       moved = ap (λ s. s.moved) c.of.ensures.all;

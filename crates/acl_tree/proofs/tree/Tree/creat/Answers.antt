@@ -1,0 +1,43 @@
+use Rattle.std.proofs.Common.{◌≡◌, ◌∷◌, ◌++◌, [], map, ap, sym, subst, ◌∙◌}
+use Rattle.std.specs.FinMap.{put}
+use Rattle.acl_names.specs.Paths.{path_cmp}
+use Rattle.acl_edit.specs.declared.node.Node.{Node}
+use Rattle.path_map.specs.Merged.{put_all}
+use Rattle.acl_tree.specs.Files.{PathOf, Files, Recorded}
+use Rattle.acl_tree.specs.Sound.{IsSoundTree}
+use Rattle.acl_tree.specs.Step.{State}
+use Rattle.acl_tree.proofs.NewFiles.{sound_with, changed_with, gone_with}
+use Rattle.acl_tree.proofs.Told.{told_change}
+use Rattle.acl_tree.proofs.tree.Tree.creat.Goals as goal
+
+pub of-requires : goal.of-requires
+of-requires c =
+    let e : PathOf × Node = c.in_ok-file.file.value in
+    let t : Files = c.args.self.now.files in
+    let one : map (λ r. r.value) c.deref.result.now ≡ e ∷ [] =
+    ap (λ l. map (λ r. r.value) l) (c.deref.ensures.value ∙ c.in_ok-push.ensures.items)
+    ∙ ap (λ l. map (λ r. r.value) (l ++ c.in_ok-file.file ∷ [])) c.new-changed.ensures.items
+    in
+    let new : c.in_ok-files.files ≡ put path_cmp e.0 e.1 t = c.in_ok-files.ensures ∙ (λ i. put_all (one i) (c.files_by_path.ensures.all i)) in
+    subst (λ (t : Recorded). IsSoundTree t) (λ i. record { files = sym new i; loaded = sym c.is_loaded.ensures i })
+    (sound_with c.args.self.now c.files_by_path.ensures.sound e c.in_ok-file.ensures.fits)
+
+pub returns-clause-tells : goal.returns-clause-tells
+returns-clause-tells c =
+    let e : PathOf × Node = c.in_ok-file.file.value in
+    let t : Files = c.args.self.now.files in
+    let old : State = record { tree = c.args.self.now; people = c.args.people.now } in
+    let pushed : map (λ r. r.value) c.push.new.self.items ≡ e ∷ [] =
+    ap (λ l. map (λ r. r.value) l) c.in_ok-push.ensures.items
+    ∙ ap (λ l. map (λ r. r.value) (l ++ c.in_ok-file.file ∷ [])) c.new-changed.ensures.items
+    in
+    let one : map (λ r. r.value) c.deref.result.now ≡ e ∷ [] = ap (λ l. map (λ r. r.value) l) c.deref.ensures.value ∙ pushed in
+    let new : c.in_ok-files.files ≡ put path_cmp e.0 e.1 t = c.in_ok-files.ensures ∙ (λ i. put_all (one i) (c.files_by_path.ensures.all i)) in
+    let sound = c.files_by_path.ensures.sound in
+    told_change old c.of-2.result (put path_cmp e.0 e.1 t)
+    (ap (λ s. s.state.tree.files) c.of-2.ensures.all ∙ ap (λ (t : Recorded). t.files) c.of.ensures ∙ new)
+    (ap (λ s. s.changed) c.of-2.ensures.all ∙ pushed ∙ sym (changed_with c.args.self.now sound e c.in_ok-file.ensures.fits))
+    (ap (λ s. s.gone) c.of-2.ensures.all ∙ ap (λ l. map (λ r. r.value) l) c.new.ensures.items)
+    (gone_with c.args.self.now sound e c.in_ok-file.ensures.fits)
+    (ap (λ s. s.moved) c.of-2.ensures.all)
+    (ap (λ s. s.state.people) c.of-2.ensures.all ∙ c.in_ok-share.ensures)

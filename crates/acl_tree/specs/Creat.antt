@@ -1,0 +1,53 @@
+-- creat: a new file in a directory.
+use Rattle.std.specs.Prelude.{ℕ, List, ◌-◌, length, take, slice_get, nat_lt, Bool, if◌then◌else◌, Option, Some, None, option_and_then, Result, Ok, Err}
+use Rattle.std.specs.List.{list_any}
+use Rattle.std.specs.FinMap.{find, put}
+use Rattle.acl_names.specs.Paths.{path_cmp}
+use Rattle.acl_text.specs.declared.rows.PasswdRow.{PasswdRow}
+use Rattle.acl_edit.specs.Nodes.{is_directory}
+use Rattle.acl_edit.specs.Creation.{inherit}
+use Rattle.acl_edit.specs.declared.node.Node.{Node}
+use Rattle.acl_people.specs.Rolls.{place_of_word}
+use Rattle.acl_people.specs.Registers.{Register, users_of}
+use Rattle.acl_tree.specs.declared.command.NewFile.{NewFile}
+use Rattle.acl_tree.specs.declared.command.TreeFault.{TreeFault}
+use Rattle.acl_tree.specs.declared.command.TreeFault.TheVariants.{NoSuchFile, NotDirectory, Exists, NoSuchUser, TooMany}
+use Rattle.acl_tree.specs.Files.{PathOf, Files, Recorded, max_files}
+use Rattle.acl_tree.specs.Below.{is_within}
+
+-- the row of the user that a word means
+abbrev pub row_of : Register → List ℕ → Option PasswdRow
+row_of known word = option_and_then (slice_get known.users) (place_of_word word (users_of known))
+
+-- whether a file is recorded at a path or below it
+abbrev pub exists : PathOf → Files → Bool
+exists p t = list_any (λ e. is_within p e.0) t
+
+-- the path of a file's parent: the root is its own
+abbrev pub parent : PathOf → PathOf
+parent p = take (length p - 1) p
+
+abbrev pub only_directory : PathOf → Option Node → Result Node TreeFault
+only_directory p None = Err (NoSuchFile p)
+only_directory p (Some n) = if is_directory n.kind then Ok n else Err (NotDirectory p)
+
+-- the directory at a path
+abbrev pub directory_at : PathOf → Files → Result Node TreeFault
+directory_at p t = only_directory p (find path_cmp p t)
+
+-- the files with one more, if there is room
+abbrev pub with_file : PathOf → Node → Recorded → Result Recorded TreeFault
+with_file p n t = if nat_lt (length t.files) max_files then Ok (record t { files = put path_cmp p n t.files }) else Err TooMany
+
+-- the new file of a user in its directory: acl(5), "OBJECT CREATION AND DEFAULT ACLs"
+abbrev pub creat_in : NewFile → PasswdRow → Recorded → Result Node TreeFault → Result Recorded TreeFault
+creat_in new row t (Err fault) = Err fault
+creat_in new row t (Ok directory) = with_file new.path (inherit directory new.kind new.mode new.umask row.uid row.gid) t
+
+abbrev pub creat_by : NewFile → Recorded → Option PasswdRow → Result Recorded TreeFault
+creat_by new t None = Err (NoSuchUser new.user)
+creat_by new t (Some row) = if exists new.path t.files then Err (Exists new.path) else creat_in new row t (directory_at (parent new.path) t.files)
+
+-- the files with the new one of a user, or the first fault
+abbrev pub creat : NewFile → Register → Recorded → Result Recorded TreeFault
+creat new known t = creat_by new t (row_of known new.user)

@@ -1,0 +1,148 @@
+//! creat: a new file in a directory.
+
+ghost use Rattle.std.specs.Prelude.{◌≡◌, ◌≢◌, ◌∷◌, [], None, Some, Ok, Err, IfOk, IfErr, OnErr, take, length};
+ghost use Rattle.std.specs.FinMap.{put};
+ghost use Rattle.acl_names.specs.Paths.{path_cmp};
+ghost use Rattle.acl_edit.specs.Creation.{inherit};
+ghost use Rattle.acl_edit.specs.Nodes.{IsSound};
+ghost use Rattle.acl_tree.specs.Creat.{row_of, exists, parent, directory_at, creat_by, creat};
+ghost use Rattle.acl_tree.specs.Inner.{IsNewIn};
+ghost use Rattle.acl_tree.specs.Sound.{IsSoundTree};
+ghost use Rattle.acl_tree.specs.Step.{with_tree, Stages};
+ghost use Rattle.acl_tree.specs.Tells.{Tells};
+ghost use Rattle.acl_tree.specs.declared.command.TreeFault.TheVariants.{NoMemory, NoSuchUser};
+ghost use Rattle.acl_tree.specs.declared.moved.UsersMove.TheVariants.{Same};
+
+use crate::command::{NewFile, TreeFault};
+use crate::dump::MAX_FILES;
+use crate::moved::UsersMove;
+use crate::staged::Staged;
+use crate::tree::{Record, Tree};
+use acl_edit::{Kind, Node, create};
+use acl_names::{Name, Path};
+use acl_people::People;
+use acl_text::PasswdRow;
+use std::alloc::{AllocError, Global};
+use std::rc::Rc;
+
+/// The row of the user that a word means.
+fn row_of<'a>(alloc: Global, people: &'a People, user: &Name) -> Result<&'a PasswdRow, TreeFault>
+    ensures found { IfOk result (λ row. row_of people.now user.now ≡ Some row.now) }
+    ensures none { OnErr result (row_of people.now user.now ≡ None) }
+    ensures fault { IfErr result (λ fault. fault ≢ NoMemory → fault ≡ NoSuchUser user.now) }
+{
+    match people
+        .find_user(user.as_bytes())
+        .and_then(|at| people.user_row(at))
+    {
+        Some(row) => Ok(row),
+        None => Err(TreeFault::NoSuchUser {
+            name: user.try_clone(alloc)?,
+        }),
+    }
+}
+
+/// Whether a file is recorded at a path or below it.
+fn exists(tree: &Tree, path: &Path) -> bool
+    ensures { result ≡ exists path.now tree.now.files }
+{
+    tree.files_by_path().within(path).next().is_some()
+}
+
+/// The path of a file's parent: the root is its own.
+fn parent_of(alloc: Global, path: &Path) -> Result<Path, AllocError>
+    ensures { IfOk result (λ p. p ≡ parent path.now) }
+{
+    let count = path.components().len().saturating_sub(1);
+    let mut above = Vec::with_capacity(alloc, count)?;
+    for component in path.components().split_at(count).0 {
+        above.push(Vec::from_slice(alloc, component)?)?;
+    }
+    Ok(Path::new(above).unwrap())
+}
+
+/// The directory of a new file.
+fn directory_of<'a>(tree: &'a Tree, alloc: Global, path: &Path) -> Result<&'a Node, TreeFault>
+    ensures found { IfOk result (λ node. directory_at (parent path.now) tree.now.files ≡ Ok node.now) }
+    ensures fault { IfErr result (λ fault. fault ≢ NoMemory → directory_at (parent path.now) tree.now.files ≡ Err fault) }
+{
+    let path = parent_of(alloc, path)?;
+    match tree.get(&path) {
+        None => Err(TreeFault::NoSuchFile { path }),
+        Some(node) if node.kind == Kind::Directory => Ok(node),
+        Some(_) => Err(TreeFault::NotDirectory { path }),
+    }
+}
+
+/// The node of a new file.
+fn node_of(
+    alloc: Global,
+    directory: &Node,
+    new: &NewFile,
+    owner: &PasswdRow,
+) -> Result<Node, TreeFault>
+    ensures made { IfOk result (λ node. node ≡ inherit directory.now new.now.kind new.now.mode new.now.umask owner.now.uid owner.now.gid) }
+    ensures sound { IfOk result IsSound }
+    ensures memory { IfErr result (λ fault. fault ≡ NoMemory) }
+{
+    match create(
+        alloc, directory, new.kind, new.mode, new.umask, owner.uid, owner.gid,
+    ) {
+        Ok(node) => Ok(node),
+        Err(_) => Err(TreeFault::NoMemory),
+    }
+}
+
+/// The new file of a user.
+fn new_file(
+    tree: &Tree,
+    alloc: Global,
+    new: &NewFile,
+    owner: &PasswdRow,
+) -> Result<Rc<Record>, TreeFault>
+    ensures made { IfOk result (λ file. creat_by new.now tree.now (Some owner.now) ≡ Ok (record tree.now { files = put path_cmp file.value.0 file.value.1 tree.now.files })) }
+    ensures fits { IfOk result (λ file. IsNewIn tree.now.files file.value) }
+    ensures fault { IfErr result (λ fault. fault ≢ NoMemory → creat_by new.now tree.now (Some owner.now) ≡ Err fault) }
+{
+    tree.is_sound();
+    if exists(tree, &new.path) {
+        return Err(TreeFault::Exists {
+            path: new.path.try_clone(alloc)?,
+        });
+    }
+    let directory = directory_of(tree, alloc, &new.path)?;
+    if tree.files_by_path().len() >= MAX_FILES {
+        return Err(TreeFault::TooMany);
+    }
+    let node = node_of(alloc, directory, new, owner)?;
+    let path = Rc::new(alloc, new.path.try_clone(alloc)?)?;
+    Ok(Rc::new(alloc, Record::new(path, node))?)
+}
+
+impl Tree {
+    /// Makes a file.
+    pub(crate) fn creat(
+        &self,
+        alloc: Global,
+        people: &People,
+        new: &NewFile,
+    ) -> Result<Staged, TreeFault>
+        ensures made { Stages (λ s. s.state) result (with_tree (record { tree = self.now; people = people.now }) (creat new.now people.now self.now)) }
+        ensures sound { IfOk result (λ staged. IsSoundTree staged.state.tree) }
+        ensures tells { IfOk result (λ staged. Tells (record { tree = self.now; people = people.now }) staged) }
+        ensures moved { IfOk result (λ staged. staged.moved ≡ Same) }
+    {
+        let owner = row_of(alloc, people, &new.user)?;
+        let file = new_file(self, alloc, new, owner)?;
+        let mut changed = Vec::new(alloc);
+        changed.push(file)?;
+        let files = self.files_by_path().put_all(alloc, &changed)?;
+        Ok(Staged::of(
+            Tree::of(files, self.is_loaded()),
+            people.share()?,
+            changed,
+            Vec::new(alloc),
+            UsersMove::Same,
+        ))
+    }
+}
