@@ -9,6 +9,7 @@ ghost use Rattle.acl_tree.specs.Changed.{same_label, changed_between, gone_betwe
 ghost use Rattle.acl_tree.specs.Edits.{KeepsPlace, edit_each, edit_all};
 ghost use Rattle.acl_tree.specs.Inner.{file_of, node_after, changed_one, changed_by};
 ghost use Rattle.acl_tree.specs.Sound.{IsSoundTree};
+ghost use Rattle.acl_tree.specs.Step.{state_from};
 ghost use Rattle.acl_tree.specs.Tells.{Tells};
 ghost use Rattle.acl_tree.specs.declared.moved.UsersMove.TheVariants.{Same};
 ghost use Rattle.acl_tree.specs.declared.edit.FileFault.TheVariants.{NoMemory};
@@ -175,7 +176,7 @@ pub(crate) fn stage_edits<E: NodeEdit>(
     ensures people { IfOk result (λ staged. staged.state.people ≡ people.now) }
     ensures fault { IfErr result (λ fault. fault ≢ NoMemory → edit_all (E.edited edit.now) recursive operands.now tree.now ≡ Err fault) }
     ensures sound { IfOk result (λ staged. IsSoundTree staged.state.tree) }
-    ensures tells { IfOk result (λ staged. Tells (record { tree = tree.now; people = people.now }) staged) }
+    ensures tells { IfOk result (λ staged. Tells (state_from tree.now people.now) staged) }
     ensures moved { IfOk result (λ staged. staged.moved ≡ Same) }
 {
     let mut changed = Vec::new(alloc);

@@ -1,10 +1,8 @@
 //! setfacl(1) and chacl(1): files are edited.
 
-ghost use Rattle.std.specs.Prelude.{◌≡◌, IfOk};
 ghost use Rattle.acl_tree.specs.EditCommand.{edited_tree};
-ghost use Rattle.acl_tree.specs.Sound.{IsSoundTree};
-ghost use Rattle.acl_tree.specs.Step.{with_tree, Stages};
-ghost use Rattle.acl_tree.specs.Tells.{Tells};
+ghost use Rattle.acl_tree.specs.Inner.{Prepares};
+ghost use Rattle.acl_tree.specs.Step.{with_tree, state_from};
 ghost use Rattle.acl_tree.specs.declared.moved.UsersMove.TheVariants.{Same};
 
 use crate::command::{Paths, TreeFault};
@@ -45,10 +43,7 @@ impl Tree {
         edit: &Edit,
         recursive: bool,
     ) -> Result<Staged, TreeFault>
-        ensures made { Stages (λ s. s.state) result (with_tree (record { tree = self.now; people = people.now }) (edited_tree recursive paths.now edit.now self.now)) }
-        ensures sound { IfOk result (λ staged. IsSoundTree staged.state.tree) }
-        ensures tells { IfOk result (λ staged. Tells (record { tree = self.now; people = people.now }) staged) }
-        ensures moved { IfOk result (λ staged. staged.moved ≡ Same) }
+        ensures { Prepares (state_from self.now people.now) (with_tree (state_from self.now people.now) (edited_tree recursive paths.now edit.now self.now)) Same result }
     {
         look_up(self, alloc, paths.as_slice())?;
         let each = EachFile { edit, recursive };

@@ -2,11 +2,9 @@
 
 ghost use Rattle.std.specs.Prelude.{◌≡◌, true, map, IfOk};
 ghost use Rattle.acl_dump.specs.OwnPaths.{have_own_paths};
-ghost use Rattle.acl_tree.specs.Inner.{edits_by_path, edit_by_path};
+ghost use Rattle.acl_tree.specs.Inner.{Prepares, edits_by_path, edit_by_path};
 ghost use Rattle.acl_tree.specs.Restoring.{edit_of, paths_of, restore_one, restored_tree};
-ghost use Rattle.acl_tree.specs.Sound.{IsSoundTree};
-ghost use Rattle.acl_tree.specs.Step.{with_tree, Stages};
-ghost use Rattle.acl_tree.specs.Tells.{Tells};
+ghost use Rattle.acl_tree.specs.Step.{with_tree, state_from};
 ghost use Rattle.acl_tree.specs.declared.moved.UsersMove.TheVariants.{Same};
 
 use crate::command::TreeFault;
@@ -178,10 +176,7 @@ impl Tree {
         people: &People,
         records: &DumpRecords,
     ) -> Result<Staged, TreeFault>
-        ensures made { Stages (λ s. s.state) result (with_tree (record { tree = self.now; people = people.now }) (restored_tree records.now self.now)) }
-        ensures sound { IfOk result (λ staged. IsSoundTree staged.state.tree) }
-        ensures tells { IfOk result (λ staged. Tells (record { tree = self.now; people = people.now }) staged) }
-        ensures moved { IfOk result (λ staged. staged.moved ≡ Same) }
+        ensures { Prepares (state_from self.now people.now) (with_tree (state_from self.now people.now) (restored_tree records.now self.now)) Same result }
     {
         let paths = paths_of(alloc, records.as_slice())?;
         look_up(self, alloc, &paths)?;
