@@ -12,3 +12,4 @@ pub mod Edits
 pub mod Placed
 pub mod Restored
 pub mod NewFiles
+pub mod Each

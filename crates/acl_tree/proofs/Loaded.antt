@@ -1,5 +1,5 @@
 -- Records of a dump in path order, and which lie below which.
-use Rattle.std.proofs.Common.{◌≡◌, ℕ, List, [], ◌∷◌, ◌++◌, map, Ordering, Less, Equal, Greater, refl, sym, ap, subst, ◌∙◌, append_assoc}
+use Rattle.std.proofs.Common.{◌≡◌, List, [], ◌∷◌, ◌++◌, map, Ordering, Less, Equal, Greater, refl, sym, ap, subst, ◌∙◌, append_assoc}
 use Rattle.std.specs.Prelude.{fold}
 use Rattle.std.specs.FinMap.{put}
 use Rattle.std.specs.FinMap.Entries.{by_order}
@@ -9,7 +9,7 @@ use Rattle.acl_names.proofs.PathOrder.{exact_paths}
 use Rattle.acl_dump.specs.declared.record.DumpRecord.{DumpRecord}
 use Rattle.acl_edit.specs.declared.node.Node.{Node}
 use Rattle.path_map.specs.Entries.{IsInOrder}
-use Rattle.acl_tree.specs.Files.{PathOf, Files}
+use Rattle.acl_tree.specs.Files.{PathOf}
 use Rattle.acl_tree.specs.Below.{is_below}
 use Rattle.acl_tree.specs.Loading.{insert_record, in_path_order, node_of, has_below, as_files, files_of}
 use Rattle.acl_tree.specs.Sound.{holds_below}

@@ -1,7 +1,6 @@
 -- An edit of one file keeps its place.
-use Rattle.std.proofs.Common.{◌≡◌, Bool, true, false, Option, Some, None, Result, Ok, Err, refl, ap, subst}
+use Rattle.std.proofs.Common.{◌≡◌, Bool, false, Option, Some, None, Ok, refl, ap, subst}
 use Rattle.acl_edit.specs.declared.edit.Edit.{Edit}
-use Rattle.acl_edit.specs.declared.edit.EditFault.{EditFault}
 use Rattle.acl_edit.specs.declared.node.Node.{Node}
 use Rattle.acl_edit.proofs.Placed.{keeps_kind}
 use Rattle.acl_tree.specs.Files.{PathOf}

@@ -1,12 +1,11 @@
 -- Edits of records, looked up by path.
 use Rattle.std.proofs.Common.{◌≡◌, List, ap, ◌∙◌}
-use Rattle.std.specs.Prelude.{option_map}
 use Rattle.std.specs.FinMap.{find}
 use Rattle.acl_names.specs.Paths.{path_cmp}
 use Rattle.acl_dump.specs.declared.record.DumpRecord.{DumpRecord}
 use Rattle.acl_edit.specs.declared.edit.Edit.{Edit}
 use Rattle.acl_tree.specs.Files.{PathOf}
-use Rattle.acl_tree.specs.Loading.{in_path_order, record_at}
+use Rattle.acl_tree.specs.Loading.{in_path_order}
 use Rattle.acl_tree.specs.Restoring.{edit_of, edit_if_some, restore_one}
 use Rattle.acl_tree.specs.Inner.{edits_by_path, edit_by_path}
 use Rattle.acl_tree.proofs.Mapped.{found}

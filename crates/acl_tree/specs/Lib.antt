@@ -12,3 +12,4 @@ pub mod Edits
 pub mod EditCommand
 pub mod Restoring
 pub mod Inner
+pub mod Laws

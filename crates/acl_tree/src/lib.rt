@@ -23,7 +23,7 @@ mod tree;
 pub use acl_people::People;
 pub use command::{Command, NewFile, Paths, Table, TreeFault};
 pub use found::Found;
-pub use laws::each_record_is_a_file;
+pub use laws::{each_file_is_edited, each_record_is_a_file};
 pub use moved::UsersMove;
 pub use restore::DumpRecords;
 pub use staged::Staged;

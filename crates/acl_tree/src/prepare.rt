@@ -19,8 +19,9 @@ impl Tree {
     /// # Errors
     ///
     /// The command's first fault. A load tells `AlreadyLoaded` before any look at the text, then the text's
-    /// first fault, then `TooMany`; a chmod tells `NoSuchFile` of the first operand that is not recorded. Or
-    /// `NoMemory`, but `AlreadyLoaded` is told whatever memory there is.
+    /// first fault, then `TooMany`. A chmod, an edit and a restore return `NoSuchFile` of the first operand that
+    /// is not recorded; then an edit and a restore return `Edit` of the first file in path order whose edit is
+    /// refused. Or `NoMemory`, but `AlreadyLoaded` is told whatever memory there is.
     pub fn prepare(
         &self,
         alloc: Global,

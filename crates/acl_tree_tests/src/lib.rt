@@ -8,10 +8,14 @@ mod chmod;
 #[cfg(test)]
 mod creat;
 #[cfg(test)]
+mod edits;
+#[cfg(test)]
 mod loads;
 #[cfg(test)]
 mod made;
 #[cfg(test)]
 mod refusals;
+#[cfg(test)]
+mod restores;
 #[cfg(test)]
 mod told;

@@ -1,7 +1,8 @@
 //! Short ways to make a state and to look at it in tests.
-use acl_edit::Kind;
+use acl_edit::{Kind, Node};
 use acl_names::{Name, Path, read_path};
 use acl_people::People;
+use acl_text::{NoNames, append_short};
 use acl_tree::{Command, NewFile, Paths, Table, Tree, TreeFault};
 use std::alloc::Global;
 use std::cmp::Ordering;
@@ -21,11 +22,16 @@ pub const DUMP: &[u8] =
 
 /// The tree and the people of the texts above.
 pub fn setup(rt: &impl Abort, alloc: Global) -> Result<(Tree, People), Fail> {
+    setup_with(rt, alloc, DUMP)
+}
+
+/// The tree of a dump, and the people of the texts above.
+pub fn setup_with(rt: &impl Abort, alloc: Global, files: &[u8]) -> Result<(Tree, People), Fail> {
     let mut tree = Tree::new(alloc);
     let mut people = People::new(alloc)?;
     let passwd = load(Table::Passwd, PASSWD);
     let group = load(Table::Group, GROUP);
-    let dump = load(Table::Dump, DUMP);
+    let dump = load(Table::Dump, files);
     assert!(rt; run(alloc, &mut tree, &mut people, &passwd).is_none());
     assert!(rt; run(alloc, &mut tree, &mut people, &group).is_none());
     assert!(rt; run(alloc, &mut tree, &mut people, &dump).is_none());
@@ -120,4 +126,29 @@ pub fn flags(rt: &impl Abort, alloc: Global, tree: &Tree, name: &[u8]) -> Result
 pub fn kind(rt: &impl Abort, alloc: Global, tree: &Tree, name: &[u8]) -> Result<Kind, Fail> {
     let path = path(rt, alloc, name)?;
     Ok(tree.get(&path).expect(rt, "a file").kind)
+}
+
+/// The lists of a file in the short form, users and groups by number, with a slash before a default list.
+fn lists(alloc: Global, node: &Node) -> Result<Vec<u8>, Fail> {
+    let mut text = Vec::new(alloc);
+    append_short(&mut text, &node.label.acl, &NoNames)?;
+    if let Some(dacl) = &node.dacl {
+        text.push(b'/')?;
+        append_short(&mut text, dacl, &NoNames)?;
+    }
+    Ok(text)
+}
+
+/// A file has these lists.
+pub fn expect_lists(
+    rt: &impl Abort,
+    alloc: Global,
+    tree: &Tree,
+    name: &[u8],
+    want: &str,
+) -> Result<(), Fail> {
+    let path = path(rt, alloc, name)?;
+    let found = lists(alloc, tree.get(&path).expect(rt, "a file"))?;
+    assert!(rt; found.as_slice() == want.as_bytes(), "not {want}");
+    Ok(())
 }

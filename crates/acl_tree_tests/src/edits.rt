@@ -1,0 +1,107 @@
+//! setfacl(1) on one file and on several.
+use crate::made::{expect_lists, mode, path, run, setup_with};
+use acl_edit::{Change, Edit, EditFault, Specs};
+use acl_entry::ListFault;
+use acl_people::People;
+use acl_text::{Sep, Want, Which, read_entries};
+use acl_tree::{Command, Paths, TreeFault};
+use std::alloc::Global;
+use std::cmp::Ordering;
+use std::process::Abort;
+use std::test::Fail;
+
+const FIVE: &[u8] =
+    b"# file: .\n# owner: lisa\n# group: staff\nuser::rwx\ngroup::r-x\nother::r-x\n\n\
+# file: f\n# owner: lisa\n# group: staff\nuser::rw-\ngroup::r--\nother::---\n\n\
+# file: run\n# owner: lisa\n# group: staff\nuser::rwx\ngroup::r-x\nother::r-x\n\n\
+# file: pub/\n# owner: ann\n# group: users\nuser::rwx\ngroup::r-x\ngroup:adm:rwx\nmask::rwx\nother::r-x\n\n\
+# file: log\n# owner: lisa\n# group: adm\nuser::rw-\ngroup::r--\nother::---\n\n";
+
+/// A line that removes and modifies entries of a file, and with `-R` of those below it.
+fn line(
+    rt: &impl Abort,
+    alloc: Global,
+    people: &People,
+    (remove, modify): (&[u8], &[u8]),
+    recursive: bool,
+    name: &[u8],
+) -> Result<Command<'static>, Fail> {
+    let removed = read_entries(alloc, remove, Sep::Comma, Want::WithoutPerms, people);
+    let modified = read_entries(alloc, modify, Sep::Comma, Want::WithPerms, people);
+    let mut paths = Vec::new(alloc);
+    paths.push(path(rt, alloc, name)?)?;
+    Ok(Command::Edit {
+        paths: Paths::new(paths),
+        edit: Edit::Change(Change {
+            strip: false,
+            drop_default: false,
+            as_default: false,
+            no_mask: false,
+            remask: false,
+            remove: Specs::new(removed.expect(rt, "entries")),
+            set: Specs::new(Vec::new(alloc)),
+            modify: Specs::new(modified.expect(rt, "entries")),
+        }),
+        recursive,
+    })
+}
+
+#[test]
+fn an_entry_is_added(rt: HostRuntime) -> Result<(), Fail> {
+    let alloc = rt.alloc();
+    let (mut tree, mut people) = setup_with(&rt, alloc, FIVE)?;
+    let command = line(&rt, alloc, &people, (b"", b"u:joe:rwx"), false, b"f")?;
+    assert!(rt; run(alloc, &mut tree, &mut people, &command).is_none());
+    let want = "u::rw-,u:1000:rwx,g::r--,m::rwx,o::---";
+    expect_lists(&rt, alloc, &tree, b"f", want)?;
+    assert_eq!(rt; mode(&rt, alloc, &tree, b"f")?, 0o670);
+    expect_lists(&rt, alloc, &tree, b".", "u::rwx,g::r-x,o::r-x")
+}
+
+#[test]
+fn default_entries_skip_files_below(rt: HostRuntime) -> Result<(), Fail> {
+    let alloc = rt.alloc();
+    let (mut tree, mut people) = setup_with(&rt, alloc, FIVE)?;
+    let one = line(&rt, alloc, &people, (b"", b"d:u:joe:rx"), false, b"f")?;
+    let refused = run(alloc, &mut tree, &mut people, &one);
+    match &refused {
+        Some(TreeFault::Edit { fault, .. }) => {
+            assert!(rt; *fault == EditFault::DefaultOnFile);
+        }
+        _ => assert!(rt; false),
+    }
+    let all = line(&rt, alloc, &people, (b"", b"d:u:joe:rx"), true, b".")?;
+    assert!(rt; run(alloc, &mut tree, &mut people, &all).is_none());
+    let top = "u::rwx,g::r-x,o::r-x/u::rwx,u:1000:r-x,g::r-x,m::r-x,o::r-x";
+    expect_lists(&rt, alloc, &tree, b".", top)?;
+    expect_lists(&rt, alloc, &tree, b"f", "u::rw-,g::r--,o::---")?;
+    let below = "u::rwx,g::r-x,g:70:rwx,m::rwx,o::r-x/u::rwx,u:1000:r-x,g::r-x,m::r-x,o::r-x";
+    expect_lists(&rt, alloc, &tree, b"pub", below)
+}
+
+#[test]
+fn a_refused_file_leaves_those_before_it(rt: HostRuntime) -> Result<(), Fail> {
+    let alloc = rt.alloc();
+    let (mut tree, mut people) = setup_with(&rt, alloc, FIVE)?;
+    let below = path(&rt, alloc, b"pub")?;
+    let command = line(&rt, alloc, &people, (b"m:", b"u:joe:r"), true, b".")?;
+    let refused = run(alloc, &mut tree, &mut people, &command);
+    match &refused {
+        Some(TreeFault::Edit { path, fault }) => {
+            assert!(rt; path.order(&below) == Ordering::Equal);
+            assert!(rt; *fault == EditFault::List(Which::Access, ListFault::MissingMask { at: 2 }));
+        }
+        _ => assert!(rt; false),
+    }
+    expect_lists(&rt, alloc, &tree, b"f", "u::rw-,g::r--,o::---")
+}
+
+#[test]
+fn a_missing_operand_comes_first(rt: HostRuntime) -> Result<(), Fail> {
+    let alloc = rt.alloc();
+    let (mut tree, mut people) = setup_with(&rt, alloc, FIVE)?;
+    let command = line(&rt, alloc, &people, (b"", b"d:u:joe:rx"), false, b"no")?;
+    let refused = run(alloc, &mut tree, &mut people, &command);
+    assert!(rt; matches!(refused, Some(TreeFault::NoSuchFile { .. })));
+    Ok(())
+}
