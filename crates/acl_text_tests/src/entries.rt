@@ -1,182 +1,169 @@
 //! Entry texts.
 
-use crate::known::{GROUP, Known, PASSWD};
-use acl_entry::{Id, Key, Perm};
-use acl_text::{
-    FaultKind, NoNames, PermSpec, Sep, Spec, TextFault, Want, read_entries, read_perms,
-};
-use std::test::Fail;
+use crate::known::worked;
+use crate::made::Who::{Group, Mask, Other, User};
+use crate::made::{Who, key, perm};
+use acl_text::{Names, NoNames, PermSpec, Sep, Spec, Want, read_entries, read_perms};
+use std::alloc::Global;
+use std::process::Abort;
 
-#[test]
-fn first_faults(rt: HostRuntime) -> Result<(), Fail> {
-    let known = Known::read(rt.alloc(), PASSWD, GROUP).ok().ok_or("rows")?;
-    for (text, want, kind, at) in [
-        (
-            b"u:ann:r,u:nosuch:q,u:none:r".as_slice(),
-            Want::WithPerms,
-            FaultKind::BadPerms,
-            2,
-        ),
-        (
-            b"u:4294967295:r".as_slice(),
-            Want::WithPerms,
-            FaultKind::UnknownUser,
-            1,
-        ),
-        (
-            b"u:joe:r".as_slice(),
-            Want::WithoutPerms,
-            FaultKind::UnwantedPerms,
-            1,
-        ),
-        (
-            b"u:".as_slice(),
-            Want::WithoutPerms,
-            FaultKind::BaseEntry,
-            1,
-        ),
-        (
-            b"u:joe".as_slice(),
-            Want::WithPerms,
-            FaultKind::MissingPerms,
-            1,
-        ),
-        (
-            b"joe:r,,x:y:z:7".as_slice(),
-            Want::WithPerms,
-            FaultKind::BadTag,
-            3,
-        ),
-        (b"m:x:7".as_slice(), Want::WithPerms, FaultKind::BadTag, 1),
-        (b"d:u:joe:7".as_slice(), Want::Plain, FaultKind::BadTag, 1),
-        (b"u:joe:rX".as_slice(), Want::Plain, FaultKind::BadPerms, 1),
-        (b"u:joe:8".as_slice(), Want::Plain, FaultKind::BadPerms, 1),
-        (
-            b"g:joe:7".as_slice(),
-            Want::Plain,
-            FaultKind::UnknownGroup,
-            1,
-        ),
-        (
-            b"u:4294967295:q".as_slice(),
-            Want::Plain,
-            FaultKind::BadPerms,
-            1,
-        ),
-    ] {
-        let read = read_entries(rt.alloc(), text, Sep::Comma, want, &known);
-        assert!(rt; is_fault(&read, kind, at));
-    }
-    Ok(())
-}
+// A text of entries, what it is for, and its first fault, with the entry's number.
+static FIRST_FAULTS: [(&str, Want, &str); 12] = [
+    (
+        "u:ann:r,u:nosuch:q,u:none:r",
+        Want::WithPerms,
+        "BadPerms, 2",
+    ),
+    ("u:4294967295:r", Want::WithPerms, "UnknownUser, 1"),
+    ("u:joe:r", Want::WithoutPerms, "UnwantedPerms, 1"),
+    ("u:", Want::WithoutPerms, "BaseEntry, 1"),
+    ("u:joe", Want::WithPerms, "MissingPerms, 1"),
+    ("joe:r,,x:y:z:7", Want::WithPerms, "BadTag, 3"),
+    ("m:x:7", Want::WithPerms, "BadTag, 1"),
+    ("d:u:joe:7", Want::Plain, "BadTag, 1"),
+    ("u:joe:rX", Want::Plain, "BadPerms, 1"),
+    ("u:joe:8", Want::Plain, "BadPerms, 1"),
+    ("g:joe:7", Want::Plain, "UnknownGroup, 1"),
+    ("u:4294967295:q", Want::Plain, "BadPerms, 1"),
+];
 
-fn is_fault(read: &Result<Vec<Spec>, TextFault>, kind: FaultKind, at: usize) -> bool {
-    match read {
-        Ok(_) => false,
-        Err(fault) => *fault == TextFault { kind, at },
-    }
+fn expect_fault<N: Names>(
+    rt: &impl Abort,
+    alloc: Global,
+    text: &str,
+    want: Want,
+    names: &N,
+    fault: &str,
+) {
+    let read = read_entries(alloc, text.as_bytes(), Sep::Comma, want, names);
+    let found = read.err().expect(rt, "a fault");
+    let found = format!(in alloc; "{:?}, {}", found.kind, found.at).expect(rt, "memory");
+    assert!(rt; found.as_str() == fault, "{text}: not {fault}");
 }
 
 #[test]
-fn lines(rt: HostRuntime) -> Result<(), Fail> {
-    let known = Known::read(rt.alloc(), PASSWD, GROUP).ok().ok_or("rows")?;
+fn first_faults(rt: HostRuntime) {
+    let known = worked(&rt, rt.alloc());
+    for (text, want, fault) in &FIRST_FAULTS {
+        expect_fault(&rt, rt.alloc(), text, *want, &known, fault);
+    }
+}
+
+// What is read of an entry: its number, whether it is of the default list, its key, its permissions as a digit,
+// and whether `X` is among them.
+type Row = (usize, bool, Who, Option<(u8, bool)>);
+
+fn perm_spec(rt: &impl Abort, perms: &Option<(u8, bool)>) -> Option<PermSpec> {
+    match perms {
+        Some((digit, cond_x)) => Some(PermSpec {
+            fixed: perm(rt, *digit),
+            cond_x: *cond_x,
+        }),
+        None => None,
+    }
+}
+
+fn specs(rt: &impl Abort, alloc: Global, rows: &[Row]) -> Vec<Spec> {
+    let mut specs = Vec::new(alloc);
+    for (at, dflt, who, perms) in rows {
+        let spec = Spec {
+            at: *at,
+            dflt: *dflt,
+            key: key(rt, who),
+            perm: perm_spec(rt, perms),
+        };
+        specs.push(spec).expect(rt, "memory");
+    }
+    specs
+}
+
+fn expect_specs(rt: &impl Abort, alloc: Global, text: &[u8], sep: Sep, want: Want, rows: &[Row]) {
+    let known = worked(rt, alloc);
+    let found = read_entries(alloc, text, sep, want, &known).expect(rt, "entries");
+    assert!(rt; found.as_slice() == specs(rt, alloc, rows).as_slice());
+}
+
+static LINES: [Row; 4] = [
+    (1, true, User(1002), Some((4, true))),
+    (4, false, Mask, Some((7, false))),
+    (6, false, Group(60), Some((0, false))),
+    (7, false, Other, Some((0, false))),
+];
+
+#[test]
+fn lines(rt: HostRuntime) {
     let text = b" d : user : ann : rX #x\n\n \t \nm::7\n # nothing\ngroup:cool:-\no:";
-    let specs = read_entries(rt.alloc(), text, Sep::Line, Want::WithPerms, &known)
-        .ok()
-        .ok_or("fault")?;
-    assert_eq!(rt; specs.len(), 4);
-    let ann = Id::new(1002).ok_or("id")?;
-    let cool = Id::new(60).ok_or("id")?;
-    let read = Perm::from_number(4).ok_or("perm")?;
-    let all = Perm::from_number(7).ok_or("perm")?;
-    assert!(rt; specs[0] == spec(1, true, Key::User(ann), read, true));
-    assert!(rt; specs[1] == spec(4, false, Key::Mask, all, false));
-    assert!(rt; specs[2] == spec(6, false, Key::Group(cool), Perm::none(), false));
-    assert!(rt; specs[3] == spec(7, false, Key::Other, Perm::none(), false));
-    Ok(())
+    expect_specs(&rt, rt.alloc(), text, Sep::Line, Want::WithPerms, &LINES);
 }
 
-fn spec(at: usize, dflt: bool, key: Key, fixed: Perm, cond_x: bool) -> Spec {
-    Spec {
-        at,
-        dflt,
-        key,
-        perm: Some(PermSpec { fixed, cond_x }),
-    }
-}
+static REMOVED: [Row; 4] = [
+    (1, false, Mask, None),
+    (2, false, User(1000), None),
+    (3, true, Group(50), None),
+    (4, false, User(1000), None),
+];
 
 #[test]
-fn removed_entries(rt: HostRuntime) -> Result<(), Fail> {
-    let known = Known::read(rt.alloc(), PASSWD, GROUP).ok().ok_or("rows")?;
+fn removed_entries(rt: HostRuntime) {
     let text = b"m:,joe,d:g:50:,\\152oe";
-    let specs = read_entries(rt.alloc(), text, Sep::Comma, Want::WithoutPerms, &known)
-        .ok()
-        .ok_or("fault")?;
-    assert_eq!(rt; specs.len(), 4);
-    let joe = Id::new(1000).ok_or("id")?;
-    let staff = Id::new(50).ok_or("id")?;
-    assert!(rt; specs[0] == bare(1, false, Key::Mask));
-    assert!(rt; specs[1] == bare(2, false, Key::User(joe)));
-    assert!(rt; specs[2] == bare(3, true, Key::Group(staff)));
-    assert!(rt; specs[3] == bare(4, false, Key::User(joe)));
-    Ok(())
-}
-
-fn bare(at: usize, dflt: bool, key: Key) -> Spec {
-    Spec {
-        at,
-        dflt,
-        key,
-        perm: None,
-    }
-}
-
-#[test]
-fn greatest_ids(rt: HostRuntime) -> Result<(), Fail> {
-    for text in [
-        b"u:4294967294:r".as_slice(),
-        b"g:0004294967294:r".as_slice(),
-    ] {
-        assert!(rt; read_entries(rt.alloc(), text, Sep::Comma, Want::Plain, &NoNames).is_ok());
-    }
-    let user = read_entries(
+    expect_specs(
+        &rt,
         rt.alloc(),
-        b"4294967295:r",
+        text,
         Sep::Comma,
+        Want::WithoutPerms,
+        &REMOVED,
+    );
+}
+
+static GREATEST_IDS: [&str; 2] = ["u:4294967294:r", "g:0004294967294:r"];
+
+// An id, and one more.
+#[test]
+fn greatest_ids(rt: HostRuntime) {
+    let alloc = rt.alloc();
+    for text in &GREATEST_IDS {
+        let read = read_entries(alloc, text.as_bytes(), Sep::Comma, Want::Plain, &NoNames);
+        assert!(rt; read.is_ok(), "{text}");
+    }
+    expect_fault(
+        &rt,
+        alloc,
+        "4294967295:r",
         Want::Plain,
         &NoNames,
+        "UnknownUser, 1",
     );
-    assert!(rt; is_fault(&user, FaultKind::UnknownUser, 1));
-    let group = read_entries(
-        rt.alloc(),
-        b"g:4294967295:r",
-        Sep::Comma,
+    expect_fault(
+        &rt,
+        alloc,
+        "g:4294967295:r",
         Want::Plain,
         &NoNames,
+        "UnknownGroup, 1",
     );
-    assert!(rt; is_fault(&group, FaultKind::UnknownGroup, 1));
-    Ok(())
 }
 
+// A text, and the permissions that it is read as.
+static PERMISSIONS: [(&[u8], Option<u8>); 9] = [
+    (b"", Some(0)),
+    (b"-", Some(0)),
+    (b"5", Some(5)),
+    (b"xr", Some(5)),
+    (b"w-w", Some(2)),
+    (b"X", None),
+    (b"8", None),
+    (b"44", None),
+    (b" r", None),
+];
+
 #[test]
-fn permissions(rt: HostRuntime) -> Result<(), Fail> {
-    for (text, number) in [
-        (b"".as_slice(), 0),
-        (b"-".as_slice(), 0),
-        (b"5".as_slice(), 5),
-        (b"xr".as_slice(), 5),
-        (b"w-w".as_slice(), 2),
-    ] {
-        let perm = read_perms(text).ok_or("none")?;
-        assert_eq!(rt; perm.number(), number);
+fn permissions(rt: HostRuntime) {
+    for (text, want) in &PERMISSIONS {
+        let found = match read_perms(text) {
+            Some(perm) => Some(perm.number()),
+            None => None,
+        };
+        assert!(rt; found == *want);
     }
-    for text in [
-        b"X".as_slice(),
-        b"8".as_slice(),
-        b"44".as_slice(),
-        b" r".as_slice(),
-    ] {
-        assert!(rt; read_perms(text).is_none());
-    }
-    Ok(())
 }

@@ -4,8 +4,9 @@ ghost use Rattle.std.specs.Prelude.{◌==◌, find, option_map};
 ghost use Rattle.std.specs.Str.{bytes_eq};
 
 use acl_entry::Id;
-use acl_text::{GroupRow, Names, PasswdRow, TextFault, read_group, read_passwd};
+use acl_text::{GroupRow, Names, PasswdRow, read_group, read_passwd};
 use std::alloc::Global;
+use std::process::Abort;
 
 /// The passwd text of the worked examples.
 pub const PASSWD: &[u8] = b"lisa:x:1001:50:Lisa:/home/lisa:/bin/sh
@@ -27,13 +28,17 @@ pub struct Known {
     groups: Vec<GroupRow>,
 }
 
-impl Known {
-    pub fn read(alloc: Global, passwd: &[u8], group: &[u8]) -> Result<Known, TextFault> {
-        Ok(Known {
-            users: read_passwd(alloc, passwd)?,
-            groups: read_group(alloc, group)?,
-        })
+/// What is known of the two texts.
+pub fn of_texts(rt: &impl Abort, alloc: Global, passwd: &[u8], group: &[u8]) -> Known {
+    Known {
+        users: read_passwd(alloc, passwd).expect(rt, "users"),
+        groups: read_group(alloc, group).expect(rt, "groups"),
     }
+}
+
+/// What is known of the worked examples.
+pub fn worked(rt: &impl Abort, alloc: Global) -> Known {
+    of_texts(rt, alloc, PASSWD, GROUP)
 }
 
 impl Names for Known {

@@ -1,59 +1,81 @@
 //! Escapes, names and paths.
 
 use acl_text::{Path, read_name, read_path, write_name, write_path};
+use std::alloc::Global;
 use std::cmp::Ordering;
-use std::test::Fail;
+use std::process::Abort;
+
+// A text, and the name that it is read as.
+static ESCAPES: [(&[u8], &[u8]); 8] = [
+    (b"al\\040b", b"al b"),
+    (b"\\\\400", b"\\400"),
+    (b"\\400", b"\\400"),
+    (b"\\377\\000", b"\xff\x00"),
+    (b"\\1", b"\\1"),
+    (b"\\12", b"\\12"),
+    (b"\\189", b"\\189"),
+    (b"a\\", b"a\\"),
+];
 
 #[test]
-fn escapes_are_read(rt: HostRuntime) -> Result<(), Fail> {
-    for (text, want) in [
-        (b"al\\040b".as_slice(), b"al b".as_slice()),
-        (b"\\\\400".as_slice(), b"\\400".as_slice()),
-        (b"\\400".as_slice(), b"\\400".as_slice()),
-        (b"\\377\\000".as_slice(), b"\xff\x00".as_slice()),
-        (b"\\1".as_slice(), b"\\1".as_slice()),
-        (b"\\12".as_slice(), b"\\12".as_slice()),
-        (b"\\189".as_slice(), b"\\189".as_slice()),
-        (b"a\\".as_slice(), b"a\\".as_slice()),
-    ] {
-        let name = read_name(rt.alloc(), text)?;
-        assert!(rt; name.as_bytes() == want);
+fn escapes_are_read(rt: HostRuntime) {
+    for (text, want) in &ESCAPES {
+        let name = read_name(rt.alloc(), text).expect(&rt, "memory");
+        assert!(rt; name.as_bytes() == *want);
     }
-    Ok(())
 }
 
 #[test]
-fn escapes_are_written(rt: HostRuntime) -> Result<(), Fail> {
-    let text = write_name(rt.alloc(), b"al b\\:,#\t\r\nx")?;
+fn escapes_are_written(rt: HostRuntime) {
+    let text = write_name(rt.alloc(), b"al b\\:,#\t\r\nx").expect(&rt, "memory");
     assert!(rt; text.as_slice() == b"al\\040b\\134\\072\\054\\043\\011\\015\\012x".as_slice());
-    Ok(())
 }
 
 #[test]
-fn each_byte_is_read_as_it_was_written(rt: HostRuntime) -> Result<(), Fail> {
+fn each_byte_is_read_as_it_was_written(rt: HostRuntime) {
     for byte in 0..=255u8 {
         let name = [byte, b'0', byte];
-        let text = write_name(rt.alloc(), &name)?;
-        let again = read_name(rt.alloc(), &text)?;
+        let text = write_name(rt.alloc(), &name).expect(&rt, "memory");
+        let again = read_name(rt.alloc(), &text).expect(&rt, "memory");
         assert!(rt; again.as_bytes() == name.as_slice(), "at {byte}");
     }
-    Ok(())
+}
+
+// The path of the text, which has one.
+fn path(rt: &impl Abort, alloc: Global, text: &[u8]) -> Path {
+    let read = read_path(alloc, text).expect(rt, "memory");
+    read.expect(rt, "a path")
+}
+
+// The path is written like this.
+fn expect_text(rt: &impl Abort, alloc: Global, path: &Path, want: &[u8]) {
+    let text = write_path(alloc, path).expect(rt, "memory");
+    assert!(rt; text.as_slice() == want);
 }
 
 #[test]
-fn paths(rt: HostRuntime) -> Result<(), Fail> {
-    let path = read_path(rt.alloc(), b"/a//./x\\012y\\ z/")?.ok_or("no path")?;
-    assert_eq!(rt; path.components().len(), 2);
-    let text = write_path(rt.alloc(), &path)?;
-    assert!(rt; text.as_slice() == b"a/x\\012y\\134 z".as_slice());
-    for refused in [b"a/../b".as_slice(), b"..".as_slice(), b"a\\000".as_slice()] {
-        assert!(rt; read_path(rt.alloc(), refused)?.is_none());
-    }
-    let root = Path::new(Vec::new(rt.alloc())).ok_or("no root")?;
-    let dot = write_path(rt.alloc(), &root)?;
-    assert!(rt; dot.as_slice() == b".".as_slice());
-    assert!(rt; matches!(root.order(&path), Ordering::Less));
-    let again = path.try_clone(rt.alloc())?;
+fn paths(rt: HostRuntime) {
+    let path = path(&rt, rt.alloc(), b"/a//./x\\012y\\ z/");
+    assert!(rt; path.components().len() == 2);
+    expect_text(&rt, rt.alloc(), &path, b"a/x\\012y\\134 z");
+    let again = path.try_clone(rt.alloc()).expect(&rt, "memory");
     assert!(rt; matches!(again.order(&path), Ordering::Equal));
-    Ok(())
+}
+
+static REFUSED: [&[u8]; 3] = [b"a/../b", b"..", b"a\\000"];
+
+#[test]
+fn refused_paths(rt: HostRuntime) {
+    for text in &REFUSED {
+        let read = read_path(rt.alloc(), text).expect(&rt, "memory");
+        assert!(rt; read.is_none());
+    }
+}
+
+#[test]
+fn the_top(rt: HostRuntime) {
+    let root = Path::new(Vec::new(rt.alloc())).expect(&rt, "the top");
+    expect_text(&rt, rt.alloc(), &root, b".");
+    let path = path(&rt, rt.alloc(), b"/a//./x\\012y\\ z/");
+    assert!(rt; matches!(root.order(&path), Ordering::Less));
 }

@@ -3,10 +3,10 @@
 //! `name:gid:members` for a counted row, or `bad row` and the line.
 
 use crate::known::{GROUP, PASSWD};
+use crate::made::push;
 use acl_text::{FaultKind, GroupRow, PasswdRow, TextFault, read_group, read_passwd};
-use std::alloc::{AllocError, Global};
+use std::alloc::Global;
 use std::process::Abort;
-use std::test::Fail;
 
 const GREATEST_ID: &[u8] = b"4294967294";
 
@@ -50,136 +50,174 @@ fn printed_ids<'a>(fields: &[&'a [u8]], count: usize) -> Option<(&'a [u8], &'a [
 }
 
 /// Adds the names of a list that are not empty, each with a comma after it.
-fn push_members(printed: &mut Vec<u8>, alloc: Global, list: &[u8]) -> Result<(), AllocError> {
-    let names: Vec<&[u8]> = list.split(|b| *b == b',').collect(alloc)?;
+fn push_members(rt: &impl Abort, printed: &mut Vec<u8>, alloc: Global, list: &[u8]) {
+    let names: Vec<&[u8]> = list
+        .split(|b| *b == b',')
+        .collect(alloc)
+        .expect(rt, "memory");
     for name in &names {
         if !name.is_empty() {
-            printed.extend_from_slice(name)?;
-            printed.push(b',')?;
+            push(rt, printed, name);
+            push(rt, printed, b",");
         }
     }
-    Ok(())
 }
 
 fn push_row(
+    rt: &impl Abort,
     printed: &mut Vec<u8>,
     alloc: Global,
     name: &[u8],
     ids: (&[u8], &[u8]),
     count: usize,
-) -> Result<(), AllocError> {
-    printed.extend_from_slice(name)?;
-    printed.push(b':')?;
-    printed.extend_from_slice(ids.0)?;
-    printed.push(b':')?;
+) {
+    push(rt, printed, name);
+    push(rt, printed, b":");
+    push(rt, printed, ids.0);
+    push(rt, printed, b":");
     if count == 7 {
-        printed.extend_from_slice(ids.1)?;
+        push(rt, printed, ids.1);
     } else {
-        push_members(printed, alloc, ids.1)?;
+        push_members(rt, printed, alloc, ids.1);
     }
-    printed.push(b'\n')?;
-    Ok(())
+    push(rt, printed, b"\n");
 }
 
-fn bad_row(alloc: Global, line: usize) -> Result<Vec<u8>, AllocError> {
-    let mut printed = Vec::from_slice(alloc, b"bad row ")?;
-    printed.extend_from_slice(format!(in alloc; "{line}")?.as_bytes())?;
-    Ok(printed)
+fn push_number(rt: &impl Abort, printed: &mut Vec<u8>, alloc: Global, number: usize) {
+    let digits = format!(in alloc; "{number}").expect(rt, "memory");
+    push(rt, printed, digits.as_bytes());
+}
+
+fn bad_row(rt: &impl Abort, alloc: Global, line: usize) -> Vec<u8> {
+    let mut printed = Vec::new(alloc);
+    push(rt, &mut printed, b"bad row ");
+    push_number(rt, &mut printed, alloc, line);
+    printed
 }
 
 /// What the second reader reads, of rows of so many fields.
-fn read_again(alloc: Global, text: &[u8], count: usize) -> Result<Vec<u8>, AllocError> {
+fn read_again(rt: &impl Abort, alloc: Global, text: &[u8], count: usize) -> Vec<u8> {
     let mut printed = Vec::new(alloc);
     let mut names: Vec<&[u8]> = Vec::new(alloc);
-    let lines: Vec<&[u8]> = text.split(|b| *b == b'\n').collect(alloc)?;
+    let lines: Vec<&[u8]> = text
+        .split(|b| *b == b'\n')
+        .collect(alloc)
+        .expect(rt, "memory");
     for (i, line) in lines.iter().enumerate() {
         if line.is_empty() || line[0] == b'#' {
             continue;
         }
-        let fields: Vec<&[u8]> = line.split(|b| *b == b':').collect(alloc)?;
+        let fields: Vec<&[u8]> = line
+            .split(|b| *b == b':')
+            .collect(alloc)
+            .expect(rt, "memory");
         let Some(ids) = printed_ids(&fields, count) else {
-            return bad_row(alloc, i + 1);
+            return bad_row(rt, alloc, i + 1);
         };
         let name = fields[0];
         if !names.contains(&name) {
-            names.push(name)?;
-            push_row(&mut printed, alloc, name, ids, count)?;
+            names.push(name).expect(rt, "memory");
+            push_row(rt, &mut printed, alloc, name, ids, count);
         }
     }
-    Ok(printed)
+    printed
 }
 
-fn print_passwd(alloc: Global, rows: &[PasswdRow]) -> Result<Vec<u8>, AllocError> {
+fn print_passwd(rt: &impl Abort, alloc: Global, rows: &[PasswdRow]) -> Vec<u8> {
     let mut printed = Vec::new(alloc);
     for row in rows {
-        printed.extend_from_slice(row.name.as_bytes())?;
-        let ids = format!(in alloc; ":{}:{}\n", row.uid.number(), row.gid.number())?;
-        printed.extend_from_slice(ids.as_bytes())?;
+        push(rt, &mut printed, row.name.as_bytes());
+        push(rt, &mut printed, b":");
+        push_number(rt, &mut printed, alloc, row.uid.number() as usize);
+        push(rt, &mut printed, b":");
+        push_number(rt, &mut printed, alloc, row.gid.number() as usize);
+        push(rt, &mut printed, b"\n");
     }
-    Ok(printed)
+    printed
 }
 
-fn print_group(alloc: Global, rows: &[GroupRow]) -> Result<Vec<u8>, AllocError> {
+fn print_group_row(rt: &impl Abort, printed: &mut Vec<u8>, alloc: Global, row: &GroupRow) {
+    push(rt, printed, row.name.as_bytes());
+    push(rt, printed, b":");
+    push_number(rt, printed, alloc, row.gid.number() as usize);
+    push(rt, printed, b":");
+    for name in row.names.as_slice() {
+        push(rt, printed, name.as_bytes());
+        push(rt, printed, b",");
+    }
+    push(rt, printed, b"\n");
+}
+
+fn print_group(rt: &impl Abort, alloc: Global, rows: &[GroupRow]) -> Vec<u8> {
     let mut printed = Vec::new(alloc);
     for row in rows {
-        printed.extend_from_slice(row.name.as_bytes())?;
-        let id = format!(in alloc; ":{}:", row.gid.number())?;
-        printed.extend_from_slice(id.as_bytes())?;
-        for name in row.names.as_slice() {
-            printed.extend_from_slice(name.as_bytes())?;
-            printed.push(b',')?;
-        }
-        printed.push(b'\n')?;
+        print_group_row(rt, &mut printed, alloc, row);
     }
-    Ok(printed)
+    printed
 }
 
-fn compare(rt: &impl Abort, alloc: Global, text: &[u8], is_passwd: bool) -> Result<(), Fail> {
-    let second = read_again(alloc, text, if is_passwd { 7 } else { 4 })?;
-    let first = if is_passwd {
+fn print_fault(rt: &impl Abort, alloc: Global, fault: TextFault) -> Vec<u8> {
+    assert!(rt; fault.kind == FaultKind::BadRow);
+    bad_row(rt, alloc, fault.at)
+}
+
+/// What the first reader reads.
+fn read_first(rt: &impl Abort, alloc: Global, text: &[u8], is_passwd: bool) -> Vec<u8> {
+    if is_passwd {
         match read_passwd(alloc, text) {
-            Ok(rows) => print_passwd(alloc, &rows)?,
-            Err(fault) => print_fault(rt, alloc, fault)?,
+            Ok(rows) => print_passwd(rt, alloc, &rows),
+            Err(fault) => print_fault(rt, alloc, fault),
         }
     } else {
         match read_group(alloc, text) {
-            Ok(rows) => print_group(alloc, &rows)?,
-            Err(fault) => print_fault(rt, alloc, fault)?,
+            Ok(rows) => print_group(rt, alloc, &rows),
+            Err(fault) => print_fault(rt, alloc, fault),
         }
-    };
+    }
+}
+
+fn compare(rt: &impl Abort, alloc: Global, text: &[u8], is_passwd: bool) {
+    let first = read_first(rt, alloc, text, is_passwd);
+    let second = read_again(rt, alloc, text, if is_passwd { 7 } else { 4 });
     assert!(rt; first.as_slice() == second.as_slice());
-    Ok(())
 }
 
-fn print_fault(rt: &impl Abort, alloc: Global, fault: TextFault) -> Result<Vec<u8>, AllocError> {
-    assert!(rt; fault.kind == FaultKind::BadRow);
-    bad_row(alloc, fault.at)
-}
+static CHANGES: [u8; 5] = [0, b'#', b':', b'\\', 255];
 
-/// Each cut, and each byte changed to 0, `#`, `:`, `\` and 255.
-fn compare_all(rt: &impl Abort, alloc: Global, text: &[u8], is_passwd: bool) -> Result<(), Fail> {
-    for end in 0..text.len() {
-        compare(rt, alloc, &text[..end], is_passwd)?;
-    }
-    compare(rt, alloc, text, is_passwd)?;
-    for place in 0..text.len() {
-        for byte in [0, b'#', b':', b'\\', 255] {
-            let mut changed = Vec::from_slice(alloc, text)?;
-            if let Some(b) = changed.get_mut(place) {
-                *b = byte;
-            }
-            compare(rt, alloc, &changed, is_passwd)?;
+/// The byte changed to 0, `#`, `:`, `\` and 255.
+fn compare_changed(rt: &impl Abort, alloc: Global, text: &[u8], place: usize, is_passwd: bool) {
+    for byte in &CHANGES {
+        let mut changed = Vec::from_slice(alloc, text).expect(rt, "memory");
+        if let Some(b) = changed.get_mut(place) {
+            *b = *byte;
         }
+        compare(rt, alloc, &changed, is_passwd);
     }
-    Ok(())
+}
+
+/// Each cut, and the whole.
+fn compare_cuts(rt: &impl Abort, alloc: Global, text: &[u8], is_passwd: bool) {
+    for end in 0..text.len() {
+        compare(rt, alloc, &text[..end], is_passwd);
+    }
+    compare(rt, alloc, text, is_passwd);
+}
+
+/// Each byte changed.
+fn compare_changes(rt: &impl Abort, alloc: Global, text: &[u8], is_passwd: bool) {
+    for place in 0..text.len() {
+        compare_changed(rt, alloc, text, place, is_passwd);
+    }
 }
 
 #[test]
-fn passwd(rt: HostRuntime) -> Result<(), Fail> {
-    compare_all(&rt, rt.alloc(), PASSWD, true)
+fn passwd(rt: HostRuntime) {
+    compare_cuts(&rt, rt.alloc(), PASSWD, true);
+    compare_changes(&rt, rt.alloc(), PASSWD, true);
 }
 
 #[test]
-fn group(rt: HostRuntime) -> Result<(), Fail> {
-    compare_all(&rt, rt.alloc(), GROUP, false)
+fn group(rt: HostRuntime) {
+    compare_cuts(&rt, rt.alloc(), GROUP, false);
+    compare_changes(&rt, rt.alloc(), GROUP, false);
 }
