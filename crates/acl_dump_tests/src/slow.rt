@@ -5,7 +5,7 @@ use acl_dump::DumpUse;
 use acl_entry::{Entry, Key, ListFault, Perm};
 use acl_text::{FaultKind, Names, Which};
 use std::alloc::Global;
-use std::test::Fail;
+use std::process::Abort;
 
 /// A record as it is read.
 #[derive(Drop)]
@@ -166,21 +166,8 @@ fn entry(fields: &[&[u8]]) -> Result<Entry, FaultKind> {
     Ok(Entry { key, perm })
 }
 
-fn said_of(alloc: Global, line: &[u8]) -> Result<Result<Says, FaultKind>, Fail> {
-    let text = line.trim_ascii_start();
-    if text.is_empty() {
-        return Ok(Ok(Says::Nothing));
-    }
-    if let Some(behind) = text.strip_prefix(b"#") {
-        return Ok(says_header(behind.trim_ascii_start()));
-    }
-    let mut fields: Vec<&[u8]> = Vec::new(alloc);
-    for content in text.split(|b| *b == b'#').take(1) {
-        for field in content.split(|b| *b == b':') {
-            fields.push(field.trim_ascii())?;
-        }
-    }
-    let said = match fields.as_slice() {
+fn says_entry(fields: &[&[u8]]) -> Result<Says, FaultKind> {
+    match fields {
         [word, others @ ..] if !others.is_empty() && is(word, b"d", b"default") => {
             match entry(others) {
                 Ok(entry) => Ok(Says::Entry(true, entry)),
@@ -191,41 +178,57 @@ fn said_of(alloc: Global, line: &[u8]) -> Result<Result<Says, FaultKind>, Fail> 
             Ok(entry) => Ok(Says::Entry(false, entry)),
             Err(kind) => Err(kind),
         },
-    };
-    Ok(said)
+    }
 }
 
-fn push(entries: &mut Vec<Entry>, key: Key, perm: Perm) -> Result<(), Fail> {
-    entries.push(Entry { key, perm })?;
-    Ok(())
+fn said_of(rt: &impl Abort, alloc: Global, line: &[u8]) -> Result<Says, FaultKind> {
+    let text = line.trim_ascii_start();
+    if text.is_empty() {
+        return Ok(Says::Nothing);
+    }
+    if let Some(behind) = text.strip_prefix(b"#") {
+        return says_header(behind.trim_ascii_start());
+    }
+    let mut fields: Vec<&[u8]> = Vec::new(alloc);
+    for content in text.split(|b| *b == b'#').take(1) {
+        for field in content.split(|b| *b == b':') {
+            fields.push(field.trim_ascii()).expect(rt, "memory");
+        }
+    }
+    says_entry(&fields)
 }
 
-fn put(record: &mut Slow, said: Says) -> Result<bool, Fail> {
+fn push(rt: &impl Abort, entries: &mut Vec<Entry>, key: Key, perm: Perm) {
+    entries.push(Entry { key, perm }).expect(rt, "memory");
+}
+
+// Adds what a line says of a record. Returns whether it may say so there.
+fn put(rt: &impl Abort, record: &mut Slow, said: Says) -> bool {
     let bare = record.access.is_empty() && record.dacl.is_empty();
     match said {
         Says::Nothing | Says::File => {}
         Says::Owner(id) => {
             if record.owner.is_some() || !bare {
-                return Ok(false);
+                return false;
             }
             record.owner = Some(id);
         }
         Says::Group(id) => {
             if record.group.is_some() || !bare {
-                return Ok(false);
+                return false;
             }
             record.group = Some(id);
         }
         Says::Flags(flags) => {
             if record.flags.is_some() || !bare {
-                return Ok(false);
+                return false;
             }
             record.flags = Some(flags);
         }
-        Says::Entry(true, entry) => push(&mut record.dacl, entry.key, entry.perm)?,
-        Says::Entry(false, entry) => push(&mut record.access, entry.key, entry.perm)?,
+        Says::Entry(true, entry) => push(rt, &mut record.dacl, entry.key, entry.perm),
+        Says::Entry(false, entry) => push(rt, &mut record.access, entry.key, entry.perm),
     }
-    Ok(true)
+    true
 }
 
 fn has(entries: &[Entry], key: &Key) -> bool {
@@ -304,67 +307,77 @@ fn name_of(line: &[u8]) -> &[u8] {
 }
 
 /// The components of a path: no empty ones and no `.`.
-fn components(alloc: Global, name: &[u8]) -> Result<Vec<Vec<u8>>, Fail> {
+fn components(rt: &impl Abort, alloc: Global, name: &[u8]) -> Vec<Vec<u8>> {
     let mut parts = Vec::new(alloc);
     for part in name.split(|b| *b == b'/') {
         if !part.is_empty() && part != b".".as_slice() {
-            parts.push(Vec::from_slice(alloc, part)?)?;
+            let copy = Vec::from_slice(alloc, part).expect(rt, "memory");
+            parts.push(copy).expect(rt, "memory");
         }
     }
-    Ok(parts)
+    parts
 }
 
-fn started(alloc: Global, at: usize, name: &[u8]) -> Result<Slow, Fail> {
-    Ok(Slow {
+fn started(rt: &impl Abort, alloc: Global, at: usize, name: &[u8]) -> Slow {
+    Slow {
         at,
-        path: components(alloc, name)?,
+        path: components(rt, alloc, name),
         slash: name.ends_with(b"/"),
         owner: None,
         group: None,
         flags: None,
         access: Vec::new(alloc),
         dacl: Vec::new(alloc),
-    })
+    }
+}
+
+// What is wrong with the last record, once it is whole.
+fn last_fault(records: &[Slow], dump_use: DumpUse) -> Option<Fault> {
+    let last = records.last()?;
+    let kind = whole(last, dump_use)?;
+    Some((kind, last.at))
+}
+
+// Adds what a line says, but for the start of a record. Returns what is wrong with it.
+fn add(rt: &impl Abort, records: &mut [Slow], at: usize, said: Says) -> Option<Fault> {
+    let Some(last) = records.last_mut() else {
+        return Some((FaultKind::MissingHeader, at));
+    };
+    if put(rt, last, said) {
+        None
+    } else {
+        Some((FaultKind::BadHeader, at))
+    }
 }
 
 /// The records of a dump whose paths are apart, or its fault.
 pub fn read(
+    rt: &impl Abort,
     alloc: Global,
     bytes: &[u8],
     dump_use: DumpUse,
-) -> Result<Result<Vec<Slow>, Fault>, Fail> {
+) -> Result<Vec<Slow>, Fault> {
     let mut records: Vec<Slow> = Vec::new(alloc);
     let mut at = 0usize;
     for line in bytes.split(|b| *b == b'\n') {
         at = at.saturating_add(1);
-        let said = match said_of(alloc, line)? {
-            Ok(said) => said,
-            Err(kind) => return Ok(Err((kind, at))),
-        };
-        match said {
-            Says::Nothing => {}
-            Says::File => {
-                if let Some(last) = records.last() {
-                    if let Some(kind) = whole(last, dump_use) {
-                        return Ok(Err((kind, last.at)));
-                    }
-                }
-                records.push(started(alloc, at, name_of(line))?)?;
+        let fault = match said_of(rt, alloc, line) {
+            Err(kind) => Some((kind, at)),
+            Ok(Says::Nothing) => None,
+            Ok(Says::File) => {
+                let fault = last_fault(&records, dump_use);
+                let record = started(rt, alloc, at, name_of(line));
+                records.push(record).expect(rt, "memory");
+                fault
             }
-            other => match records.last_mut() {
-                None => return Ok(Err((FaultKind::MissingHeader, at))),
-                Some(last) => {
-                    if !put(last, other)? {
-                        return Ok(Err((FaultKind::BadHeader, at)));
-                    }
-                }
-            },
+            Ok(said) => add(rt, &mut records, at, said),
+        };
+        if let Some(fault) = fault {
+            return Err(fault);
         }
     }
-    if let Some(last) = records.last() {
-        if let Some(kind) = whole(last, dump_use) {
-            return Ok(Err((kind, last.at)));
-        }
+    match last_fault(&records, dump_use) {
+        Some(fault) => Err(fault),
+        None => Ok(records),
     }
-    Ok(Ok(records))
 }
