@@ -1,12 +1,9 @@
 //! New files.
-use crate::made::{
-    GROUP, PASSWD, chmod, creat, flags, is_path, kind, load, mode, path, run, setup,
-};
+use crate::made::{chmod, creat, flags, is_path, kind, mode, path, run, setup, setup_with};
 use acl_edit::Kind;
 use acl_entry::{Id, Key};
 use acl_names::Name;
-use acl_people::People;
-use acl_tree::{Command, NewFile, Table, Tree, TreeFault};
+use acl_tree::{Command, NewFile, Tree, TreeFault};
 use std::alloc::Global;
 use std::process::Abort;
 use std::test::Fail;
@@ -17,21 +14,6 @@ default:mask::rwx\ndefault:other::r-x\n";
 
 const WITHOUT_PARENT: &[u8] =
     b"# file: a/b\n# owner: lisa\n# group: staff\nuser::rw-\ngroup::r--\nother::---\n";
-
-/// The people of the usual texts, and the files of a dump.
-fn loaded(rt: &impl Abort, alloc: Global, dump: &[u8]) -> Result<(Tree, People), Fail> {
-    let mut tree = Tree::new(alloc);
-    let mut people = People::new(alloc)?;
-    let texts = [
-        load(alloc, Table::Passwd, PASSWD)?,
-        load(alloc, Table::Group, GROUP)?,
-        load(alloc, Table::Dump, dump)?,
-    ];
-    for text in &texts {
-        assert!(rt; run(alloc, &mut tree, &mut people, text).is_none());
-    }
-    Ok((tree, people))
-}
 
 /// The permissions that a file's access list gives a key, as a number.
 fn number_at(
@@ -100,7 +82,7 @@ fn each_fault_in_its_order(rt: HostRuntime) -> Result<(), Fail> {
 #[test]
 fn the_root_and_a_path_above_a_file(rt: HostRuntime) -> Result<(), Fail> {
     let alloc = rt.alloc();
-    let (mut tree, mut people) = loaded(&rt, alloc, WITHOUT_PARENT)?;
+    let (mut tree, mut people) = setup_with(&rt, alloc, WITHOUT_PARENT)?;
     let above = creat(&rt, alloc, b"ann", Kind::Directory, 0o700, b"a")?;
     match &run(alloc, &mut tree, &mut people, &above) {
         Some(TreeFault::Exists { path }) => assert!(rt; is_path(&rt, alloc, path, b"a")?),
@@ -146,7 +128,7 @@ fn a_directory_of_a_setgid_parent(rt: HostRuntime) -> Result<(), Fail> {
 #[test]
 fn files_under_a_default_list(rt: HostRuntime) -> Result<(), Fail> {
     let alloc = rt.alloc();
-    let (mut tree, mut people) = loaded(&rt, alloc, WITH_DEFAULT)?;
+    let (mut tree, mut people) = setup_with(&rt, alloc, WITH_DEFAULT)?;
     let joe = Key::User(Id::new(1000).expect(&rt, "an id"));
     let plain = Command::Creat(NewFile {
         path: path(&rt, alloc, b"pub/n")?,

@@ -88,7 +88,7 @@ pub fn creat(
     kind: Kind,
     mode: u16,
     name: &[u8],
-) -> Result<Command, Fail> {
+) -> Result<Command<'static>, Fail> {
     Ok(Command::Creat(NewFile {
         path: path(rt, alloc, name)?,
         kind,
