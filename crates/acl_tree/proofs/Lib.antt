@@ -13,3 +13,4 @@ pub mod Placed
 pub mod Restored
 pub mod NewFiles
 pub mod Each
+pub mod Removals

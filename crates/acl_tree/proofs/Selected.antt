@@ -59,7 +59,7 @@ le_trans a b c ab bc = by (path_cmp a b) refl
 
 -- ---- one operand
 
-same_path : (p q : PathOf) → eq_by_cmp path_cmp q p ≡ true → q ≡ p
+pub same_path : (p q : PathOf) → eq_by_cmp path_cmp q p ≡ true → q ≡ p
 same_path p q h = exact_paths q p (equal (path_cmp q p) h)
 
 -- an operand is not after what it means
@@ -82,7 +82,7 @@ means_convex false p e r pe er h = by (path_cmp e p) refl
     by Equal is = ap is_eq is
     by Greater is = absurd (er (subst (λ z. path_cmp e z ≡ Greater) (sym (same_path p r h)) is))
 
-within_trans : (p q r : PathOf) → is_within p q ≡ true → is_within q r ≡ true → is_within p r ≡ true
+pub within_trans : (p q r : PathOf) → is_within p q ≡ true → is_within q r ≡ true → is_within p r ≡ true
 within_trans [] q r h k = refl
 within_trans (x ∷ p) [] r h k = absurd (true≢false (sym h))
 within_trans (x ∷ p) (y ∷ q) [] h k = absurd (true≢false (sym k))

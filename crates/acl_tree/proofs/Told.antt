@@ -25,6 +25,10 @@ module _ (old : State) (s : StagedState) where
     users = same_users moved people;
   }
 
+  -- after files are removed
+  pub told_removal : s.changed ≡ changed_between old.tree.files s.state.tree.files → s.gone ≡ gone_between old.tree.files s.state.tree.files → AllByRecursion (λ e. holds_below s.state.tree.files e.0 ≡ false) s.gone → s.moved ≡ Same → s.state.people ≡ old.people → Tells old s
+  told_removal changed gone apart moved people = record { changed = changed; gone = gone; apart = apart; users = same_users moved people }
+
   -- after a change of files of which none is gone
   pub told_change : (new : Files) → s.state.tree.files ≡ new → s.changed ≡ changed_between old.tree.files new → s.gone ≡ [] → gone_between old.tree.files new ≡ [] → s.moved ≡ Same → s.state.people ≡ old.people → Tells old s
   told_change new is changed gone kept moved people = record {

@@ -3,9 +3,11 @@ pub mod Below
 pub mod Operands
 pub mod Loading
 pub mod Creat
+pub mod Rm
 pub mod Step
 pub mod Sound
 pub mod Found
+pub mod Walks
 pub mod Changed
 pub mod Tells
 pub mod Edits

@@ -12,7 +12,7 @@ use Rattle.acl_people.specs.contracts.people.People as people_contracts
 use Rattle.acl_people.specs.Rolls.{id_named}
 use Rattle.acl_people.specs.Registers.{Register, nobody, users_of, groups_of, load_passwd, load_group}
 use Rattle.acl_tree.specs.declared.command.Command.{Command}
-use Rattle.acl_tree.specs.declared.command.Command.TheVariants.{Load, Chmod, Edit, Restore, Creat}
+use Rattle.acl_tree.specs.declared.command.Command.TheVariants.{Load, Chmod, Edit, Restore, Creat, Rm}
 use Rattle.acl_tree.specs.declared.command.Table.{Table}
 use Rattle.acl_tree.specs.declared.command.Table.TheVariants.{Passwd, Group, Dump}
 use Rattle.acl_tree.specs.declared.command.TreeFault.{TreeFault}
@@ -20,6 +20,7 @@ use Rattle.acl_tree.specs.declared.command.TreeFault.TheVariants.{NoSuchFile, To
 use Rattle.acl_tree.specs.Files.{PathOf, Recorded, coded_recorded, no_files, max_files}
 use Rattle.acl_tree.specs.Loading.{files_of}
 use Rattle.acl_tree.specs.Creat.{creat}
+use Rattle.acl_tree.specs.Rm.{rm}
 use Rattle.acl_tree.specs.Operands.{is_file, first_missing, edit_files}
 use Rattle.acl_tree.specs.EditCommand.{edited_tree}
 use Rattle.acl_tree.specs.Restoring.{restored_tree}
@@ -100,6 +101,7 @@ loads_again s (Chmod paths mode recursive) = false
 loads_again s (Edit paths e recursive) = false
 loads_again s (Restore records) = false
 loads_again s (Creat new) = false
+loads_again s (Rm paths recursive) = false
 
 -- the state after a command, or its first fault
 abbrev pub step : State → Command → Result State TreeFault
@@ -108,6 +110,7 @@ step s (Chmod paths mode recursive) = or_missing (first_missing paths s.tree.fil
 step s (Edit paths e recursive) = with_tree s (edited_tree recursive paths e s.tree)
 step s (Restore records) = with_tree s (restored_tree records s.tree)
 step s (Creat new) = with_tree s (creat new s.people s.tree)
+step s (Rm paths recursive) = with_tree s (rm recursive paths s.tree)
 
 -- A call stages the state after a step, or tells exactly its fault, unless memory ran out.
 abbrev pub Stages : {A : Type 0} → (A → State) → Result A TreeFault → Result State TreeFault → Type 0

@@ -7,7 +7,7 @@ use Rattle.acl_tree.specs.declared.moved.UsersMove.{UsersMove}
 use Rattle.acl_tree.specs.declared.moved.UsersMove.TheVariants.{Same, Loaded}
 use Rattle.acl_tree.specs.contracts.moved.UsersMove as moved_contracts
 use Rattle.acl_tree.specs.declared.command.Command.{Command}
-use Rattle.acl_tree.specs.declared.command.Command.TheVariants.{Load, Chmod, Edit, Restore, Creat}
+use Rattle.acl_tree.specs.declared.command.Command.TheVariants.{Load, Chmod, Edit, Restore, Creat, Rm}
 use Rattle.acl_tree.specs.declared.command.Table.{Table}
 use Rattle.acl_tree.specs.declared.command.Table.TheVariants.{Passwd, Group, Dump}
 use Rattle.acl_tree.specs.Files.{Files}
@@ -42,6 +42,7 @@ users_move (Chmod paths mode recursive) = Same
 users_move (Edit paths e recursive) = Same
 users_move (Restore records) = Same
 users_move (Creat new) = Same
+users_move (Rm paths recursive) = Same
 
 -- no user has other groups, or there is no file whose check could differ
 abbrev pub UsersMoved : State → State → UsersMove → Type 0

@@ -91,6 +91,11 @@ pub enum Command<'a> {
     /// Makes a plain file or a directory. Its parent is recorded, is a directory and is what it inherits from:
     /// acl(5), "OBJECT CREATION AND DEFAULT ACLs".
     Creat(NewFile),
+    /// Removes plain files, with `recursive` also directories with all files below them: rm(1).
+    Rm {
+        paths: Paths,
+        recursive: bool,
+    },
 }
 
 /// Why a command is refused. A refused command changes nothing.

@@ -40,6 +40,13 @@ impl Found {
         &self.file
     }
 
+    /// The file, for others that share it.
+    pub(crate) fn shared_record(&self) -> &Rc<Record>
+        ensures { result.now.value ≡ (self.now.path, self.now.node) }
+    {
+        &self.file
+    }
+
     /// The file's path.
     pub fn path(&self) -> &Path
         ensures { result.now ≡ self.now.path }

@@ -14,11 +14,13 @@ mod load;
 mod moved;
 mod prepare;
 mod restore;
+mod rm;
 mod selection;
 mod sorting;
 mod staged;
 mod state;
 mod tree;
+mod walks;
 
 pub use acl_people::People;
 pub use command::{Command, NewFile, Paths, Table, TreeFault};

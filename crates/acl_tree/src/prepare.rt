@@ -48,6 +48,7 @@ impl Tree {
             } => self.edit(alloc, people, paths, edit, *recursive),
             Command::Restore { records } => self.restore(alloc, people, records),
             Command::Creat(new) => self.creat(alloc, people, new),
+            Command::Rm { paths, recursive } => self.rm(alloc, people, paths, *recursive),
         }
     }
 }

@@ -1,0 +1,99 @@
+//! rm: files removed.
+
+ghost use Rattle.std.specs.Prelude.{◌≡◌, ◌≢◌, None, Some, map, IfOk, IfErr, OnOk};
+ghost use Rattle.std.specs.FinMap.{find};
+ghost use Rattle.acl_names.specs.Paths.{path_cmp};
+ghost use Rattle.acl_tree.specs.Inner.{file_of};
+ghost use Rattle.acl_tree.specs.Rm.{refusal, first_refused, rm};
+ghost use Rattle.acl_tree.specs.Sound.{IsSoundTree};
+ghost use Rattle.acl_tree.specs.Step.{with_tree, Stages};
+ghost use Rattle.acl_tree.specs.Tells.{Tells};
+ghost use Rattle.acl_tree.specs.declared.command.TreeFault.TheVariants.{NoMemory};
+ghost use Rattle.acl_tree.specs.declared.moved.UsersMove.TheVariants.{Same};
+
+use crate::command::{Paths, TreeFault};
+use crate::found::Found;
+use crate::moved::UsersMove;
+use crate::selection::select;
+use crate::staged::Staged;
+use crate::tree::{Record, Tree};
+use acl_edit::Kind;
+use acl_names::Path;
+use acl_people::People;
+use std::alloc::{AllocError, Global};
+use std::rc::Rc;
+
+/// Whether an operand may be removed.
+fn check_one(tree: &Tree, alloc: Global, recursive: bool, path: &Path) -> Result<(), TreeFault>
+    ensures ok { OnOk result (refusal recursive path.now (find path_cmp path.now tree.now.files) ≡ None) }
+    ensures fault { IfErr result (λ fault. fault ≢ NoMemory → refusal recursive path.now (find path_cmp path.now tree.now.files) ≡ Some fault) }
+{
+    let Some(node) = tree.get(path) else {
+        return Err(TreeFault::NoSuchFile {
+            path: path.try_clone(alloc)?,
+        });
+    };
+    if node.kind == Kind::Directory && !recursive {
+        return Err(TreeFault::IsDirectory {
+            path: path.try_clone(alloc)?,
+        });
+    }
+    Ok(())
+}
+
+/// Whether all operands may be removed; else the fault of the first that may not.
+fn check_all(
+    tree: &Tree,
+    alloc: Global,
+    recursive: bool,
+    operands: &[Path],
+) -> Result<(), TreeFault>
+    ensures ok { OnOk result (first_refused recursive operands.now tree.now.files ≡ None) }
+    ensures fault { IfErr result (λ fault. fault ≢ NoMemory → first_refused recursive operands.now tree.now.files ≡ Some fault) }
+{
+    let mut rest = operands;
+    while let [path, more @ ..] = rest {
+        check_one(tree, alloc, recursive, path)?;
+        rest = more;
+    }
+    Ok(())
+}
+
+/// The files found, for those that share them.
+fn records(alloc: Global, files: &[Found]) -> Result<Vec<Rc<Record>>, AllocError>
+    ensures { IfOk result (λ all. map (λ r. r.value) all.items ≡ map file_of files.now) }
+{
+    let mut all = Vec::with_capacity(alloc, files.len())?;
+    for file in files {
+        all.push(file.shared_record().clone()?)?;
+    }
+    Ok(all)
+}
+
+impl Tree {
+    /// Removes files.
+    pub(crate) fn rm(
+        &self,
+        alloc: Global,
+        people: &People,
+        paths: &Paths,
+        recursive: bool,
+    ) -> Result<Staged, TreeFault>
+        ensures made { Stages (λ s. s.state) result (with_tree (record { tree = self.now; people = people.now }) (rm recursive paths.now self.now)) }
+        ensures sound { IfOk result (λ staged. IsSoundTree staged.state.tree) }
+        ensures tells { IfOk result (λ staged. Tells (record { tree = self.now; people = people.now }) staged) }
+        ensures moved { IfOk result (λ staged. staged.moved ≡ Same) }
+    {
+        check_all(self, alloc, recursive, paths.as_slice())?;
+        let files = select(self, alloc, paths.as_slice(), recursive)?;
+        let gone = records(alloc, &files)?;
+        let by_path = self.files_by_path().without_all(alloc, &gone)?;
+        Ok(Staged::of(
+            Tree::of(by_path, self.is_loaded()),
+            people.share()?,
+            Vec::new(alloc),
+            gone,
+            UsersMove::Same,
+        ))
+    }
+}
