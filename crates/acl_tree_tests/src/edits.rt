@@ -8,7 +8,6 @@ use acl_tree::{Command, Paths, TreeFault};
 use std::alloc::Global;
 use std::cmp::Ordering;
 use std::process::Abort;
-use std::test::Fail;
 
 const FIVE: &[u8] =
     b"# file: .\n# owner: lisa\n# group: staff\nuser::rwx\ngroup::r-x\nother::r-x\n\n\
@@ -25,12 +24,12 @@ fn line(
     (remove, modify): (&[u8], &[u8]),
     recursive: bool,
     name: &[u8],
-) -> Result<Command<'static>, Fail> {
+) -> Command<'static> {
     let removed = read_entries(alloc, remove, Sep::Comma, Want::WithoutPerms, people);
     let modified = read_entries(alloc, modify, Sep::Comma, Want::WithPerms, people);
     let mut paths = Vec::new(alloc);
-    paths.push(path(rt, alloc, name)?)?;
-    Ok(Command::Edit {
+    paths.push(path(rt, alloc, name)).expect(rt, "memory");
+    Command::Edit {
         paths: Paths::new(paths),
         edit: Edit::Change(Change {
             strip: false,
@@ -43,26 +42,26 @@ fn line(
             modify: Specs::new(modified.expect(rt, "entries")),
         }),
         recursive,
-    })
+    }
 }
 
 #[test]
-fn an_entry_is_added(rt: HostRuntime) -> Result<(), Fail> {
+fn an_entry_is_added(rt: HostRuntime) {
     let alloc = rt.alloc();
-    let (mut tree, mut people) = setup_with(&rt, alloc, FIVE)?;
-    let command = line(&rt, alloc, &people, (b"", b"u:joe:rwx"), false, b"f")?;
+    let (mut tree, mut people) = setup_with(&rt, alloc, FIVE);
+    let command = line(&rt, alloc, &people, (b"", b"u:joe:rwx"), false, b"f");
     assert!(rt; run(alloc, &mut tree, &mut people, &command).is_none());
     let want = "u::rw-,u:1000:rwx,g::r--,m::rwx,o::---";
-    expect_lists(&rt, alloc, &tree, b"f", want)?;
-    assert_eq!(rt; mode(&rt, alloc, &tree, b"f")?, 0o670);
+    expect_lists(&rt, alloc, &tree, b"f", want);
+    assert_eq!(rt; mode(&rt, alloc, &tree, b"f"), 0o670);
     expect_lists(&rt, alloc, &tree, b".", "u::rwx,g::r-x,o::r-x")
 }
 
 #[test]
-fn default_entries_skip_files_below(rt: HostRuntime) -> Result<(), Fail> {
+fn default_entries_skip_files_below(rt: HostRuntime) {
     let alloc = rt.alloc();
-    let (mut tree, mut people) = setup_with(&rt, alloc, FIVE)?;
-    let one = line(&rt, alloc, &people, (b"", b"d:u:joe:rx"), false, b"f")?;
+    let (mut tree, mut people) = setup_with(&rt, alloc, FIVE);
+    let one = line(&rt, alloc, &people, (b"", b"d:u:joe:rx"), false, b"f");
     let refused = run(alloc, &mut tree, &mut people, &one);
     match &refused {
         Some(TreeFault::Edit { fault, .. }) => {
@@ -70,21 +69,21 @@ fn default_entries_skip_files_below(rt: HostRuntime) -> Result<(), Fail> {
         }
         _ => assert!(rt; false),
     }
-    let all = line(&rt, alloc, &people, (b"", b"d:u:joe:rx"), true, b".")?;
+    let all = line(&rt, alloc, &people, (b"", b"d:u:joe:rx"), true, b".");
     assert!(rt; run(alloc, &mut tree, &mut people, &all).is_none());
     let top = "u::rwx,g::r-x,o::r-x/u::rwx,u:1000:r-x,g::r-x,m::r-x,o::r-x";
-    expect_lists(&rt, alloc, &tree, b".", top)?;
-    expect_lists(&rt, alloc, &tree, b"f", "u::rw-,g::r--,o::---")?;
+    expect_lists(&rt, alloc, &tree, b".", top);
+    expect_lists(&rt, alloc, &tree, b"f", "u::rw-,g::r--,o::---");
     let below = "u::rwx,g::r-x,g:70:rwx,m::rwx,o::r-x/u::rwx,u:1000:r-x,g::r-x,m::r-x,o::r-x";
     expect_lists(&rt, alloc, &tree, b"pub", below)
 }
 
 #[test]
-fn a_refused_file_leaves_those_before_it(rt: HostRuntime) -> Result<(), Fail> {
+fn a_refused_file_leaves_those_before_it(rt: HostRuntime) {
     let alloc = rt.alloc();
-    let (mut tree, mut people) = setup_with(&rt, alloc, FIVE)?;
-    let below = path(&rt, alloc, b"pub")?;
-    let command = line(&rt, alloc, &people, (b"m:", b"u:joe:r"), true, b".")?;
+    let (mut tree, mut people) = setup_with(&rt, alloc, FIVE);
+    let below = path(&rt, alloc, b"pub");
+    let command = line(&rt, alloc, &people, (b"m:", b"u:joe:r"), true, b".");
     let refused = run(alloc, &mut tree, &mut people, &command);
     match &refused {
         Some(TreeFault::Edit { path, fault }) => {
@@ -97,11 +96,10 @@ fn a_refused_file_leaves_those_before_it(rt: HostRuntime) -> Result<(), Fail> {
 }
 
 #[test]
-fn a_missing_operand_comes_first(rt: HostRuntime) -> Result<(), Fail> {
+fn a_missing_operand_comes_first(rt: HostRuntime) {
     let alloc = rt.alloc();
-    let (mut tree, mut people) = setup_with(&rt, alloc, FIVE)?;
-    let command = line(&rt, alloc, &people, (b"", b"d:u:joe:rx"), false, b"no")?;
+    let (mut tree, mut people) = setup_with(&rt, alloc, FIVE);
+    let command = line(&rt, alloc, &people, (b"", b"d:u:joe:rx"), false, b"no");
     let refused = run(alloc, &mut tree, &mut people, &command);
     assert!(rt; matches!(refused, Some(TreeFault::NoSuchFile { .. })));
-    Ok(())
 }

@@ -5,11 +5,11 @@ use acl_people::People;
 use acl_text::{FaultKind, TextFault};
 use acl_tree::{Paths, Table, Tree, TreeFault, each_record_is_a_file};
 use std::alloc::Global;
-use std::test::Fail;
+use std::process::Abort;
 
-fn dump_fault(alloc: Global, text: &[u8]) -> Result<Option<TextFault>, Fail> {
+fn dump_fault(rt: &impl Abort, alloc: Global, text: &[u8]) -> Option<TextFault> {
     let mut tree = Tree::new(alloc);
-    let mut people = People::new(alloc)?;
+    let mut people = People::new(alloc).expect(rt, "memory");
     let passwd = load(Table::Passwd, PASSWD);
     let group = load(Table::Group, GROUP);
     let dump = load(Table::Dump, text);
@@ -17,14 +17,14 @@ fn dump_fault(alloc: Global, text: &[u8]) -> Result<Option<TextFault>, Fail> {
     let _ = run(alloc, &mut tree, &mut people, &group);
     let refused = run(alloc, &mut tree, &mut people, &dump);
     match &refused {
-        Some(TreeFault::Text(fault)) => Ok(Some(*fault)),
-        _ => Ok(None),
+        Some(TreeFault::Text(fault)) => Some(*fault),
+        _ => None,
     }
 }
 
 #[test]
-fn faulty_dumps_are_refused(rt: HostRuntime) -> Result<(), Fail> {
-    let unknown = dump_fault(rt.alloc(), b"# file: a\n# owner: li\n")?;
+fn faulty_dumps_are_refused(rt: HostRuntime) {
+    let unknown = dump_fault(&rt, rt.alloc(), b"# file: a\n# owner: li\n");
     assert!(rt;
         unknown
             == Some(TextFault {
@@ -33,10 +33,11 @@ fn faulty_dumps_are_refused(rt: HostRuntime) -> Result<(), Fail> {
             })
     );
     let repeated = dump_fault(
+        &rt,
         rt.alloc(),
         b"# file: a\n# owner: lisa\n# group: staff\nuser::rwx\ngroup::r-x\nother::r-x\n\n\
 # file: a/\n# owner: lisa\n# group: staff\nuser::rwx\ngroup::r-x\nother::r-x\n",
-    )?;
+    );
     assert!(rt;
         repeated
             == Some(TextFault {
@@ -44,32 +45,30 @@ fn faulty_dumps_are_refused(rt: HostRuntime) -> Result<(), Fail> {
                 at: 8
             })
     );
-    Ok(())
 }
 
 #[test]
-fn kinds_are_told_by_the_dump(rt: HostRuntime) -> Result<(), Fail> {
+fn kinds_are_told_by_the_dump(rt: HostRuntime) {
     let alloc = rt.alloc();
-    let (tree, _people) = setup(&rt, alloc)?;
+    let (tree, _people) = setup(&rt, alloc);
     assert!(rt;
-        kind(&rt, alloc, &tree, b".")? == Kind::Directory,
+        kind(&rt, alloc, &tree, b".") == Kind::Directory,
         "the root"
     );
     assert!(rt;
-        kind(&rt, alloc, &tree, b"d")? == Kind::Directory,
+        kind(&rt, alloc, &tree, b"d") == Kind::Directory,
         "a record lies below"
     );
-    assert!(rt; kind(&rt, alloc, &tree, b"f")? == Kind::Plain);
-    assert!(rt; kind(&rt, alloc, &tree, b"d/e")? == Kind::Plain);
-    assert!(rt; tree.get(&path(&rt, alloc, b"d/e/g")?).is_none());
-    Ok(())
+    assert!(rt; kind(&rt, alloc, &tree, b"f") == Kind::Plain);
+    assert!(rt; kind(&rt, alloc, &tree, b"d/e") == Kind::Plain);
+    assert!(rt; tree.get(&path(&rt, alloc, b"d/e/g")).is_none());
 }
 
 #[test]
-fn texts_are_loaded_once_and_people_first(rt: HostRuntime) -> Result<(), Fail> {
+fn texts_are_loaded_once_and_people_first(rt: HostRuntime) {
     let alloc = rt.alloc();
     let mut tree = Tree::new(alloc);
-    let mut people = People::new(alloc)?;
+    let mut people = People::new(alloc).expect(&rt, "memory");
     assert!(rt; !tree.is_loaded());
     let passwd = load(Table::Passwd, PASSWD);
     assert!(rt; run(alloc, &mut tree, &mut people, &passwd).is_none());
@@ -85,7 +84,7 @@ fn texts_are_loaded_once_and_people_first(rt: HostRuntime) -> Result<(), Fail> {
     );
     assert!(rt; run(alloc, &mut tree, &mut people, &dump).is_none());
     assert!(rt; tree.is_loaded());
-    let name = path(&rt, alloc, b"a")?;
+    let name = path(&rt, alloc, b"a");
     let node = tree.get(&name).expect(&rt, "a file");
     assert!(rt; node.kind == Kind::Directory, "written with a final slash");
     assert_eq!(rt; node.label.owner.number(), 4294967294);
@@ -102,12 +101,11 @@ fn texts_are_loaded_once_and_people_first(rt: HostRuntime) -> Result<(), Fail> {
             Some(TreeFault::AlreadyLoaded)
         )
     );
-    Ok(())
 }
 
 #[test]
-fn files_come_in_path_order(rt: HostRuntime) -> Result<(), Fail> {
-    let (tree, _people) = setup(&rt, rt.alloc())?;
+fn files_come_in_path_order(rt: HostRuntime) {
+    let (tree, _people) = setup(&rt, rt.alloc());
     tree.is_sound();
     each_record_is_a_file();
     let mut files = tree.iter();
@@ -121,23 +119,25 @@ fn files_come_in_path_order(rt: HostRuntime) -> Result<(), Fail> {
     let last = files.next().expect(&rt, "f");
     assert_eq!(rt; last.value().label.owner.number(), 1001);
     assert!(rt; files.next().is_none());
-    Ok(())
 }
 
 #[test]
-fn operands_mean_their_files_once(rt: HostRuntime) -> Result<(), Fail> {
+fn operands_mean_their_files_once(rt: HostRuntime) {
     let alloc = rt.alloc();
-    let (tree, _people) = setup(&rt, alloc)?;
+    let (tree, _people) = setup(&rt, alloc);
     let mut operands = Vec::new(alloc);
-    operands.push(path(&rt, alloc, b"f")?)?;
-    operands.push(path(&rt, alloc, b"d")?)?;
-    operands.push(path(&rt, alloc, b"d/e")?)?;
-    let files = tree.files(alloc, &Paths::new(operands), true)?;
+    operands.push(path(&rt, alloc, b"f")).expect(&rt, "memory");
+    operands.push(path(&rt, alloc, b"d")).expect(&rt, "memory");
+    operands
+        .push(path(&rt, alloc, b"d/e"))
+        .expect(&rt, "memory");
+    let files = tree
+        .files(alloc, &Paths::new(operands), true)
+        .expect(&rt, "memory");
     assert_eq!(rt; files.len(), 3);
     assert_eq!(rt; files[0].path().components().len(), 1);
     assert_eq!(rt; files[1].path().components().len(), 2);
     assert!(rt; files[0].has_below(), "d/e");
     assert!(rt; !files[1].has_below());
     assert_eq!(rt; files[2].node().label.owner.number(), 1001);
-    Ok(())
 }

@@ -7,7 +7,6 @@ use acl_tree::{Command, NewFile, Paths, Table, Tree, TreeFault};
 use std::alloc::Global;
 use std::cmp::Ordering;
 use std::process::Abort;
-use std::test::Fail;
 
 pub const PASSWD: &[u8] = b"lisa:x:1001:50:Lisa:/home/lisa:/bin/sh\n\
 joe:x:1000:100:Joe:/home/joe:/bin/sh\nann:x:1002:100:Ann:/home/ann:/bin/sh\n";
@@ -21,21 +20,21 @@ pub const DUMP: &[u8] =
 # file: d\n# owner: ann\n# group: users\nuser::rwx\ngroup::r-x\nother::r-x\n\n";
 
 /// The tree and the people of the texts above.
-pub fn setup(rt: &impl Abort, alloc: Global) -> Result<(Tree, People), Fail> {
+pub fn setup(rt: &impl Abort, alloc: Global) -> (Tree, People) {
     setup_with(rt, alloc, DUMP)
 }
 
 /// The tree of a dump, and the people of the texts above.
-pub fn setup_with(rt: &impl Abort, alloc: Global, files: &[u8]) -> Result<(Tree, People), Fail> {
+pub fn setup_with(rt: &impl Abort, alloc: Global, files: &[u8]) -> (Tree, People) {
     let mut tree = Tree::new(alloc);
-    let mut people = People::new(alloc)?;
+    let mut people = People::new(alloc).expect(rt, "memory");
     let passwd = load(Table::Passwd, PASSWD);
     let group = load(Table::Group, GROUP);
     let dump = load(Table::Dump, files);
     assert!(rt; run(alloc, &mut tree, &mut people, &passwd).is_none());
     assert!(rt; run(alloc, &mut tree, &mut people, &group).is_none());
     assert!(rt; run(alloc, &mut tree, &mut people, &dump).is_none());
-    Ok((tree, people))
+    (tree, people)
 }
 
 pub fn load(which: Table, bytes: &[u8]) -> Command<'_> {
@@ -58,8 +57,10 @@ pub fn run(
     }
 }
 
-pub fn path(rt: &impl Abort, alloc: Global, text: &[u8]) -> Result<Path, Fail> {
-    Ok(read_path(alloc, text)?.expect(rt, "a path"))
+pub fn path(rt: &impl Abort, alloc: Global, text: &[u8]) -> Path {
+    read_path(alloc, text)
+        .expect(rt, "memory")
+        .expect(rt, "a path")
 }
 
 pub fn chmod(
@@ -68,16 +69,16 @@ pub fn chmod(
     mode: u16,
     recursive: bool,
     names: &[&[u8]],
-) -> Result<Command<'static>, Fail> {
+) -> Command<'static> {
     let mut paths = Vec::new(alloc);
     for name in names {
-        paths.push(path(rt, alloc, name)?)?;
+        paths.push(path(rt, alloc, name)).expect(rt, "memory");
     }
-    Ok(Command::Chmod {
+    Command::Chmod {
         paths: Paths::new(paths),
         mode,
         recursive,
-    })
+    }
 }
 
 /// A new file of a user, under the umask 022.
@@ -88,19 +89,19 @@ pub fn creat(
     kind: Kind,
     mode: u16,
     name: &[u8],
-) -> Result<Command<'static>, Fail> {
-    Ok(Command::Creat(NewFile {
-        path: path(rt, alloc, name)?,
+) -> Command<'static> {
+    Command::Creat(NewFile {
+        path: path(rt, alloc, name),
         kind,
-        user: Name::from_bytes(alloc, user)?,
+        user: Name::from_bytes(alloc, user).expect(rt, "memory"),
         mode,
         umask: 0o22,
-    }))
+    })
 }
 
 /// Whether a path is that of a text.
-pub fn is_path(rt: &impl Abort, alloc: Global, found: &Path, text: &[u8]) -> Result<bool, Fail> {
-    Ok(found.order(&path(rt, alloc, text)?) == Ordering::Equal)
+pub fn is_path(rt: &impl Abort, alloc: Global, found: &Path, text: &[u8]) -> bool {
+    found.order(&path(rt, alloc, text)) == Ordering::Equal
 }
 
 pub fn mode_at(tree: &Tree, path: &Path) -> Option<u16> {
@@ -111,44 +112,37 @@ pub fn mode_at(tree: &Tree, path: &Path) -> Option<u16> {
 }
 
 /// A file's mode.
-pub fn mode(rt: &impl Abort, alloc: Global, tree: &Tree, name: &[u8]) -> Result<u16, Fail> {
-    let path = path(rt, alloc, name)?;
-    Ok(tree.get(&path).expect(rt, "a file").label.acl.mode())
+pub fn mode(rt: &impl Abort, alloc: Global, tree: &Tree, name: &[u8]) -> u16 {
+    let path = path(rt, alloc, name);
+    tree.get(&path).expect(rt, "a file").label.acl.mode()
 }
 
 /// A file's flags: setuid, setgid and sticky.
-pub fn flags(rt: &impl Abort, alloc: Global, tree: &Tree, name: &[u8]) -> Result<[bool; 3], Fail> {
-    let path = path(rt, alloc, name)?;
-    Ok(tree.get(&path).expect(rt, "a file").flags)
+pub fn flags(rt: &impl Abort, alloc: Global, tree: &Tree, name: &[u8]) -> [bool; 3] {
+    let path = path(rt, alloc, name);
+    tree.get(&path).expect(rt, "a file").flags
 }
 
 /// Whether a file is a directory.
-pub fn kind(rt: &impl Abort, alloc: Global, tree: &Tree, name: &[u8]) -> Result<Kind, Fail> {
-    let path = path(rt, alloc, name)?;
-    Ok(tree.get(&path).expect(rt, "a file").kind)
+pub fn kind(rt: &impl Abort, alloc: Global, tree: &Tree, name: &[u8]) -> Kind {
+    let path = path(rt, alloc, name);
+    tree.get(&path).expect(rt, "a file").kind
 }
 
 /// The lists of a file in the short form, users and groups by number, with a slash before a default list.
-fn lists(alloc: Global, node: &Node) -> Result<Vec<u8>, Fail> {
+fn lists(rt: &impl Abort, alloc: Global, node: &Node) -> Vec<u8> {
     let mut text = Vec::new(alloc);
-    append_short(&mut text, &node.label.acl, &NoNames)?;
+    append_short(&mut text, &node.label.acl, &NoNames).expect(rt, "memory");
     if let Some(dacl) = &node.dacl {
-        text.push(b'/')?;
-        append_short(&mut text, dacl, &NoNames)?;
+        text.push(b'/').expect(rt, "memory");
+        append_short(&mut text, dacl, &NoNames).expect(rt, "memory");
     }
-    Ok(text)
+    text
 }
 
 /// A file has these lists.
-pub fn expect_lists(
-    rt: &impl Abort,
-    alloc: Global,
-    tree: &Tree,
-    name: &[u8],
-    want: &str,
-) -> Result<(), Fail> {
-    let path = path(rt, alloc, name)?;
-    let found = lists(alloc, tree.get(&path).expect(rt, "a file"))?;
+pub fn expect_lists(rt: &impl Abort, alloc: Global, tree: &Tree, name: &[u8], want: &str) {
+    let path = path(rt, alloc, name);
+    let found = lists(rt, alloc, tree.get(&path).expect(rt, "a file"));
     assert!(rt; found.as_slice() == want.as_bytes(), "not {want}");
-    Ok(())
 }

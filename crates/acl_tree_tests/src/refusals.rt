@@ -4,7 +4,6 @@ use acl_people::People;
 use acl_tree::{Command, Record, Table, Tree};
 use std::alloc::Global;
 use std::cmp::Ordering;
-use std::test::Fail;
 
 fn is_same_file(file: &Record, other: &Record) -> bool {
     file.path().order(other.path()) == Ordering::Equal
@@ -50,27 +49,26 @@ fn changes_nothing(
 }
 
 #[test]
-fn refusals_leave_a_loaded_state(rt: HostRuntime) -> Result<(), Fail> {
+fn refusals_leave_a_loaded_state(rt: HostRuntime) {
     let alloc = rt.alloc();
-    let mut state = setup(&rt, alloc)?;
-    let other = setup(&rt, alloc)?;
+    let mut state = setup(&rt, alloc);
+    let other = setup(&rt, alloc);
     let refused = [
         load(Table::Passwd, PASSWD),
         load(Table::Group, GROUP),
         load(Table::Dump, DUMP),
-        chmod(&rt, alloc, 0o777, true, &[b"d", b"nosuch"])?,
+        chmod(&rt, alloc, 0o777, true, &[b"d", b"nosuch"]),
     ];
     for command in &refused {
         assert!(rt; changes_nothing(alloc, &mut state, command, &other));
     }
-    Ok(())
 }
 
 #[test]
-fn faulty_texts_leave_an_empty_state(rt: HostRuntime) -> Result<(), Fail> {
+fn faulty_texts_leave_an_empty_state(rt: HostRuntime) {
     let alloc = rt.alloc();
-    let mut state = (Tree::new(alloc), People::new(alloc)?);
-    let other = (Tree::new(alloc), People::new(alloc)?);
+    let mut state = (Tree::new(alloc), People::new(alloc).expect(&rt, "memory"));
+    let other = (Tree::new(alloc), People::new(alloc).expect(&rt, "memory"));
     let refused = [
         load(
             Table::Passwd,
@@ -82,5 +80,4 @@ fn faulty_texts_leave_an_empty_state(rt: HostRuntime) -> Result<(), Fail> {
     for command in &refused {
         assert!(rt; changes_nothing(alloc, &mut state, command, &other));
     }
-    Ok(())
 }
