@@ -58,27 +58,6 @@ fn an_entry_is_added(rt: HostRuntime) {
 }
 
 #[test]
-fn default_entries_skip_files_below(rt: HostRuntime) {
-    let alloc = rt.alloc();
-    let (mut tree, mut people) = setup_with(&rt, alloc, FIVE);
-    let one = line(&rt, alloc, &people, (b"", b"d:u:joe:rx"), false, b"f");
-    let refused = run(alloc, &mut tree, &mut people, &one);
-    match &refused {
-        Some(TreeFault::Edit { fault, .. }) => {
-            assert!(rt; *fault == EditFault::DefaultOnFile);
-        }
-        _ => assert!(rt; false),
-    }
-    let all = line(&rt, alloc, &people, (b"", b"d:u:joe:rx"), true, b".");
-    assert!(rt; run(alloc, &mut tree, &mut people, &all).is_none());
-    let top = "u::rwx,g::r-x,o::r-x/u::rwx,u:1000:r-x,g::r-x,m::r-x,o::r-x";
-    expect_lists(&rt, alloc, &tree, b".", top);
-    expect_lists(&rt, alloc, &tree, b"f", "u::rw-,g::r--,o::---");
-    let below = "u::rwx,g::r-x,g:70:rwx,m::rwx,o::r-x/u::rwx,u:1000:r-x,g::r-x,m::r-x,o::r-x";
-    expect_lists(&rt, alloc, &tree, b"pub", below)
-}
-
-#[test]
 fn a_refused_file_leaves_those_before_it(rt: HostRuntime) {
     let alloc = rt.alloc();
     let (mut tree, mut people) = setup_with(&rt, alloc, FIVE);
@@ -93,13 +72,4 @@ fn a_refused_file_leaves_those_before_it(rt: HostRuntime) {
         _ => assert!(rt; false),
     }
     expect_lists(&rt, alloc, &tree, b"f", "u::rw-,g::r--,o::---")
-}
-
-#[test]
-fn a_missing_operand_comes_first(rt: HostRuntime) {
-    let alloc = rt.alloc();
-    let (mut tree, mut people) = setup_with(&rt, alloc, FIVE);
-    let command = line(&rt, alloc, &people, (b"", b"d:u:joe:rx"), false, b"no");
-    let refused = run(alloc, &mut tree, &mut people, &command);
-    assert!(rt; matches!(refused, Some(TreeFault::NoSuchFile { .. })));
 }

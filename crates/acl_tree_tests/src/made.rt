@@ -5,7 +5,6 @@ use acl_people::People;
 use acl_text::{NoNames, append_short};
 use acl_tree::{Command, NewFile, Paths, Table, Tree, TreeFault};
 use std::alloc::Global;
-use std::cmp::Ordering;
 use std::process::Abort;
 
 pub const PASSWD: &[u8] = b"lisa:x:1001:50:Lisa:/home/lisa:/bin/sh\n\
@@ -97,11 +96,6 @@ pub fn creat(
         mode,
         umask: 0o22,
     })
-}
-
-/// Whether a path is that of a text.
-pub fn is_path(rt: &impl Abort, alloc: Global, found: &Path, text: &[u8]) -> bool {
-    found.order(&path(rt, alloc, text)) == Ordering::Equal
 }
 
 pub fn mode_at(tree: &Tree, path: &Path) -> Option<u16> {
