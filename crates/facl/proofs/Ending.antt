@@ -7,7 +7,7 @@ use Rattle.facl_script.specs.declared.fault.ScriptFault.{ScriptFault}
 use Rattle.facl_script.specs.declared.fault.ScriptFault.TheVariants.{Read, Write, TooLong, NoMemory}
 use Rattle.facl_messages.specs.Faults.{run_fault_of_script}
 use Rattle.facl_messages.specs.declared.fault.RunFault.{RunFault}
-use Rattle.facl.specs.Tools.{Verdict}
+use Rattle.facl_tools.specs.Tools.{Verdict}
 use Rattle.facl.specs.Units.{answered}
 use Rattle.facl.specs.declared.status.Status.{Status}
 use Rattle.facl.specs.Runs.{EndsBy, RunsTo, has_refused}

@@ -1,5 +1,2 @@
-pub mod Steps
-pub mod Listed
-pub mod Modes
 pub mod Refusing
 pub mod Ending

@@ -11,7 +11,7 @@ use Rattle.facl_messages.specs.declared.fault.RunFault.{RunFault}
 use Rattle.facl_messages.specs.declared.fault.RunFault.TheVariants.{Read, Write, Setup, ScriptTooLong, NoMemory}
 use Rattle.facl.specs.declared.status.Status.{Status}
 use Rattle.facl.specs.declared.status.Status.TheVariants.{Accepted, Refused}
-use Rattle.facl.specs.Tools.{Verdict}
+use Rattle.facl_tools.specs.Tools.{Verdict}
 use Rattle.facl.specs.Units.{answered}
 
 -- a line was refused

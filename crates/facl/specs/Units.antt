@@ -14,8 +14,8 @@ use Rattle.facl_messages.specs.Faults.{line_fault_of_split}
 use Rattle.facl_messages.specs.Messages.{message}
 use Rattle.facl_messages.specs.declared.fault.LineFault.{LineFault}
 use Rattle.facl_messages.specs.declared.fault.LineFault.TheVariants.{LineTooLong, UnknownTool, UnendedText, TextLineTooLong, Usage, NoMemory}
-use Rattle.facl.specs.Replies.{Reply, after, or_fault, printed}
-use Rattle.facl.specs.Tools.{Verdict, is_served, tool_line}
+use Rattle.facl_tools.specs.Replies.{Reply, after, or_fault, printed}
+use Rattle.facl_tools.specs.Tools.{Verdict, is_served, tool_line}
 
 -- a line that is blank or a comment, as far as it is within the limit
 abbrev pub is_silent : Option (List ℕ) → Bool

@@ -6,19 +6,11 @@
 #![tactic(auto)]
 
 mod answer;
-mod can;
-mod change;
-mod chmod;
-mod effect;
-mod getfacl;
 mod line;
-mod load;
-mod operands;
 mod program;
 mod session;
 mod setup;
 mod status;
-mod tools;
 
 pub use facl_messages::{LineFault, RunFault, Source, append_message, append_run_fault};
 pub use facl_script::{Feed, Sink, StdFeed, StdSink};

@@ -5,14 +5,13 @@ ghost use Rattle.acl_entry.specs.Check.{rights};
 ghost use Rattle.facl_script.specs.Units.{UnitText};
 ghost use Rattle.facl_script.specs.ReadText.{IsTextFound};
 ghost use Rattle.facl_script.specs.ReadUnit.{IsLineFound};
-ghost use Rattle.facl.specs.Replies.{Gives, left};
+ghost use Rattle.facl_tools.specs.Replies.{Gives, left};
 ghost use Rattle.facl.specs.Units.{is_silent, words_said, tool_or_fault, text_or_fault, words_or_fault, reply, tool_word};
 
-use crate::effect::Effect;
-use crate::tools::{is_served, tool_line};
 use acl_tree::State;
 use facl_messages::LineFault;
 use facl_script::{TextFound, says_nothing, split_words};
+use facl_tools::{Effect, is_served, tool_line};
 use facl_words::{Tool, read_words};
 use std::alloc::Global;
 
@@ -82,7 +81,7 @@ pub(crate) fn reply(
         → Gives (left state.now) result (reply rights state.now said (map string_bytes words.now)) }
 {
     let [name, words @ ..] = words else {
-        return Ok(Effect::Prints(Vec::new(alloc)));
+        return Ok(Effect::prints(Vec::new(alloc)));
     };
     let tool = tool_meant(name)?;
     let text = text_said(found, text)?;

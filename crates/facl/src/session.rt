@@ -6,15 +6,15 @@ ghost use Rattle.facl_script.specs.Units.{ScriptUnit, UnitText};
 ghost use Rattle.facl_script.specs.ReadText.{IsTextFound};
 ghost use Rattle.facl_script.specs.ReadUnit.{IsUnitFound};
 ghost use Rattle.facl_messages.specs.declared.fault.LineFault.TheVariants.{NoMemory};
-ghost use Rattle.facl.specs.Replies.{left};
+ghost use Rattle.facl_tools.specs.Replies.{left};
 ghost use Rattle.facl.specs.Units.{accepted, refused, told, reply, tool_word, unless_wanting, answered_line};
 ghost use Rattle.facl.specs.Sessions.{state_of, out_of, err_of, wants_memory, IsQuiet, Says};
 
-use crate::effect::Effect;
 use crate::line::{reply, tool_word, words_said};
 use acl_tree::State;
 use facl_messages::{LineFault, Spare, append_message};
 use facl_script::{TextFound, UnitFound};
+use facl_tools::Effect;
 use std::alloc::{AllocError, Global};
 
 /// The state of a script, and what its last line says.
@@ -74,9 +74,9 @@ impl Facl {
         ensures says { Says (accepted (left (state_of self.old) effect)) self.new false }
         ensures memory { wants_memory self.new ≡ false }
     {
-        match effect {
-            Effect::Prints(out) => self.out = out,
-            Effect::Changes(staged) => self.state.commit(staged),
+        self.out = effect.out;
+        if let Some(staged) = effect.staged {
+            self.state.commit(staged);
         }
     }
 

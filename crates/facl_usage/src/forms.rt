@@ -16,14 +16,14 @@ fn are_octal_digits(bytes: &[u8]) -> bool
 }
 
 /// Whether the text is a number of one to four octal digits, as chmod(1) takes it.
-pub(crate) fn is_mode(text: &str) -> bool
+pub fn is_mode(text: &str) -> bool
     ensures { result ≡ is_mode text.now }
 {
     0 < text.len() && text.len() <= 4 && are_octal_digits(text.as_bytes())
 }
 
 /// Whether the text is a number of one to four octal digits, at most 0777.
-pub(crate) fn is_permission_mode(text: &str) -> bool
+pub fn is_permission_mode(text: &str) -> bool
     ensures { result ≡ is_permission_mode text.now }
 {
     is_mode(text) && (text.len() < 4 || text.as_bytes()[0] == b'0')

@@ -4,7 +4,7 @@
 //! asked for by the places of `places`. `fits` is the rules that no table states.
 #![tactic(auto)]
 
-mod forms;
+pub mod forms;
 pub mod places;
 mod rows;
 mod rules;

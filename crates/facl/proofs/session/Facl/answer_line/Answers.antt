@@ -1,5 +1,5 @@
 use Rattle.std.proofs.Common.{true, subst, map, string_bytes}
-use Rattle.facl.specs.Replies.{Gives}
+use Rattle.facl_tools.specs.Replies.{Gives}
 use Rattle.facl.specs.Sessions.{state_of, wants_memory, Says}
 use Rattle.facl.specs.Units.{words_said}
 use Rattle.facl.proofs.Refusing.{refused_line}

@@ -1,10 +1,9 @@
 //! What the tools do, by the words that they were given.
 
-ghost use Rattle.std.specs.Prelude.{◌≡◌, IsTrue, List, ℕ};
+ghost use Rattle.std.specs.Prelude.{◌≡◌};
 ghost use Rattle.acl_entry.specs.Check.{rights};
-ghost use Rattle.facl_words.specs.Rules.{fits_tool};
-ghost use Rattle.facl.specs.Replies.{Gives, left};
-ghost use Rattle.facl.specs.Tools.{is_served, tool_line};
+ghost use Rattle.facl_tools.specs.Replies.{Gives, left};
+ghost use Rattle.facl_tools.specs.Tools.{is_served, tool_line};
 
 use crate::can::can;
 use crate::chmod::chmod;
@@ -13,25 +12,24 @@ use crate::getfacl::getfacl;
 use crate::load::load;
 use acl_tree::State;
 use facl_messages::LineFault;
-use facl_words::{Tool, Words};
+use facl_usage::{Tool, Words};
 use std::alloc::Global;
 
 /// Whether a script may use the tool.
-pub(crate) fn is_served(tool: Tool) -> bool
+pub fn is_served(tool: Tool) -> bool
     ensures { result ≡ is_served tool }
 {
     matches!(tool, Tool::Load | Tool::Getfacl | Tool::Chmod | Tool::Can)
 }
 
 /// What a tool does at a state.
-pub(crate) fn tool_line(
+pub fn tool_line(
     alloc: Global,
     state: &State,
     tool: Tool,
     words: &Words,
     text: &[u8],
 ) -> Result<Effect, LineFault>
-    requires { IsTrue (fits_tool tool words.now) }
     ensures { Gives (left state.now) result (tool_line rights state.now tool words.now text.now) }
 {
     match tool {

@@ -1,8 +1,8 @@
 //! The operands of a line: files and users.
 
 ghost use Rattle.std.specs.Prelude.{◌≡◌, option_map};
-ghost use Rattle.facl.specs.Replies.{Gives};
-ghost use Rattle.facl.specs.Operands.{path_at, paths_from, name_meant, user_of, user_or_fault, file_or_fault};
+ghost use Rattle.facl_tools.specs.Replies.{Gives};
+ghost use Rattle.facl_tools.specs.Operands.{path_at, paths_from, name_meant, user_of, user_or_fault, file_or_fault};
 
 use acl_edit::Node;
 use acl_entry::Subject;
@@ -11,7 +11,7 @@ use acl_people::People;
 use acl_text::{FaultKind, TextFault, trim};
 use acl_tree::{Paths, Tree, TreeFault};
 use facl_messages::{LineFault, Source};
-use facl_words::Word;
+use facl_usage::Word;
 use std::alloc::Global;
 
 /// The path of the operand at a place, counted from 1.

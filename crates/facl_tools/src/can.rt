@@ -1,8 +1,8 @@
 //! The tool `can`: what a user may do with a file.
 
 ghost use Rattle.acl_entry.specs.Check.{rights};
-ghost use Rattle.facl.specs.Replies.{Gives, left};
-ghost use Rattle.facl.specs.Tools.{can_at, can_line, can_user};
+ghost use Rattle.facl_tools.specs.Replies.{Gives, left};
+ghost use Rattle.facl_tools.specs.Tools.{can_at, can_line, can_user};
 
 use crate::effect::Effect;
 use crate::operands::{file_at, path_at, user_meant};
@@ -11,8 +11,8 @@ use acl_names::Path;
 use acl_tree::State;
 use facl_listings::append_requests;
 use facl_messages::LineFault;
-use facl_words::Words;
-use facl_words::places::can::{FILE, USER};
+use facl_usage::Words;
+use facl_usage::places::can::{FILE, USER};
 use std::alloc::Global;
 
 /// What a user may do with the file of a path.
@@ -22,7 +22,7 @@ fn can_user(alloc: Global, state: &State, path: Path, user: &Subject) -> Result<
     let node = file_at(state.tree(), path)?;
     let mut out = Vec::new(alloc);
     append_requests(&mut out, granted(user, &node.label))?;
-    Ok(Effect::Prints(out))
+    Ok(Effect::prints(out))
 }
 
 /// What the user that a word means may do with the file of a path.

@@ -1,12 +1,12 @@
 use Rattle.std.proofs.Common.{◌∙◌, ap, sym, subst, codes}
 use Rattle.acl_entry.specs.Check.{rights}
-use Rattle.facl_words.specs.Places.{operand}
+use Rattle.facl_usage.specs.Places.{operand}
 use Rattle.facl_usage.specs.declared.tool.Tool.TheVariants as tools
-use Rattle.facl.specs.Replies.{Gives, left}
-use Rattle.facl.specs.Operands.{path_at}
-use Rattle.facl.specs.Tools.{can_at}
-use Rattle.facl.proofs.Steps.{then_gives}
-use Rattle.facl.proofs.can.can.Goals as goal
+use Rattle.facl_tools.specs.Replies.{Gives, left}
+use Rattle.facl_tools.specs.Operands.{path_at}
+use Rattle.facl_tools.specs.Tools.{can_at}
+use Rattle.facl_tools.proofs.Steps.{then_gives}
+use Rattle.facl_tools.proofs.can.can.Goals as goal
 
 pub returns : goal.returns
 returns c =

@@ -1,5 +1,5 @@
 -- What each tool does, by the words that it was given.
-use Rattle.std.specs.Prelude.{ℕ, ◌+◌, ◌*◌, ◌-◌, List, [], ◌∷◌, Bool, true, false, if◌then◌else◌, codes, Result, Ok, Err}
+use Rattle.std.specs.Prelude.{ℕ, List, Bool, true, false, if◌then◌else◌, codes, Result, Ok, Err}
 use Rattle.std.specs.Str.{bytes_eq}
 use Rattle.acl_entry.specs.Person.{Person}
 use Rattle.acl_entry.specs.declared.label.Label.{Label}
@@ -14,18 +14,19 @@ use Rattle.acl_people.specs.Registers.{Register, users_of, groups_of}
 use Rattle.acl_people.specs.Rolls.{name_shown}
 use Rattle.acl_tree.specs.Found.{FoundFile, files_found}
 use Rattle.acl_tree.specs.Step.{State, load, step}
-use Rattle.facl_words.specs.Forms.{Text}
-use Rattle.facl_words.specs.Places.{has, operand, operands_from}
+use Rattle.facl_usage.specs.Forms.{Text}
+use Rattle.facl_usage.specs.Places.{has, operand, operands_from}
 use Rattle.facl_usage.specs.declared.tool.Tool.{Tool}
 use Rattle.facl_usage.specs.declared.tool.Tool.TheVariants as tools
 use Rattle.facl_usage.specs.declared.words.Words.{Words}
 use Rattle.facl_messages.specs.declared.fault.LineFault.{LineFault}
-use Rattle.facl_messages.specs.declared.fault.LineFault.TheVariants.{UnknownTool}
+use Rattle.facl_messages.specs.declared.fault.LineFault.TheVariants.{UnknownTool, Usage}
 use Rattle.facl_listings.specs.declared.options.Options.{Options}
 use Rattle.facl_listings.specs.Listings.{listing}
 use Rattle.facl_listings.specs.Requests.{requests_line}
-use Rattle.facl.specs.Replies.{Reply, after, changed, printed}
-use Rattle.facl.specs.Operands.{path_at, paths_from, name_meant, user_or_fault, file_or_fault, recorded_or_fault}
+use Rattle.facl_tools.specs.Replies.{Reply, after, or_fault, changed, printed}
+use Rattle.facl_tools.specs.Modes.{mode_of}
+use Rattle.facl_tools.specs.Operands.{path_at, paths_from, name_meant, user_or_fault, file_or_fault, recorded_or_fault}
 
 -- who may do what with which files: what an access check grants
 abbrev pub Verdict : Type 0
@@ -41,18 +42,14 @@ load_line s w text = changed (load s (table_named (operand tools.Load w (codes "
 
 -- ---- chmod(1)
 
--- the number that octal digits write after those of a number
-abbrev pub octal_after : ℕ → Text → ℕ
-octal_after n [] = n
-octal_after n (digit ∷ digits) = octal_after (8 * n + (digit - 48)) digits
-
-abbrev pub mode_of : Text → ℕ
-mode_of digits = octal_after 0 digits
+-- this mode is put into the files
+abbrev pub chmod_files : State → Words → ℕ → Result Reply LineFault
+chmod_files s w mode =
+    after (paths_from 1 (operands_from tools.Chmod w (codes "file")))
+    (λ paths. changed (step s (Chmod paths mode (has tools.Chmod w (codes "R")))))
 
 abbrev pub chmod_line : State → Words → Result Reply LineFault
-chmod_line s w =
-    after (paths_from 1 (operands_from tools.Chmod w (codes "file")))
-    (λ paths. changed (step s (Chmod paths (mode_of (operand tools.Chmod w (codes "mode"))) (has tools.Chmod w (codes "R")))))
+chmod_line s w = after (or_fault Usage (mode_of (operand tools.Chmod w (codes "mode")))) (chmod_files s w)
 
 -- ---- getfacl(1)
 

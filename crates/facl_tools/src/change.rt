@@ -1,6 +1,6 @@
 //! Commands on the state.
 
-ghost use Rattle.facl.specs.Replies.{Gives, left, changed};
+ghost use Rattle.facl_tools.specs.Replies.{Gives, left, changed};
 ghost use Rattle.acl_tree.specs.Step.{step};
 
 use crate::effect::Effect;
@@ -8,7 +8,7 @@ use acl_tree::{Command, State};
 use facl_messages::LineFault;
 use std::alloc::Global;
 
-/// The state after a command, prepared. The state that stands is left as it is.
+/// The state after a command, prepared. The present state is left as it is.
 pub(crate) fn prepare(
     alloc: Global,
     state: &State,
@@ -17,5 +17,5 @@ pub(crate) fn prepare(
     ensures { Gives (left state.now) result (changed (step state.now command.now)) }
 {
     let staged = state.prepare(alloc, command)?;
-    Ok(Effect::Changes(staged))
+    Ok(Effect::changes(alloc, staged))
 }

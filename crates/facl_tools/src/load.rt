@@ -1,17 +1,17 @@
 //! The tool `load`: a text is read as users, groups or files.
 
 ghost use Rattle.std.specs.Prelude.{◌≡◌, codes};
-ghost use Rattle.facl_words.specs.Places.{operand};
+ghost use Rattle.facl_usage.specs.Places.{operand};
 ghost use Rattle.facl_usage.specs.declared.tool.Tool.TheVariants as tools;
-ghost use Rattle.facl.specs.Replies.{Gives, left};
-ghost use Rattle.facl.specs.Tools.{table_named, load_line};
+ghost use Rattle.facl_tools.specs.Replies.{Gives, left};
+ghost use Rattle.facl_tools.specs.Tools.{table_named, load_line};
 
 use crate::change::prepare;
 use crate::effect::Effect;
 use acl_tree::{Command, State, Table};
 use facl_messages::LineFault;
-use facl_words::Words;
-use facl_words::places::load::TABLE;
+use facl_usage::Words;
+use facl_usage::places::load::TABLE;
 use std::alloc::Global;
 
 fn table_named(name: &str) -> Table

@@ -1,8 +1,8 @@
 //! The tool getfacl(1).
 
 ghost use Rattle.std.specs.Prelude.{◌≡◌};
-ghost use Rattle.facl.specs.Replies.{Gives, left};
-ghost use Rattle.facl.specs.Tools.{effective_for, options_of, getfacl_line};
+ghost use Rattle.facl_tools.specs.Replies.{Gives, left};
+ghost use Rattle.facl_tools.specs.Tools.{effective_for, options_of, getfacl_line};
 
 use crate::effect::Effect;
 use crate::operands::paths_of;
@@ -10,8 +10,8 @@ use acl_dump::Effective;
 use acl_tree::State;
 use facl_listings::{Options, append_listing};
 use facl_messages::LineFault;
-use facl_words::Words;
-use facl_words::places::getfacl::{
+use facl_usage::Words;
+use facl_usage::places::getfacl::{
     ACCESS, ALL_EFFECTIVE, FILES, NO_EFFECTIVE, NUMERIC, OMIT_HEADER, RECURSIVE, SKIP_BASE,
 };
 use std::alloc::Global;
@@ -51,5 +51,5 @@ pub(crate) fn getfacl(alloc: Global, state: &State, words: &Words) -> Result<Eff
         .files(alloc, &paths, words.flags.has(RECURSIVE))?;
     let mut out = Vec::new(alloc);
     append_listing(&mut out, state.people(), &options_of(words), &files)?;
-    Ok(Effect::Prints(out))
+    Ok(Effect::prints(out))
 }

@@ -1,7 +1,7 @@
 -- Steps of a reply, one after another.
 use Rattle.std.proofs.Common.{◌≡◌, Result, Ok, subst, sym}
 use Rattle.facl_messages.specs.declared.fault.LineFault.{LineFault}
-use Rattle.facl.specs.Replies.{Gives, after}
+use Rattle.facl_tools.specs.Replies.{Gives, after}
 
 -- what comes next is what is given, where nothing was wrong so far
 pub then_gives : {A B C : Type 0} (view : C → B) (given : Result C LineFault) (m : Result A LineFault) (a : A) (next : A → Result B LineFault)

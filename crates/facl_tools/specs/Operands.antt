@@ -11,11 +11,11 @@ use Rattle.acl_people.specs.Registers.{Register, users_of, subject}
 use Rattle.acl_people.specs.Rolls.{place_of_word}
 use Rattle.acl_tree.specs.declared.command.TreeFault.TheVariants.{NoSuchFile, NoSuchUser}
 use Rattle.acl_tree.specs.Files.{PathOf, Files}
-use Rattle.facl_words.specs.Forms.{Text}
+use Rattle.facl_usage.specs.Forms.{Text}
 use Rattle.facl_messages.specs.declared.fault.LineFault.{LineFault}
 use Rattle.facl_messages.specs.declared.fault.LineFault.TheVariants as faults
 use Rattle.facl_messages.specs.declared.fault.Source.TheVariants.{Operand}
-use Rattle.facl.specs.Replies.{after, or_fault}
+use Rattle.facl_tools.specs.Replies.{after, or_fault}
 
 -- the operand at this place, counted from 1, is no path
 abbrev pub bad_operand : ℕ → LineFault

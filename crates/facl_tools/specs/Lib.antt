@@ -1,0 +1,4 @@
+pub mod Replies
+pub mod Operands
+pub mod Modes
+pub mod Tools

@@ -1,0 +1,42 @@
+//! What an accepted line does.
+
+ghost use Rattle.std.specs.Prelude.{◌≡◌, [], false};
+ghost use Rattle.acl_tree.specs.Step.{State};
+ghost use Rattle.facl_tools.specs.Replies.{left, printed};
+
+use acl_tree::Staged;
+use std::alloc::Global;
+
+/// What an accepted line does. It is used up by whoever answers the line.
+pub struct Effect {
+    /// What is printed.
+    pub out: Vec<u8>,
+    /// The state that replaces the present one; `None` where the state stays.
+    pub staged: Option<Staged>,
+    /// Whether default entries were dropped, which setfacl(1) warns of.
+    pub warns: bool,
+}
+
+impl Effect {
+    /// The state stays, and this is printed.
+    pub fn prints(out: Vec<u8>) -> Effect
+        ensures { (s : State) → left s result ≡ printed s out.items }
+    {
+        Effect {
+            out,
+            staged: None,
+            warns: false,
+        }
+    }
+
+    /// The state becomes this one, and nothing is printed.
+    pub fn changes(alloc: Global, staged: Staged) -> Effect
+        ensures { (s : State) → left s result ≡ record { state = staged.state; out = []; warns = false } }
+    {
+        Effect {
+            out: Vec::new(alloc),
+            staged: Some(staged),
+            warns: false,
+        }
+    }
+}

@@ -1,0 +1,18 @@
+//! The tools of a script: what each does at a state, by the words that it was given.
+//!
+//! [`tool_line`] reads a line's words into an effect: what is printed, and the state that is to replace the present
+//! one. It changes nothing; whoever answers the line puts the effect in place.
+#![tactic(auto)]
+
+mod can;
+mod change;
+mod chmod;
+mod effect;
+mod getfacl;
+mod load;
+mod mode;
+mod operands;
+mod tools;
+
+pub use effect::Effect;
+pub use tools::{is_served, tool_line};
