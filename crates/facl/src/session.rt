@@ -74,8 +74,13 @@ impl Facl {
         ensures says { Says (accepted (left (state_of self.old) effect)) self.new false }
         ensures memory { wants_memory self.new ≡ false }
     {
-        self.out = effect.out;
-        if let Some(staged) = effect.staged {
+        let Effect {
+            out,
+            staged,
+            warns: _,
+        } = effect;
+        self.out = out;
+        if let Some(staged) = staged {
             self.state.commit(staged);
         }
     }

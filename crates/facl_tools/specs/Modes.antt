@@ -1,5 +1,5 @@
 -- Octal modes: chmod(1), umask(1).
-use Rattle.std.specs.Prelude.{ℕ, ◌+◌, ◌*◌, ◌-◌, List, [], ◌∷◌, if◌then◌else◌, Option, None, Some}
+use Rattle.std.specs.Prelude.{ℕ, ◌+◌, ◌*◌, ◌-◌, [], ◌∷◌, if◌then◌else◌, Option, None, Some}
 use Rattle.facl_usage.specs.Forms.{Text, is_mode}
 
 -- the number that octal digits write after those of a number

@@ -17,12 +17,7 @@ use facl_usage::places::chmod::{FILES, MODE, RECURSIVE};
 use std::alloc::Global;
 
 /// Puts a mode into the files of a line.
-fn chmod_files(
-    alloc: Global,
-    state: &State,
-    words: &Words,
-    mode: u16,
-) -> Result<Effect, LineFault>
+fn chmod_files(alloc: Global, state: &State, words: &Words, mode: u16) -> Result<Effect, LineFault>
     ensures { Gives (left state.now) result (chmod_files state.now words.now mode) }
 {
     let paths = paths_of(alloc, words.operands.starting_at(FILES))?;
