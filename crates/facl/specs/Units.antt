@@ -51,13 +51,15 @@ words_or_fault tool words = or_fault Usage (words_for tool words)
 
 -- ---- what is answered
 
+-- what a tool does at a state with the text and the words after its name
+abbrev pub tool_reply : Verdict → State → UnitText → List Text → Tool → Result Reply LineFault
+tool_reply verdict s text words tool =
+    after (text_or_fault text) (λ said. after (words_or_fault tool words) (λ w. tool_line verdict s tool w said))
+
 -- what the words of a line do at a state: its reply, or its first fault
 abbrev pub reply : Verdict → State → UnitText → List Text → Result Reply LineFault
 reply verdict s text [] = Ok (printed s [])
-reply verdict s text (name ∷ words) =
-    after (tool_or_fault name)
-    (λ tool. after (text_or_fault text)
-    (λ said. after (words_or_fault tool words) (λ w. tool_line verdict s tool w said)))
+reply verdict s text (name ∷ words) = after (tool_or_fault name) (tool_reply verdict s text words)
 
 -- a refused line leaves the state, and its message names its number, its tool and the fault
 abbrev pub refused : ℕ → Text → LineFault → State → Answer State

@@ -6,13 +6,13 @@ ghost use Rattle.facl_script.specs.Units.{UnitText};
 ghost use Rattle.facl_script.specs.ReadText.{IsTextFound};
 ghost use Rattle.facl_script.specs.ReadUnit.{IsLineFound};
 ghost use Rattle.facl_tools.specs.Replies.{Gives, left};
-ghost use Rattle.facl.specs.Units.{is_silent, words_said, tool_or_fault, text_or_fault, words_or_fault, reply, tool_word};
+ghost use Rattle.facl.specs.Units.{is_silent, words_said, tool_or_fault, text_or_fault, words_or_fault, tool_reply, reply, tool_word};
 
 use acl_tree::State;
 use facl_messages::LineFault;
 use facl_script::{TextFound, says_nothing, split_words};
 use facl_tools::{Effect, is_served, tool_line};
-use facl_words::{Tool, read_words};
+use facl_words::{Tool, Words, read_words};
 use std::alloc::Global;
 
 /// Whether a line within the limit is blank or a comment.
@@ -69,6 +69,30 @@ pub(crate) fn tool_word(words: &[String]) -> &[u8]
     }
 }
 
+/// The meaning of a tool's words.
+fn words_meant(alloc: Global, tool: Tool, words: &[String]) -> Result<Words, LineFault>
+    ensures { Gives (λ w. w) result (words_or_fault tool (map string_bytes words.now)) }
+{
+    Ok(read_words(alloc, tool, words)?)
+}
+
+/// What a tool does at a state with the text of a line and the words after its name.
+fn tool_reply(
+    alloc: Global,
+    state: &State,
+    found: TextFound,
+    text: &[u8],
+    words: &[String],
+    tool: Tool,
+) -> Result<Effect, LineFault>
+    ensures { (said : UnitText) → IsTextFound found text.now said
+        → Gives (left state.now) result (tool_reply rights state.now said (map string_bytes words.now) tool) }
+{
+    let text = text_said(found, text)?;
+    let words = words_meant(alloc, tool, words)?;
+    tool_line(alloc, state, tool, &words, text)
+}
+
 /// What the words of a line do at a state.
 pub(crate) fn reply(
     alloc: Global,
@@ -84,7 +108,5 @@ pub(crate) fn reply(
         return Ok(Effect::prints(Vec::new(alloc)));
     };
     let tool = tool_meant(name)?;
-    let text = text_said(found, text)?;
-    let words = read_words(alloc, tool, words)?;
-    tool_line(alloc, state, tool, &words, text)
+    tool_reply(alloc, state, found, text, words, tool)
 }

@@ -1,8 +1,10 @@
 //! The texts that are loaded before a script.
 
 ghost use Rattle.std.specs.Prelude.{◌≡◌, ◌≢◌, Ok, Err, MatchResult, option_map};
-ghost use Rattle.facl_messages.specs.declared.fault.RunFault.TheVariants.{NoMemory};
-ghost use Rattle.facl.specs.Setups.{with_text, begun};
+ghost use Rattle.acl_tree.specs.Step.{load};
+ghost use Rattle.acl_tree.specs.declared.command.TreeFault.TheVariants as trees;
+ghost use Rattle.facl_messages.specs.declared.fault.RunFault.TheVariants as runs;
+ghost use Rattle.facl.specs.Setups.{set_up, with_text, begun};
 
 use acl_tree::{Command, State, Table, TreeFault};
 use facl_messages::RunFault;
@@ -19,28 +21,52 @@ pub struct Setup<'a> {
     pub dump: Option<&'a [u8]>,
 }
 
-/// The state with a text loaded, if there is one.
-fn with_text(
+/// The fault of a setup whose text is refused so.
+fn setup_fault(which: Table, fault: TreeFault) -> RunFault
+    ensures memory { fault ≡ trees.NoMemory → result ≡ runs.NoMemory }
+    ensures setup { result ≢ runs.NoMemory → result ≡ runs.Setup which fault }
+{
+    match fault {
+        TreeFault::NoMemory => RunFault::NoMemory,
+        _ => RunFault::Setup { which, fault },
+    }
+}
+
+/// The state with a text loaded.
+fn with_loaded(
     alloc: Global,
     which: Table,
-    text: Option<&[u8]>,
+    text: &[u8],
     mut state: State,
 ) -> Result<State, RunFault>
     ensures { MatchResult result
-        (λ new. with_text which (option_map (λ t. t.now) text.entry) state ≡ Ok new)
-        (λ fault. fault ≢ NoMemory → with_text which (option_map (λ t. t.now) text.entry) state ≡ Err fault) }
+        (λ new. set_up which (load state which text.now) ≡ Ok new)
+        (λ fault. fault ≢ runs.NoMemory → set_up which (load state which text.now) ≡ Err fault) }
 {
-    let Some(text) = text else {
-        return Ok(state);
-    };
     let command = Command::Load { which, bytes: text };
     match state.prepare(alloc, &command) {
         Ok(staged) => {
             state.commit(staged);
             Ok(state)
         }
-        Err(TreeFault::NoMemory) => Err(RunFault::NoMemory),
-        Err(fault) => Err(RunFault::Setup { which, fault }),
+        Err(fault) => Err(setup_fault(which, fault)),
+    }
+}
+
+/// The state with a text loaded, if there is one.
+fn with_text(
+    alloc: Global,
+    which: Table,
+    text: Option<&[u8]>,
+    state: State,
+) -> Result<State, RunFault>
+    ensures { MatchResult result
+        (λ new. with_text which (option_map (λ t. t.now) text.entry) state ≡ Ok new)
+        (λ fault. fault ≢ runs.NoMemory → with_text which (option_map (λ t. t.now) text.entry) state ≡ Err fault) }
+{
+    match text {
+        Some(text) => with_loaded(alloc, which, text, state),
+        None => Ok(state),
     }
 }
 
@@ -48,7 +74,7 @@ fn with_text(
 pub(crate) fn start(alloc: Global, setup: &Setup<'_>) -> Result<State, RunFault>
     ensures { MatchResult result
         (λ state. begun setup.now ≡ Ok state)
-        (λ fault. fault ≢ NoMemory → begun setup.now ≡ Err fault) }
+        (λ fault. fault ≢ runs.NoMemory → begun setup.now ≡ Err fault) }
 {
     let state = State::new(alloc)?;
     let state = with_text(alloc, Table::Passwd, setup.passwd, state)?;
