@@ -27,7 +27,7 @@ below_within [] q h = refl
 below_within (x ∷ p) [] h = h
 below_within (x ∷ p) (y ∷ q) h = let parts = and_parts (is_eq (slice_cmp nat_cmp x y)) (is_below p q) h in ap (λ b. b && is_within p q) parts.0 ∙ below_within p q parts.1
 
-below_less : (p q : PathOf) → is_below p q ≡ true → path_cmp p q ≡ Less
+pub below_less : (p q : PathOf) → is_below p q ≡ true → path_cmp p q ≡ Less
 unfolding path_cmp
 below_less [] [] h = cc
 below_less [] (y ∷ q) h = refl

@@ -14,3 +14,4 @@ pub mod Restored
 pub mod NewFiles
 pub mod Each
 pub mod Removals
+pub mod Ancestors

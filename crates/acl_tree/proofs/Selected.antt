@@ -198,7 +198,7 @@ covers_more b ps p before h x none =
 
 -- ---- their files
 
-filter_alike : (f g : PathOf → Bool) → ((q : PathOf) → f q ≡ g q) → (t : Files) → filter (λ e. f e.0) t ≡ filter (λ e. g e.0) t
+pub filter_alike : (f g : PathOf → Bool) → ((q : PathOf) → f q ≡ g q) → (t : Files) → filter (λ e. f e.0) t ≡ filter (λ e. g e.0) t
 filter_alike f g h [] = refl
 filter_alike f g h (e ∷ t) = λ i. cond (h e.0 i) (e ∷ filter_alike f g h t i) (filter_alike f g h t i)
 
@@ -211,7 +211,7 @@ module _ (f g : PathOf → Bool) (apart : (x y : PathOf) → f x ≡ true → g 
       by true is rest = absurd (less_is_not_greater (sym (apart e.0 y is k) ∙ above y e.0 h.0))
       by false is rest = rest
 
-  filter_apart : (t : Files) → IsInOrder t → filter (λ e. f e.0 || g e.0) t ≡ filter (λ e. f e.0) t ++ filter (λ e. g e.0) t
+  pub filter_apart : (t : Files) → IsInOrder t → filter (λ e. f e.0 || g e.0) t ≡ filter (λ e. f e.0) t ++ filter (λ e. g e.0) t
   filter_apart [] order = refl
   filter_apart (e ∷ t) order = by (f e.0) refl (g e.0) refl (filter_apart t (and_parts _ _ order).1)
     where

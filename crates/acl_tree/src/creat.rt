@@ -18,6 +18,7 @@ use crate::dump::MAX_FILES;
 use crate::moved::UsersMove;
 use crate::staged::Staged;
 use crate::tree::{Record, Tree};
+use crate::walks::start_of;
 use acl_edit::{Kind, Node, create};
 use acl_names::{Name, Path};
 use acl_people::People;
@@ -53,12 +54,7 @@ fn exists(tree: &Tree, path: &Path) -> bool
 fn parent_of(alloc: Global, path: &Path) -> Result<Path, AllocError>
     ensures { IfOk result (λ p. p ≡ parent path.now) }
 {
-    let count = path.components().len().saturating_sub(1);
-    let mut above = Vec::with_capacity(alloc, count)?;
-    for component in path.components().split_at(count).0 {
-        above.push(Vec::from_slice(alloc, component)?)?;
-    }
-    Ok(Path::new(above).unwrap())
+    start_of(alloc, path, path.components().len().saturating_sub(1))
 }
 
 /// The directory of a new file.

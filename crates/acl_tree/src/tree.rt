@@ -60,7 +60,7 @@ impl Tree {
     }
 
     /// A copy of the tree that shares its files. Fails only if memory runs out.
-    pub(crate) fn share(&self) -> Result<Tree, AllocError>
+    pub fn share(&self) -> Result<Tree, AllocError>
         ensures { IfOk result (λ tree. tree ≡ self.now) }
     {
         Ok(Tree {
