@@ -29,7 +29,7 @@ none_is_not_some a h = cc
 false_is_not_true : false ≡ true → ⊥
 false_is_not_true h = cc
 
-same : {A : Type 0} (o : Option A) → option_map (λ a. a) o ≡ o
+pub same : {A : Type 0} (o : Option A) → option_map (λ a. a) o ≡ o
 same None = refl
 same (Some a) = refl
 
@@ -38,7 +38,7 @@ node_in n None = n
 node_in n (Some m) = m
 
 module _ (p : PathOf) where
-  find-edited : (test : PathOf → Bool) (g : PathOf → Node → Node) (t : Files) → find path_cmp p (edit_files test g t) ≡ option_map (λ n. if test p then g p n else n) (find path_cmp p t)
+  pub find-edited : (test : PathOf → Bool) (g : PathOf → Node → Node) (t : Files) → find path_cmp p (edit_files test g t) ≡ option_map (λ n. if test p then g p n else n) (find path_cmp p t)
   find-edited test g [] = refl
   find-edited test g (e ∷ t) = by (path_cmp p e.0) refl (find-edited test g t)
     where

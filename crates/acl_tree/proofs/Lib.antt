@@ -15,3 +15,7 @@ pub mod NewFiles
 pub mod Each
 pub mod Removals
 pub mod Ancestors
+pub mod Unnamed
+pub mod Undone
+pub mod AsItIs
+pub mod MasksEach

@@ -1,26 +1,26 @@
 -- A file put among others: what it changes, and that the tree stays sound.
-use Rattle.std.proofs.Common.{◌≡◌, ◌≢◌, ℕ, suc, ◌-◌, ◌<◌, ◌≤◌, arith, Bool, true, false, not, cond, eqb, ◌&&◌, ◌||◌, List, [], ◌∷◌, length, take, filter, Option, Some, None, is_some, Result, Ok, Err, if◌then◌else◌, nat_lt, ltb-false, Ordering, Less, Equal, Greater, refl, sym, ap, subst, ◌∙◌, true≢false}
+use Rattle.std.proofs.Common.{◌≡◌, ℕ, suc, ◌-◌, ◌<◌, ◌≤◌, arith, Bool, true, false, not, cond, eqb, ◌&&◌, ◌||◌, List, [], ◌∷◌, length, take, filter, Option, Some, None, is_some, Result, Ok, Err, if◌then◌else◌, nat_lt, ltb-false, Ordering, Less, Equal, Greater, refl, sym, ap, subst, ◌∙◌, true≢false}
 use Rattle.std.specs.Prelude.{MatchOption}
-use Rattle.std.specs.List.{list_any, list_all}
+use Rattle.std.specs.List.{list_any}
 use Rattle.std.specs.Option.{option_map_or}
 use Rattle.std.specs.Ordering.{is_eq, nat_cmp, eq_by_cmp}
 use Rattle.std.specs.Cmp.Lexicographic.{slice_cmp}
-use Rattle.std.specs.FinMap.{find, put, slice_cmp-IsAntisymmetric, nat_cmp-IsAntisymmetric}
+use Rattle.std.specs.FinMap.{find, put}
 use Rattle.std.specs.FinMap.Entries.{by_order}
 use Rattle.std.proofs.lemmas.Bool.{and_parts, eqb-true}
 use Rattle.std.proofs.lemmas.Cmp.{tied_itself, nat_list_cmp_total}
 use Rattle.acl_names.specs.Paths.{path_cmp}
-use Rattle.acl_names.proofs.PathOrder.{path_total, exact_paths}
+use Rattle.acl_names.proofs.PathOrder.{exact_paths}
 use Rattle.acl_edit.specs.declared.node.Node.{Node}
 use Rattle.acl_text.specs.declared.rows.PasswdRow.{PasswdRow}
 use Rattle.acl_edit.specs.Creation.{inherit}
 use Rattle.acl_edit.specs.Nodes.{IsSound, is_directory}
 use Rattle.acl_edit.specs.declared.node.Kind.{Kind}
 use Rattle.acl_edit.specs.declared.node.Kind.TheVariants.{Plain, Directory}
-use Rattle.path_map.specs.Merged.{put_all, has}
+use Rattle.path_map.specs.Merged.{has}
 use Rattle.path_map.proofs.Convex.{not_before}
 use Rattle.path_map.proofs.Differences.{Fail, put_passes, Leads, leads_all, has_put_all}
-use Rattle.acl_tree.specs.Files.{PathOf, Files, Recorded, IsInOrder, max_files}
+use Rattle.acl_tree.specs.Files.{PathOf, Files, Recorded, max_files}
 use Rattle.acl_tree.specs.Below.{is_below, is_within}
 use Rattle.acl_tree.specs.Changed.{same_label, is_changed, changed_between, gone_between}
 use Rattle.acl_tree.specs.Creat.{exists, parent, only_directory, directory_at, creat_in, creat_by}

@@ -1,23 +1,21 @@
 -- Files removed: what is gone, and that the tree stays sound.
-use Rattle.std.proofs.Common.{◌≡◌, ◌≢◌, ℕ, suc, ◌≤◌, arith, Bool, true, false, not, cond, eqb, ◌&&◌, ◌||◌, List, [], ◌∷◌, length, filter, Option, Some, None, is_some, refl, sym, ap, subst, ◌∙◌, true≢false}
-use Rattle.std.specs.List.{list_any, AllByRecursion}
+use Rattle.std.proofs.Common.{◌≡◌, suc, ◌≤◌, arith, Bool, true, false, not, cond, eqb, ◌&&◌, ◌||◌, List, [], ◌∷◌, length, filter, Option, Some, None, is_some, refl, sym, ap, subst, ◌∙◌, true≢false}
+use Rattle.std.specs.List.{AllByRecursion}
 use Rattle.std.specs.Option.{option_map_or, option_or}
 use Rattle.std.specs.Ordering.{eq_by_cmp}
 use Rattle.std.specs.FinMap.{find}
-use Rattle.std.proofs.lemmas.Bool.{and_parts}
 use Rattle.acl_names.specs.Paths.{path_cmp}
 use Rattle.acl_edit.specs.Nodes.{is_directory}
 use Rattle.acl_edit.specs.declared.node.Node.{Node}
-use Rattle.acl_edit.specs.declared.node.Kind.TheVariants.{Directory}
 use Rattle.path_map.specs.Merged.{has, without_all}
 use Rattle.path_map.proofs.Differences.{Leads, leads_all, has_where}
 use Rattle.path_map.proofs.Rows.{in_order-filter}
 use Rattle.acl_tree.specs.declared.command.TreeFault.{TreeFault}
 use Rattle.acl_tree.specs.declared.command.TreeFault.TheVariants.{IsDirectory}
-use Rattle.acl_tree.specs.Files.{PathOf, Files, Recorded, IsInOrder, max_files}
+use Rattle.acl_tree.specs.Files.{PathOf, Files, Recorded, IsInOrder}
 use Rattle.acl_tree.specs.Below.{is_below, is_within}
 use Rattle.acl_tree.specs.Changed.{same_label, is_changed, changed_between, gone_between}
-use Rattle.acl_tree.specs.Operands.{means, is_file, files_meant}
+use Rattle.acl_tree.specs.Operands.{is_file, files_meant}
 use Rattle.acl_tree.specs.Rm.{refusal, first_refused, without_files}
 use Rattle.acl_tree.specs.Sound.{holds_below, IsPlaced, ArePlaced, IsSoundTree}
 use Rattle.acl_tree.proofs.Changes.{label_itself}

@@ -1,26 +1,53 @@
 //! Laws of the definitions, each proved as the contract of a function that does nothing.
 
-ghost use Rattle.std.specs.Prelude.{◌≡◌, List, Bool, Ok, false};
+ghost use Rattle.std.specs.Prelude.{◌≡◌, List, [], ◌∷◌, Bool, Ok, false, not, ◌&&◌};
 ghost use Rattle.std.specs.FinMap.{find};
+ghost use Rattle.std.specs.List.{AllByRecursion};
 ghost use Rattle.acl_names.specs.Paths.{path_cmp};
 ghost use Rattle.acl_dump.specs.declared.record.DumpRecord.{DumpRecord};
+ghost use Rattle.acl_edit.specs.Nodes.{is_directory};
+ghost use Rattle.acl_edit.specs.declared.edit.Change.{Change};
 ghost use Rattle.acl_edit.specs.declared.edit.Edit.{Edit};
+ghost use Rattle.acl_edit.specs.declared.edit.Edit.TheVariants as edits;
 ghost use Rattle.acl_tree.specs.EditCommand.{edit_one, edited_tree};
 ghost use Rattle.acl_tree.specs.Files.{PathOf, Recorded, IsInOrder};
-ghost use Rattle.acl_tree.specs.Laws.{EditsEach};
+ghost use Rattle.acl_tree.specs.Laws.{EditsEach, MasksEach, LeavesUnnamed, IsAsRecorded};
 ghost use Rattle.acl_tree.specs.Restoring.{restore_one, paths_of, restored_tree};
 ghost use Rattle.acl_tree.specs.Loading.{files_of, loaded_at};
+ghost use Rattle.acl_tree.specs.Sound.{IsSoundTree};
+ghost use Rattle.acl_tree.specs.Step.{State, step};
+ghost use Rattle.acl_tree.specs.declared.command.Command.{Command};
+ghost use Rattle.acl_tree.specs.declared.command.Command.TheVariants as commands;
+ghost use Rattle.acl_tree.specs.declared.command.NewFile.{NewFile};
 
-/// The files of a dump are a map of its records: at a path stands the file of that path's record, and where no
-/// record has the path stands none. The order of the records doesn't matter.
+/// Proof only. The files of a dump are a map of its records: at a path is the file of that path's record, and where
+/// no record has the path there is none. The order of the records doesn't matter.
 #[tactic(auto, using(crate::proofs::Mapped::loaded_found))]
 pub fn each_record_is_a_file()
     ensures { (records : List DumpRecord) (p : PathOf) → find path_cmp p (files_of records) ≡ loaded_at p records }
 {}
 
-/// An edit and a restore make each of their files what the edit of that one file makes of it, and leave every other
-/// file as it was.
+/// Proof only. An edit and a restore make each of their files what the edit of that one file makes of it, and leave
+/// every other file as it was. So the rules on the masks that a line leaves hold at each file of a recursion.
 pub fn each_file_is_edited()
     ensures edit { (recursive : Bool) (paths : List PathOf) (e : Edit) (old new : Recorded) → IsInOrder old.files → edited_tree recursive paths e old ≡ Ok new → EditsEach (edit_one e recursive) recursive paths old new }
     ensures restore { (records : List DumpRecord) (old new : Recorded) → IsInOrder old.files → restored_tree records old ≡ Ok new → EditsEach (restore_one records) false (paths_of records) old new }
+    ensures masks { (recursive : Bool) (paths : List PathOf) (line : Change) (old new : Recorded) → IsInOrder old.files → edited_tree recursive paths (edits.Change line) old ≡ Ok new → MasksEach line recursive paths old new }
+{}
+
+/// Proof only. What a command does not name stays as it is: at a path that is no operand, is not below one with
+/// recursion, is of no record and is not the new file's, the same node is recorded as before, or none as before.
+pub fn unnamed_files_stay()
+    ensures { (command : Command) (old new : State) → IsInOrder old.tree.files → step old command ≡ Ok new → LeavesUnnamed command old new }
+{}
+
+/// Proof only. A new file that is removed again leaves the state as it was: a plain file, or with recursion also
+/// a directory.
+pub fn new_file_is_removed()
+    ensures { (new : NewFile) (recursive : Bool) (old made : State) → (is_directory new.kind && not recursive) ≡ false → step old (commands.Creat new) ≡ Ok made → step made (commands.Rm (new.path ∷ []) recursive) ≡ Ok old }
+{}
+
+/// Proof only. A restore of records that say what their files are changes nothing.
+pub fn restore_of_what_is_changes_nothing()
+    ensures { (records : List DumpRecord) (state : State) → IsSoundTree state.tree → AllByRecursion (IsAsRecorded state.tree.files) records → step state (commands.Restore records) ≡ Ok state }
 {}

@@ -25,7 +25,10 @@ mod walks;
 pub use acl_people::People;
 pub use command::{Command, NewFile, Paths, Table, TreeFault};
 pub use found::Found;
-pub use laws::{each_file_is_edited, each_record_is_a_file};
+pub use laws::{
+    each_file_is_edited, each_record_is_a_file, new_file_is_removed,
+    restore_of_what_is_changes_nothing, unnamed_files_stay,
+};
 pub use moved::UsersMove;
 pub use restore::DumpRecords;
 pub use staged::Staged;

@@ -1,8 +1,8 @@
-use Rattle.std.proofs.Common.{◌≡◌, false, None, Ok, map, not, filter, ap, sym, subst, ◌∙◌}
+use Rattle.std.proofs.Common.{◌≡◌, false, None, Ok, map, not, ap, sym, subst, ◌∙◌}
 use Rattle.std.specs.List.{AllByRecursion}
 use Rattle.path_map.specs.Merged.{without_all}
 use Rattle.path_map.proofs.Rows.{in_order-filter}
-use Rattle.acl_tree.specs.Files.{PathOf, Files, Recorded, IsInOrder}
+use Rattle.acl_tree.specs.Files.{Files, Recorded, IsInOrder}
 use Rattle.acl_tree.specs.Changed.{changed_between, gone_between}
 use Rattle.acl_tree.specs.Inner.{file_of}
 use Rattle.acl_tree.specs.Operands.{is_file, files_meant}
