@@ -14,7 +14,7 @@ use Rattle.acl_edit.specs.declared.node.Kind.{Kind}
 use Rattle.acl_edit.specs.declared.node.Kind.TheVariants.{Plain, Directory}
 use Rattle.acl_edit.specs.declared.node.Node.{Node}
 use Rattle.path_map.specs.Merged.{put_all}
-use Rattle.path_map.proofs.Differences.{Leads, leads_all}
+pub use Rattle.path_map.proofs.Differences.{Leads, leads_all}
 use Rattle.path_map.proofs.Edits.{put_edited}
 use Rattle.acl_tree.specs.declared.command.Command.TheVariants.{Restore}
 use Rattle.acl_tree.specs.Files.{PathOf, Files, IsInOrder}

@@ -9,7 +9,7 @@ use Rattle.acl_edit.specs.Nodes.{is_directory}
 use Rattle.acl_edit.specs.declared.node.Node.{Node}
 use Rattle.path_map.specs.Merged.{has, without_all}
 use Rattle.path_map.proofs.Differences.{Leads, leads_all, has_where}
-use Rattle.path_map.proofs.Rows.{in_order-filter}
+pub use Rattle.path_map.proofs.Rows.{in_order-filter}
 use Rattle.acl_tree.specs.declared.command.TreeFault.{TreeFault}
 use Rattle.acl_tree.specs.declared.command.TreeFault.TheVariants.{IsDirectory}
 use Rattle.acl_tree.specs.Files.{PathOf, Files, Recorded, IsInOrder}

@@ -1,3 +1,4 @@
 pub mod Spaced
 pub mod Rising
 pub mod Reloaded
+pub mod RestoredAgain

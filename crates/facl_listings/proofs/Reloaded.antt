@@ -13,9 +13,10 @@ use Rattle.acl_edit.specs.declared.node.Kind.TheVariants.{Plain, Directory}
 use Rattle.acl_edit.specs.declared.node.Node.{Node}
 use Rattle.acl_people.specs.Registers.{Register}
 use Rattle.acl_dump.specs.declared.record.DumpRecord.{DumpRecord}
-use Rattle.acl_dump.specs.declared.record.DumpUse.TheVariants.{Load}
+use Rattle.acl_dump.specs.declared.record.DumpUse.{DumpUse}
+use Rattle.acl_dump.specs.declared.record.DumpUse.TheVariants.{Load, Restore}
 use Rattle.acl_dump.specs.Writing.{record_text}
-use Rattle.acl_dump.specs.Again.{AreApart, AreFlags, IsReadable, paths, placed, dump_text, line_count}
+use Rattle.acl_dump.specs.Again.{AreApart, AreFlags, IsReadable, HasHeaders, paths, placed, dump_text, line_count}
 use Rattle.acl_dump.proofs.WrittenRecords.{dump_again}
 use Rattle.acl_tree.specs.declared.command.TreeFault.{TreeFault}
 use Rattle.acl_tree.specs.declared.command.TreeFault.TheVariants.{TooMany}
@@ -42,7 +43,7 @@ records_of all es = map record_of (found_in all es)
 
 -- ---- the text
 
-printed : (user_names group_names : ℕ → Option (List ℕ)) (fs : List FoundFile) → listing user_names group_names plain fs ≡ dump_text user_names group_names (map record_of fs)
+pub printed : (user_names group_names : ℕ → Option (List ℕ)) (fs : List FoundFile) → listing user_names group_names plain fs ≡ dump_text user_names group_names (map record_of fs)
 printed user_names group_names [] = refl
 printed user_names group_names (f ∷ fs) = ap (λ (l : List ℕ). record_text user_names group_names (record_of f) ++ l) (printed user_names group_names fs)
 
@@ -76,7 +77,7 @@ found_root es = ap (λ l. found_in es l) (all_below_root es)
 
 -- ---- one file
 
-flags_again : (flags : List Bool) → length flags ≡ 3 → unwrap_or (flags_told flags) (false ∷ false ∷ false ∷ []) ≡ flags
+pub flags_again : (flags : List Bool) → length flags ≡ 3 → unwrap_or (flags_told flags) (false ∷ false ∷ false ∷ []) ≡ flags
 flags_again [] three = absurd (omega arith)
 flags_again (a ∷ []) three = absurd (omega arith)
 flags_again (a ∷ b ∷ []) three = absurd (omega arith)
@@ -131,7 +132,7 @@ paths_placed : (all es : Files) (at : ℕ) → paths (placed at (records_of all 
 paths_placed all [] at = refl
 paths_placed all (e ∷ es) at = ap (λ (l : List PathOf). e.0 ∷ l) (paths_placed all es (at + line_count (record_of (found all e))))
 
-paths_same : (all es : Files) → paths (records_of all es) ≡ paths_of es
+pub paths_same : (all es : Files) → paths (records_of all es) ≡ paths_of es
 paths_same all [] = refl
 paths_same all (e ∷ es) = ap (λ (l : List PathOf). e.0 ∷ l) (paths_same all es)
 
@@ -139,11 +140,15 @@ as_many : (all es : Files) (at : ℕ) → length (placed at (records_of all es))
 as_many all [] at = refl
 as_many all (e ∷ es) at = ap suc (as_many all es (at + line_count (record_of (found all e))))
 
-readable : (known : Register) (all es : Files) → AllByRecursion (IsReadAgain known) es → AllByRecursion (IsReadable (user_id known) (group_id known) (user_name known) (group_name known) Load) (records_of all es)
-readable known all [] again = tt
-readable known all (e ∷ es) again = (
-  record { path = again.0.path; headers = (refl, refl); owner = again.0.owner; group = again.0.group; flags = three_flags e.1.flags again.0.flags; access = again.0.access; dacl = again.0.dacl },
-  readable known all es again.1,
+headers_printed : (dump_use : DumpUse) (f : FoundFile) → HasHeaders dump_use (record_of f)
+headers_printed Load f = (refl, refl)
+headers_printed Restore f = tt
+
+pub readable : (dump_use : DumpUse) (known : Register) (all es : Files) → AllByRecursion (IsReadAgain known) es → AllByRecursion (IsReadable (user_id known) (group_id known) (user_name known) (group_name known) dump_use) (records_of all es)
+readable dump_use known all [] again = tt
+readable dump_use known all (e ∷ es) again = (
+  record { path = again.0.path; headers = headers_printed dump_use (found all e); owner = again.0.owner; group = again.0.group; flags = three_flags e.1.flags again.0.flags; access = again.0.access; dacl = again.0.dacl },
+  readable dump_use known all es again.1,
 )
 
 few : (n : ℕ) → n ≤ 1048576 → nat_lt 1048576 n ≡ false
@@ -162,7 +167,7 @@ module _ (known : Register) (es : Files) (order : IsInOrder es) (are : ArePlaced
       ap (λ (l : List DumpRecord). as_files l l) (in_order_already read (subst (λ ps. Rising [] ps) (sym (paths_placed es es 1)) rises)) ∙ files_again known es read (below_same es es 1) 1 es are again
       in
       ap (with_records empty)
-      (dump_again Load (user_id known) (group_id known) (user_name known) (group_name known) rs (readable known es es again)
+      (dump_again Load (user_id known) (group_id known) (user_name known) (group_name known) rs (readable Load known es es again)
       (subst (λ ps. AreApart [] ps) (sym (paths_same es es)) (apart [] (paths_of es) rises)))
       ∙ (ap (λ b. cond b (Err TooMany) (after (files_of read))) (few (length read) (subst (λ n. n ≤ 1048576) (sym (as_many es es 1)) within))
       ∙ ap after files)

@@ -6,10 +6,14 @@ use Rattle.acl_names.specs.Paths.{is_component}
 use Rattle.acl_edit.specs.declared.node.Node.{Node}
 use Rattle.acl_people.specs.Rolls.{id_named, name_shown}
 use Rattle.acl_people.specs.Registers.{Register, users_of, groups_of}
+use Rattle.acl_dump.specs.declared.record.DumpRecord.{DumpRecord}
+use Rattle.acl_dump.specs.declared.record.DumpUse.TheVariants as uses
 use Rattle.acl_dump.specs.Again.{IsFound, IsList, IsListIf}
+use Rattle.acl_dump.specs.Records.{dump_of}
 use Rattle.acl_tree.specs.Files.{PathOf, Files, no_files}
 use Rattle.acl_tree.specs.Found.{FoundFile, files_found}
-use Rattle.acl_tree.specs.Step.{load}
+use Rattle.acl_tree.specs.Step.{State, load, step}
+use Rattle.acl_tree.specs.declared.command.Command.TheVariants as commands
 use Rattle.acl_tree.specs.declared.command.Table.TheVariants.{Dump}
 use Rattle.facl_listings.specs.Listings.{listing, plain}
 
@@ -56,3 +60,9 @@ root_listing known es = listing_of known (files_found true ([] ∷ []) es)
 abbrev pub IsLoadedAs : Register → List ℕ → Files → Type 0
 IsLoadedAs known text es =
     load (record { tree = no_files; people = known }) Dump text ≡ Ok (record { tree = record { files = es; loaded = true }; people = known })
+
+-- Read by these people for a restore, the text is records. Restored where it was printed, they change nothing.
+pub record IsRestoredAsItIs (state : State) (text : List ℕ) : Type 0 where
+  pub records : List DumpRecord
+  pub read : dump_of (user_id state.people) (group_id state.people) uses.Restore text ≡ Ok records
+  pub same : step state (commands.Restore records) ≡ Ok state

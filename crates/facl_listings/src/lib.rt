@@ -8,7 +8,7 @@ mod listing;
 mod options;
 mod requests;
 
-pub use laws::listing_is_loaded_again;
+pub use laws::{listing_is_loaded_again, listing_is_restored_as_it_is};
 pub use listing::append_listing;
 pub use options::Options;
 pub use requests::append_requests;
