@@ -1,6 +1,7 @@
 -- What is told of a state that is staged.
 use Rattle.std.proofs.Common.{◌≡◌, [], false, sym, ap, subst, ◌∙◌}
 use Rattle.std.specs.List.{AllByRecursion}
+use Rattle.acl_people.specs.Registers.{persons}
 use Rattle.acl_tree.specs.declared.moved.UsersMove.TheVariants.{Same}
 use Rattle.acl_tree.specs.Files.{Files}
 use Rattle.acl_tree.specs.Changed.{changed_between, gone_between}
@@ -11,7 +12,7 @@ use Rattle.acl_tree.proofs.Changes.{all_changed}
 
 module _ (old : State) (s : StagedState) where
   same_users : s.moved ≡ Same → s.state.people ≡ old.people → UsersMoved old s.state s.moved
-  same_users is people = subst (λ m. UsersMoved old s.state m) (sym is) people
+  same_users is people = subst (λ m. UsersMoved old s.state m) (sym is) (ap persons people)
 
   none_apart : s.gone ≡ [] → AllByRecursion (λ e. holds_below s.state.tree.files e.0 ≡ false) s.gone
   none_apart none = subst (AllByRecursion (λ e. holds_below s.state.tree.files e.0 ≡ false)) (sym none) tt

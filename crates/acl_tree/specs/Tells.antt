@@ -1,10 +1,12 @@
 -- What a command that is prepared tells of the state after it.
-use Rattle.std.specs.Prelude.{◌≡◌, [], false, refl}
+use Rattle.std.specs.Prelude.{◌≡◌, ◌≢◌, [], false, refl}
 use Rattle.std.specs.List.{AllByRecursion}
 use Rattle.std.specs.Coded.{Coded, code_by, coded×, coded_ℕ, coded_list}
 use Rattle.acl_edit.specs.contracts.node.Node as node_contracts
+use Rattle.acl_people.specs.Registers.{persons}
+use Rattle.acl_people.specs.Moves.{MovesUser, JoinsUser, LeavesUser}
 use Rattle.acl_tree.specs.declared.moved.UsersMove.{UsersMove}
-use Rattle.acl_tree.specs.declared.moved.UsersMove.TheVariants.{Same, Loaded}
+use Rattle.acl_tree.specs.declared.moved.UsersMove.TheVariants.{Same, Loaded, Moved, Joined, Left}
 use Rattle.acl_tree.specs.contracts.moved.UsersMove as moved_contracts
 use Rattle.acl_tree.specs.declared.command.Command.{Command}
 use Rattle.acl_tree.specs.declared.command.Command.TheVariants.{Load, Chmod, Edit, Restore, Creat, Rm}
@@ -35,19 +37,22 @@ load_moves Passwd = Loaded
 load_moves Group = Loaded
 load_moves Dump = Same
 
--- how a command moves the users
-abbrev pub users_move : Command → UsersMove
-users_move (Load which bytes) = load_moves which
-users_move (Chmod paths mode recursive) = Same
-users_move (Edit paths e recursive) = Same
-users_move (Restore records) = Same
-users_move (Creat new) = Same
-users_move (Rm paths recursive) = Same
+-- how a command moves the users of a state
+abbrev pub users_move : State → Command → UsersMove
+users_move s (Load which bytes) = load_moves which
+users_move s (Chmod paths mode recursive) = Same
+users_move s (Edit paths e recursive) = Same
+users_move s (Restore records) = Same
+users_move s (Creat new) = Same
+users_move s (Rm paths recursive) = Same
 
--- no user has other groups, or there is no file whose check could differ
+-- each user has the same id and groups; or no file is recorded; or one user moved, came or went, and the files are the same
 abbrev pub UsersMoved : State → State → UsersMove → Type 0
-UsersMoved old new Same = new.people ≡ old.people
+UsersMoved old new Same = persons new.people ≡ persons old.people
 UsersMoved old new Loaded = new.tree.files ≡ []
+UsersMoved old new (Moved user groups) = (new.tree ≡ old.tree) × MovesUser (persons old.people) (persons new.people) user groups × (groups ≢ [])
+UsersMoved old new Joined = (new.tree ≡ old.tree) × JoinsUser (persons old.people) (persons new.people)
+UsersMoved old new (Left user) = (new.tree ≡ old.tree) × LeavesUser (persons old.people) (persons new.people) user
 
 -- exactly what differs between the state before and the one that is staged; no file is left below one that is gone
 pub record Tells (old : State) (staged : StagedState) : Type 0 where

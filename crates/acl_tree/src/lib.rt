@@ -29,7 +29,7 @@ pub use laws::{
     each_file_is_edited, each_record_is_a_file, new_file_is_removed,
     restore_of_what_is_changes_nothing, unnamed_files_stay,
 };
-pub use moved::UsersMove;
+pub use moved::{GroupIds, UsersMove};
 pub use restore::DumpRecords;
 pub use staged::Staged;
 pub use state::State;

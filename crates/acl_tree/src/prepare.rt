@@ -32,7 +32,7 @@ impl Tree {
         ensures loaded { loads_again (state_from self.now people.now) command.now ≡ true → result ≡ Err AlreadyLoaded }
         ensures sound { IfOk result (λ staged. IsSoundTree staged.state.tree) }
         ensures tells { IfOk result (λ staged. Tells (state_from self.now people.now) staged) }
-        ensures moved { IfOk result (λ staged. staged.moved ≡ users_move command.now) }
+        ensures moved { IfOk result (λ staged. staged.moved ≡ users_move (state_from self.now people.now) command.now) }
     {
         match command {
             Command::Load { which, bytes } => self.load(alloc, people, *which, bytes),

@@ -65,7 +65,7 @@ impl State {
         ensures loaded { loads_again self.now command.now ≡ true → result ≡ Err AlreadyLoaded }
         ensures sound { IfOk result (λ staged. IsSoundTree staged.state.tree) }
         ensures tells { IfOk result (λ staged. Tells self.now staged) }
-        ensures moved { IfOk result (λ staged. staged.moved ≡ users_move command.now) }
+        ensures moved { IfOk result (λ staged. staged.moved ≡ users_move self.now command.now) }
     {
         self.tree.prepare(alloc, &self.people, command)
     }
