@@ -10,5 +10,6 @@ pub mod Naming
 pub mod Texts
 pub mod Moving
 pub mod Moved
+pub mod Rising
 pub mod Undone
 pub mod Otherwise

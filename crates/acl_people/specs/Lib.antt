@@ -1,5 +1,6 @@
 pub mod Rolls
 pub mod Entries
+pub mod UserNames
 pub mod Registers
 pub mod Members
 pub mod Changes

@@ -1,10 +1,14 @@
 -- How the users of two states differ, as the check of access sees them.
-use Rattle.std.specs.Prelude.{◌≡◌, ◌<◌, ℕ, List, [], ◌∷◌, ◌++◌, length, slice_get, slice_set, Bool, not, Some, if◌then◌else◌}
+use Rattle.std.specs.Prelude.{◌≡◌, ◌<◌, ℕ, List, [], ◌∷◌, ◌++◌, length, map, filter, slice_get, slice_set, Bool, not, Some, if◌then◌else◌}
 use Rattle.std.specs.List.{remove}
+use Rattle.std.specs.Option.{option_map_or}
+use Rattle.std.specs.Ordering.{nat_cmp}
+use Rattle.std.specs.FinMap.{keys, from_entries}
 use Rattle.std.specs.FinSet.{contains}
 use Rattle.std.specs.List.Sorted.{IsStrictlyIncreasing}
 use Rattle.acl_entry.specs.Mentions.{is_one_of}
 use Rattle.acl_entry.specs.Person.{Person}
+use Rattle.acl_people.specs.Registers.{Register, gids_of}
 
 -- one user may have other groups; the user's id and all other users are as they were
 pub record ChangesUser (old new : List Person) (user : ℕ) : Type 0 where
@@ -36,3 +40,19 @@ pub record JoinsUser (old new : List Person) : Type 0 where
 pub record LeavesUser (old new : List Person) (user : ℕ) : Type 0 where
   pub was : user < length old
   pub becomes : new ≡ remove old user
+
+-- numbers in rising order, each once
+abbrev pub rising : List ℕ → List ℕ
+rising ids = keys (from_entries {R = nat_cmp} (map (λ id. (id, tt {0})) ids))
+
+-- the ids that just one of two lists has, rising
+abbrev pub ids_of_one : List ℕ → List ℕ → List ℕ
+ids_of_one ids others = rising (filter (λ id. in_just_one (is_one_of id ids) (is_one_of id others)) (ids ++ others))
+
+-- the groups of the user at a place
+abbrev pub user_gids : Register → ℕ → List ℕ
+user_gids known user = option_map_or (gids_of known.groups) (slice_get known.users user) []
+
+-- the groups that the user at a place joined or left
+abbrev pub moved_groups : Register → Register → ℕ → List ℕ
+moved_groups old new user = ids_of_one (user_gids old user) (user_gids new user)

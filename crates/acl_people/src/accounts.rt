@@ -1,12 +1,15 @@
 //! Users that come and go: useradd(8) and userdel(8).
 
-ghost use Rattle.std.specs.Prelude.{◌≡◌, ◌<◌, nat_le, false, length, IfOk};
+ghost use Rattle.std.specs.Prelude.{◌≡◌, ◌<◌, nat_le, true, false, length, IfOk, OnOk};
+ghost use Rattle.std.specs.List.{list_all};
+ghost use Rattle.acl_names.specs.Pieces.{is_byte};
 ghost use Rattle.acl_people.specs.Rolls.{has_name, has_id};
 ghost use Rattle.acl_people.specs.Registers.{users_of, persons};
 ghost use Rattle.acl_people.specs.Changes.{gid_of, with_user, without_user};
 ghost use Rattle.acl_people.specs.Moves.{JoinsUser, LeavesUser};
 
 use crate::people::People;
+use crate::user_name::UserName;
 use acl_entry::Id;
 use acl_names::Name;
 use acl_text::PasswdRow;
@@ -15,6 +18,18 @@ use std::rc::Rc;
 
 /// The most users.
 const MAX_USERS: usize = 65536;
+
+/// A new user's row.
+fn new_row(alloc: Global, name: &[u8], uid: Id, gid: Id) -> Result<PasswdRow, AllocError>
+    ensures made { IfOk result (λ row. row ≡ record { name = name.now; uid = uid; gid = gid }) }
+    ensures bytes { OnOk result (list_all is_byte name.now ≡ true) }
+{
+    Ok(PasswdRow {
+        name: Name::from_bytes(alloc, name)?,
+        uid,
+        gid,
+    })
+}
 
 impl People {
     /// Whether a user has this name.
@@ -43,11 +58,10 @@ impl People {
     pub fn with_user(
         &self,
         alloc: Global,
-        name: &[u8],
+        name: &UserName,
         uid: Id,
         group: usize,
     ) -> Result<People, AllocError>
-        requires filled { 0 < length name.now }
         requires new { has_name name.now (users_of self.now) ≡ false }
         requires room { length self.now.users < 65536 }
         requires group { group < length self.now.groups }
@@ -55,11 +69,8 @@ impl People {
         ensures joins { IfOk result (λ people. JoinsUser (persons self.now) (persons people)) }
     {
         self.is_sound();
-        let row = PasswdRow {
-            name: Name::from_bytes(alloc, name)?,
-            uid,
-            gid: self.gid_of(group),
-        };
+        let gid = self.gid_of(group);
+        let row = new_row(alloc, name.as_name().as_bytes(), uid, gid)?;
         let people = self.with_user_row(alloc, row)?;
         Ok(people)
     }

@@ -5,7 +5,7 @@ ghost use Rattle.std.specs.FinSet as sets;
 ghost use Rattle.std.specs.List.Sorted.{IsStrictlyIncreasing};
 ghost use Rattle.acl_entry.specs.Mentions.{is_one_of};
 ghost use Rattle.acl_people.specs.Registers.{persons};
-ghost use Rattle.acl_people.specs.Moves.{AreMoved, ChangesUser, MovesUser};
+ghost use Rattle.acl_people.specs.Moves.{AreMoved, ChangesUser, MovesUser, moved_groups};
 
 use crate::people::People;
 use acl_entry::{Id, Subject};
@@ -56,6 +56,7 @@ impl People {
     ) -> Result<Vec<Id>, AllocError>
         requires { ChangesUser (persons self.now) (persons next.now) user }
         ensures moved { IfOk result (λ ids. MovesUser (persons self.now) (persons next.now) user ids.items) }
+        ensures ids { IfOk result (λ ids. ids.items ≡ moved_groups self.now next.now user) }
         ensures none { IfOk result (λ ids. ids.items ≡ [] → persons next.now ≡ persons self.now) }
     {
         let groups = groups_of_one(alloc, &self.subjects()[user], &next.subjects()[user])?;

@@ -1,9 +1,9 @@
 //! Memberships, primary groups, and users that come and go.
 use acl_entry::Id;
 use acl_people::{
-    People, added_member_is_removed, added_user_is_removed, group_held_otherwise_stays,
+    People, UserName, added_member_is_removed, added_user_is_removed, group_held_otherwise_stays,
 };
-use acl_text::Names;
+use acl_text::{Name, Names};
 use std::alloc::Global;
 use std::process::Abort;
 
@@ -261,6 +261,22 @@ fn words_name_groups(rt: HostRuntime) {
     }
 }
 
+fn user_name(rt: &impl Abort, alloc: Global, name: &[u8]) -> Option<UserName> {
+    UserName::new(Name::from_bytes(alloc, name).expect(rt, "memory"))
+}
+
+const NO_USER_NAMES: [&[u8]; 6] = [b"", b"1000", b"a:b", b"a,b", b"a\nb", b"a\0"];
+
+#[test]
+fn names_of_new_users(rt: HostRuntime) {
+    let alloc = rt.alloc();
+    for name in &NO_USER_NAMES {
+        assert!(rt; user_name(&rt, alloc, name).is_none());
+    }
+    assert!(rt; user_name(&rt, alloc, b"-1").is_some());
+    assert!(rt; user_name(&rt, alloc, b"\xff b").is_some());
+}
+
 /// `useradd -u NUMBER -g GROUP NAME`
 fn with_user(
     rt: &impl Abort,
@@ -271,11 +287,12 @@ fn with_user(
     group: &[u8],
 ) -> People {
     let group = people.find_group(group).expect(rt, "a group");
-    assert!(rt; !name.is_empty(), "no name");
-    assert!(rt; !people.has_user_named(name), "the name of a user");
+    let new = user_name(rt, alloc, name).expect(rt, "a name");
+    let taken = people.has_user_named(new.as_name().as_bytes());
+    assert!(rt; !taken, "the name of a user");
     assert!(rt; !people.is_full(), "no room");
     people
-        .with_user(alloc, name, id(rt, number), group)
+        .with_user(alloc, &new, id(rt, number), group)
         .expect(rt, "memory")
 }
 

@@ -3,6 +3,7 @@ use Rattle.acl_entry.specs.Person.{Person}
 use Rattle.acl_people.specs.Registers.{persons}
 use Rattle.acl_people.specs.Moves.{AreMoved}
 use Rattle.acl_people.proofs.Moving.{slice_get-set_same}
+use Rattle.acl_people.proofs.Rising.{moved_ids}
 use Rattle.acl_people.proofs.Moved.{subject_is, none_moved}
 use Rattle.acl_people.proofs.people.People.moved_groups.Goals as goal
 use Rattle.acl_people.proofs.people.People.moved_groups.Goals.{In_ok-groups}
@@ -18,6 +19,12 @@ moved c =
 
 pub returns-clause-moved : goal.returns-clause-moved
 returns-clause-moved c = record { change = c.requires; moved = moved c }
+
+pub returns-clause-ids : goal.returns-clause-ids
+returns-clause-ids c =
+    let old = persons c.args.self.now in
+    let at : slice_get (persons c.args.next.now) c.args.user ≡ Some c.requires.after = ap (λ ps. slice_get ps c.args.user) c.requires.becomes ∙ slice_get-set_same old c.args.user c.requires.before c.requires.after c.requires.was in
+    moved_ids c.args.self.now c.args.next.now c.args.user c.requires.before c.requires.after c.in_ok-groups.groups.items c.requires.was at (moved c)
 
 pub returns-clause-none : goal.returns-clause-none
 returns-clause-none c = λ none. none_moved (persons c.args.self.now) (persons c.args.next.now) c.args.user c.requires (subst (λ (ids : List ℕ). AreMoved c.requires.before c.requires.after ids) none (moved c))

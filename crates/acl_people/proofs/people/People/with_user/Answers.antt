@@ -1,11 +1,13 @@
 use Rattle.std.proofs.Common.{◌≡◌, ◌<◌, ◌≤◌, ℕ, List, ◌∷◌, ◌++◌, [], true, false, Option, Some, None, length, map, position, refl, sym, subst, ap, ◌∙◌}
 use Rattle.std.specs.Option.{is_some}
+use Rattle.std.specs.List.{list_all}
 use Rattle.std.proofs.lemmas.List.{map_push, length-map}
-use Rattle.acl_names.proofs.Bytes.{all_bytes}
+use Rattle.acl_names.specs.Pieces.{is_byte}
+use Rattle.acl_text.specs.declared.rows.PasswdRow.{PasswdRow}
 use Rattle.acl_people.specs.Rolls.{is_name, AreCounted}
 use Rattle.acl_people.specs.Entries.{user_entry}
 use Rattle.acl_people.specs.Registers.{Register, persons, users_of}
-use Rattle.acl_people.specs.Changes.{with_user}
+use Rattle.acl_people.specs.Changes.{gid_of, with_user}
 use Rattle.acl_people.specs.Moves.{JoinsUser}
 use Rattle.acl_people.proofs.Changed.{user_row}
 use Rattle.acl_people.proofs.Counted.{IsNameText, counted_push}
@@ -19,21 +21,29 @@ none_where (Some i) e = cc
 pub with_user_row-requires : goal.with_user_row-requires
 with_user_row-requires c =
     let known = c.args.self.now in
-    let row = user_row c.args.name.now c.args.uid c.gid_of.result in
+    let row = user_row c.args.name.now c.args.uid c.gid_of-gid.result in
     let counted : AreCounted (users_of known) = record { names = c.is_sound.ensures.user_names; few = subst (λ n. n ≤ 65536) (sym (length-map known.users user_entry)) c.is_sound.ensures.few_users } in
-    let text : IsNameText c.args.name.now = record { filled = c.requires.filled; made_of_bytes = all_bytes c.args.name.now c.type_inv.name } in
+    let name : c.as_bytes.result.now ≡ c.args.name.now = c.as_bytes.ensures ∙ c.as_name.ensures.all in
+    let text : IsNameText c.args.name.now = record {
+      filled = c.as_name.ensures.filled;
+      made_of_bytes = subst (λ (n : List ℕ). list_all is_byte n ≡ true) name c.in_ok-row.ensures.bytes;
+    } in
     let new : position (is_name c.args.name.now) (users_of known) ≡ None = none_where _ c.requires.new in
     let room : length (users_of known) < 65536 = subst (λ n. n < 65536) (sym (length-map known.users user_entry)) c.requires.room in
     let pushed : map user_entry (known.users ++ row ∷ []) ≡ users_of known ++ user_entry row ∷ [] = map_push user_entry known.users row in
-    subst (λ n. AreCounted (map user_entry (known.users ++ user_row n c.args.uid c.gid_of.result ∷ []))) (sym c.in_ok-from_bytes.ensures)
+    let is : c.in_ok-row.row ≡ row = c.in_ok-row.ensures.made ∙ ap (λ (n : List ℕ). user_row n c.args.uid c.gid_of-gid.result) name in
+    subst (λ r. AreCounted (map user_entry (known.users ++ r ∷ []))) (sym is)
     (subst AreCounted (sym pushed) (counted_push (users_of known) (user_entry row) counted new text room))
 
 pub returns-clause-joins : goal.returns-clause-joins
 returns-clause-joins c =
     let known = c.args.self.now in
+    let name : c.as_bytes.result.now ≡ c.args.name.now = c.as_bytes.ensures ∙ c.as_name.ensures.all in
+    let row : c.in_ok-row.row ≡ user_row c.args.name.now c.args.uid (gid_of c.args.group known) =
+    c.in_ok-row.ensures.made ∙ (λ i. user_row (name i) c.args.uid (c.gid_of-gid.ensures i))
+    in
     let is : c.in_ok-people.people ≡ with_user c.args.name.now c.args.uid c.args.group known =
     c.in_ok-people.ensures
-    ∙ ap (λ (n : List ℕ). let r : Register = record { users = known.users ++ user_row n c.args.uid c.gid_of.result ∷ []; groups = known.groups; passwd_loaded = true; group_loaded = known.group_loaded } in r) c.in_ok-from_bytes.ensures
-    ∙ ap (λ (gid : ℕ). let r : Register = record { users = known.users ++ user_row c.args.name.now c.args.uid gid ∷ []; groups = known.groups; passwd_loaded = true; group_loaded = known.group_loaded } in r) c.gid_of.ensures
+    ∙ ap (λ (r : PasswdRow). let known' : Register = record { users = known.users ++ r ∷ []; groups = known.groups; passwd_loaded = true; group_loaded = known.group_loaded } in known') row
     in
     subst (λ people. JoinsUser (persons known) (persons people)) (sym is) (joins known c.args.name.now c.args.uid c.args.group)

@@ -1,0 +1,63 @@
+//! Names that new users may have.
+
+ghost use Rattle.std.specs.Prelude.{◌≡◌, ◌<◌, length, Some, None, if◌then◌else◌};
+ghost use Rattle.std.specs.List.{list_any};
+ghost use Rattle.acl_people.specs.UserNames.{cuts_row, is_user_name};
+
+use acl_names::Name;
+use acl_text::is_number;
+use std::marker::Model;
+
+/// A name that a new user may have: not empty, not digits alone, and without a colon, a comma, a line feed
+/// and NUL, so that it can be a field of passwd(5) and one of the names of a row of group(5).
+#[derive(Debug, Drop)]
+pub struct UserName {
+    name: Name,
+}
+
+impl Model for UserName {
+    ghost use Rattle.std.specs.Prelude.{◌≡◌, true, List, ℕ};
+    ghost use Rattle.acl_people.specs.UserNames.{is_user_name};
+
+    ghost Value = { List ℕ };
+
+    ghost view = { λ n. n.name };
+
+    ghost invariant = { λ n. is_user_name n.name ≡ true };
+}
+
+/// Whether a byte of the name ends a field or a row, or separates names.
+fn cuts_row(name: &[u8]) -> bool
+    ensures { result ≡ list_any cuts_row name.now }
+{
+    name.iter()
+        .any(|b| *b == b':' || *b == b',' || *b == b'\n' || *b == 0)
+}
+
+/// Whether a new user may have the name.
+fn is_user_name(name: &[u8]) -> bool
+    ensures { result ≡ is_user_name name.now }
+{
+    !name.is_empty() && !is_number(name) && !cuts_row(name)
+}
+
+impl UserName {
+    /// The name, where a new user may have it.
+    pub fn new(name: Name) -> Option<UserName>
+        ensures { result ≡ if is_user_name name then Some name else None }
+    {
+        if is_user_name(name.as_bytes()) {
+            Some(UserName { name })
+        } else {
+            None
+        }
+    }
+
+    /// The name.
+    pub fn as_name(&self) -> &Name
+        ensures all { result.now ≡ self.now }
+        ensures filled { 0 < length self.now }
+    {
+        &self.name
+    }
+}
