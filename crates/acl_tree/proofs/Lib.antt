@@ -6,7 +6,6 @@ pub mod Mapped
 pub mod SortedRecords
 pub mod Kept
 pub mod Changes
-pub mod Told
 pub mod Selected
 pub mod Edits
 pub mod Placed
@@ -19,3 +18,4 @@ pub mod Unnamed
 pub mod Undone
 pub mod AsItIs
 pub mod MasksEach
+pub mod Told

@@ -1,14 +1,16 @@
 -- What is told of a state that is staged.
-use Rattle.std.proofs.Common.{◌≡◌, [], false, sym, ap, subst, ◌∙◌}
+use Rattle.std.proofs.Common.{◌≡◌, ◌≢◌, ℕ, List, [], ◌∷◌, filter, true, false, refl, sym, ap, subst, ◌∙◌}
 use Rattle.std.specs.List.{AllByRecursion}
-use Rattle.acl_people.specs.Registers.{persons}
+use Rattle.acl_people.specs.Registers.{Register, persons}
+use Rattle.acl_people.specs.Moves.{MovesUser}
 use Rattle.acl_tree.specs.declared.moved.UsersMove.TheVariants.{Same}
-use Rattle.acl_tree.specs.Files.{Files}
+use Rattle.acl_tree.specs.Files.{Files, Recorded, IsInOrder}
 use Rattle.acl_tree.specs.Changed.{changed_between, gone_between}
 use Rattle.acl_tree.specs.Sound.{holds_below}
-use Rattle.acl_tree.specs.Step.{State}
-use Rattle.acl_tree.specs.Tells.{StagedState, UsersMoved, Tells}
+use Rattle.acl_tree.specs.Step.{State, state_from}
+use Rattle.acl_tree.specs.Tells.{StagedState, move_of, UsersMoved, Tells}
 use Rattle.acl_tree.proofs.Changes.{all_changed}
+use Rattle.acl_tree.proofs.Removals.{gone_from, none_changed}
 
 module _ (old : State) (s : StagedState) where
   same_users : s.moved ≡ Same → s.state.people ≡ old.people → UsersMoved old s.state s.moved
@@ -38,3 +40,34 @@ module _ (old : State) (s : StagedState) where
     apart = none_apart gone;
     users = same_users moved people;
   }
+
+-- ---- a change of people alone
+
+all_kept : (t : Files) → filter (λ e. true) t ≡ t
+all_kept [] = refl
+all_kept (e ∷ t) = ap (λ es. e ∷ es) (all_kept t)
+
+none_kept : (t : Files) → filter (λ e. false) t ≡ []
+none_kept [] = refl
+none_kept (e ∷ t) = none_kept t
+
+-- after a change of people
+pub told_people : (old : State) (s : StagedState) → IsInOrder old.tree.files → s.state.tree ≡ old.tree → s.changed ≡ [] → s.gone ≡ [] → UsersMoved old s.state s.moved → Tells old s
+told_people old s order same changed gone users =
+    let t : Files = old.tree.files in
+    let files : s.state.tree.files ≡ t = ap (λ (tree : Recorded). tree.files) same in
+    record {
+      changed = changed ∙ sym (ap (λ es. changed_between t es) (files ∙ sym (all_kept t)) ∙ none_changed (λ _. false) t order);
+      gone = gone ∙ sym (ap (λ es. gone_between t es) (files ∙ sym (all_kept t)) ∙ gone_from (λ _. false) t order ∙ none_kept t);
+      apart = none_apart old s gone;
+      users = users;
+    }
+
+-- a user who joined or left no group did not move
+pub user_moved : (tree : Recorded) (known next : Register) (user : ℕ) (ids : List ℕ) → MovesUser (persons known) (persons next) user ids → (ids ≡ [] → persons next ≡ persons known)
+    → UsersMoved (state_from tree known) (state_from tree next) (move_of user ids)
+user_moved tree known next user [] moves none = none refl
+user_moved tree known next user (g ∷ gs) moves none = (refl, moves, λ empty. some g gs empty)
+  where
+    some : (g : ℕ) (gs : List ℕ) → g ∷ gs ≢ []
+    some g gs e = cc

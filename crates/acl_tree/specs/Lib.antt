@@ -4,6 +4,8 @@ pub mod Operands
 pub mod Loading
 pub mod Creat
 pub mod Rm
+pub mod Memberships
+pub mod Accounts
 pub mod Step
 pub mod Sound
 pub mod Found

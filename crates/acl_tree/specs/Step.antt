@@ -12,7 +12,7 @@ use Rattle.acl_people.specs.contracts.people.People as people_contracts
 use Rattle.acl_people.specs.Rolls.{id_named}
 use Rattle.acl_people.specs.Registers.{Register, nobody, users_of, groups_of, load_passwd, load_group}
 use Rattle.acl_tree.specs.declared.command.Command.{Command}
-use Rattle.acl_tree.specs.declared.command.Command.TheVariants.{Load, Chmod, Edit, Restore, Creat, Rm}
+use Rattle.acl_tree.specs.declared.command.Command.TheVariants.{Load, Chmod, Edit, Restore, Creat, Rm, Gpasswd, Usermod, Useradd, Userdel}
 use Rattle.acl_tree.specs.declared.command.Table.{Table}
 use Rattle.acl_tree.specs.declared.command.Table.TheVariants.{Passwd, Group, Dump}
 use Rattle.acl_tree.specs.declared.command.TreeFault.{TreeFault}
@@ -21,6 +21,8 @@ use Rattle.acl_tree.specs.Files.{PathOf, Recorded, coded_recorded, no_files, max
 use Rattle.acl_tree.specs.Loading.{files_of}
 use Rattle.acl_tree.specs.Creat.{creat}
 use Rattle.acl_tree.specs.Rm.{rm}
+use Rattle.acl_tree.specs.Memberships.{UserChange, gpasswd, usermod}
+use Rattle.acl_tree.specs.Accounts.{useradd, userdel}
 use Rattle.acl_tree.specs.Operands.{is_file, first_missing, edit_files}
 use Rattle.acl_tree.specs.EditCommand.{edited_tree}
 use Rattle.acl_tree.specs.Restoring.{restored_tree}
@@ -56,6 +58,12 @@ or_missing (Some p) s = Err (NoSuchFile p)
 abbrev pub with_tree : State → Result Recorded TreeFault → Result State TreeFault
 with_tree s (Ok tree) = Ok (record s { tree = tree })
 with_tree s (Err fault) = Err fault
+
+-- ---- commands on the people alone
+
+abbrev pub with_change : State → Result UserChange TreeFault → Result State TreeFault
+with_change s (Ok change) = Ok (record s { people = change.people })
+with_change s (Err fault) = Err fault
 
 -- ---- load
 
@@ -102,6 +110,10 @@ loads_again s (Edit paths e recursive) = false
 loads_again s (Restore records) = false
 loads_again s (Creat new) = false
 loads_again s (Rm paths recursive) = false
+loads_again s (Gpasswd user group change) = false
+loads_again s (Usermod user group) = false
+loads_again s (Useradd new) = false
+loads_again s (Userdel user) = false
 
 -- the state after a command, or its first fault
 abbrev pub step : State → Command → Result State TreeFault
@@ -111,6 +123,10 @@ step s (Edit paths e recursive) = with_tree s (edited_tree recursive paths e s.t
 step s (Restore records) = with_tree s (restored_tree records s.tree)
 step s (Creat new) = with_tree s (creat new s.people s.tree)
 step s (Rm paths recursive) = with_tree s (rm recursive paths s.tree)
+step s (Gpasswd user group change) = with_change s (gpasswd user group change s.people)
+step s (Usermod user group) = with_change s (usermod user group s.people)
+step s (Useradd new) = with_change s (useradd new s.people)
+step s (Userdel user) = with_change s (userdel user s.people)
 
 -- A call stages the state after a step, or tells exactly its fault, unless memory ran out.
 abbrev pub Stages : {A : Type 0} → (A → State) → Result A TreeFault → Result State TreeFault → Type 0

@@ -7,6 +7,7 @@ use crate::restore::DumpRecords;
 use acl_edit::{Edit, EditFault, Kind};
 use acl_entry::Id;
 use acl_names::{Name, Path};
+use acl_people::UserName;
 use acl_text::TextFault;
 use std::alloc::{AllocError, AllocFailed};
 use std::marker::Model;
@@ -63,6 +64,24 @@ pub struct NewFile {
     pub umask: u16,
 }
 
+/// What becomes of a user and the row of a group.
+#[derive(Clone, Copy, Debug, PartialEq, Eq)]
+pub enum Membership {
+    /// The row names the user, last where it did not before.
+    Add,
+    /// The row does not name the user.
+    Remove,
+}
+
+/// A new user: see [`Command::Useradd`].
+#[derive(Debug, Drop)]
+pub struct NewUser {
+    pub name: UserName,
+    pub uid: Id,
+    /// The word for the primary group: digits alone are an id, any other word is a name.
+    pub group: Name,
+}
+
 /// A command on the whole state. It borrows the text that it loads.
 #[derive(Debug, Drop)]
 pub enum Command<'a> {
@@ -95,6 +114,24 @@ pub enum Command<'a> {
     Rm {
         paths: Paths,
         recursive: bool,
+    },
+    /// Adds a user to the row of a group, or removes one from it: gpasswd(1) -a, -d. Both are words: digits
+    /// alone are an id, any other word is a name.
+    Gpasswd {
+        user: Name,
+        group: Name,
+        change: Membership,
+    },
+    /// Makes a group the primary group of a user: usermod(8) -g. Both are words.
+    Usermod {
+        user: Name,
+        group: Name,
+    },
+    /// Adds a user, the last: useradd(8). Users count as loaded from then on.
+    Useradd(NewUser),
+    /// Removes a user, and the user's name from the rows of all groups: userdel(8). The user is a word.
+    Userdel {
+        user: Name,
     },
 }
 

@@ -8,7 +8,9 @@ mod creat;
 mod dump;
 mod edit;
 mod edit_command;
+mod find_people;
 mod found;
+mod gpasswd;
 mod laws;
 mod load;
 mod moved;
@@ -17,13 +19,17 @@ mod restore;
 mod rm;
 mod selection;
 mod sorting;
+mod stage_people;
 mod staged;
 mod state;
 mod tree;
+mod useradd;
+mod userdel;
+mod usermod;
 mod walks;
 
-pub use acl_people::People;
-pub use command::{Command, NewFile, Paths, Table, TreeFault};
+pub use acl_people::{People, UserName};
+pub use command::{Command, Membership, NewFile, NewUser, Paths, Table, TreeFault};
 pub use found::Found;
 pub use laws::{
     each_file_is_edited, each_record_is_a_file, new_file_is_removed,

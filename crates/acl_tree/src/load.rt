@@ -11,6 +11,7 @@ ghost use Rattle.acl_tree.specs.declared.moved.UsersMove.TheVariants.{Loaded};
 
 use crate::command::{Table, TreeFault};
 use crate::moved::UsersMove;
+use crate::stage_people::stage_people;
 use crate::staged::Staged;
 use crate::tree::Tree;
 use acl_people::{LoadFault, People};
@@ -62,13 +63,10 @@ impl Tree {
         ensures memory { OnOk loaded (IfErr result (λ fault. fault ≡ NoMemory)) }
     {
         match loaded {
-            Ok(people) => Ok(Staged::of(
-                self.share()?,
-                people,
-                Vec::new(alloc),
-                Vec::new(alloc),
-                UsersMove::Loaded,
-            )),
+            Ok(people) => {
+                let staged = stage_people(self, alloc, people, UsersMove::Loaded)?;
+                Ok(staged)
+            }
             Err(fault) => Err(load_fault(fault)),
         }
     }

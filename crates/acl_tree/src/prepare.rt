@@ -18,10 +18,19 @@ impl Tree {
     ///
     /// # Errors
     ///
-    /// The command's first fault. A load tells `AlreadyLoaded` before any look at the text, then the text's
-    /// first fault, then `TooMany`. A chmod, an edit and a restore return `NoSuchFile` of the first operand that
-    /// is not recorded; then an edit and a restore return `Edit` of the first file in path order whose edit is
-    /// refused. Or `NoMemory`, but `AlreadyLoaded` is told whatever memory there is.
+    /// The command's first fault, in this order:
+    ///
+    /// - a load: `AlreadyLoaded`, before any look at the text and whatever memory there is; `Text` with the
+    ///   text's first fault; `TooMany`;
+    /// - a chmod, an edit, a restore: `NoSuchFile` of the first operand that is not recorded; an edit and a
+    ///   restore then `Edit` of the first file in path order whose edit is refused;
+    /// - a creat: `NoSuchUser`; `Exists`; `NoSuchFile` or `NotDirectory` of the parent; `TooMany`;
+    /// - an rm: `NoSuchFile` or `IsDirectory` of the first operand that has one of them;
+    /// - a gpasswd, a usermod: `NoSuchUser`; `NoSuchGroup`; `NotMember` where there is nothing to remove;
+    /// - a useradd: `UserExists`; `UidExists`; `NoSuchGroup`; `TooManyUsers`;
+    /// - a userdel: `NoSuchUser`.
+    ///
+    /// Or `NoMemory`.
     pub fn prepare(
         &self,
         alloc: Global,
@@ -49,6 +58,14 @@ impl Tree {
             Command::Restore { records } => self.restore(alloc, people, records),
             Command::Creat(new) => self.creat(alloc, people, new),
             Command::Rm { paths, recursive } => self.rm(alloc, people, paths, *recursive),
+            Command::Gpasswd {
+                user,
+                group,
+                change,
+            } => self.gpasswd(alloc, people, user, group, *change),
+            Command::Usermod { user, group } => self.usermod(alloc, people, user, group),
+            Command::Useradd(new) => self.useradd(alloc, people, new),
+            Command::Userdel { user } => self.userdel(alloc, people, user),
         }
     }
 }

@@ -1,8 +1,30 @@
-use Rattle.std.proofs.Common.{sym, subst}
+use Rattle.std.proofs.Common.{◌≡◌, sym, subst}
+use Rattle.std.specs.Prelude.{IfOk}
 use Rattle.acl_tree.specs.Step.{State, step, Stages}
+use Rattle.acl_tree.specs.Tells.{users_move}
 use Rattle.acl_tree.proofs.tree.Tree.prepare.Goals as goal
 
 pub returns-in-Chmod-clause-made : goal.returns-in-Chmod-clause-made
 returns-in-Chmod-clause-made c =
     let old : State = record { tree = c.args.self.now; people = c.args.people.now } in
     subst (λ command. Stages (λ s. s.state) c.chmod.result (step old command)) (sym c.in-Chmod.is) c.chmod.ensures.made
+
+pub returns-in-Gpasswd-clause-made : goal.returns-in-Gpasswd-clause-made
+returns-in-Gpasswd-clause-made c =
+    let old : State = record { tree = c.args.self.now; people = c.args.people.now } in
+    subst (λ command. Stages (λ s. s.state) c.gpasswd.result (step old command)) (sym c.in-Gpasswd.is) c.gpasswd.ensures.made
+
+pub returns-in-Gpasswd-clause-moved : goal.returns-in-Gpasswd-clause-moved
+returns-in-Gpasswd-clause-moved c =
+    let old : State = record { tree = c.args.self.now; people = c.args.people.now } in
+    subst (λ command. IfOk c.gpasswd.result (λ staged. staged.moved ≡ users_move old command)) (sym c.in-Gpasswd.is) c.gpasswd.ensures.moved
+
+pub returns-in-Usermod-clause-made : goal.returns-in-Usermod-clause-made
+returns-in-Usermod-clause-made c =
+    let old : State = record { tree = c.args.self.now; people = c.args.people.now } in
+    subst (λ command. Stages (λ s. s.state) c.usermod.result (step old command)) (sym c.in-Usermod.is) c.usermod.ensures.made
+
+pub returns-in-Usermod-clause-moved : goal.returns-in-Usermod-clause-moved
+returns-in-Usermod-clause-moved c =
+    let old : State = record { tree = c.args.self.now; people = c.args.people.now } in
+    subst (λ command. IfOk c.usermod.result (λ staged. staged.moved ≡ users_move old command)) (sym c.in-Usermod.is) c.usermod.ensures.moved

@@ -1,0 +1,38 @@
+//! The users and groups that words mean.
+
+ghost use Rattle.std.specs.Prelude.{◌≡◌, ◌≢◌, ◌<◌, length, Ok, Err, IfOk, IfErr};
+ghost use Rattle.acl_tree.specs.Memberships.{user_at, group_at};
+ghost use Rattle.acl_tree.specs.declared.command.TreeFault.TheVariants.{NoMemory};
+
+use crate::command::TreeFault;
+use acl_names::Name;
+use acl_people::People;
+use std::alloc::Global;
+
+/// The place of the user that a word means.
+pub(crate) fn find_user(alloc: Global, people: &People, word: &Name) -> Result<usize, TreeFault>
+    ensures found { IfOk result (λ user. user_at people.now word.now ≡ Ok user) }
+    ensures within { IfOk result (λ user. user < length people.now.users) }
+    ensures fault { IfErr result (λ fault. fault ≢ NoMemory → user_at people.now word.now ≡ Err fault) }
+{
+    match people.find_user(word.as_bytes()) {
+        Some(user) => Ok(user),
+        None => Err(TreeFault::NoSuchUser {
+            name: word.try_clone(alloc)?,
+        }),
+    }
+}
+
+/// The place of the group that a word means.
+pub(crate) fn find_group(alloc: Global, people: &People, word: &Name) -> Result<usize, TreeFault>
+    ensures found { IfOk result (λ group. group_at people.now word.now ≡ Ok group) }
+    ensures within { IfOk result (λ group. group < length people.now.groups) }
+    ensures fault { IfErr result (λ fault. fault ≢ NoMemory → group_at people.now word.now ≡ Err fault) }
+{
+    match people.find_group(word.as_bytes()) {
+        Some(group) => Ok(group),
+        None => Err(TreeFault::NoSuchGroup {
+            name: word.try_clone(alloc)?,
+        }),
+    }
+}

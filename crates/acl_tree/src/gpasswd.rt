@@ -1,0 +1,67 @@
+//! gpasswd(1): a user joins or leaves the row of a group.
+
+ghost use Rattle.std.specs.Prelude.{◌≡◌, ◌≢◌, ◌<◌, length, Ok, Err, IfOk, IfErr};
+ghost use Rattle.acl_people.specs.Registers.{persons};
+ghost use Rattle.acl_people.specs.Moves.{ChangesUser};
+ghost use Rattle.acl_tree.specs.Inner.{Prepares};
+ghost use Rattle.acl_tree.specs.Memberships.{membership_changed, gpasswd};
+ghost use Rattle.acl_tree.specs.Step.{with_change, state_from};
+ghost use Rattle.acl_tree.specs.Tells.{change_moves};
+ghost use Rattle.acl_tree.specs.declared.command.TreeFault.TheVariants.{NoMemory};
+
+use crate::command::{Membership, TreeFault};
+use crate::find_people::{find_group, find_user};
+use crate::stage_people::stage_user_change;
+use crate::staged::Staged;
+use crate::tree::Tree;
+use acl_names::Name;
+use acl_people::People;
+use std::alloc::Global;
+
+/// The people with a user added to the row of a group, or removed from it.
+fn change_membership(
+    alloc: Global,
+    people: &People,
+    user: usize,
+    group: usize,
+    change: Membership,
+) -> Result<People, TreeFault>
+    requires user { user < length people.now.users }
+    requires group { group < length people.now.groups }
+    ensures made { IfOk result (λ next. membership_changed user group change people.now ≡ Ok next) }
+    ensures change { IfOk result (λ next. ChangesUser (persons people.now) (persons next) user) }
+    ensures fault { IfErr result (λ fault. fault ≢ NoMemory → membership_changed user group change people.now ≡ Err fault) }
+{
+    match change {
+        Membership::Add => {
+            let next = people.with_member(alloc, user, group)?;
+            Ok(next)
+        }
+        Membership::Remove => {
+            if !people.is_member(user, group) {
+                return Err(TreeFault::NotMember);
+            }
+            let next = people.without_member(alloc, user, group)?;
+            Ok(next)
+        }
+    }
+}
+
+impl Tree {
+    pub(crate) fn gpasswd(
+        &self,
+        alloc: Global,
+        people: &People,
+        user: &Name,
+        group: &Name,
+        change: Membership,
+    ) -> Result<Staged, TreeFault>
+        ensures { Prepares (state_from self.now people.now) (with_change (state_from self.now people.now) (gpasswd user.now group.now change people.now)) (change_moves people.now (gpasswd user.now group.now change people.now)) result }
+    {
+        let user = find_user(alloc, people, user)?;
+        let group = find_group(alloc, people, group)?;
+        let next = change_membership(alloc, people, user, group, change)?;
+        let staged = stage_user_change(self, alloc, people, next, user)?;
+        Ok(staged)
+    }
+}

@@ -1,0 +1,69 @@
+//! A change of people, staged: no file changes.
+
+ghost use Rattle.std.specs.Prelude.{◌≡◌, [], IfOk};
+ghost use Rattle.acl_people.specs.Registers.{Register, persons};
+ghost use Rattle.acl_people.specs.Moves.{ChangesUser, moved_groups};
+ghost use Rattle.acl_tree.specs.Sound.{IsSoundTree};
+ghost use Rattle.acl_tree.specs.Step.{state_from};
+ghost use Rattle.acl_tree.specs.Tells.{move_of, UsersMoved, Tells};
+
+use crate::moved::{GroupIds, UsersMove};
+use crate::staged::Staged;
+use crate::tree::Tree;
+use acl_entry::Id;
+use acl_people::People;
+use std::alloc::{AllocError, Global};
+
+/// The same files with other people.
+pub(crate) fn stage_people(
+    tree: &Tree,
+    alloc: Global,
+    people: People,
+    moved: UsersMove,
+) -> Result<Staged, AllocError>
+    ensures all { IfOk result (λ staged. staged ≡ record { state = state_from tree.now people; changed = []; gone = []; moved = moved }) }
+    ensures sound { IfOk result (λ staged. IsSoundTree staged.state.tree) }
+    ensures tells { IfOk result (λ staged. (old : Register) → UsersMoved (state_from tree.now old) (state_from tree.now people) moved → Tells (state_from tree.now old) staged) }
+{
+    tree.is_sound();
+    Ok(Staged::of(
+        tree.share()?,
+        people,
+        Vec::new(alloc),
+        Vec::new(alloc),
+        moved,
+    ))
+}
+
+/// How the users move where one joined or left these groups.
+fn move_of(user: usize, groups: Vec<Id>) -> UsersMove
+    ensures { result ≡ move_of user groups.items }
+{
+    if groups.is_empty() {
+        UsersMove::Same
+    } else {
+        UsersMove::Moved {
+            user,
+            groups: GroupIds::new(groups),
+        }
+    }
+}
+
+/// The same files with people of whom one may have other groups.
+pub(crate) fn stage_user_change(
+    tree: &Tree,
+    alloc: Global,
+    people: &People,
+    next: People,
+    user: usize,
+) -> Result<Staged, AllocError>
+    requires { ChangesUser (persons people.now) (persons next) user }
+    ensures state { IfOk result (λ staged. staged.state ≡ state_from tree.now next) }
+    ensures sound { IfOk result (λ staged. IsSoundTree staged.state.tree) }
+    ensures tells { IfOk result (λ staged. Tells (state_from tree.now people.now) staged) }
+    ensures moved { IfOk result (λ staged. staged.moved ≡ move_of user (moved_groups people.now next user)) }
+{
+    let groups = people.moved_groups(alloc, &next, user)?;
+    let staged = stage_people(tree, alloc, next, move_of(user, groups))?;
+    Ok(staged)
+}
