@@ -1,0 +1,172 @@
+//! The verdicts of all users on one file.
+
+ghost use Rattle.std.specs.Prelude.{◌≡◌, ◌+◌, ◌++◌, ◌∷◌, [], ◌<◌, ◌≤◌, ◌^◌, true, length, map, IfOk, OnOk, slice_set, slice_get};
+ghost use Rattle.std.specs.List.{remove};
+
+use crate::judge::Judge;
+use acl_entry::{Label, Requests, Subject};
+use std::alloc::{AllocError, Global};
+use std::marker::Model;
+use std::rc::Rc;
+
+/// What each user may do with a file, in the order of the users. Files of equal verdicts can share them.
+#[derive(Drop)]
+pub struct Cells {
+    requests: Rc<Vec<Requests>>,
+}
+
+impl Model for Cells {
+    ghost use Rattle.std.specs.Prelude.{ℕ, List};
+
+    ghost Value = { List ℕ };
+
+    ghost view = { λ c. c.requests.value.items };
+}
+
+/// Whether two rows of verdicts are the same.
+fn are_equal(some: &[Requests], others: &[Requests]) -> bool
+    ensures { result ≡ true → some.now ≡ others.now }
+{
+    if some.len() != others.len() {
+        return false;
+    }
+    for at in 0..some.len() {
+        if some[at].bits() != others[at].bits() {
+            return false;
+        }
+    }
+    true
+}
+
+impl Cells {
+    /// These verdicts. Fails only if memory runs out.
+    pub fn new(alloc: Global, requests: Vec<Requests>) -> Result<Cells, AllocError>
+        ensures { IfOk result (λ cells. cells ≡ requests.items) }
+    {
+        Ok(Cells {
+            requests: Rc::new(alloc, requests)?,
+        })
+    }
+
+    /// These verdicts; where others are the same, they are shared. Fails only if memory runs out.
+    pub fn new_or_shared(
+        alloc: Global,
+        requests: Vec<Requests>,
+        other: Option<&Cells>,
+    ) -> Result<Cells, AllocError>
+        ensures { IfOk result (λ cells. cells ≡ requests.items) }
+    {
+        if let Some(other) = other {
+            if are_equal(other.as_slice(), &requests) {
+                let same = other.share()?;
+                return Ok(same);
+            }
+        }
+        let new = Cells::new(alloc, requests)?;
+        Ok(new)
+    }
+
+    /// The same verdicts, in shared memory. Fails only if memory runs out.
+    pub fn share(&self) -> Result<Cells, AllocError>
+        ensures { IfOk result (λ cells. cells ≡ self.now) }
+    {
+        Ok(Cells {
+            requests: self.requests.clone()?,
+        })
+    }
+
+    /// The verdicts, one for each user.
+    pub fn as_slice(&self) -> &[Requests]
+        ensures { result.now ≡ self.now }
+    {
+        &self.requests
+    }
+
+    /// What a user may do. Allocates nothing.
+    pub fn get(&self, user: usize) -> Option<Requests>
+        ensures { result ≡ slice_get self.now user }
+    {
+        match self.as_slice().get(user) {
+            Some(requests) => Some(*requests),
+            None => None,
+        }
+    }
+}
+
+/// The verdicts of all users on a label, as many as there are users. Where those on another file are the
+/// same, they are shared. Fails only if memory runs out.
+pub fn judged<J: Judge>(
+    alloc: Global,
+    judge: &mut J,
+    users: &[Rc<Subject>],
+    label: &Label,
+    other: Option<&Cells>,
+) -> Result<Cells, AllocError>
+    requires { J.asked_of judge.old + length users.now < 2 ^ 64 }
+    ensures cells { IfOk result (λ cells. cells ≡ map (λ u. J.verdict_of u label.now) (map (λ s. s.value) users.now)) }
+    ensures asked { OnOk result (J.asked_of judge.new ≡ J.asked_of judge.old + length users.now) }
+    ensures at_most { J.asked_of judge.new ≤ J.asked_of judge.old + length users.now }
+{
+    let mut requests = Vec::with_capacity(alloc, users.len())?;
+    for user in users {
+        let verdict = judge.verdict(user, label);
+        requests.push(verdict)?;
+    }
+    Cells::new_or_shared(alloc, requests, other)
+}
+
+/// The verdicts with that of one user asked for again. Fails only if memory runs out.
+pub fn judged_at<J: Judge>(
+    alloc: Global,
+    judge: &mut J,
+    cells: &Cells,
+    at: usize,
+    user: &Subject,
+    label: &Label,
+) -> Result<Cells, AllocError>
+    requires room { J.asked_of judge.old + 1 < 2 ^ 64 }
+    requires at { at < length cells.now }
+    ensures cells { IfOk result (λ new. new ≡ slice_set cells.now at (J.verdict_of user.now label.now)) }
+    ensures at_most { J.asked_of judge.new ≤ J.asked_of judge.old + 1 }
+{
+    let old = cells.as_slice();
+    let mut new = Vec::with_capacity(alloc, old.len())?;
+    new.extend_from_slice(old)?;
+    new[at] = judge.verdict(user, label);
+    Cells::new_or_shared(alloc, new, Some(cells))
+}
+
+/// The verdicts with that of one user more, the last. Fails only if memory runs out.
+pub fn judged_last<J: Judge>(
+    alloc: Global,
+    judge: &mut J,
+    cells: &[Requests],
+    user: &Subject,
+    label: &Label,
+    other: Option<&Cells>,
+) -> Result<Cells, AllocError>
+    requires { J.asked_of judge.old + 1 < 2 ^ 64 }
+    ensures cells { IfOk result (λ new. new ≡ cells.now ++ J.verdict_of user.now label.now ∷ []) }
+    ensures at_most { J.asked_of judge.new ≤ J.asked_of judge.old + 1 }
+{
+    let mut new = Vec::new(alloc);
+    new.extend_from_slice(cells)?;
+    new.push(judge.verdict(user, label))?;
+    Cells::new_or_shared(alloc, new, other)
+}
+
+/// The verdicts without that of one user. Fails only if memory runs out.
+pub fn without(
+    alloc: Global,
+    cells: &[Requests],
+    at: usize,
+    other: Option<&Cells>,
+) -> Result<Cells, AllocError>
+    requires { at < length cells.now }
+    ensures { IfOk result (λ new. new ≡ remove cells.now at) }
+{
+    let mut new = Vec::with_capacity(alloc, cells.len())?;
+    new.extend_from_slice(cells)?;
+    let _gone = new.remove(at);
+    Cells::new_or_shared(alloc, new, other)
+}
