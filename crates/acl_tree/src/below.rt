@@ -6,8 +6,8 @@ ghost use Rattle.acl_tree.specs.Below.{is_below};
 use acl_names::Path;
 use std::cmp::Ordering;
 
-/// Whether the second path is below the first.
-pub(crate) fn is_below(top: &Path, path: &Path) -> bool
+/// Whether the second path is below the first. Allocates nothing.
+pub fn is_below(top: &Path, path: &Path) -> bool
     ensures { result ≡ is_below top.now path.now }
 {
     let mut rest = path.components();

@@ -29,6 +29,7 @@ mod usermod;
 mod walks;
 
 pub use acl_people::{People, UserName};
+pub use below::is_below;
 pub use command::{Command, Membership, NewFile, NewUser, Paths, Table, TreeFault};
 pub use found::Found;
 pub use laws::{

@@ -1,0 +1,3 @@
+pub mod Reach
+pub mod Differing
+pub mod Walks

@@ -1,0 +1,76 @@
+//! A walk over rows in path order, with the rows above at hand.
+
+ghost use Rattle.std.specs.Prelude.{◌≡◌, ◌≤◌, false, length, map, take, option_map, IfOk};
+ghost use Rattle.std.specs.Ordering.{is_gt};
+ghost use Rattle.acl_names.specs.Paths.{path_cmp};
+ghost use Rattle.path_map.specs.Entries.{PathOf};
+ghost use Rattle.acl_reach.specs.Reach.{reached_rows};
+ghost use Rattle.acl_reach.specs.Walks.{nearest, last_of, AllBefore};
+
+use crate::cut::reached_row;
+use acl_entry::Requests;
+use acl_names::Path;
+use acl_tree::is_below;
+use acl_verdicts::Cells;
+use path_map::{Entry, PathMap};
+use std::alloc::{AllocError, Global};
+use std::rc::Rc;
+
+/// How many rows of a stack are left when those that are not above a path are taken off its end.
+fn depth_above(stack: &[Rc<Entry<Cells>>], path: &Path) -> usize
+    requires before { AllBefore path.now (map (λ e. e.value) stack.now) }
+    ensures most { result ≤ length stack.now }
+    ensures kept { (p : PathOf) → is_gt (path_cmp path.now p) ≡ false → nearest p (take result (map (λ e. e.value) stack.now)) ≡ nearest p (map (λ e. e.value) stack.now) }
+    ensures top { last_of (take result (map (λ e. e.value) stack.now)) ≡ nearest path.now (map (λ e. e.value) stack.now) }
+{
+    let mut depth = stack.len();
+    while 0 < depth {
+        if is_below(stack[depth - 1].path(), path) {
+            return depth;
+        }
+        depth -= 1;
+    }
+    depth
+}
+
+/// The verdicts of the last row of a stack.
+fn last_cells(stack: &[Rc<Entry<Cells>>]) -> Option<&[Requests]>
+    ensures { option_map (λ c. c.now) result ≡ last_of (map (λ e. e.value) stack.now) }
+{
+    if stack.is_empty() {
+        return None;
+    }
+    Some(stack[stack.len() - 1].value().as_slice())
+}
+
+/// The last row, for others to share.
+fn last_row(rows: &[Rc<Entry<Cells>>]) -> Option<&Cells> {
+    match rows.last() {
+        Some(row) => Some(row.value()),
+        None => None,
+    }
+}
+
+/// What each user reaches at each path, by the verdicts. Rows that are the same as in an old table, or as the
+/// row before, are shared. Fails only if memory runs out.
+pub fn reached_of(
+    alloc: Global,
+    rows: &PathMap<Cells>,
+    old: &PathMap<Cells>,
+) -> Result<PathMap<Cells>, AllocError>
+    ensures { IfOk result (λ reached. reached ≡ reached_rows rows.now) }
+{
+    rows.is_in_order();
+    let mut reached = Vec::new(alloc);
+    let mut stack: Vec<Rc<Entry<Cells>>> = Vec::new(alloc);
+    let mut rest = rows.iter();
+    while let Some(row) = rest.next() {
+        let depth = depth_above(&stack, row.path());
+        stack.truncate(depth);
+        let entry = reached_row(alloc, row, last_cells(&stack), old, last_row(&reached))?;
+        stack.push(entry.clone()?)?;
+        reached.push(entry)?;
+    }
+    let all = PathMap::from_sorted(alloc, &reached)?;
+    Ok(all)
+}
