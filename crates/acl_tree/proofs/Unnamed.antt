@@ -12,7 +12,7 @@ use Rattle.acl_edit.specs.declared.node.Node.{Node}
 use Rattle.acl_people.specs.Registers.{Register, load_passwd, load_group}
 use Rattle.acl_people.specs.declared.fault.LoadFault.{LoadFault}
 use Rattle.acl_tree.specs.declared.command.Command.{Command}
-use Rattle.acl_tree.specs.declared.command.Command.TheVariants.{Load, Chmod, Edit, Restore, Creat, Rm}
+use Rattle.acl_tree.specs.declared.command.Command.TheVariants.{Load, Chmod, Edit, Restore, Creat, Rm, Gpasswd, Usermod, Useradd, Userdel}
 use Rattle.acl_tree.specs.declared.command.NewFile.{NewFile}
 use Rattle.acl_tree.specs.declared.command.Table.TheVariants.{Passwd, Group, Dump}
 use Rattle.acl_tree.specs.declared.command.TreeFault.{TreeFault}
@@ -20,11 +20,13 @@ use Rattle.acl_tree.specs.declared.command.TreeFault.TheVariants.{Exists, TooMan
 use Rattle.acl_tree.specs.Files.{PathOf, Files, Recorded, IsInOrder, max_files}
 use Rattle.acl_tree.specs.Creat.{row_of, exists, parent, directory_at, creat_in, creat_by, creat}
 use Rattle.acl_tree.specs.EditCommand.{edited_tree}
+use Rattle.acl_tree.specs.Accounts.{useradd, userdel}
 use Rattle.acl_tree.specs.Laws.{LeavesUnnamed}
+use Rattle.acl_tree.specs.Memberships.{UserChange, gpasswd, usermod}
 use Rattle.acl_tree.specs.Operands.{is_file, first_missing}
 use Rattle.acl_tree.specs.Restoring.{restored_tree}
 use Rattle.acl_tree.specs.Rm.{first_refused, without_files, or_refused, rm}
-use Rattle.acl_tree.specs.Step.{State, step, with_tree, with_people, or_missing, chmod_all}
+use Rattle.acl_tree.specs.Step.{State, step, with_tree, with_change, with_people, or_missing, chmod_all}
 use Rattle.acl_tree.proofs.Each.{same, find-edited, edit_each_file, restore_each_file}
 
 err_is_not_ok : {A B : Type 0} (a : A) (b : B) → Err b ≡ Ok a → ⊥
@@ -64,6 +66,10 @@ same_tree s new (Err fault) h = absurd (err_is_not_ok _ _ h)
 unless_loaded : (s new : State) (b : Bool) (r : Result Register LoadFault) → (if b then Err AlreadyLoaded else with_people s r) ≡ Ok new → new.tree ≡ s.tree
 unless_loaded s new true r h = absurd (err_is_not_ok _ _ h)
 unless_loaded s new false r h = same_tree s new r h
+
+same_tree_by : (s new : State) (r : Result UserChange TreeFault) → with_change s r ≡ Ok new → new.tree ≡ s.tree
+same_tree_by s new (Ok change) h = ap (λ r. (state_or s r).tree) (sym h)
+same_tree_by s new (Err fault) h = absurd (err_is_not_ok _ _ h)
 
 -- ---- chmod
 
@@ -132,3 +138,7 @@ unnamed_stays (Rm paths recursive) old new order h p out =
     let t : Recorded = record old.tree { files = without_files recursive paths old.tree.files } in
     ap (λ t. find path_cmp p t.files) (removed (first_refused recursive paths old.tree.files) t new.tree (tree_after old new (rm recursive paths old.tree) h))
     ∙ not_removed p recursive paths old.tree.files out
+unnamed_stays (Gpasswd user group change) old new order h p out = ap (λ t. find path_cmp p t.files) (same_tree_by old new (gpasswd user group change old.people) h)
+unnamed_stays (Usermod user group) old new order h p out = ap (λ t. find path_cmp p t.files) (same_tree_by old new (usermod user group old.people) h)
+unnamed_stays (Useradd user) old new order h p out = ap (λ t. find path_cmp p t.files) (same_tree_by old new (useradd user old.people) h)
+unnamed_stays (Userdel user) old new order h p out = ap (λ t. find path_cmp p t.files) (same_tree_by old new (userdel user old.people) h)

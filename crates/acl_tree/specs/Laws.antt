@@ -10,7 +10,7 @@ use Rattle.acl_edit.specs.declared.edit.Change.{Change}
 use Rattle.acl_edit.specs.declared.edit.EditFault.{EditFault}
 use Rattle.acl_edit.specs.declared.node.Node.{Node}
 use Rattle.acl_tree.specs.declared.command.Command.{Command}
-use Rattle.acl_tree.specs.declared.command.Command.TheVariants.{Load, Chmod, Edit, Restore, Creat, Rm}
+use Rattle.acl_tree.specs.declared.command.Command.TheVariants.{Load, Chmod, Edit, Restore, Creat, Rm, Gpasswd, Usermod, Useradd, Userdel}
 use Rattle.acl_tree.specs.declared.command.Table.{Table}
 use Rattle.acl_tree.specs.declared.command.Table.TheVariants.{Passwd, Group, Dump}
 use Rattle.acl_tree.specs.Files.{PathOf, Files, Recorded}
@@ -52,6 +52,10 @@ names (Edit paths e recursive) p = is_file recursive paths p
 names (Restore records) p = is_file false (paths_of records) p
 names (Creat new) p = eq_by_cmp path_cmp p new.path
 names (Rm paths recursive) p = is_file recursive paths p
+names (Gpasswd user group change) p = false
+names (Usermod user group) p = false
+names (Useradd new) p = false
+names (Userdel user) p = false
 
 -- what it does not name stays as it is: recorded or not, and with its node
 abbrev pub LeavesUnnamed : Command → State → State → Type 0
