@@ -1,45 +1,127 @@
 //! New files.
-use crate::made::{chmod, creat, flags, kind, mode, path, run, setup};
+use crate::rows::{Line, Row, after};
+use crate::texts::{FIVE, FOUR, PEOPLE};
 use acl_edit::Kind;
-use acl_tree::Tree;
-use std::alloc::Global;
-use std::process::Abort;
+use acl_tree::Table;
 
-/// The owner's and the group's number.
-fn ids(rt: &impl Abort, alloc: Global, tree: &Tree, name: &[u8]) -> (u32, u32) {
-    let path = path(rt, alloc, name);
-    let label = &tree.get(&path).expect(rt, "a file").label;
-    (label.owner.number(), label.group.number())
+static FAULTS: [Row; 4] = [
+    // Before what the path has.
+    Row {
+        line: Line::Creat(b"nosuch", Kind::Plain, 0o600, 0o22, b"f"),
+        outcome: "no such user nosuch",
+        files: &[],
+    },
+    Row {
+        line: Line::Creat(b"ann", Kind::Plain, 0o600, 0o22, b"f"),
+        outcome: "exists f",
+        files: &[],
+    },
+    Row {
+        line: Line::Creat(b"ann", Kind::Plain, 0o600, 0o22, b"f/x"),
+        outcome: "not a directory f",
+        files: &[],
+    },
+    Row {
+        line: Line::Creat(b"ann", Kind::Plain, 0o600, 0o22, b"no/x"),
+        outcome: "no such file no",
+        files: &[],
+    },
+];
+
+static ROOT: [Row; 4] = [
+    // The root is its own parent.
+    Row {
+        line: Line::Creat(b"ann", Kind::Directory, 0o700, 0o22, b"."),
+        outcome: "no such file .",
+        files: &[],
+    },
+    Row {
+        line: Line::Load(
+            Table::Dump,
+            b"# file: a/b\n# owner: lisa\n# group: staff\nuser::rw-\ngroup::r--\nother::---\n",
+        ),
+        outcome: "done: 1 changed, 0 gone",
+        files: &[(b"a", "not recorded")],
+    },
+    // A file is recorded below it.
+    Row {
+        line: Line::Creat(b"ann", Kind::Directory, 0o700, 0o22, b"a"),
+        outcome: "exists a",
+        files: &[],
+    },
+    Row {
+        line: Line::Creat(b"ann", Kind::Directory, 0o700, 0o22, b"."),
+        outcome: "exists .",
+        files: &[],
+    },
+];
+
+static OWNERS: [Row; 4] = [
+    Row {
+        line: Line::Creat(b"lisa", Kind::Plain, 0o600, 0o22, b"x\\012y"),
+        outcome: "done: 1 changed, 0 gone",
+        files: &[(b"x\ny", "---- lisa:staff u::rw-,g::---,o::---")],
+    },
+    // By id.
+    Row {
+        line: Line::Creat(b"1000", Kind::Plain, 0o666, 0o22, b"z"),
+        outcome: "done: 1 changed, 0 gone",
+        files: &[(b"z", "---- joe:users u::rw-,g::r--,o::r--")],
+    },
+    Row {
+        line: Line::Chmod(0o2755, false, &[b"."]),
+        outcome: "done: 0 changed, 0 gone",
+        files: &[(b".", "d-s- lisa:staff u::rwx,g::r-x,o::r-x")],
+    },
+    // The group of the directory, which has setgid.
+    Row {
+        line: Line::Creat(b"joe", Kind::Directory, 0o750, 0o22, b"n"),
+        outcome: "done: 1 changed, 0 gone",
+        files: &[(b"n", "d-s- joe:staff u::rwx,g::r-x,o::---")],
+    },
+];
+
+static DEFAULTS: [Row; 3] = [
+    Row {
+        line: Line::Setfacl(b"", b"d:u:joe:rwx", false, &[b"pub"]),
+        outcome: "done: 0 changed, 0 gone",
+        files: &[],
+    },
+    // The umask has no effect.
+    Row {
+        line: Line::Creat(b"ann", Kind::Plain, 0o640, 0o77, b"pub/n"),
+        outcome: "done: 1 changed, 0 gone",
+        files: &[(
+            b"pub/n",
+            "---- ann:users u::rw-,u:joe:rwx,g::r-x,m::r--,o::---",
+        )],
+    },
+    Row {
+        line: Line::Creat(b"ann", Kind::Directory, 0o750, 0o22, b"pub/s"),
+        outcome: "done: 1 changed, 0 gone",
+        files: &[(
+            b"pub/s",
+            "d--- ann:users u::rwx,u:joe:rwx,g::r-x,m::r-x,o::---/u::rwx,u:joe:rwx,g::r-x,m::rwx,o::r-x",
+        )],
+    },
+];
+
+#[test]
+fn each_fault_in_its_order(rt: HostRuntime) {
+    after(&rt, rt.alloc(), &[&PEOPLE, &FOUR, &FAULTS]);
 }
 
 #[test]
-fn a_directory_of_a_setgid_parent(rt: HostRuntime) {
-    let alloc = rt.alloc();
-    let (mut tree, mut people) = setup(&rt, alloc);
-    let setgid = chmod(&rt, alloc, 0o2755, false, &[b"."]);
-    assert!(rt; run(alloc, &mut tree, &mut people, &setgid).is_none());
-    let new = creat(&rt, alloc, b"joe", Kind::Directory, 0o750, b"n");
-    let staged = tree.prepare(alloc, &people, &new).expect(&rt, "memory");
-    let changed = staged.changed().len();
-    let gone = staged.gone().len();
-    tree.commit(&mut people, staged);
-    assert_eq!(rt; changed, 1);
-    assert_eq!(rt; gone, 0);
-    assert!(rt; ids(&rt, alloc, &tree, b"n") == (1000, 50), "joe, staff");
-    assert!(rt; kind(&rt, alloc, &tree, b"n") == Kind::Directory);
-    assert!(rt; flags(&rt, alloc, &tree, b"n") == [false, true, false]);
-    assert_eq!(rt; mode(&rt, alloc, &tree, b"n"), 0o750);
+fn the_root_and_a_path_above_a_file(rt: HostRuntime) {
+    after(&rt, rt.alloc(), &[&PEOPLE, &ROOT]);
 }
 
 #[test]
-fn a_name_with_a_line_feed(rt: HostRuntime) {
-    let alloc = rt.alloc();
-    let (mut tree, mut people) = setup(&rt, alloc);
-    let new = creat(&rt, alloc, b"lisa", Kind::Plain, 0o600, b"x\\012y");
-    assert!(rt; run(alloc, &mut tree, &mut people, &new).is_none());
-    assert_eq!(rt; mode(&rt, alloc, &tree, b"x\ny"), 0o600);
-    let by_id = creat(&rt, alloc, b"1000", Kind::Plain, 0o666, b"z");
-    assert!(rt; run(alloc, &mut tree, &mut people, &by_id).is_none());
-    assert!(rt; ids(&rt, alloc, &tree, b"z") == (1000, 100), "joe, users");
-    assert_eq!(rt; mode(&rt, alloc, &tree, b"z"), 0o644);
+fn owners_and_groups(rt: HostRuntime) {
+    after(&rt, rt.alloc(), &[&PEOPLE, &FOUR, &OWNERS]);
+}
+
+#[test]
+fn files_under_a_default_list(rt: HostRuntime) {
+    after(&rt, rt.alloc(), &[&PEOPLE, &FIVE, &DEFAULTS]);
 }

@@ -1,6 +1,6 @@
 //! Worked examples of whole commands, and each public call of `acl_tree` once.
 //!
-//! They stand apart from `acl_tree`, since a crate with tests is proved twice.
+//! They are in a crate of their own, since a crate with tests is proved twice.
 #![tactic(auto)]
 
 #[cfg(test)]
@@ -10,12 +10,16 @@ mod creat;
 #[cfg(test)]
 mod edits;
 #[cfg(test)]
+mod files;
+#[cfg(test)]
 mod loads;
-#[cfg(test)]
-mod made;
-#[cfg(test)]
-mod refusals;
 #[cfg(test)]
 mod restores;
 #[cfg(test)]
-mod told;
+mod rm;
+#[cfg(test)]
+mod rows;
+#[cfg(test)]
+mod shown;
+#[cfg(test)]
+mod texts;

@@ -1,0 +1,146 @@
+//! How a test is written here: rows, each of a command, what comes of it, and what files are afterwards.
+//!
+//! A row is data. What comes of a command and what a file is are compared as texts, so a new test needs no code.
+use crate::shown::{expect_files, expect_text, listing, outcome};
+use acl_dump::{DumpUse, read_dump};
+use acl_edit::{Change, Edit, Kind, Specs};
+use acl_names::{Name, Path, read_path};
+use acl_people::People;
+use acl_text::{Sep, Want, read_entries};
+use acl_tree::{Command, DumpRecords, NewFile, Paths, State, Table};
+use std::alloc::Global;
+use std::process::Abort;
+
+/// A command, its operands and texts as they are written.
+pub enum Line {
+    Load(Table, &'static [u8]),
+    /// A mode, and whether it is also put into all files below.
+    Chmod(u16, bool, &'static [&'static [u8]]),
+    /// Entries that are removed, entries that are modified, and whether all files below are edited too.
+    Setfacl(&'static [u8], &'static [u8], bool, &'static [&'static [u8]]),
+    Restore(&'static [u8]),
+    /// A user, a kind, a mode and a umask.
+    Creat(&'static [u8], Kind, u16, u16, &'static [u8]),
+    /// Whether directories are removed too, with all files below.
+    Rm(bool, &'static [&'static [u8]]),
+}
+
+/// A command and what comes of it.
+pub struct Row {
+    pub line: Line,
+    /// As [`outcome`] writes it.
+    pub outcome: &'static str,
+    /// Paths, each with what `shown` writes of it afterwards.
+    pub files: &'static [(&'static [u8], &'static str)],
+}
+
+pub fn path(rt: &impl Abort, alloc: Global, text: &[u8]) -> Path {
+    read_path(alloc, text)
+        .expect(rt, "memory")
+        .expect(rt, "a path")
+}
+
+pub fn paths(rt: &impl Abort, alloc: Global, texts: &[&[u8]]) -> Paths {
+    let mut list = Vec::new(alloc);
+    for text in texts {
+        list.push(path(rt, alloc, text)).expect(rt, "memory");
+    }
+    Paths::new(list)
+}
+
+fn entries(rt: &impl Abort, alloc: Global, text: &[u8], want: Want, people: &People) -> Specs {
+    Specs::new(read_entries(alloc, text, Sep::Comma, want, people).expect(rt, "entries"))
+}
+
+fn change(rt: &impl Abort, alloc: Global, people: &People, remove: &[u8], modify: &[u8]) -> Edit {
+    Edit::Change(Change {
+        strip: false,
+        drop_default: false,
+        as_default: false,
+        no_mask: false,
+        remask: false,
+        remove: entries(rt, alloc, remove, Want::WithoutPerms, people),
+        set: Specs::new(Vec::new(alloc)),
+        modify: entries(rt, alloc, modify, Want::WithPerms, people),
+    })
+}
+
+fn records(rt: &impl Abort, alloc: Global, people: &People, text: &[u8]) -> DumpRecords {
+    DumpRecords::new(read_dump(alloc, text, DumpUse::Restore, people).expect(rt, "records"))
+}
+
+fn name(rt: &impl Abort, alloc: Global, text: &[u8]) -> Name {
+    Name::from_bytes(alloc, text).expect(rt, "memory")
+}
+
+/// The command of a row.
+pub fn command(rt: &impl Abort, alloc: Global, people: &People, line: &Line) -> Command<'static> {
+    match line {
+        Line::Load(which, bytes) => Command::Load {
+            which: *which,
+            bytes,
+        },
+        Line::Chmod(mode, recursive, names) => Command::Chmod {
+            paths: paths(rt, alloc, names),
+            mode: *mode,
+            recursive: *recursive,
+        },
+        Line::Setfacl(remove, modify, recursive, names) => Command::Edit {
+            paths: paths(rt, alloc, names),
+            edit: change(rt, alloc, people, remove, modify),
+            recursive: *recursive,
+        },
+        Line::Restore(text) => Command::Restore {
+            records: records(rt, alloc, people, text),
+        },
+        Line::Creat(user, kind, mode, umask, text) => Command::Creat(NewFile {
+            path: path(rt, alloc, text),
+            kind: *kind,
+            user: name(rt, alloc, user),
+            mode: *mode,
+            umask: *umask,
+        }),
+        Line::Rm(recursive, names) => Command::Rm {
+            paths: paths(rt, alloc, names),
+            recursive: *recursive,
+        },
+    }
+}
+
+/// A command ends as the text says. Refused it changes nothing.
+pub fn expect_outcome(
+    rt: &impl Abort,
+    alloc: Global,
+    state: &mut State,
+    command: Command<'_>,
+    want: &str,
+) {
+    let before = listing(rt, alloc, state.tree(), state.people());
+    expect_text(rt, outcome(rt, alloc, state, command), want);
+    let after = listing(rt, alloc, state.tree(), state.people());
+    assert!(rt;
+        want.starts_with("done") || before == after,
+        "changed by: {want}"
+    );
+}
+
+fn expect_row(rt: &impl Abort, alloc: Global, state: &mut State, row: &Row) {
+    let command = command(rt, alloc, state.people(), &row.line);
+    expect_outcome(rt, alloc, state, command, row.outcome);
+    expect_files(rt, alloc, state, row.files);
+}
+
+fn expect_rows(rt: &impl Abort, alloc: Global, state: &mut State, rows: &[Row]) {
+    for row in rows {
+        expect_row(rt, alloc, state, row);
+    }
+}
+
+/// The state after tables of rows, which begin with no file and nobody.
+pub fn after(rt: &impl Abort, alloc: Global, tables: &[&[Row]]) -> State {
+    let mut state = State::new(alloc).expect(rt, "memory");
+    for rows in tables {
+        expect_rows(rt, alloc, &mut state, rows);
+    }
+    state
+}

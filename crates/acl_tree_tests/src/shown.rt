@@ -1,0 +1,240 @@
+//! What comes of a command, and what files are, as texts.
+use crate::rows::path;
+use acl_edit::{Kind, Node};
+use acl_entry::{Acl, Id, Label, Subject};
+use acl_names::{Name, Path, append_path};
+use acl_people::People;
+use acl_text::{Names, append_id, append_short};
+use acl_tree::{Command, Record, Staged, State, Tree, TreeFault, UsersMove};
+use std::alloc::Global;
+use std::process::Abort;
+
+/// A fault, without what it holds.
+fn words(fault: &TreeFault) -> &'static [u8] {
+    match fault {
+        TreeFault::NoSuchFile { .. } => b"no such file ",
+        TreeFault::NotDirectory { .. } => b"not a directory ",
+        TreeFault::Exists { .. } => b"exists ",
+        TreeFault::IsDirectory { .. } => b"is a directory ",
+        TreeFault::NoSuchUser { .. } => b"no such user ",
+        TreeFault::NoSuchGroup { .. } => b"no such group ",
+        TreeFault::NotMember => b"not a member",
+        TreeFault::Edit { .. } => b"edit of ",
+        TreeFault::TooMany => b"too many files",
+        TreeFault::AlreadyLoaded => b"already loaded",
+        TreeFault::Text(_) => b"text ",
+        TreeFault::UserExists { .. } => b"user exists ",
+        TreeFault::UidExists { .. } => b"user id in use",
+        TreeFault::TooManyUsers => b"too many users",
+        TreeFault::NoMemory => b"no memory",
+    }
+}
+
+fn path_of(fault: &TreeFault) -> Option<&Path> {
+    match fault {
+        TreeFault::NoSuchFile { path } => Some(path),
+        TreeFault::NotDirectory { path } => Some(path),
+        TreeFault::Exists { path } => Some(path),
+        TreeFault::IsDirectory { path } => Some(path),
+        TreeFault::Edit { path, .. } => Some(path),
+        _ => None,
+    }
+}
+
+fn name_of(fault: &TreeFault) -> Option<&Name> {
+    match fault {
+        TreeFault::NoSuchUser { name } => Some(name),
+        TreeFault::NoSuchGroup { name } => Some(name),
+        TreeFault::UserExists { name } => Some(name),
+        _ => None,
+    }
+}
+
+/// The fault of a text or of an edit.
+fn inner(rt: &impl Abort, alloc: Global, fault: &TreeFault) -> String {
+    let text = match fault {
+        TreeFault::Text(fault) => format!(in alloc; "{:?}, {}", fault.kind, fault.at),
+        TreeFault::Edit { fault, .. } => format!(in alloc; ": {fault:?}"),
+        _ => format!(in alloc; ""),
+    };
+    text.expect(rt, "memory")
+}
+
+fn push(rt: &impl Abort, text: &mut Vec<u8>, bytes: &[u8]) {
+    text.extend_from_slice(bytes).expect(rt, "memory");
+}
+
+fn push_path(rt: &impl Abort, text: &mut Vec<u8>, path: Option<&Path>) {
+    if let Some(path) = path {
+        append_path(text, path).expect(rt, "memory");
+    }
+}
+
+fn push_name(rt: &impl Abort, text: &mut Vec<u8>, name: Option<&Name>) {
+    if let Some(name) = name {
+        push(rt, text, name.as_bytes());
+    }
+}
+
+fn fault_text(rt: &impl Abort, alloc: Global, fault: &TreeFault) -> Vec<u8> {
+    let mut text = Vec::new(alloc);
+    push(rt, &mut text, words(fault));
+    push_path(rt, &mut text, path_of(fault));
+    push_name(rt, &mut text, name_of(fault));
+    push(rt, &mut text, inner(rt, alloc, fault).as_bytes());
+    text
+}
+
+fn moved(users: &UsersMove) -> &'static str {
+    match users {
+        UsersMove::Same => "",
+        UsersMove::Loaded => ", users loaded",
+    }
+}
+
+/// How many files a prepared command changes and removes, and how it moves users.
+fn staged_text(rt: &impl Abort, alloc: Global, staged: &Staged) -> Vec<u8> {
+    let changed = staged.changed().len();
+    let gone = staged.gone().len();
+    let users = moved(staged.moved());
+    format!(in alloc; "done: {changed} changed, {gone} gone{users}")
+        .expect(rt, "memory")
+        .into_bytes()
+}
+
+/// Runs a command, and says what came of it.
+pub fn outcome(rt: &impl Abort, alloc: Global, state: &mut State, command: Command<'_>) -> Vec<u8> {
+    match state.prepare(alloc, &command) {
+        Ok(staged) => {
+            let text = staged_text(rt, alloc, &staged);
+            state.commit(staged);
+            text
+        }
+        Err(fault) => fault_text(rt, alloc, &fault),
+    }
+}
+
+fn mark(kind: Kind) -> u8 {
+    match kind {
+        Kind::Plain => b'-',
+        Kind::Directory => b'd',
+    }
+}
+
+fn flag(set: bool, letter: u8) -> u8 {
+    if set { letter } else { b'-' }
+}
+
+fn push_label(rt: &impl Abort, text: &mut Vec<u8>, label: &Label, people: &People) {
+    append_id(text, label.owner, people.user_name(label.owner)).expect(rt, "memory");
+    push(rt, text, b":");
+    append_id(text, label.group, people.group_name(label.group)).expect(rt, "memory");
+    push(rt, text, b" ");
+    append_short(text, &label.acl, people).expect(rt, "memory");
+}
+
+fn push_default(rt: &impl Abort, text: &mut Vec<u8>, dacl: &Option<Acl>, people: &People) {
+    if let Some(dacl) = dacl {
+        push(rt, text, b"/");
+        append_short(text, dacl, people).expect(rt, "memory");
+    }
+}
+
+fn push_node(rt: &impl Abort, text: &mut Vec<u8>, node: &Node, people: &People) {
+    let [setuid, setgid, sticky] = node.flags;
+    push(
+        rt,
+        text,
+        &[
+            mark(node.kind),
+            flag(setuid, b's'),
+            flag(setgid, b's'),
+            flag(sticky, b't'),
+            b' ',
+        ],
+    );
+    push_label(rt, text, &node.label, people);
+    push_default(rt, text, &node.dacl, people);
+}
+
+/// A file: its kind and flags, owner, group and lists, as `d-s- lisa:staff u::rwx,g::r-x,o::r-x`.
+fn shown(rt: &impl Abort, alloc: Global, people: &People, node: Option<&Node>) -> Vec<u8> {
+    let mut text = Vec::new(alloc);
+    match node {
+        Some(node) => push_node(rt, &mut text, node, people),
+        None => push(rt, &mut text, b"not recorded"),
+    }
+    text
+}
+
+/// A text is this one.
+pub fn expect_text(rt: &impl Abort, found: Vec<u8>, want: &str) {
+    assert!(rt; found.as_slice() == want.as_bytes(), "not: {want}");
+}
+
+fn expect_file(rt: &impl Abort, alloc: Global, state: &State, name: &[u8], want: &str) {
+    let path = path(rt, alloc, name);
+    let text = shown(rt, alloc, state.people(), state.tree().get(&path));
+    expect_text(rt, text, want);
+}
+
+/// Files are as the texts say.
+pub fn expect_files(rt: &impl Abort, alloc: Global, state: &State, files: &[(&[u8], &str)]) {
+    for (name, want) in files {
+        expect_file(rt, alloc, state, name, want);
+    }
+}
+
+/// More files than any tree has here.
+const MANY: usize = 20;
+
+fn push_file(rt: &impl Abort, text: &mut Vec<u8>, file: &Record, people: &People) {
+    push_path(rt, text, Some(file.path()));
+    push(rt, text, b" ");
+    push_node(rt, text, file.value(), people);
+    push(rt, text, b"\n");
+}
+
+fn push_files(rt: &impl Abort, text: &mut Vec<u8>, tree: &Tree, people: &People) {
+    let mut files = tree.iter();
+    for _ in 0..MANY {
+        if let Some(file) = files.next() {
+            push_file(rt, text, file, people);
+        }
+    }
+}
+
+fn push_group(rt: &impl Abort, text: &mut Vec<u8>, group: Id, people: &People) {
+    push(rt, text, b" ");
+    append_id(text, group, people.group_name(group)).expect(rt, "memory");
+}
+
+fn push_user(rt: &impl Abort, text: &mut Vec<u8>, user: &Subject, people: &People) {
+    append_id(text, user.uid(), people.user_name(user.uid())).expect(rt, "memory");
+    push(rt, text, b":");
+    for group in user.groups() {
+        push_group(rt, text, *group, people);
+    }
+    push(rt, text, b"\n");
+}
+
+fn push_users(rt: &impl Abort, text: &mut Vec<u8>, people: &People) {
+    for user in people.subjects() {
+        push_user(rt, text, user, people);
+    }
+}
+
+/// Which texts are loaded, all files and all users with their groups.
+pub fn listing(rt: &impl Abort, alloc: Global, tree: &Tree, people: &People) -> Vec<u8> {
+    let mut text = Vec::new(alloc);
+    let texts = [
+        flag(people.passwd_loaded(), b'p'),
+        flag(people.group_loaded(), b'g'),
+        flag(tree.is_loaded(), b'd'),
+        b'\n',
+    ];
+    push(rt, &mut text, &texts);
+    push_files(rt, &mut text, tree, people);
+    push_users(rt, &mut text, people);
+    text
+}
