@@ -23,3 +23,5 @@ mod rows;
 mod shown;
 #[cfg(test)]
 mod texts;
+#[cfg(test)]
+mod walks;
