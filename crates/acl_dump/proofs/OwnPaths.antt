@@ -1,10 +1,9 @@
 -- The records of a dump have different paths: a record is begun only where no earlier record has its path.
 use Rattle.std.proofs.Common.{◌≡◌, ℕ, List, [], ◌∷◌, ◌++◌, Bool, true, false, cond, not, Option, Some, None, Result, Ok, Err, refl, sym, ap, subst, ◌∙◌}
 use Rattle.std.specs.Prelude.{IfOk, ◌||◌, ◌&&◌}
-use Rattle.std.specs.List.{list_any}
 use Rattle.std.proofs.lemmas.Cmp.{eq_by_cmp_equiv}
 use Rattle.std.proofs.lemmas.List.Folds.{list_any-append}
-use Rattle.acl_names.specs.Paths.{path_cmp, path_of}
+use Rattle.acl_names.specs.Paths.{path_of}
 use Rattle.acl_names.proofs.PathOrder.{path_total}
 use Rattle.acl_text.specs.declared.fault.FaultKind.{FaultKind}
 use Rattle.acl_text.specs.declared.fault.FaultKind.TheVariants.{BadHeader, BadPath, MissingHeader, RepeatedFile}
@@ -17,7 +16,7 @@ use Rattle.acl_dump.specs.declared.record.DumpUse.{DumpUse}
 use Rattle.acl_dump.specs.declared.said.Said.{Said}
 use Rattle.acl_dump.specs.declared.said.Said.TheVariants as said
 use Rattle.acl_dump.specs.OwnPaths.{have_own_paths}
-use Rattle.acl_dump.specs.Groups.{next, streamed}
+use Rattle.acl_dump.specs.Groups.{next}
 use Rattle.acl_dump.proofs.Streams.{streamed_by_groups}
 use Rattle.acl_dump.specs.Lines.{content_of}
 use Rattle.acl_dump.specs.Records.{Numbered, same_path, is_repeated, ends_in_slash, begun, begin, begins, close, list_of, default_list_of, whole, has_headers, record_of, with_said, may_head, add, said_by, judged, line_in, lines_of, dump_of, dump_stream}

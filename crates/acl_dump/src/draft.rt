@@ -163,7 +163,7 @@ pub(crate) fn begin(
             at,
         });
     };
-    if is_seen(seen, &path) {
+    if is_seen(alloc, seen, &path)? {
         return Err(TextFault {
             kind: FaultKind::RepeatedFile,
             at,

@@ -24,28 +24,29 @@ impl Seen {
         }
     }
 
-    pub(crate) fn contains(&self, path: &Path) -> bool
-        ensures { result ≡ has_path self.now path.now }
+    pub(crate) fn contains(&self, alloc: Global, path: &Path) -> Result<bool, AllocError>
+        ensures { IfOk result (λ is. is ≡ has_path self.now path.now) }
     {
-        self.paths.contains(path.components())
+        let components = components_of(alloc, path)?;
+        Ok(self.paths.contains(components.as_slice()))
     }
 
     pub(crate) fn insert(&mut self, alloc: Global, path: &Path) -> Result<(), AllocError>
         ensures { OnOk result ((other : List (List ℕ)) → has_path self.new other ≡ (same_path other path.now || has_path self.old other)) }
     {
-        let components = clone_of(alloc, path.components())?;
+        let components = components_of(alloc, path)?;
         self.paths.insert(components)?;
         Ok(())
     }
 }
 
 /// Whether paths are watched, and this one is among them.
-pub(crate) fn is_seen(seen: &Option<Seen>, path: &Path) -> bool
-    ensures { (records : List DumpRecord) → SeenAre seen.now records → result ≡ (is_some seen.now && is_repeated records path.now) }
+pub(crate) fn is_seen(alloc: Global, seen: &Option<Seen>, path: &Path) -> Result<bool, AllocError>
+    ensures { (records : List DumpRecord) → SeenAre seen.now records → IfOk result (λ is. is ≡ (is_some seen.now && is_repeated records path.now)) }
 {
     match seen {
-        None => false,
-        Some(seen) => seen.contains(path),
+        None => Ok(false),
+        Some(seen) => seen.contains(alloc, path),
     }
 }
 
@@ -60,12 +61,14 @@ pub(crate) fn watch(alloc: Global, seen: &mut Option<Seen>, path: &Path) -> Resu
     }
 }
 
-fn clone_of(alloc: Global, components: &[Vec<u8>]) -> Result<Vec<Vec<u8>>, AllocError>
-    ensures { IfOk result (λ clone. map (λ v. v.items) clone.items ≡ map (λ v. v.items) components.now) }
+/// The components of a path, each in an allocation of its own.
+fn components_of(alloc: Global, path: &Path) -> Result<Vec<Vec<u8>>, AllocError>
+    ensures { IfOk result (λ components. map (λ v. v.items) components.items ≡ path.now) }
 {
-    let mut clone = Vec::new(alloc);
-    for component in components {
-        clone.push(Vec::from_slice(alloc, component)?)?;
+    let mut components = Vec::new(alloc);
+    let mut rest = path.components();
+    while let Some(component) = rest.next() {
+        components.push(Vec::from_slice(alloc, component)?)?;
     }
-    Ok(clone)
+    Ok(components)
 }

@@ -4,3 +4,4 @@ pub mod Escapes
 pub mod Appended
 pub mod PathText
 pub mod PathOrder
+pub mod Packs

@@ -1,3 +1,4 @@
 pub mod Pieces
 pub mod Names
 pub mod Paths
+pub mod Packed

@@ -5,6 +5,7 @@ ghost use Rattle.std.specs.List.{list_any, list_all, flat_map};
 ghost use Rattle.acl_names.specs.Names.{escaped_where, is_escaped_in_paths};
 ghost use Rattle.acl_names.specs.Paths.{is_component, is_allowed, path_from, is_nothing, is_dot_dot, is_refused, path_of, path_cmp, path_text, after_slash, components_of};
 
+use crate::components::{Components, pack, packed_order};
 use crate::cut::first_piece;
 use crate::escape::{is_escaped_in_paths, push_byte};
 use crate::name::read_name;
@@ -15,15 +16,27 @@ use std::marker::Model;
 /// A path from the root, as its components: none of them is empty, `.` or `..`, or holds `/` or NUL.
 #[derive(Debug, Drop)]
 pub struct Path {
-    names: Vec<Vec<u8>>,
+    form: Form,
+}
+
+/// How the components of a path are kept.
+#[derive(Debug, Drop)]
+pub(crate) enum Form {
+    /// Each in an allocation of its own, as a caller has them.
+    Parts(Vec<Vec<u8>>),
+    /// In one allocation, each with a NUL byte behind it: so path order is the order of the bytes.
+    Packed(Vec<u8>),
 }
 
 impl Model for Path {
+    ghost use Rattle.std.specs.Prelude.{ℕ, List};
+    ghost use Rattle.acl_names.specs.Packed.{names_of, IsForm};
+
     ghost Value = { List (List ℕ) };
 
-    ghost view = { λ p. map (λ v. v.items) p.names.items };
+    ghost view = { λ p. names_of p.form };
 
-    ghost invariant = { λ p. IsTrue (list_all is_component (map (λ v. v.items) p.names.items)) };
+    ghost invariant = { λ p. IsForm p.form };
 }
 
 impl Path {
@@ -34,34 +47,53 @@ impl Path {
         ensures { result ≡ path_from (map (λ v. v.items) components.items) }
     {
         if are_components(&components) {
-            Some(Path { names: components })
+            Some(Path {
+                form: Form::Parts(components),
+            })
         } else {
             None
         }
     }
 
-    /// The components, from the root on.
-    pub fn components(&self) -> &[Vec<u8>]
-        ensures all { map (λ v. v.items) result.now ≡ self.now }
+    /// The components, from the root on. Allocates nothing.
+    pub fn components(&self) -> Components<'_>
+        ensures all { result ≡ self.now }
         ensures valid { IsTrue (list_all is_component self.now) }
     {
-        &self.names
+        match &self.form {
+            Form::Parts(parts) => Components { parts, bytes: &[] },
+            Form::Packed(bytes) => Components { parts: &[], bytes },
+        }
     }
 
     /// The same path once more. Refused for want of memory only.
     pub fn try_clone(&self, alloc: Global) -> Result<Path, AllocError>
         ensures { IfOk result (λ path. path ≡ self.now) }
     {
-        Ok(Path {
-            names: self.names.clone()?,
-        })
+        match &self.form {
+            Form::Parts(parts) => {
+                let parts = parts.clone()?;
+                Ok(Path {
+                    form: Form::Parts(parts),
+                })
+            }
+            Form::Packed(bytes) => {
+                let bytes = Vec::from_slice(alloc, bytes)?;
+                Ok(Path {
+                    form: Form::Packed(bytes),
+                })
+            }
+        }
     }
 
     /// Path order: by components, bytewise, parents first.
     pub fn order(&self, other: &Path) -> Ordering
         ensures { result ≡ path_cmp self.now other.now }
     {
-        self.names.cmp(&other.names)
+        match (&self.form, &other.form) {
+            (Form::Packed(left), Form::Packed(right)) => packed_order(left, right),
+            _ => self.components().order(other.components()),
+        }
     }
 }
 
@@ -115,7 +147,7 @@ pub fn read_path(alloc: Global, text: &[u8]) -> Result<Option<Path>, AllocError>
     ensures { IfOk result (λ path. path ≡ path_of text.now) }
 {
     let name = read_name(alloc, text)?;
-    let mut names = Vec::new(alloc);
+    let mut packed = Vec::with_capacity(alloc, name.as_bytes().len().saturating_add(1))?;
     let mut rest = name.as_bytes();
     while !rest.is_empty() {
         let (part, after) = first_piece(rest, b'/');
@@ -123,11 +155,13 @@ pub fn read_path(alloc: Global, text: &[u8]) -> Result<Option<Path>, AllocError>
             return Ok(None);
         }
         if !is_nothing(part) {
-            names.push(Vec::from_slice(alloc, part)?)?;
+            pack(&mut packed, part)?;
         }
         rest = after;
     }
-    Ok(Some(Path { names }))
+    Ok(Some(Path {
+        form: Form::Packed(packed),
+    }))
 }
 
 /// The text of a path: `.` for the root, else its components joined by `/`, with backslash, line feed and
@@ -155,11 +189,12 @@ pub fn append_path(text: &mut Vec<u8>, path: &Path) -> Result<(), AllocError>
     Ok(())
 }
 
-fn push_path(text: &mut Vec<u8>, components: &[Vec<u8>]) -> Result<(), AllocError>
-    ensures ok { OnOk result (text.new.items ≡ text.old.items ++ path_text (map (λ v. v.items) components.now)) }
+fn push_path(text: &mut Vec<u8>, components: Components<'_>) -> Result<(), AllocError>
+    ensures ok { OnOk result (text.new.items ≡ text.old.items ++ path_text components.entry) }
     ensures err { OnErr result (take (length text.old.items) text.new.items ≡ text.old.items) }
 {
-    let [first, others @ ..] = components else {
+    let mut others = components;
+    let Some(first) = others.next() else {
         text.push(b'.')?;
         return Ok(());
     };
@@ -167,11 +202,12 @@ fn push_path(text: &mut Vec<u8>, components: &[Vec<u8>]) -> Result<(), AllocErro
     push_others(text, others)
 }
 
-fn push_others(text: &mut Vec<u8>, others: &[Vec<u8>]) -> Result<(), AllocError>
-    ensures ok { OnOk result (text.new.items ≡ text.old.items ++ escaped_where is_escaped_in_paths (flat_map after_slash (map (λ v. v.items) others.now))) }
+fn push_others(text: &mut Vec<u8>, components: Components<'_>) -> Result<(), AllocError>
+    ensures ok { OnOk result (text.new.items ≡ text.old.items ++ escaped_where is_escaped_in_paths (flat_map after_slash components.entry)) }
     ensures err { OnErr result (take (length text.old.items) text.new.items ≡ text.old.items) }
 {
-    for other in others {
+    let mut others = components;
+    while let Some(other) = others.next() {
         text.push(b'/')?;
         push_component(text, other)?;
     }

@@ -107,10 +107,7 @@ pub no_ancestors : (t : Files) → ancestors [] t ≡ []
 no_ancestors [] = refl
 no_ancestors (e ∷ t) = ap (λ b. map (λ e. e.0) (cond b (e ∷ filter (λ e. is_below e.0 []) t) (filter (λ e. is_below e.0 []) t))) (none_below e.0) ∙ no_ancestors t
 
-module _ (p : PathOf) (t : Files) (order : IsInOrder t) (n : ℕ) (lt : n < length p) where
-  -- the path of one component more has the path so far above it, if that is recorded
-  pub ancestors_more : (b : Bool) → is_some (find path_cmp (take n p) t) ≡ b → ancestors (take (n + 1) p) t ≡ ancestors (take n p) t ++ cond b (take n p ∷ []) []
-  ancestors_more b is =
-      ap (λ q. ancestors q t) (take_more p n [] lt)
-      ∙ more (take n p) (get_or p n []) t order
-      ∙ ap (λ b. ancestors (take n p) t ++ cond b (take n p ∷ []) []) is
+-- the path of one component more has the path so far above it, if that is recorded
+pub ancestors_more : (q : PathOf) (c : List ℕ) (t : Files) → IsInOrder t → (b : Bool) → is_some (find path_cmp q t) ≡ b
+    → ancestors (q ++ c ∷ []) t ≡ ancestors q t ++ cond b (q ∷ []) []
+ancestors_more q c t order b is = more q c t order ∙ ap (λ b. ancestors q t ++ cond b (q ∷ []) []) is

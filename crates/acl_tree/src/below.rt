@@ -10,14 +10,14 @@ use std::cmp::Ordering;
 pub fn is_below(top: &Path, path: &Path) -> bool
     ensures { result ≡ is_below top.now path.now }
 {
+    let mut parts = top.components();
     let mut rest = path.components();
-    for part in top.components() {
-        let Some((first, after)) = rest.split_first() else {
+    while let Some(part) = parts.next() {
+        let Some(first) = rest.next() else {
             return false;
         };
-        match part.cmp(first) {
-            Ordering::Equal => rest = after,
-            _ => return false,
+        if part.cmp(first) != Ordering::Equal {
+            return false;
         }
     }
     !rest.is_empty()

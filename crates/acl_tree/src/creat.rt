@@ -18,7 +18,6 @@ use crate::dump::MAX_FILES;
 use crate::moved::UsersMove;
 use crate::staged::Staged;
 use crate::tree::{Record, Tree};
-use crate::walks::start_of;
 use acl_edit::{Kind, Node, create};
 use acl_names::{Name, Path};
 use acl_people::People;
@@ -54,7 +53,9 @@ fn exists(tree: &Tree, path: &Path) -> bool
 fn parent_of(alloc: Global, path: &Path) -> Result<Path, AllocError>
     ensures { IfOk result (λ p. p ≡ parent path.now) }
 {
-    start_of(alloc, path, path.components().len().saturating_sub(1))
+    let mut above = components_of(alloc, path)?;
+    above.pop();
+    Ok(Path::new(above).unwrap())
 }
 
 /// The directory of a new file.

@@ -1,22 +1,22 @@
 //! The files around a path: at it or below it, and above it.
 
-ghost use Rattle.std.specs.Prelude.{◌≡◌, ◌≤◌, IfOk, take, length};
+ghost use Rattle.std.specs.Prelude.{◌≡◌, IfOk, map};
 ghost use Rattle.acl_tree.specs.Walks.{within, ancestors};
 
 use crate::tree::Tree;
 use acl_names::Path;
 use std::alloc::{AllocError, Global};
 
-/// The path of the first components of a path, as many as are asked for.
-pub(crate) fn start_of(alloc: Global, path: &Path, count: usize) -> Result<Path, AllocError>
-    requires { count ≤ length path.now }
-    ensures { IfOk result (λ start. start ≡ take count path.now) }
+/// The components of a path, each copied. Fails only if memory runs out.
+pub(crate) fn components_of(alloc: Global, path: &Path) -> Result<Vec<Vec<u8>>, AllocError>
+    ensures { IfOk result (λ parts. map (λ v. v.items) parts.items ≡ path.now) }
 {
-    let mut start = Vec::with_capacity(alloc, count)?;
-    for component in path.components().split_at(count).0 {
-        start.push(Vec::from_slice(alloc, component)?)?;
+    let mut parts = Vec::new(alloc);
+    let mut rest = path.components();
+    while let Some(component) = rest.next() {
+        parts.push(Vec::from_slice(alloc, component)?)?;
     }
-    Ok(Path::new(start).unwrap())
+    Ok(parts)
 }
 
 impl Tree {
@@ -39,11 +39,14 @@ impl Tree {
     {
         self.is_sound();
         let mut paths = Vec::new(alloc);
-        for count in 0..path.components().len() {
-            let above = start_of(alloc, path, count)?;
-            if self.get(&above).is_some() {
-                paths.push(above)?;
+        let mut above = Vec::new(alloc);
+        let mut rest = path.components();
+        while let Some(component) = rest.next() {
+            let top = Path::new(above.clone()?).unwrap();
+            if self.get(&top).is_some() {
+                paths.push(top)?;
             }
+            above.push(Vec::from_slice(alloc, component)?)?;
         }
         Ok(paths)
     }

@@ -13,4 +13,4 @@ returns c = λ other.
     ap (list_any (λ k. is_eq (path_cmp other (map (λ v. v.items) k.items)))) c.in_ok-insert.ensures.keys
     ∙ any-insert_key _ (λ k. is_eq (path_cmp other (map (λ v. v.items) k.items))) c.in_ok-components.components c.args.self.now.paths.keys
     (λ x tied. ap (λ p. is_eq (path_cmp other p)) (sym (exact_paths _ _ (sym (by_bytes (λ v. v.items) c.in_ok-components.components.items x.items) ∙ tied))))
-    ∙ ap (λ p. is_eq (path_cmp other p) || has_path c.args.self.now other) (c.in_ok-components.ensures ∙ c.components.ensures.all)
+    ∙ ap (λ p. is_eq (path_cmp other p) || has_path c.args.self.now other) c.in_ok-components.ensures

@@ -1,6 +1,15 @@
-use Rattle.std.proofs.Common.{◌≡◌, take}
+use Rattle.std.proofs.Common.{◌≡◌, ◌++◌, List, ℕ, map, length}
+use Rattle.acl_tree.specs.Files.{PathOf, Files}
 use Rattle.acl_tree.specs.Walks.{ancestors}
 use Rattle.acl_tree.proofs.tree.Tree.ancestors.Given as goal
 
-abbrev pub invariant-loop-count : goal.invariant-loop-count
-invariant-loop-count l = l.paths.items ≡ ancestors (take l.count l.path) l.self.files
+-- the files above the components so far are found, and these are the path's first ones
+pub record IsFollowed (paths : List PathOf) (above rest path : PathOf) (t : Files) : Type 0 where
+  pub found : paths ≡ ancestors above t
+  pub split : above ++ rest ≡ path
+
+abbrev pub invariant-loop-component : goal.invariant-loop-component
+invariant-loop-component l = IsFollowed l.paths.items (map (λ v. v.items) l.above.items) l.rest l.path l.self.files
+
+abbrev pub decreases-loop-component : goal.decreases-loop-component
+decreases-loop-component l = length l.rest

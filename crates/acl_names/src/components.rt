@@ -1,0 +1,99 @@
+//! The components of a path, one after another, and their form in one list of bytes.
+
+ghost use Rattle.std.specs.Prelude.{◌≡◌, ◌∷◌, ◌++◌, [], ◌==◌, length, MatchOption, OnOk, IsTrue};
+ghost use Rattle.acl_names.specs.Packed.{IsPacked, unpacked};
+ghost use Rattle.acl_names.specs.Paths.{is_component, path_cmp};
+
+use crate::cut::cut;
+use std::alloc::AllocError;
+use std::cmp::Ordering;
+use std::marker::Model;
+
+/// A cursor over the components of a path: those that are still to come.
+#[derive(Drop)]
+pub struct Components<'a> {
+    pub(crate) parts: &'a [Vec<u8>],
+    pub(crate) bytes: &'a [u8],
+}
+
+impl<'a> Model for Components<'a> {
+    ghost use Rattle.std.specs.Prelude.{ℕ, List, ◌++◌, map};
+    ghost use Rattle.acl_names.specs.Packed.{unpacked};
+
+    ghost Value = { List (List ℕ) };
+
+    ghost view = { λ c. map (λ v. v.items) c.parts.now ++ unpacked c.bytes.now };
+}
+
+impl<'a> Components<'a> {
+    /// The next component. Allocates nothing.
+    pub fn next(&mut self) -> Option<&'a [u8]>
+        ensures { MatchOption result ((self.old ≡ []) × (self.new ≡ [])) (λ name. self.old ≡ name.now ∷ self.new) }
+    {
+        if let [name, more @ ..] = self.parts {
+            self.parts = more;
+            return Some(name);
+        }
+        match cut(self.bytes, 0) {
+            None => None,
+            Some((name, more)) => {
+                self.bytes = more;
+                Some(name)
+            }
+        }
+    }
+
+    /// Whether no component is to come. Allocates nothing.
+    pub fn is_empty(&self) -> bool
+        ensures { result ≡ (length self.now == 0) }
+    {
+        match cut(self.bytes, 0) {
+            None => self.parts.is_empty(),
+            Some(_) => false,
+        }
+    }
+
+    #[tactic(auto, unfolding(crate::specs::Paths::path_cmp))]
+    /// Path order of two lists of components.
+    pub(crate) fn order(self, other: Components<'_>) -> Ordering
+        ensures { result ≡ path_cmp self.entry other.entry }
+    {
+        let mut left = self;
+        let mut right = other;
+        while let Some(name) = left.next() {
+            let Some(against) = right.next() else {
+                return Ordering::Greater;
+            };
+            match name.cmp(against) {
+                Ordering::Equal => {}
+                order => return order,
+            }
+        }
+        if right.is_empty() {
+            Ordering::Equal
+        } else {
+            Ordering::Less
+        }
+    }
+}
+
+/// Adds a component to bytes that are components, each with a NUL byte behind it.
+pub(crate) fn pack(packed: &mut Vec<u8>, name: &[u8]) -> Result<(), AllocError>
+    requires packed { IsPacked packed.old.items }
+    requires name { IsTrue (is_component name.now) }
+    ensures added { OnOk result (unpacked packed.new.items ≡ unpacked packed.old.items ++ name.now ∷ []) }
+    ensures packed { OnOk result (IsPacked packed.new.items) }
+{
+    packed.extend_from_slice(name)?;
+    packed.push(0)?;
+    Ok(())
+}
+
+/// Path order of components in one list of bytes: as the bytes.
+pub(crate) fn packed_order(left: &[u8], right: &[u8]) -> Ordering
+    requires left { IsPacked left.now }
+    requires right { IsPacked right.now }
+    ensures { result ≡ path_cmp (unpacked left.now) (unpacked right.now) }
+{
+    left.cmp(right)
+}
