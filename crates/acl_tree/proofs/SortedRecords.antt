@@ -3,11 +3,14 @@ use Rattle.std.proofs.Common.{◌≡◌, ◌≤◌, ◌+◌, suc, arith, Bool, t
 use Rattle.std.specs.Prelude.{fold, slice_index_or, ◌&&◌, ◌||◌}
 use Rattle.std.specs.Option.{option_or}
 use Rattle.std.specs.Ordering.{is_eq, is_lt, ordering_reverse}
-use Rattle.std.specs.List.{list_any, filter}
-use Rattle.std.specs.List.Sorted.{IsSortedBy, IsStableBy, ties}
-use Rattle.std.specs.FinMap.{find, put, is_sorted, empty}
+use Rattle.std.specs.List.{list_any, filter, AllByRecursion}
+use Rattle.std.specs.List.Sorted.{IsSortedBy, IsPermutation}
+use Rattle.std.specs.FinMap.{find, put, is_sorted}
 use Rattle.std.specs.Cmp.{IsStrictWeakOrder, tied_itself}
+use Rattle.std.proofs.lemmas.List.Elements.{All-from_recursion, recursion_from_All}
 use Rattle.std.proofs.lemmas.List.MinMax.{ranks_by}
+use Rattle.std.proofs.lemmas.List.Sorted.{All-permutation, sum_by-IsPermutation}
+use Rattle.std.proofs.lemmas.List.Sums.{length-filter}
 use Rattle.std.specs.FinMap.Entries.{by_order, below_all, find-put, is_sorted-put, same_entries}
 use Rattle.acl_names.specs.Paths.{path_cmp}
 use Rattle.acl_names.proofs.PathOrder.{path_total, exact_paths}
@@ -121,17 +124,57 @@ last_is_first p (r ∷ rs) h = at (has p r) h (last_is_first p rs)
 
 -- ---- sorted records
 
-tie_has : (x r : DumpRecord) → ties is_before x r ≡ has x.path r
-tie_has x r = ap (λ o. not (is_lt (path_cmp x.path r.path)) && not (is_lt o)) (path_total.antisymm r.path x.path) ∙ at (path_cmp x.path r.path)
-  where
-    at : (o : Ordering) → (not (is_lt o) && not (is_lt (ordering_reverse o))) ≡ is_eq o
-    at Less = refl
-    at Equal = refl
-    at Greater = refl
+not_both : (b : Bool) → b ≡ true → b ≡ false → ⊥
+not_both true x y = cc
+not_both false x y = cc
 
-filter_alike : (t u : DumpRecord → Bool) (rs : List DumpRecord) → ((r : DumpRecord) → t r ≡ u r) → filter t rs ≡ filter u rs
-filter_alike t u [] alike = refl
-filter_alike t u (r ∷ rs) alike = λ i. cond (alike r i) (r ∷ filter_alike t u rs alike i) (filter_alike t u rs alike i)
+not_empty : (r : DumpRecord) (rs : List DumpRecord) → r ∷ rs ≡ [] → ⊥
+not_empty r rs e = cc
+
+length_zero : (rs : List DumpRecord) → length rs ≡ 0 → rs ≡ []
+length_zero [] h = refl
+length_zero (r ∷ rs) h = absurd (omega (arith, h))
+
+-- of records of which at most one passes a test, that one is known in any order
+module _ (t : DumpRecord → Bool) (fs : List DumpRecord) where
+  abbrev IsThatOne : DumpRecord → Type 0
+  IsThatOne r = t r ≡ true → fs ≡ r ∷ []
+
+  none_is : (rs : List DumpRecord) → filter t rs ≡ [] → AllByRecursion IsThatOne rs
+  none_is [] none = tt
+  none_is (r ∷ rs) none = at (t r) refl none (none_is rs)
+    where
+      at : (b : Bool) → t r ≡ b → cond b (r ∷ filter t rs) (filter t rs) ≡ [] → (filter t rs ≡ [] → AllByRecursion IsThatOne rs) → IsThatOne r × AllByRecursion IsThatOne rs
+      at true is none more = absurd (not_empty r (filter t rs) none)
+      at false is none more = (λ passes. absurd (not_both (t r) passes is), more none)
+
+  one_is : (rs : List DumpRecord) → filter t rs ≡ fs → length fs ≤ 1 → AllByRecursion IsThatOne rs
+  one_is [] are small = tt
+  one_is (r ∷ rs) are small = at (t r) refl are (one_is rs)
+    where
+      at : (b : Bool) → t r ≡ b → cond b (r ∷ filter t rs) (filter t rs) ≡ fs → (filter t rs ≡ fs → length fs ≤ 1 → AllByRecursion IsThatOne rs) → IsThatOne r × AllByRecursion IsThatOne rs
+      at true is are more =
+          let alone : suc (length (filter t rs)) ≤ 1 = omega (arith, small, ap (λ (l : List DumpRecord). length l) are) in
+          let others = no_length (filter t rs) alone in
+          (λ passes. sym are ∙ ap (λ l. r ∷ l) others, none_is rs others)
+      at false is are more = (λ passes. absurd (not_both (t r) passes is), more are small)
+
+  are_these : (rs : List DumpRecord) → AllByRecursion IsThatOne rs → length (filter t rs) ≡ length fs → length fs ≤ 1 → filter t rs ≡ fs
+  are_these [] are same small = sym (length_zero fs (omega (arith, same)))
+  are_these (r ∷ rs) are same small = at (t r) refl same (are_these rs are.1)
+    where
+      at : (b : Bool) → t r ≡ b → length (cond b (r ∷ filter t rs) (filter t rs)) ≡ length fs → (length (filter t rs) ≡ length fs → length fs ≤ 1 → filter t rs ≡ fs) → cond b (r ∷ filter t rs) (filter t rs) ≡ fs
+      at true is same more =
+          let alone : suc (length (filter t rs)) ≤ 1 = omega (arith, small, same) in
+          ap (λ l. r ∷ l) (no_length (filter t rs) alone) ∙ sym (are.0 is)
+      at false is same more = more same small
+
+in_any_order : (t : DumpRecord → Bool) (xs ys : List DumpRecord) → IsPermutation xs ys → length (filter t xs) ≤ 1 → filter t ys ≡ filter t xs
+in_any_order t xs ys shuffled small =
+    let fs = filter t xs in
+    let as_many : length (filter t ys) ≡ length fs = length-filter t ys ∙ sum_by-IsPermutation (λ r. cond (t r) 1 0) xs ys shuffled ∙ sym (length-filter t xs) in
+    let all = All-permutation (IsThatOne t fs) xs ys shuffled (All-from_recursion (IsThatOne t fs) xs (one_is t fs xs refl small)) in
+    are_these t fs ys (recursion_from_All (IsThatOne t fs) ys all) as_many small
 
 both : (a b : Bool) → T a → T b → T (a && b)
 both true b p q = q
@@ -192,17 +235,12 @@ values_of : (rs : List DumpRecord) → map (λ e. e.1) (by_path rs) ≡ rs
 values_of [] = refl
 values_of (r ∷ rs) = ap (λ l. r ∷ l) (values_of rs)
 
--- some record of a path
-any : PathOf → DumpRecord
-any p = record { at = 0; path = p; slash = false; owner = None; group = None; flags = None; access = empty; dacl = None }
-
-pub sorted_are : (xs ys : List DumpRecord) → have_own_paths xs ≡ true → IsSortedBy is_before ys → IsStableBy is_before xs ys → ys ≡ in_path_order xs
-unfolding any
-sorted_are xs ys apart sorted stable =
+pub sorted_are : (xs ys : List DumpRecord) → have_own_paths xs ≡ true → IsSortedBy is_before ys → IsPermutation xs ys → ys ≡ in_path_order xs
+sorted_are xs ys apart sorted shuffled =
     sym (values_of ys) ∙ ap (λ es. map (λ e. e.1) es) same_maps ∙ values_of (in_path_order xs)
   where
     alike : (p : PathOf) → filter (has p) ys ≡ filter (has p) xs
-    alike p = sym (filter_alike (ties is_before (any p)) (has p) ys (tie_has (any p))) ∙ stable (any p) ∙ filter_alike (ties is_before (any p)) (has p) xs (tie_has (any p))
+    alike p = in_any_order (has p) xs ys shuffled (few p xs apart)
 
     at_most_one : (p : PathOf) → length (filter (has p) ys) ≤ 1
     at_most_one p = subst (λ (l : List DumpRecord). length l ≤ 1) (sym (alike p)) (few p xs apart)

@@ -49,6 +49,15 @@ abbrev pub next_file_below : PathOf → Files → Bool
 next_file_below p [] = false
 next_file_below p (e ∷ es) = is_below p e.0
 
+-- a record's file, before the files that follow it
+abbrev pub file_before : DumpRecord → Files → Files
+file_before r es = (r.path, node_of (next_file_below r.path es) r) ∷ es
+
+-- the files of records in path order, before the files that follow them
+abbrev pub files_before : List DumpRecord → Files → Files
+files_before [] es = es
+files_before (r ∷ rs) es = file_before r (files_before rs es)
+
 -- ---- operands in path order
 
 -- none of them is before a path

@@ -1,9 +1,9 @@
 //! A dump as a tree.
 
-ghost use Rattle.std.specs.Prelude.{◌≡◌, ◌≢◌, [], true, map, IfOk, unwrap_or};
+ghost use Rattle.std.specs.Prelude.{◌≡◌, ◌≢◌, [], true, map, reverse, IfOk, unwrap_or};
 ghost use Rattle.acl_dump.specs.OwnPaths.{have_own_paths};
 ghost use Rattle.acl_tree.specs.Loading.{is_directory, node_of, files_of};
-ghost use Rattle.acl_tree.specs.Inner.{next_below, files_from};
+ghost use Rattle.acl_tree.specs.Inner.{next_file_below, files_from};
 ghost use Rattle.acl_tree.specs.Sound.{IsSoundTree};
 ghost use Rattle.acl_tree.specs.Step.{load_dump, Stages, state_from};
 ghost use Rattle.acl_tree.specs.Tells.{Tells};
@@ -23,7 +23,6 @@ use acl_people::People;
 use acl_text::{FaultKind, TextFault};
 use path_map::PathMap;
 use std::alloc::{AllocError, Global};
-use std::collections::VecDeque;
 use std::rc::Rc;
 
 /// The largest number of files of a tree.
@@ -66,26 +65,41 @@ fn file_of(alloc: Global, has_below: bool, entry: DumpRecord) -> Result<Rc<Recor
     Ok(Rc::new(alloc, Record::new(Rc::new(alloc, entry.path)?, node))?)
 }
 
-/// Whether the first of the records that follow in path order is below a path.
-fn next_below(path: &Path, following: &VecDeque<DumpRecord>) -> bool
-    ensures { result ≡ next_below path.now following.now.items }
+/// Whether the first of the files that follow in path order, which are given from the last to the first, is below a path.
+fn next_below(path: &Path, following: &[Rc<Record>]) -> bool
+    ensures { result ≡ next_file_below path.now (reverse (map (λ r. r.value) following.now)) }
 {
-    match following.front() {
-        Some(next) => is_below(path, &next.path),
-        None => false,
+    match following {
+        [.., next] => is_below(path, next.path()),
+        [] => false,
     }
 }
 
-/// The files of records that are in path order. Paths and lists are moved out of the records.
+/// How many records are moved out before the memory that they took is freed.
+const FREED_AT_ONCE: usize = 1024;
+
+/// Frees the memory of records that were moved out, once they are many.
+fn free_moved(left: &mut Vec<DumpRecord>)
+    ensures { left.new.items ≡ left.old.items }
+{
+    if left.len() % FREED_AT_ONCE == 0 {
+        left.shrink_to_fit();
+    }
+}
+
+/// The files of records that are in path order. Paths and lists are moved out of the records, from the last one on, so
+/// that records and files do not both take memory for long.
 fn files_from(alloc: Global, sorted: Vec<DumpRecord>) -> Result<Vec<Rc<Record>>, AllocError>
     ensures { IfOk result (λ files. map (λ r. r.value) files.items ≡ files_from sorted.items) }
 {
     let mut files = Vec::with_capacity(alloc, sorted.len())?;
-    let mut following = VecDeque::from(sorted);
-    while let Some(entry) = following.pop_front() {
-        let has_below = next_below(&entry.path, &following);
+    let mut left = sorted;
+    while let Some(entry) = left.pop() {
+        let has_below = next_below(&entry.path, &files);
         files.push(file_of(alloc, has_below, entry)?)?;
+        free_moved(&mut left);
     }
+    files.reverse();
     Ok(files)
 }
 
@@ -106,8 +120,7 @@ fn files_of(alloc: Global, records: Vec<DumpRecord>) -> Result<Vec<Rc<Record>>, 
     requires { have_own_paths records.items ≡ true }
     ensures { IfOk result (λ files. map (λ r. r.value) files.items ≡ files_of records.items) }
 {
-    let sorted = in_path_order(records)?;
-    files_from(alloc, sorted)
+    files_from(alloc, in_path_order(records))
 }
 
 /// The files of a dump as a tree.

@@ -135,7 +135,7 @@ impl Restoration {
     fn of(alloc: Global, records: &DumpRecords) -> Result<Restoration, AllocError>
         ensures { IfOk result (λ restoration. edit_by_path restoration.edits ≡ restore_one records.now) }
     {
-        let sorted = in_path_order(copies(alloc, records.as_slice())?)?;
+        let sorted = in_path_order(copies(alloc, records.as_slice())?);
         let edits = edits_by_path(alloc, sorted)?;
         Ok(Restoration {
             edits: PathMap::from_sorted(alloc, &edits)?,

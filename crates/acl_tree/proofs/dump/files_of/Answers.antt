@@ -7,5 +7,5 @@ use Rattle.acl_tree.proofs.dump.files_of.Goals as goal
 pub returns : goal.returns
 returns c =
     IfOk-weaker c.files_from.result _ _ (λ files made. made
-    ∙ ap (λ rs. files_from rs) c.in_ok-sorted.ensures
+    ∙ ap (λ rs. files_from rs) c.in_path_order.ensures
     ∙ files_are c.args.records.items) c.files_from.ensures

@@ -5,6 +5,6 @@ use Rattle.acl_tree.proofs.sorting.in_path_order.Goals as goal
 
 pub returns : goal.returns
 returns c =
-    sorted_are c.args.records.items c.sort_by.new.self.items c.requires
-    (c.in_ok-sort_by.ensures.sorted is_before by_paths (always_returns_same _ _ _ (λ a r f k. search rules)))
-    (c.in_ok-sort_by.ensures.stable is_before by_paths (always_returns_same _ _ _ (λ a r f k. search rules)))
+    sorted_are c.args.records.items c.sort_unstable_by.new.self.items c.requires
+    (c.sort_unstable_by.ensures.sorted is_before by_paths (always_returns_same _ _ _ (λ a r f k. search rules)))
+    c.sort_unstable_by.ensures.permutation

@@ -14,7 +14,7 @@ from_sorted-requires c =
     let made : map (λ r. r.value) c.deref.result.now ≡ edits_by_path (in_path_order c.args.records.now) =
     ap (λ l. map (λ r. r.value) l) c.deref.ensures.value
     ∙ c.in_ok-edits.ensures
-    ∙ ap (λ rs. edits_by_path rs) (c.in_ok-sorted.ensures ∙ ap (λ rs. in_path_order rs) (c.in_ok-copies.ensures ∙ c.as_slice.ensures.all))
+    ∙ ap (λ rs. edits_by_path rs) (c.in_path_order-sorted.ensures ∙ ap (λ rs. in_path_order rs) (c.in_ok-copies.ensures ∙ c.as_slice.ensures.all))
     in
     subst (λ (es : List (PathOf × Edit)). IsInOrder es) (sym made) (in_order-records edit_of c.args.records.now)
 
@@ -23,6 +23,6 @@ returns c =
     let made : map (λ r. r.value) c.deref.result.now ≡ edits_by_path (in_path_order c.args.records.now) =
     ap (λ l. map (λ r. r.value) l) c.deref.ensures.value
     ∙ c.in_ok-edits.ensures
-    ∙ ap (λ rs. edits_by_path rs) (c.in_ok-sorted.ensures ∙ ap (λ rs. in_path_order rs) (c.in_ok-copies.ensures ∙ c.as_slice.ensures.all))
+    ∙ ap (λ rs. edits_by_path rs) (c.in_path_order-sorted.ensures ∙ ap (λ rs. in_path_order rs) (c.in_ok-copies.ensures ∙ c.as_slice.ensures.all))
     in
     restored_by_path c.args.records.now c.in_ok-from_sorted.field-0 (c.in_ok-from_sorted.ensures ∙ made)
