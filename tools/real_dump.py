@@ -21,7 +21,8 @@ def records(lines):
     for line in lines:
         line = line.rstrip(b"\n")
         if line.startswith(b"# file: "):
-            path, record = line[len(b"# file: ") :].strip(b"/") or b".", []
+            # A backslash is written as two, or by its number.
+            path, record = line[len(b"# file: ") :].strip(b"/").replace(rb"\134", rb"\\") or b".", []
         elif line:
             record.append(line if line.startswith(b"# ") else line.split(b"#")[0].rstrip())
         elif path is not None:

@@ -56,7 +56,10 @@ fn expect_text(rt: &impl Abort, alloc: Global, path: &Path, want: &[u8]) {
 #[test]
 fn paths(rt: HostRuntime) {
     let path = path(&rt, rt.alloc(), b"/a//./x\\012y\\ z/");
-    assert!(rt; path.components().len() == 2);
+    let mut components = path.components();
+    assert!(rt; components.next().expect(&rt, "a") == b"a".as_slice());
+    assert!(rt; components.next().expect(&rt, "x") == b"x\ny\\ z".as_slice());
+    assert!(rt; components.is_empty());
     expect_text(&rt, rt.alloc(), &path, b"a/x\\012y\\134 z");
     let again = path.try_clone(rt.alloc()).expect(&rt, "memory");
     assert!(rt; matches!(again.order(&path), Ordering::Equal));
