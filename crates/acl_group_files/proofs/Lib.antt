@@ -1,0 +1,4 @@
+pub mod Maps
+pub mod Listed
+pub mod Replaced
+pub mod Noting
