@@ -1,4 +1,4 @@
--- The message of a refused line, and what the program prints of a run that ended early.
+-- The message of a refused line, the warning of an accepted one, and what the program prints of a run that ended early.
 use Rattle.std.specs.Prelude.{ℕ, List, [], ◌∷◌, ◌++◌, codes, decimal}
 use Rattle.acl_tree.specs.declared.command.Table.{Table}
 use Rattle.acl_tree.specs.declared.command.Table.TheVariants.{Passwd, Group, Dump}
@@ -49,6 +49,10 @@ head number told_by = numbered number ++ told_by ++ codes ": "
 -- `line N: TOOL: TEXT`, and a line feed
 unfoldable pub message : ℕ → List ℕ → LineFault → List ℕ
 message number tool fault = head number (teller tool fault) ++ line_text fault ++ 10 ∷ []
+
+-- what setfacl(1) warns of where `-d` drops default entries, and a line feed
+unfoldable pub warning : ℕ → List ℕ
+warning number = head number (codes "setfacl") ++ codes "warning: default entries dropped" ++ 10 ∷ []
 
 -- ---- runs
 

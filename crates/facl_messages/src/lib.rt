@@ -11,6 +11,6 @@ mod spare;
 mod trees;
 
 pub use fault::{LineFault, RunFault, Source};
-pub use message::append_message;
+pub use message::{append_message, append_warning};
 pub use run_fault::append_run_fault;
 pub use spare::Spare;

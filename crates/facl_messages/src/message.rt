@@ -1,7 +1,7 @@
-//! The message of a refused line.
+//! The message of a refused line, and the warning of an accepted one.
 
 ghost use Rattle.std.specs.Prelude.{◌≡◌, ◌++◌, OnOk, OnErr, length, take};
-ghost use Rattle.facl_messages.specs.Messages.{head, line_text, message, numbered, teller};
+ghost use Rattle.facl_messages.specs.Messages.{head, line_text, message, numbered, teller, warning};
 
 use crate::fault::LineFault;
 use crate::kinds::push_text_fault;
@@ -86,4 +86,15 @@ pub fn append_message(
     push_head(text, number, teller(tool, fault))?;
     push_line_fault(text, fault)?;
     text.extend_from_slice(b"\n")
+}
+
+/// Adds the warning that a line of setfacl(1) dropped default entries, and a line feed. Fails only if memory runs
+/// out, and what was there before is still there then.
+#[tactic(auto, unfolding(crate::specs::Messages::warning))]
+pub fn append_warning(text: &mut Vec<u8>, number: u64) -> Result<(), AllocError>
+    ensures ok { OnOk result (text.new.items ≡ text.old.items ++ warning number) }
+    ensures err { OnErr result (take (length text.old.items) text.new.items ≡ text.old.items) }
+{
+    push_head(text, number, b"setfacl")?;
+    text.extend_from_slice(b"warning: default entries dropped\n")
 }
