@@ -1,3 +1,4 @@
 pub mod Listings
+pub mod TestListing
 pub mod Requests
 pub mod Again

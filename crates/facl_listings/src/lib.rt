@@ -1,5 +1,5 @@
-//! What is printed of files and of requests: the listings of getfacl(1), and the requests that a user
-//! is granted.
+//! What is printed of files and of requests: the listings of getfacl(1) and of setfacl(1) with `--test`, and the
+//! requests that a user is granted.
 #![tactic(auto)]
 
 mod again;
@@ -7,8 +7,10 @@ mod laws;
 mod listing;
 mod options;
 mod requests;
+mod test_listing;
 
 pub use laws::{listing_is_loaded_again, listing_is_restored_as_it_is};
 pub use listing::append_listing;
 pub use options::Options;
 pub use requests::append_requests;
+pub use test_listing::append_test_listing;

@@ -23,7 +23,7 @@ fn is_listed(options: &Options, file: &Found) -> bool
 }
 
 /// Whether a final `/` says that the file is a directory, as nothing else does.
-fn has_slash(file: &Found) -> bool
+pub(crate) fn has_slash(file: &Found) -> bool
     ensures { result ≡ has_slash file.now }
 {
     let is_told = file.path().components().is_empty()

@@ -1,0 +1,124 @@
+//! What setfacl(1) prints with `--test`.
+
+ghost use Rattle.std.specs.Prelude.{◌≡◌, ◌++◌, ◌∷◌, [], OnOk, OnErr, codes, take, length};
+ghost use Rattle.std.specs.List.{flat_map};
+ghost use Rattle.facl_listings.specs.TestListing.{path_shown, default_entry, default_entries, lists_text, file_line, test_listing};
+
+use crate::listing::has_slash;
+use acl_edit::Node;
+use acl_entry::{Acl, Entry};
+use acl_names::append_path;
+use acl_text::{Form, Names, append_entry, append_short};
+use acl_tree::Found;
+use std::alloc::AllocError;
+
+fn push_path(text: &mut Vec<u8>, file: &Found) -> Result<(), AllocError>
+    ensures ok { OnOk result (text.new.items ≡ text.old.items ++ path_shown file.now) }
+    ensures err { OnErr result (take (length text.old.items) text.new.items ≡ text.old.items) }
+{
+    append_path(text, file.path())?;
+    if has_slash(file) {
+        text.push(b'/')?;
+    }
+    Ok(())
+}
+
+fn push_default_entry<N: Names>(
+    text: &mut Vec<u8>,
+    names: &N,
+    entry: &Entry,
+) -> Result<(), AllocError>
+    ensures ok { OnOk result (text.new.items ≡ text.old.items ++ default_entry (N.user_name names.now) (N.group_name names.now) entry.now) }
+    ensures err { OnErr result (take (length text.old.items) text.new.items ≡ text.old.items) }
+{
+    text.extend_from_slice(b",d:")?;
+    append_entry(text, entry, Form::Short, names)
+}
+
+fn push_default_entries<N: Names>(
+    text: &mut Vec<u8>,
+    names: &N,
+    entries: &[Entry],
+) -> Result<(), AllocError>
+    ensures ok { OnOk result (text.new.items ≡ text.old.items ++ flat_map (default_entry (N.user_name names.now) (N.group_name names.now)) entries.now) }
+    ensures err { OnErr result (take (length text.old.items) text.new.items ≡ text.old.items) }
+{
+    for entry in entries {
+        push_default_entry(text, names, entry)?;
+    }
+    Ok(())
+}
+
+fn push_default<N: Names>(
+    text: &mut Vec<u8>,
+    names: &N,
+    dacl: &Option<Acl>,
+) -> Result<(), AllocError>
+    ensures ok { OnOk result (text.new.items ≡ text.old.items ++ default_entries (N.user_name names.now) (N.group_name names.now) dacl.now) }
+    ensures err { OnErr result (take (length text.old.items) text.new.items ≡ text.old.items) }
+{
+    match dacl {
+        Some(dacl) => push_default_entries(text, names, dacl.entries()),
+        None => Ok(()),
+    }
+}
+
+fn push_lists<N: Names>(text: &mut Vec<u8>, names: &N, node: &Node) -> Result<(), AllocError>
+    ensures ok { OnOk result (text.new.items ≡ text.old.items ++ lists_text (N.user_name names.now) (N.group_name names.now) node.now) }
+    ensures err { OnErr result (take (length text.old.items) text.new.items ≡ text.old.items) }
+{
+    append_short(text, &node.label.acl, names)?;
+    push_default(text, names, &node.dacl)
+}
+
+/// Adds what comes after a path.
+fn push_lists_of<N: Names>(text: &mut Vec<u8>, names: &N, node: &Node) -> Result<(), AllocError>
+    ensures ok { OnOk result (text.new.items ≡ text.old.items ++ (codes ": " ++ (lists_text (N.user_name names.now) (N.group_name names.now) node.now ++ 10 ∷ []))) }
+    ensures err { OnErr result (take (length text.old.items) text.new.items ≡ text.old.items) }
+{
+    text.extend_from_slice(b": ")?;
+    push_lists(text, names, node)?;
+    text.push(b'\n')?;
+    Ok(())
+}
+
+fn push_file<N: Names>(text: &mut Vec<u8>, names: &N, file: &Found) -> Result<(), AllocError>
+    ensures ok { OnOk result (text.new.items ≡ text.old.items ++ file_line (N.user_name names.now) (N.group_name names.now) file.now) }
+    ensures err { OnErr result (take (length text.old.items) text.new.items ≡ text.old.items) }
+{
+    push_path(text, file)?;
+    push_lists_of(text, names, file.node())
+}
+
+fn push_files<N: Names>(text: &mut Vec<u8>, names: &N, files: &[Found]) -> Result<(), AllocError>
+    ensures ok { OnOk result (text.new.items ≡ text.old.items ++ test_listing (N.user_name names.now) (N.group_name names.now) files.now) }
+    ensures err { OnErr result (take (length text.old.items) text.new.items ≡ text.old.items) }
+{
+    for file in files {
+        push_file(text, names, file)?;
+    }
+    Ok(())
+}
+
+/// Adds what setfacl(1) prints with `--test` of these files, in their order: a line for each, with its path, its
+/// access list in the short form, and its default entries with `d:` before each. The path of a directory ends in
+/// `/` where nothing else says that it is one.
+///
+/// # Errors
+///
+/// Fails only if memory runs out; then nothing is added.
+pub fn append_test_listing<N: Names>(
+    text: &mut Vec<u8>,
+    names: &N,
+    files: &[Found],
+) -> Result<(), AllocError>
+    ensures ok { OnOk result (text.new.items ≡ text.old.items ++ test_listing (N.user_name names.now) (N.group_name names.now) files.now) }
+    ensures err { OnErr result (text.new.items ≡ text.old.items) }
+{
+    let before = text.len();
+    if let Err(refused) = push_files(text, names, files) {
+        text.truncate(before);
+        return Err(refused);
+    }
+    Ok(())
+}
