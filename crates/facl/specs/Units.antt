@@ -11,7 +11,7 @@ use Rattle.facl_usage.specs.declared.tool.Tool.{Tool}
 use Rattle.facl_usage.specs.declared.words.Words.{Words}
 use Rattle.acl_tree.specs.Step.{State}
 use Rattle.facl_messages.specs.Faults.{line_fault_of_split}
-use Rattle.facl_messages.specs.Messages.{message}
+use Rattle.facl_messages.specs.Messages.{message, warning}
 use Rattle.facl_messages.specs.declared.fault.LineFault.{LineFault}
 use Rattle.facl_messages.specs.declared.fault.LineFault.TheVariants.{LineTooLong, UnknownTool, UnendedText, TextLineTooLong, Usage, NoMemory}
 use Rattle.facl_tools.specs.Replies.{Reply, after, or_fault, printed}
@@ -65,11 +65,15 @@ reply verdict s text (name ∷ words) = after (tool_or_fault name) (tool_reply v
 abbrev pub refused : ℕ → Text → LineFault → State → Answer State
 refused number tool fault s = record { out = []; err = message number tool fault; state = s; refused = true; cost = 0 }
 
-abbrev pub accepted : Reply → Answer State
-accepted r = record { out = r.out; err = []; state = r.state; refused = false; cost = 0 }
+-- an accepted line may warn of default entries that were dropped
+abbrev pub warning_if : Bool → ℕ → List ℕ
+warning_if warns number = if warns then warning number else []
+
+abbrev pub accepted : ℕ → Reply → Answer State
+accepted number r = record { out = r.out; err = warning_if r.warns number; state = r.state; refused = false; cost = 0 }
 
 abbrev pub told : ℕ → Text → State → Result Reply LineFault → Answer State
-told number tool s (Ok r) = accepted r
+told number tool s (Ok r) = accepted number r
 told number tool s (Err fault) = refused number tool fault s
 
 -- the first word, which names the tool

@@ -1,18 +1,18 @@
 //! The session of a script: the state, and what the last line says.
 
-ghost use Rattle.std.specs.Prelude.{◌≡◌, [], true, false, map, string_bytes, IfOk};
+ghost use Rattle.std.specs.Prelude.{◌≡◌, ℕ, [], true, false, map, string_bytes, IfOk};
 ghost use Rattle.acl_entry.specs.Check.{rights};
 ghost use Rattle.facl_script.specs.Units.{ScriptUnit, UnitText};
 ghost use Rattle.facl_script.specs.ReadText.{IsTextFound};
 ghost use Rattle.facl_script.specs.ReadUnit.{IsUnitFound};
 ghost use Rattle.facl_messages.specs.declared.fault.LineFault.TheVariants.{NoMemory};
 ghost use Rattle.facl_tools.specs.Replies.{left};
-ghost use Rattle.facl.specs.Units.{accepted, refused, told, reply, tool_word, unless_wanting, answered_line};
+ghost use Rattle.facl.specs.Units.{accepted, refused, told, reply, tool_word, unless_wanting, warning_if, answered_line};
 ghost use Rattle.facl.specs.Sessions.{state_of, out_of, err_of, wants_memory, IsQuiet, Says};
 
 use crate::line::{reply, tool_word, words_said};
 use acl_tree::State;
-use facl_messages::{LineFault, Spare, append_message};
+use facl_messages::{LineFault, Spare, append_message, append_warning};
 use facl_script::{TextFound, UnitFound};
 use facl_tools::Effect;
 use std::alloc::{AllocError, Global};
@@ -26,6 +26,17 @@ pub(crate) struct Facl {
     err: Vec<u8>,
     spare: Spare,
     lacks_memory: bool,
+}
+
+/// The warning of a line, where it warns.
+fn warning_if(alloc: Global, warns: bool, number: u64) -> Result<Vec<u8>, AllocError>
+    ensures { IfOk result (λ text. text.items ≡ warning_if warns number) }
+{
+    let mut text = Vec::new(alloc);
+    if warns {
+        append_warning(&mut text, number)?;
+    }
+    Ok(text)
 }
 
 impl Facl {
@@ -68,10 +79,11 @@ impl Facl {
         }
     }
 
-    /// Does what an accepted line does. It takes no memory.
-    fn accept(&mut self, effect: Effect)
+    /// Does what an accepted line does, which warns of this. It takes no memory.
+    fn do_line(&mut self, effect: Effect, warning: Vec<u8>)
         requires { IsQuiet self.old }
-        ensures says { Says (accepted (left (state_of self.old) effect)) self.new false }
+        ensures says { (number : ℕ) → warning.items ≡ warning_if effect.warns number
+            → Says (accepted number (left (state_of self.old) effect)) self.new false }
         ensures memory { wants_memory self.new ≡ false }
     {
         let Effect {
@@ -80,8 +92,28 @@ impl Facl {
             warns: _,
         } = effect;
         self.out = out;
+        self.err = warning;
         if let Some(staged) = staged {
             self.state.commit(staged);
+        }
+    }
+
+    /// Does what an accepted line does, and says whether it is refused, for there is no memory for its warning.
+    fn accept(&mut self, number: u64, effect: Effect) -> bool
+        requires { IsQuiet self.old }
+        ensures { Says (unless_wanting (wants_memory self.new) number (state_of self.old)
+            (accepted number (left (state_of self.old) effect))) self.new result }
+    {
+        match warning_if(self.alloc, effect.warns, number) {
+            Ok(warning) => {
+                self.do_line(effect, warning);
+                false
+            }
+            Err(_) => {
+                effect.discard();
+                self.refuse(number, b"", &LineFault::NoMemory);
+                true
+            }
         }
     }
 
@@ -94,10 +126,7 @@ impl Facl {
             (reply rights (state_of self.old) said (map string_bytes words.now)))) self.new result }
     {
         match reply(self.alloc, &self.state, found, text, words) {
-            Ok(effect) => {
-                self.accept(effect);
-                false
-            }
+            Ok(effect) => self.accept(number, effect),
             Err(fault) => {
                 self.refuse(number, tool_word(words), &fault);
                 true

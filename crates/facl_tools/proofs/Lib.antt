@@ -1,3 +1,4 @@
 pub mod Steps
 pub mod Listed
 pub mod Modes
+pub mod StillThere

@@ -26,6 +26,7 @@ use Rattle.facl_listings.specs.Listings.{listing}
 use Rattle.facl_listings.specs.Requests.{requests_line}
 use Rattle.facl_tools.specs.Replies.{Reply, after, or_fault, changed, printed}
 use Rattle.facl_tools.specs.Modes.{mode_of}
+use Rattle.facl_tools.specs.Setfacl.{setfacl_line}
 use Rattle.facl_tools.specs.Operands.{path_at, paths_from, name_meant, user_or_fault, file_or_fault, recorded_or_fault}
 
 -- who may do what with which files: what an access check grants
@@ -94,6 +95,7 @@ can_line verdict s w = after (path_at 1 (operand tools.Can w (codes "file"))) (c
 abbrev pub is_served : Tool → Bool
 is_served tools.Load = true
 is_served tools.Getfacl = true
+is_served tools.Setfacl = true
 is_served tools.Chmod = true
 is_served tools.Can = true
 is_served _ = false
@@ -101,6 +103,7 @@ is_served _ = false
 abbrev pub tool_line : Verdict → State → Tool → Words → List ℕ → Result Reply LineFault
 tool_line verdict s tools.Load w text = load_line s w text
 tool_line verdict s tools.Getfacl w text = getfacl_line s w
+tool_line verdict s tools.Setfacl w text = setfacl_line s w text
 tool_line verdict s tools.Chmod w text = chmod_line s w
 tool_line verdict s tools.Can w text = can_line verdict s w
 tool_line verdict s _ w text = Err UnknownTool

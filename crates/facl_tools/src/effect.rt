@@ -39,4 +39,24 @@ impl Effect {
             warns: false,
         }
     }
+
+    /// The same, with a warning or without one.
+    pub fn warning(mut self, warns: bool) -> Effect
+        ensures { (s : State) → left s result ≡ record (left s self) { warns = warns } }
+    {
+        self.warns = warns;
+        self
+    }
+
+    /// Nothing is done, and the state stays as it is.
+    pub fn discard(self) {
+        let Effect {
+            out: _out,
+            staged,
+            warns: _warns,
+        } = self;
+        if let Some(staged) = staged {
+            staged.give_up();
+        }
+    }
 }

@@ -12,6 +12,10 @@ mod getfacl;
 mod load;
 mod mode;
 mod operands;
+mod setfacl;
+mod setfacl_entries;
+mod setfacl_line;
+mod tested;
 mod tools;
 
 pub use effect::Effect;

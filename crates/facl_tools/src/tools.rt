@@ -10,6 +10,7 @@ use crate::chmod::chmod;
 use crate::effect::Effect;
 use crate::getfacl::getfacl;
 use crate::load::load;
+use crate::setfacl::setfacl;
 use acl_tree::State;
 use facl_messages::LineFault;
 use facl_usage::{Tool, Words};
@@ -19,7 +20,10 @@ use std::alloc::Global;
 pub fn is_served(tool: Tool) -> bool
     ensures { result ≡ is_served tool }
 {
-    matches!(tool, Tool::Load | Tool::Getfacl | Tool::Chmod | Tool::Can)
+    matches!(
+        tool,
+        Tool::Load | Tool::Getfacl | Tool::Setfacl | Tool::Chmod | Tool::Can
+    )
 }
 
 /// What a tool does at a state.
@@ -35,6 +39,7 @@ pub fn tool_line(
     match tool {
         Tool::Load => load(alloc, state, words, text),
         Tool::Getfacl => getfacl(alloc, state, words),
+        Tool::Setfacl => setfacl(alloc, state, words, text),
         Tool::Chmod => chmod(alloc, state, words),
         Tool::Can => can(alloc, state, words),
         _ => Err(LineFault::UnknownTool),

@@ -1,0 +1,146 @@
+-- What a line of setfacl(1) does.
+use Rattle.std.specs.Prelude.{ℕ, List, Bool, false, not, ◌&&◌, ◌||◌, [], Option, Some, None, Result, Ok, Err, option_map, if◌then◌else◌}
+use Rattle.std.specs.Bool.{beq}
+use Rattle.std.specs.List.{find, list_any}
+use Rattle.acl_entry.specs.Keys.{same_key}
+use Rattle.acl_text.specs.Entries.{entries_of}
+use Rattle.acl_text.specs.declared.entries.Spec.{Spec}
+use Rattle.acl_text.specs.declared.entries.Want.{Want}
+use Rattle.acl_text.specs.declared.entries.Want.TheVariants.{WithPerms, WithoutPerms}
+use Rattle.acl_text.specs.declared.fault.TextFault.{TextFault}
+use Rattle.acl_dump.specs.Records.{dump_of}
+use Rattle.acl_dump.specs.declared.record.DumpRecord.{DumpRecord}
+use Rattle.acl_dump.specs.declared.record.DumpUse.TheVariants as uses
+use Rattle.acl_edit.specs.declared.edit.Change.{Change}
+use Rattle.acl_edit.specs.declared.edit.Edit.TheVariants as edits
+use Rattle.acl_people.specs.Registers.{Register, users_of, groups_of}
+use Rattle.acl_people.specs.Rolls.{id_named, name_shown}
+use Rattle.acl_tree.specs.Files.{Files}
+use Rattle.acl_tree.specs.Found.{FoundFile, files_found}
+use Rattle.acl_tree.specs.Restoring.{paths_of}
+use Rattle.acl_tree.specs.Step.{State, step}
+use Rattle.acl_tree.specs.declared.command.Command.{Command}
+use Rattle.acl_tree.specs.declared.command.Command.TheVariants.{Edit, Restore}
+use Rattle.acl_tree.specs.declared.command.TreeFault.{TreeFault}
+use Rattle.facl_usage.specs.declared.words.Words.{Words}
+use Rattle.facl_messages.specs.Faults.{line_fault_of_text, line_fault_of_tree}
+use Rattle.facl_messages.specs.declared.fault.LineFault.{LineFault}
+use Rattle.facl_messages.specs.declared.fault.LineFault.TheVariants as faults
+use Rattle.facl_messages.specs.declared.fault.Source.{Source}
+use Rattle.facl_messages.specs.declared.fault.Source.TheVariants.{Entry, TextLine}
+use Rattle.facl_listings.specs.TestListing.{test_listing}
+use Rattle.facl_tools.specs.Replies.{Reply, after, changed, printed}
+use Rattle.facl_tools.specs.Operands.{paths_from}
+use Rattle.facl_tools.specs.SetfaclLine.{Asked, EntryText, asked}
+use Rattle.facl_tools.specs.declared.setfacl_entries.Given.{Given}
+
+-- ---- entry texts
+
+-- what a text says, or the line's fault with this source
+abbrev pub said_in : {A : Type 0} → Source → Result A TextFault → Result A LineFault
+said_in source (Ok a) = Ok a
+said_in source (Err fault) = Err (line_fault_of_text source fault)
+
+-- the entries of a text, where there is one
+abbrev pub entries_given : Register → Want → Option EntryText → Result (List Spec) LineFault
+entries_given known want None = Ok []
+entries_given known want (Some t) = said_in Entry (entries_of (λ name. id_named name (users_of known)) (λ name. id_named name (groups_of known)) t.sep want t.bytes)
+
+-- the entries of a line: the first fault is that of the removed ones, then of the modified ones, then of the set ones
+abbrev pub given : Register → Asked → Result Given LineFault
+given known line =
+    after (entries_given known WithoutPerms line.removed)
+    (λ removed. after (entries_given known WithPerms line.modified)
+    (λ modified. after (entries_given known WithPerms line.set)
+    (λ set. Ok (record { removed = removed; modified = modified; set = set }))))
+
+-- two entries of one list with one key; `-d` drops default entries
+abbrev pub is_same_entry : Bool → Spec → Spec → Bool
+is_same_entry as_default a b = not (as_default && a.dflt) && (beq a.dflt b.dflt && same_key a.key b.key)
+
+-- the first modified entry that is removed too
+abbrev pub both_at : Bool → Given → Option ℕ
+both_at as_default entries =
+    option_map (λ m. m.at) (find (λ m. list_any (λ r. is_same_entry as_default m r) entries.removed) entries.modified)
+
+-- this, where no entry is both removed and modified
+abbrev pub unless_both : {A : Type 0} → Option ℕ → Result A LineFault → Result A LineFault
+unless_both None r = r
+unless_both (Some at) r = Err (faults.Both at)
+
+abbrev pub has_default : List Spec → Bool
+has_default specs = list_any (λ s. s.dflt) specs
+
+-- `-d` drops a default entry of one of the texts
+abbrev pub drops : Bool → Given → Bool
+drops as_default entries = as_default && (has_default entries.removed || (has_default entries.modified || has_default entries.set))
+
+-- ---- what is done
+
+-- the files of a command, as they are among these
+abbrev pub command_files : Command → Files → List FoundFile
+command_files (Edit paths e recursive) files = files_found recursive paths files
+command_files (Restore records) files = files_found false (paths_of records) files
+command_files _ files = []
+
+-- ids print as the names that these people have
+abbrev pub named_test_listing : Register → List FoundFile → List ℕ
+named_test_listing known files = test_listing (λ id. name_shown id (users_of known)) (λ id. name_shown id (groups_of known)) files
+
+-- what `--test` prints of a command, from the files after it
+abbrev pub tested : Command → State → List ℕ
+tested command s = named_test_listing s.people (command_files command s.tree.files)
+
+-- with `--test` the state stays
+abbrev pub tested_or_fault : State → Command → Result State TreeFault → Result Reply LineFault
+tested_or_fault s command (Ok new) = Ok (printed s (tested command new))
+tested_or_fault s command (Err fault) = Err (line_fault_of_tree fault)
+
+abbrev pub done : Bool → State → Command → Result Reply LineFault
+done test s command = if test then tested_or_fault s command (step s command) else changed (step s command)
+
+-- the same, with a warning
+abbrev pub warning_if : Bool → Result Reply LineFault → Result Reply LineFault
+warning_if warns r = after r (λ reply. Ok (record reply { warns = warns }))
+
+-- ---- lists are changed
+
+abbrev pub change_of : Asked → Given → Change
+change_of line entries = record {
+  strip = line.strip;
+  drop_default = line.drop_default;
+  as_default = line.as_default;
+  no_mask = line.no_mask;
+  remask = line.remask;
+  remove = entries.removed;
+  set = entries.set;
+  modify = entries.modified;
+}
+
+-- these entries are put into the files
+abbrev pub change_files : State → Asked → Given → Result Reply LineFault
+change_files s line entries =
+    after (paths_from 1 line.files)
+    (λ paths. warning_if (drops line.as_default entries) (done line.test s (Edit paths (edits.Change (change_of line entries)) line.recursive)))
+
+abbrev pub change_line : State → Asked → Result Reply LineFault
+change_line s line =
+    after (given s.people line) (λ entries. unless_both (both_at line.as_default entries) (change_files s line entries))
+
+-- ---- a dump is restored
+
+-- the records of a dump, of which none needs an owner or a group
+unfoldable pub records_or_fault : Register → List ℕ → Result (List DumpRecord) LineFault
+records_or_fault known text = said_in TextLine (dump_of (λ name. id_named name (users_of known)) (λ name. id_named name (groups_of known)) uses.Restore text)
+
+abbrev pub restore_line : State → Bool → List ℕ → Result Reply LineFault
+restore_line s test text = after (records_or_fault s.people text) (λ records. done test s (Restore records))
+
+-- ---- the line
+
+abbrev pub restore_or_change : State → Asked → Option (List ℕ) → Result Reply LineFault
+restore_or_change s line None = change_line s line
+restore_or_change s line (Some text) = restore_line s line.test text
+
+abbrev pub setfacl_line : State → Words → List ℕ → Result Reply LineFault
+setfacl_line s w text = restore_or_change s (asked w text) (asked w text).restored

@@ -1,0 +1,98 @@
+//! The tool setfacl(1).
+
+ghost use Rattle.std.specs.Prelude.{◌≡◌};
+ghost use Rattle.acl_tree.specs.declared.command.Command.TheVariants.{Restore};
+ghost use Rattle.facl_tools.specs.Replies.{Gives, left};
+ghost use Rattle.facl_tools.specs.Setfacl.{change_files, change_line, done, records_or_fault, restore_line, setfacl_line};
+
+use crate::effect::Effect;
+use crate::operands::paths_of;
+use crate::setfacl_entries::Given;
+use crate::setfacl_line::SetfaclLine;
+use crate::tested::do_or_test;
+use acl_dump::{DumpUse, read_dump};
+use acl_edit::Edit;
+use acl_people::People;
+use acl_tree::{Command, DumpRecords, State};
+use facl_messages::{LineFault, Source};
+use facl_usage::Words;
+use std::alloc::Global;
+
+/// Changes the lists of the files of a line.
+fn change_files(
+    alloc: Global,
+    state: &State,
+    line: &SetfaclLine<'_>,
+    entries: Given,
+) -> Result<Effect, LineFault>
+    ensures { Gives (left state.now) result (change_files state.now line.now entries) }
+{
+    let paths = paths_of(alloc, line.files)?;
+    let warns = entries.drops(line.as_default);
+    let command = Command::Edit {
+        paths,
+        edit: Edit::Change(entries.change(line)),
+        recursive: line.recursive,
+    };
+    let effect = do_or_test(alloc, state, &command, line.test)?;
+    Ok(effect.warning(warns))
+}
+
+/// Changes the lists of files.
+fn change(alloc: Global, state: &State, line: &SetfaclLine<'_>) -> Result<Effect, LineFault>
+    ensures { Gives (left state.now) result (change_line state.now line.now) }
+{
+    let entries = Given::of(alloc, state.people(), line)?;
+    match entries.both_at(line.as_default) {
+        Some(at) => Err(LineFault::Both { at }),
+        None => change_files(alloc, state, line, entries),
+    }
+}
+
+/// The records of a dump that is restored.
+#[tactic(auto, unfolding(crate::specs::Setfacl::records_or_fault))]
+fn records_of(alloc: Global, people: &People, dump: &[u8]) -> Result<DumpRecords, LineFault>
+    ensures { Gives (λ records. records) result (records_or_fault people.now dump.now) }
+{
+    match read_dump(alloc, dump, DumpUse::Restore, people) {
+        Ok(records) => Ok(DumpRecords::new(records)),
+        Err(fault) => Err(LineFault::of_text(Source::TextLine, fault)),
+    }
+}
+
+/// Restores the files of records.
+fn restore_records(
+    alloc: Global,
+    state: &State,
+    records: DumpRecords,
+    is_test: bool,
+) -> Result<Effect, LineFault>
+    ensures { Gives (left state.now) result (done is_test state.now (Restore records)) }
+{
+    let command = Command::Restore { records };
+    do_or_test(alloc, state, &command, is_test)
+}
+
+/// Restores the files of a dump.
+fn restore(alloc: Global, state: &State, dump: &[u8], is_test: bool) -> Result<Effect, LineFault>
+    ensures { Gives (left state.now) result (restore_line state.now is_test dump.now) }
+{
+    let records = records_of(alloc, state.people(), dump)?;
+    restore_records(alloc, state, records, is_test)
+}
+
+/// Changes lists, or restores those of a dump.
+pub(crate) fn setfacl(
+    alloc: Global,
+    state: &State,
+    words: &Words,
+    text: &[u8],
+) -> Result<Effect, LineFault>
+    ensures { Gives (left state.now) result (setfacl_line state.now words.now text.now) }
+{
+    let line = SetfaclLine::of(words, text);
+    match line.restored {
+        Some(dump) => restore(alloc, state, dump, line.test),
+        None => change(alloc, state, &line),
+    }
+}

@@ -1,0 +1,117 @@
+//! The entries of a setfacl(1) line.
+
+ghost use Rattle.std.specs.Prelude.{◌≡◌, option_map};
+ghost use Rattle.std.specs.List.{list_any};
+ghost use Rattle.facl_tools.specs.Replies.{Gives};
+ghost use Rattle.facl_tools.specs.Setfacl as specs;
+ghost use Rattle.facl_tools.specs.Setfacl.{both_at, change_of, drops, entries_given, given, has_default, is_same_entry};
+
+use crate::setfacl_line::{EntryText, SetfaclLine};
+use acl_edit::{Change, Specs};
+use acl_people::People;
+use acl_text::{Spec, Want, read_entries};
+use facl_messages::{LineFault, Source};
+use std::alloc::Global;
+use std::cmp::Ordering;
+
+/// The entries of a line.
+#[derive(Drop)]
+pub(crate) struct Given {
+    pub removed: Specs,
+    pub modified: Specs,
+    pub set: Specs,
+}
+
+/// The entries of a text, if there is one.
+fn entries_given(
+    alloc: Global,
+    people: &People,
+    want: Want,
+    text: &Option<EntryText<'_>>,
+) -> Result<Specs, LineFault>
+    ensures { Gives (λ specs. specs) result (entries_given people.now want text.now) }
+{
+    let Some(text) = text else {
+        return Ok(Specs::new(Vec::new(alloc)));
+    };
+    match read_entries(alloc, text.bytes, text.sep, want, people) {
+        Ok(specs) => Ok(Specs::new(specs)),
+        Err(fault) => Err(LineFault::of_text(Source::Entry, fault)),
+    }
+}
+
+/// Whether two entries are of one list and have one key, where `-d` drops none of them.
+fn is_same_entry(as_default: bool, a: &Spec, b: &Spec) -> bool
+    ensures { result ≡ is_same_entry as_default a.now b.now }
+{
+    !(as_default && a.dflt) && a.dflt == b.dflt && a.key.order(b.key) == Ordering::Equal
+}
+
+fn is_among(as_default: bool, spec: &Spec, specs: &[Spec]) -> bool
+    ensures { result ≡ list_any (λ s. is_same_entry as_default spec.now s) specs.now }
+{
+    specs
+        .iter()
+        .any(|other| is_same_entry(as_default, spec, other))
+}
+
+fn has_default(specs: &[Spec]) -> bool
+    ensures { result ≡ has_default specs.now }
+{
+    specs.iter().any(|spec| spec.dflt)
+}
+
+impl Given {
+    /// The entries of a line.
+    pub fn of(alloc: Global, people: &People, line: &SetfaclLine<'_>) -> Result<Given, LineFault>
+        ensures { Gives (λ entries. entries) result (given people.now line.now) }
+    {
+        let removed = entries_given(alloc, people, Want::WithoutPerms, &line.removed)?;
+        let modified = entries_given(alloc, people, Want::WithPerms, &line.modified)?;
+        let set = entries_given(alloc, people, Want::WithPerms, &line.set)?;
+        Ok(Given {
+            removed,
+            modified,
+            set,
+        })
+    }
+
+    /// The place of the first modified entry that is removed too.
+    pub fn both_at(&self, as_default: bool) -> Option<usize>
+        ensures { result ≡ both_at as_default self.now }
+    {
+        let removed = self.removed.as_slice();
+        let both = self
+            .modified
+            .as_slice()
+            .iter()
+            .find(|spec| is_among(as_default, spec, removed))?;
+        Some(both.at)
+    }
+
+    /// Whether `-d` drops a default entry.
+    pub fn drops(&self, as_default: bool) -> bool
+        ensures { result ≡ drops as_default self.now }
+    {
+        as_default
+            && (has_default(self.removed.as_slice())
+                || has_default(self.modified.as_slice())
+                || has_default(self.set.as_slice()))
+    }
+
+    /// What the line does with the lists of a file.
+    pub fn change(self, line: &SetfaclLine<'_>) -> Change
+        ensures { result ≡ change_of line.now self }
+    {
+        Change {
+            strip: line.strip,
+            drop_default: line.drop_default,
+            as_default: line.as_default,
+            no_mask: line.no_mask,
+            remask: line.remask,
+            remove: self.removed,
+            set: self.set,
+            modify: self.modified,
+        }
+    }
+}

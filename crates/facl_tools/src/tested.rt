@@ -1,0 +1,122 @@
+//! Commands that are tried out: setfacl(1) `--test`.
+
+ghost use Rattle.std.specs.Prelude.{◌≡◌, false, None, Ok, IfOk};
+ghost use Rattle.facl_tools.specs.Replies.{Gives, left};
+ghost use Rattle.facl_tools.specs.Setfacl.{command_files, done, tested, tested_or_fault};
+ghost use Rattle.acl_tree.specs.Found.{files_found};
+ghost use Rattle.acl_tree.specs.Operands.{first_missing};
+ghost use Rattle.acl_tree.specs.Restoring.{paths_of};
+ghost use Rattle.acl_tree.specs.Step.{step};
+
+use crate::change::prepare;
+use crate::effect::Effect;
+use acl_dump::DumpRecord;
+use acl_names::Path;
+use acl_tree::{Command, DumpRecords, Found, Paths, Staged, State, Tree, each_file_is_edited};
+use facl_listings::append_test_listing;
+use facl_messages::LineFault;
+use std::alloc::{AllocError, Global};
+
+/// The paths of records.
+fn paths_of(alloc: Global, records: &[DumpRecord]) -> Result<Vec<Path>, AllocError>
+    ensures { IfOk result (λ paths. paths.items ≡ paths_of records.now) }
+{
+    let mut paths = Vec::with_capacity(alloc, records.len())?;
+    for record in records {
+        paths.push(record.path.try_clone(alloc)?)?;
+    }
+    Ok(paths)
+}
+
+/// The files of operands that are recorded.
+fn files_of(
+    alloc: Global,
+    tree: &Tree,
+    paths: &Paths,
+    recursive: bool,
+) -> Result<Vec<Found>, LineFault>
+    requires { first_missing paths.now tree.now.files ≡ None }
+    ensures { Gives (λ files. files.items) result (Ok (files_found recursive paths.now tree.now.files)) }
+{
+    Ok(tree.files(alloc, paths, recursive)?)
+}
+
+/// The files of records that are recorded.
+fn files_of_records(
+    alloc: Global,
+    tree: &Tree,
+    records: &DumpRecords,
+) -> Result<Vec<Found>, LineFault>
+    requires { first_missing (paths_of records.now) tree.now.files ≡ None }
+    ensures { Gives (λ files. files.items) result (Ok (files_found false (paths_of records.now) tree.now.files)) }
+{
+    let paths = Paths::new(paths_of(alloc, records.as_slice())?);
+    files_of(alloc, tree, &paths, false)
+}
+
+/// The files of a command, as they are after it.
+fn files_after(
+    alloc: Global,
+    state: &State,
+    command: &Command<'_>,
+    staged: &Staged,
+) -> Result<Vec<Found>, LineFault>
+    requires { step state.now command.now ≡ Ok staged.now.state }
+    ensures { Gives (λ files. files.items) result (Ok (command_files command.now staged.now.state.tree.files)) }
+{
+    each_file_is_edited();
+    state.tree().is_sound();
+    match command {
+        Command::Edit {
+            paths,
+            recursive,
+            ..
+        } => files_of(alloc, staged.tree(), paths, *recursive),
+        Command::Restore { records } => files_of_records(alloc, staged.tree(), records),
+        Command::Load { .. } | Command::Chmod { .. } | Command::Creat(_) | Command::Rm { .. } => {
+            Ok(Vec::new(alloc))
+        }
+    }
+}
+
+/// What is printed of a command that is tried out.
+fn listed(
+    alloc: Global,
+    state: &State,
+    command: &Command<'_>,
+    staged: &Staged,
+) -> Result<Vec<u8>, LineFault>
+    requires { step state.now command.now ≡ Ok staged.now.state }
+    ensures { Gives (λ out. out.items) result (Ok (tested command.now staged.now.state)) }
+{
+    let files = files_after(alloc, state, command, staged)?;
+    let mut out = Vec::new(alloc);
+    append_test_listing(&mut out, staged.people(), &files)?;
+    Ok(out)
+}
+
+/// What a command would leave of its files. The state stays.
+fn test(alloc: Global, state: &State, command: &Command<'_>) -> Result<Effect, LineFault>
+    ensures { Gives (left state.now) result (tested_or_fault state.now command.now (step state.now command.now)) }
+{
+    let staged = state.prepare(alloc, command)?;
+    let listed = listed(alloc, state, command, &staged);
+    staged.give_up();
+    Ok(Effect::prints(listed?))
+}
+
+/// Does a command, or tries it out.
+pub(crate) fn do_or_test(
+    alloc: Global,
+    state: &State,
+    command: &Command<'_>,
+    is_test: bool,
+) -> Result<Effect, LineFault>
+    ensures { Gives (left state.now) result (done is_test state.now command.now) }
+{
+    if is_test {
+        test(alloc, state, command)
+    } else {
+        prepare(alloc, state, command)
+    }
+}
