@@ -3,4 +3,10 @@ pub mod Operands
 pub mod Modes
 pub mod SetfaclLine
 pub mod Setfacl
+pub mod Edits
+pub mod Lists
+pub mod Chacl
+pub mod Creation
+pub mod Removal
+pub mod Attributes
 pub mod Tools

@@ -27,6 +27,10 @@ use Rattle.facl_listings.specs.Requests.{requests_line}
 use Rattle.facl_tools.specs.Replies.{Reply, after, or_fault, changed, printed}
 use Rattle.facl_tools.specs.Modes.{mode_of}
 use Rattle.facl_tools.specs.Setfacl.{setfacl_line}
+use Rattle.facl_tools.specs.Chacl.{chacl_line}
+use Rattle.facl_tools.specs.Creation.{creat_line}
+use Rattle.facl_tools.specs.Removal.{rm_line}
+use Rattle.facl_tools.specs.Attributes.{attr_line, setattr_line}
 use Rattle.facl_tools.specs.Operands.{path_at, paths_from, name_meant, user_or_fault, file_or_fault, recorded_or_fault}
 
 -- who may do what with which files: what an access check grants
@@ -96,7 +100,12 @@ abbrev pub is_served : Tool → Bool
 is_served tools.Load = true
 is_served tools.Getfacl = true
 is_served tools.Setfacl = true
+is_served tools.Chacl = true
 is_served tools.Chmod = true
+is_served tools.Creat = true
+is_served tools.Rm = true
+is_served tools.Attr = true
+is_served tools.Setattr = true
 is_served tools.Can = true
 is_served _ = false
 
@@ -104,6 +113,11 @@ abbrev pub tool_line : Verdict → State → Tool → Words → List ℕ → Res
 tool_line verdict s tools.Load w text = load_line s w text
 tool_line verdict s tools.Getfacl w text = getfacl_line s w
 tool_line verdict s tools.Setfacl w text = setfacl_line s w text
+tool_line verdict s tools.Chacl w text = chacl_line s w
 tool_line verdict s tools.Chmod w text = chmod_line s w
+tool_line verdict s tools.Creat w text = creat_line s w
+tool_line verdict s tools.Rm w text = rm_line s w
+tool_line verdict s tools.Attr w text = attr_line s w
+tool_line verdict s tools.Setattr w text = setattr_line s w
 tool_line verdict s tools.Can w text = can_line verdict s w
 tool_line verdict s _ w text = Err UnknownTool

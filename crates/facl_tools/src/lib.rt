@@ -4,14 +4,21 @@
 //! one. It changes nothing; whoever answers the line puts the effect in place.
 #![tactic(auto)]
 
+mod attr;
 mod can;
+mod chacl;
 mod change;
 mod chmod;
+mod creat;
+mod edits;
 mod effect;
 mod getfacl;
+mod lists;
 mod load;
 mod mode;
 mod operands;
+mod rm;
+mod setattr;
 mod setfacl;
 mod setfacl_entries;
 mod setfacl_line;

@@ -2,9 +2,9 @@
 
 ghost use Rattle.std.specs.Prelude.{◌≡◌, IsTrue};
 ghost use Rattle.facl_usage.specs.Forms.{is_mode};
-ghost use Rattle.facl_tools.specs.Modes.{mode_of, octal_number};
+ghost use Rattle.facl_tools.specs.Modes.{mode_of, octal_number, permission_mode_of};
 
-use facl_usage::forms::is_mode;
+use facl_usage::forms::{is_mode, is_permission_mode};
 
 /// The number that octal digits write.
 fn octal_number(digits: &[u8]) -> u16
@@ -26,6 +26,17 @@ pub(crate) fn mode_of(text: &str) -> Option<u16>
 {
     if is_mode(text) {
         Some(octal_number(text.as_bytes()))
+    } else {
+        None
+    }
+}
+
+/// The number that one to four octal digits write, where it is at most 0777. `None` for any other text.
+pub(crate) fn permission_mode_of(text: &str) -> Option<u16>
+    ensures { result ≡ permission_mode_of text.now }
+{
+    if is_permission_mode(text) {
+        mode_of(text)
     } else {
         None
     }

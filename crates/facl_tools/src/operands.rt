@@ -1,18 +1,18 @@
 //! The operands of a line: files and users.
 
-ghost use Rattle.std.specs.Prelude.{◌≡◌, option_map};
+ghost use Rattle.std.specs.Prelude.{◌≡◌, IfOk, option_map};
 ghost use Rattle.facl_tools.specs.Replies.{Gives};
 ghost use Rattle.facl_tools.specs.Operands.{path_at, paths_from, name_meant, user_of, user_or_fault, file_or_fault};
 
 use acl_edit::Node;
 use acl_entry::Subject;
-use acl_names::{Path, read_name, read_path};
+use acl_names::{Name, Path, read_name, read_path};
 use acl_people::People;
 use acl_text::{FaultKind, TextFault, trim};
 use acl_tree::{Paths, Tree, TreeFault};
 use facl_messages::{LineFault, Source};
 use facl_usage::Word;
-use std::alloc::Global;
+use std::alloc::{AllocError, Global};
 
 /// The path of the operand at a place, counted from 1.
 pub(crate) fn path_at(alloc: Global, at: usize, word: &str) -> Result<Path, LineFault>
@@ -49,6 +49,13 @@ fn user_of<'a>(people: &'a People, name: &[u8]) -> Option<&'a Subject>
     people.subject(people.find_user(name)?)
 }
 
+/// The name that a word for a user or a group means.
+pub(crate) fn name_meant(alloc: Global, word: &str) -> Result<Name, AllocError>
+    ensures { IfOk result (λ name. name ≡ name_meant word.now) }
+{
+    read_name(alloc, trim(word.as_bytes()))
+}
+
 /// The user that a word means.
 pub(crate) fn user_meant<'a>(
     alloc: Global,
@@ -57,7 +64,7 @@ pub(crate) fn user_meant<'a>(
 ) -> Result<&'a Subject, LineFault>
     ensures { Gives (λ user. user.now) result (user_or_fault people.now (name_meant word.now)) }
 {
-    let name = read_name(alloc, trim(word.as_bytes()))?;
+    let name = name_meant(alloc, word)?;
     match user_of(people, name.as_bytes()) {
         Some(user) => Ok(user),
         None => Err(LineFault::Tree(TreeFault::NoSuchUser { name })),

@@ -5,11 +5,16 @@ ghost use Rattle.acl_entry.specs.Check.{rights};
 ghost use Rattle.facl_tools.specs.Replies.{Gives, left};
 ghost use Rattle.facl_tools.specs.Tools.{is_served, tool_line};
 
+use crate::attr::attr;
 use crate::can::can;
+use crate::chacl::chacl;
 use crate::chmod::chmod;
+use crate::creat::creat;
 use crate::effect::Effect;
 use crate::getfacl::getfacl;
 use crate::load::load;
+use crate::rm::rm;
+use crate::setattr::setattr;
 use crate::setfacl::setfacl;
 use acl_tree::State;
 use facl_messages::LineFault;
@@ -22,7 +27,16 @@ pub fn is_served(tool: Tool) -> bool
 {
     matches!(
         tool,
-        Tool::Load | Tool::Getfacl | Tool::Setfacl | Tool::Chmod | Tool::Can
+        Tool::Load
+            | Tool::Getfacl
+            | Tool::Setfacl
+            | Tool::Chacl
+            | Tool::Chmod
+            | Tool::Creat
+            | Tool::Rm
+            | Tool::Attr
+            | Tool::Setattr
+            | Tool::Can
     )
 }
 
@@ -40,7 +54,12 @@ pub fn tool_line(
         Tool::Load => load(alloc, state, words, text),
         Tool::Getfacl => getfacl(alloc, state, words),
         Tool::Setfacl => setfacl(alloc, state, words, text),
+        Tool::Chacl => chacl(alloc, state, words),
         Tool::Chmod => chmod(alloc, state, words),
+        Tool::Creat => creat(alloc, state, words),
+        Tool::Rm => rm(alloc, state, words),
+        Tool::Attr => attr(alloc, state, words),
+        Tool::Setattr => setattr(alloc, state, words),
         Tool::Can => can(alloc, state, words),
         _ => Err(LineFault::UnknownTool),
     }

@@ -1,0 +1,41 @@
+-- Lists as chacl(1) reads them: the entries of a text, which have to be a valid list.
+use Rattle.std.specs.Prelude.{List, map, Result, Ok, Err}
+use Rattle.std.specs.Option.{option_map_or}
+use Rattle.acl_entry.specs.Lists.{KeyMap, fault, map_of}
+use Rattle.acl_entry.specs.Perms.{none}
+use Rattle.acl_entry.specs.declared.entry.Entry.{Entry}
+use Rattle.acl_text.specs.Entries.{entries_of}
+use Rattle.acl_text.specs.Told.{of_list}
+use Rattle.acl_text.specs.declared.entries.Sep.TheVariants.{Comma}
+use Rattle.acl_text.specs.declared.entries.Spec.{Spec}
+use Rattle.acl_text.specs.declared.entries.Want.TheVariants.{Plain}
+use Rattle.acl_text.specs.declared.fault.TextFault.{TextFault}
+use Rattle.acl_text.specs.declared.fault.Which.{Which}
+use Rattle.acl_people.specs.Registers.{Register, users_of, groups_of}
+use Rattle.acl_people.specs.Rolls.{id_named}
+use Rattle.facl_usage.specs.Forms.{Text}
+use Rattle.facl_messages.specs.Faults.{line_fault_of_text}
+use Rattle.facl_messages.specs.declared.fault.LineFault.{LineFault}
+use Rattle.facl_messages.specs.declared.fault.Source.{Source}
+use Rattle.facl_tools.specs.Replies.{after}
+
+-- what a text contains, or its fault as one of the line
+abbrev pub text_or_fault : Source → {A : Type 0} → Result A TextFault → Result A LineFault
+text_or_fault source (Ok a) = Ok a
+text_or_fault source (Err fault) = Err (line_fault_of_text source fault)
+
+-- what a written entry gives
+abbrev pub entry_of : Spec → Entry
+entry_of spec = record { key = spec.key; perm = option_map_or (λ perm. perm.fixed) spec.perm none }
+
+-- the list of some entries; its fault has no place in the text
+abbrev pub list_from : Source → Which → List Entry → Result KeyMap LineFault
+list_from source which es = option_map_or (λ f. Err (line_fault_of_text source (record { kind = of_list which f; at = 0 }))) (fault es) (Ok (map_of es))
+
+abbrev pub specs_of : Register → Source → Text → Result (List Spec) LineFault
+specs_of known source text =
+    text_or_fault source (entries_of (λ name. id_named name (users_of known)) (λ name. id_named name (groups_of known)) Comma Plain text)
+
+-- the list that a text names: entries with permissions, with a comma between each two
+abbrev pub list_of : Register → Source → Which → Text → Result KeyMap LineFault
+list_of known source which text = after (specs_of known source text) (λ specs. list_from source which (map entry_of specs))
