@@ -1,0 +1,670 @@
+#!/usr/bin/env python3
+"""Runs random lines with the real tools over real files, and with the program over a dump of them, and compares.
+
+usage: compare.py --program FILE [--folder FOLDER] [--sessions N] [--lines N] [--seed N] [--verbose]
+
+Compared after each line, byte for byte: the listing of all files (`getfacl -R -n .`), and what getfacl, `chacl -l` and
+attr print; and whether the line was accepted. The real tools are given the files of a line in path order, each once,
+as the program treats them; a directory that nothing else shows to be one is given with a final `/`.
+
+What is not compared, since docs/DECISIONS.md and docs/SPECIFICATION.md say otherwise for the program:
+- which of several faults is reported, and in which words;
+- what a refused line changed: the real tools go file by file, and the program acts on all files or on none. The real
+  tree is then made anew from the program's listing, which tests the way back;
+- the meaning of the order of options: lines give them in the program's order (-d -n --mask first, then -b -k, then -x,
+  then -m);
+- what `setfacl --test` prints (its layout is the program's own); that it changes nothing is compared;
+- names with a backslash, symbolic links, -L and -P, an option given twice;
+- the differences named in NAMED below: such lines are left out, and counted.
+"""
+import argparse
+import os
+import pty
+import random
+import shutil
+import stat
+import subprocess
+import sys
+import tempfile
+import tty
+
+START = b"""# file: .
+# owner: 0
+# group: 0
+user::rwx
+group::r-x
+other::r-x
+
+# file: a b
+# owner: 1
+# group: 1
+user::rw-
+group::r--
+other::r--
+
+# file: deep
+# owner: 1
+# group: 2
+# flags: -s-
+user::rwx
+user:2:rwx
+user:30001:r-x
+group::r-x
+group:60:rwx
+mask::rwx
+other::---
+default:user::rwx
+default:group::r-x
+default:group:60:rwx
+default:mask::r-x
+default:other::---
+
+# file: deep/down
+# owner: 2
+# group: 60
+user::rwx
+group::rwx
+other::r-x
+
+# file: deep/down/f
+# owner: 2
+# group: 60
+user::rw-
+user:1:rw-
+group::r--
+mask::r--
+other::---
+
+# file: deep/down/g
+# owner: 30001
+# group: 30002
+# flags: ss-
+user::rwx
+group::r-x
+mask::rwx
+other::--x
+
+# file: deep/x,y:z
+# owner: 1
+# group: 1
+user::r--
+group::---
+other::---
+
+# file: empty/
+# owner: 0
+# group: 2
+# flags: --t
+user::rwx
+group::rwx
+other::rwx
+
+# file: f
+# owner: 1
+# group: 2
+user::rw-
+user:2:rwx
+user:30001:-w-
+group::r-x
+group:2:rw-
+group:60:r--
+mask::rw-
+other::---
+
+# file: plain
+# owner: 2
+# group: 1
+user::rw-
+group::r--
+other::---
+
+"""
+USERS = ["root", "daemon", "bin", "1", "2", "30001", "30002"]
+GROUPS = ["root", "daemon", "bin", "60", "1", "30001", "30002"]
+MAKERS = ["root", "daemon", "bin"]
+TOOLS = ["getfacl", "setfacl", "chacl", "chmod", "creat", "rm", "attr", "setattr"]
+FACL_ONLY_MESSAGE = b": facl: unknown tool\n"
+
+
+def components(path):
+    return [] if path == b"." else path.split(b"/")
+
+
+class Records:
+    """The records of a listing, by their paths."""
+
+    def __init__(self, listing):
+        self.of = {}
+        for record in listing.split(b"\n\n"):
+            if record:
+                head = record.split(b"\n", 1)[0]
+                path = head[len(b"# file: ") :]
+                self.of[path.rstrip(b"/") or b"."] = (record, path.endswith(b"/"))
+
+    def is_directory(self, path):
+        record, slash = self.of[path]
+        return slash or path == b"." or b"\ndefault:" in record or self.has_below(path)
+
+    def has_below(self, path):
+        start = b"" if path == b"." else path + b"/"
+        return any(other != path and other.startswith(start) for other in self.of)
+
+    def written(self, path):
+        """A path as the program writes it."""
+        return path + b"/" if self.of[path][1] else path
+
+    def paths(self):
+        return sorted(self.of, key=components)
+
+    def below(self, path):
+        start = b"" if path == b"." else path + b"/"
+        return [other for other in self.paths() if other == path or other.startswith(start)]
+
+
+class Facl:
+    """A session of the program."""
+
+    def __init__(self, program, folder):
+        words = [program]
+        for name in ("passwd", "group", "dump"):
+            words += ["--" + name, os.path.join(folder, name)]
+        self.run = subprocess.Popen(words, stdin=subprocess.PIPE, stdout=subprocess.PIPE, stderr=subprocess.STDOUT)
+        self.line = 0
+
+    def answer(self, line, text=None):
+        """What a line prints, and its messages."""
+        number = self.line + 1
+        sent = line + b"\n" + (b"" if text is None else text + b".\n") + b"mark\n"
+        self.line += sent.count(b"\n")
+        self.run.stdin.write(sent)
+        self.run.stdin.flush()
+        printed, messages, end = [], [], b"line %d: facl: unknown tool\n" % self.line
+        while True:
+            got = self.run.stdout.readline()
+            if got == end:
+                return b"".join(printed), messages
+            if not got:
+                sys.exit(f"compare.py: the program ended with {self.run.wait()} at {sent!r}")
+            if got.startswith(b"line %d: " % number):
+                messages.append(got.decode())
+            else:
+                printed.append(got)
+
+    def end(self):
+        self.run.stdin.close()
+        self.run.stdout.read()
+        return self.run.wait()
+
+
+class Tree:
+    """A real tree."""
+
+    def __init__(self, folder, listing):
+        self.top = os.path.join(folder, "tree")
+        self.rebuild(listing)
+
+    def rebuild(self, listing):
+        """Makes the tree of a listing."""
+        shutil.rmtree(self.top, ignore_errors=True)
+        os.mkdir(self.top)
+        records = Records(listing)
+        for path in records.paths():
+            whole = os.path.join(self.top.encode(), path)
+            if path != b"." and records.is_directory(path):
+                os.mkdir(whole)
+            elif path != b".":
+                open(whole, "x").close()
+        status, _, faults = self.run(["setfacl", "--restore=-"], listing)
+        if status != 0:
+            sys.exit(f"compare.py: setfacl --restore: {faults.decode()}")
+
+    def run(self, words, text=None):
+        if words[0] == "getfacl":
+            return self.run_at_terminal(words)
+        done = subprocess.run(words, input=text or b"", cwd=self.top, capture_output=True)
+        return done.returncode, done.stdout, done.stderr
+
+    def run_at_terminal(self, words):
+        """Runs a tool whose output is a terminal: only there getfacl(1) puts tabs before `#effective:` as columns ask."""
+        master, slave = pty.openpty()
+        tty.setraw(slave)
+        run = subprocess.Popen(words, stdin=subprocess.DEVNULL, stdout=slave, stderr=subprocess.PIPE, cwd=self.top)
+        os.close(slave)
+        printed = []
+        while True:
+            try:
+                printed.append(os.read(master, 65536))
+            except OSError:  # The other side is closed.
+                os.close(master)
+                faults = run.stderr.read()
+                run.stderr.close()
+                return run.wait(), b"".join(printed), faults
+
+    def paths(self):
+        found = [b"."]
+        top = self.top.encode()
+        for place, folders, files in os.walk(top):
+            within = os.path.relpath(place, top)
+            found += [name if within == b"." else within + b"/" + name for name in folders + files]
+        return sorted(found, key=components)
+
+    def listing(self):
+        """What `getfacl -R -n .` prints, in path order, with a final `/` where the program writes it."""
+        paths = self.paths()
+        _, printed, _ = self.run(["getfacl", "-n", "--"] + paths)
+        records = printed.split(b"\n\n")[: len(paths)]
+        written = []
+        for path, record in zip(paths, records):
+            below = any(other.startswith(path + b"/") for other in paths)
+            kind = os.lstat(os.path.join(self.top.encode(), path)).st_mode
+            slash = stat.S_ISDIR(kind) and path != b"." and not below and b"\ndefault:" not in record
+            head, rest = record.split(b"\n", 1)
+            written.append(head + (b"/" if slash else b"") + b"\n" + rest + b"\n\n")
+        return b"".join(written)
+
+
+class Line:
+    """A line for the program, and the same for the real tools."""
+
+    def __init__(self, words, real, text=None, compared=False, skip=None):
+        self.words = [word if isinstance(word, bytes) else word.encode() for word in words]
+        self.real = real
+        self.text = text
+        self.compared = compared
+        self.skip = skip
+
+    def written(self):
+        plain = lambda word: word and not any(it in word for it in b" \t#'")
+        return b" ".join(word if plain(word) else b"'" + word + b"'" for word in self.words)
+
+
+class Lines:
+    """Random lines."""
+
+    def __init__(self, seed, as_root):
+        self.random = random.Random(seed)
+        self.as_root = as_root
+
+    def maybe(self, chance):
+        return self.random.random() < chance
+
+    def pick(self, *things):
+        return self.random.choice(things)
+
+    # Words.
+
+    def perms(self, with_x):
+        if self.maybe(0.02):
+            return self.pick("q", "8", "77", "rwxs")
+        if self.maybe(0.1):
+            return str(self.random.randrange(8))
+        letters = "".join(it for it in "rwx" if self.maybe(0.5))
+        if self.maybe(0.3):
+            letters = "".join(it if it in letters else "-" for it in "rwx")
+        if with_x and self.maybe(0.2):
+            letters = letters.replace("x", "") + "X"
+        return letters
+
+    def key(self, bases=True):
+        kinds = ["u", "g", "m"] + (["u:", "g:", "o"] if bases else [])
+        kind = self.random.choice(kinds)
+        long = self.maybe(0.3)
+        name = {"u": "user", "g": "group", "m": "mask", "o": "other"}[kind[0]] if long else kind[0]
+        if kind == "u":
+            who = "nosuchuser" if self.maybe(0.02) else self.random.choice(USERS)
+            return self.pick(name + ":" + who, name + ":" + who, who if not who.isdigit() else name + ":" + who)
+        if kind == "g":
+            return name + ":" + ("nosuchgroup" if self.maybe(0.02) else self.random.choice(GROUPS))
+        return name + ":"
+
+    def entry(self, perms=True, default=None, bases=True):
+        text = self.pick("d:", "default:") if (self.maybe(0.2) if default is None else default) else ""
+        key = self.key(bases)
+        if not perms:
+            return text + (key.rstrip(":") if self.maybe(0.3) and key in ("m:", "mask:") else key)
+        if key[-1] != ":" or key[0] in "ug":
+            key += ":"
+        return text + key + self.perms(True)
+
+    def entries(self, perms=True, bases=True, most=4):
+        return [self.entry(perms, bases=bases) for _ in range(self.random.randint(1, most))]
+
+    def whole_list(self):
+        """The entries of a list that is mostly valid."""
+        found = {"u:": 1, "g:": 1, "o:": 1}
+        for _ in range(self.pick(0, 0, 1, 2, 3)):
+            found[self.key(bases=False)] = 1
+        named = [it for it in found if it not in ("u:", "g:", "o:", "user:", "group:", "other:", "m:", "mask:")]
+        if named and self.maybe(0.8) and "mask:" not in found:
+            found["m:"] = 1
+        if "mask:" in found and "m:" in found:
+            del found["mask:"]
+        if self.maybe(0.06):
+            del found[self.random.choice(list(found))]
+        keys = list(found)
+        self.random.shuffle(keys)
+        return [key + ("" if key[-1] == ":" and key[0] in "mo" else ":") + self.perms(False) for key in keys]
+
+    def paths(self, records, most=3, root=True):
+        known = [it for it in records.paths() if root or it != b"."]
+        found = [self.random.choice(known) for _ in range(self.random.randint(1, most))] if known else [b"nosuch"]
+        return [b"nosuch" if self.maybe(0.02) else path for path in found]
+
+    def meant(self, records, paths, recursive):
+        """The files that operands mean, as the program takes them: each once, in path order."""
+        found = set()
+        for path in paths:
+            found.update(records.below(path) if recursive and path in records.of else [path])
+        return [records.written(it) if it in records.of else it for it in sorted(found, key=components)]
+
+    # Tools.
+
+    def getfacl(self, records):
+        recursive = self.maybe(0.4)
+        paths = self.paths(records)
+        flags = [self.pick("-a", "--access")] * self.maybe(0.3) + [self.pick("-c", "--omit-header")] * self.maybe(0.3)
+        flags += [self.pick("-e", "--all-effective", "-E", "--no-effective")] * self.maybe(0.4)
+        flags += [self.pick("-s", "--skip-base")] * self.maybe(0.3) + [self.pick("-n", "--numeric")] * self.maybe(0.5)
+        meant = self.meant(records, paths, recursive)
+        real = ["getfacl", *flags, "--", *meant]
+        skip = None
+        if {"-a", "--access"} & set(flags) and {"-s", "--skip-base"} & set(flags):
+            if any(self.is_base_with_default(records, path.rstrip(b"/") or b".") for path in meant):
+                skip = "getfacl -a -s of a minimal access list with a default list"
+        words = flags + [self.pick("-R", "--recursive")] * recursive
+        self.random.shuffle(words)
+        return Line(["getfacl", *words, *paths], real, compared=True, skip=skip)
+
+    @staticmethod
+    def is_base_with_default(records, path):
+        if path not in records.of:
+            return False
+        entries = [it for it in records.of[path][0].split(b"\n") if not it.startswith((b"#", b"default:"))]
+        return len(entries) == 3 and b"\ndefault:" in records.of[path][0]
+
+    def chmod(self, records):
+        digits = self.pick(1, 2, 3, 3, 3, 3, 4, 4)
+        mode = "".join(str(self.random.randrange(8)) for _ in range(digits))
+        recursive = ["-R"] * self.maybe(0.25)
+        paths = self.paths(records)
+        return Line(["chmod", *recursive, mode, *paths], ["chmod", *recursive, mode, "--", *paths])
+
+    def creat(self, records):
+        directories = [it for it in records.paths() if records.is_directory(it)]
+        parent = self.random.choice(directories if self.maybe(0.95) else records.paths())
+        name = b"new%d" % self.random.randrange(100) if self.maybe(0.95) else self.random.choice(records.paths())
+        path = name if parent == b"." else parent + b"/" + name
+        is_directory = self.maybe(0.4)
+        mode = self.pick(0o777 if is_directory else 0o666, self.random.randrange(0o1000))
+        umask = self.pick(None, 0, 0o22, 0o77, self.random.randrange(0o1000))
+        maker = self.random.choice(MAKERS) if self.as_root else MAKERS[0]
+        words = ["creat"] + ["-d"] * is_directory + ["--user=" + maker, "--mode=%03o" % mode]
+        words += [] if umask is None else ["--umask=%o" % umask]
+        make = "os.mkdir(path, mode)" if is_directory else "os.close(os.open(path, os.O_CREAT | os.O_EXCL, mode))"
+        script = f"import os, sys; path, mode = sys.argv[1], {mode}; os.umask({0o22 if umask is None else umask}); {make}"
+        real = [sys.executable, "-S", "-E", "-c", script, path]
+        if self.as_root and maker != "root":
+            may = "+dac_override,+fsetid"
+            as_maker = ["setpriv", "--reuid", maker, "--regid", maker, "--clear-groups"]
+            real = as_maker + ["--inh-caps", may, "--ambient-caps", may, "--"] + real
+        return Line(words + [path], real)
+
+    def rm(self, records):
+        recursive = ["-r"] * self.maybe(0.3)
+        paths = self.paths(records, most=2, root=False)
+        if not recursive and self.maybe(0.8):
+            plain = [it for it in records.paths() if not records.is_directory(it)]
+            paths = [self.random.choice(plain)] if plain else paths
+        skip = None
+        if any(a != b and a.startswith(b + b"/") for a in paths for b in paths) or len(set(paths)) < len(paths):
+            skip = "rm of a file that another operand removes already"
+        return Line(["rm", *recursive, *paths], ["rm", *recursive, "--", *paths], skip=skip)
+
+    def setfacl(self, records):
+        kind = self.pick("modify", "modify", "modify", "modify", "set", "strip", "remove", "both", "text", "restore")
+        return self.restore(records) if kind == "restore" else self.edit(records, kind)
+
+    def edit(self, records, kind):
+        flags = [self.pick("-d", "--default")] * self.maybe(0.1)
+        flags += [self.pick("-n", "--no-mask", "--mask")] * self.maybe(0.25)
+        recursive = self.maybe(0.25)
+        flags += [self.pick("-R", "--recursive")] * recursive + ["--test"] * self.maybe(0.05)
+        if kind == "strip" or (kind != "set" and self.maybe(0.1)):
+            flags += self.random.choice([["-b"], ["-k"], ["-b", "-k"], ["--remove-all"], ["--remove-default"]])
+        edits, text = [], None
+        if kind in ("remove", "both"):
+            edits += self.option("-x", "--remove", ",".join(self.entries(perms=False, bases=self.maybe(0.1))))
+        if kind in ("modify", "both"):
+            edits += self.option("-m", "--modify", ",".join(self.entries()))
+        if kind == "set":
+            edits += self.option(None, "--set", ",".join(self.sets()))
+        if kind == "text":
+            option, long, entries = self.pick(
+                ("-M", "--modify-file", self.entries()),
+                ("-X", "--remove-file", self.entries(perms=False, bases=self.maybe(0.1))),
+                (None, "--set-file", self.sets()),
+            )
+            if long == "--set-file":
+                flags = [it for it in flags if it not in ("-b", "-k", "--remove-all", "--remove-default")]
+            edits += self.option(option, long, "-")
+            comment = lambda: self.pick("", "", " # a comment", "\n# a line\n", "\n\n")
+            text = "".join(it + comment() + "\n" for it in entries).encode()
+        paths = self.paths(records)
+        real = ["setfacl", *flags, *edits, "--", *self.meant_once(records, paths, recursive)]
+        return Line(["setfacl", *flags, *edits, *paths], real, text, skip=self.edit_skip(flags, edits, text))
+
+    def meant_once(self, records, paths, recursive):
+        """Operands without those that others mean too: the program treats a file once."""
+        once = sorted(set(paths), key=components)
+        if not recursive:
+            return once
+        return [it for it in once if not any(other != it and it in self.reach(records, other) for other in once)]
+
+    @staticmethod
+    def reach(records, path):
+        return records.below(path) if path in records.of else []
+
+    def sets(self):
+        entries = self.whole_list()
+        return entries + (["d:" + it for it in self.whole_list()] if self.maybe(0.3) else [])
+
+    def option(self, short, long, value):
+        if short is None or (long and self.maybe(0.3)):
+            return self.random.choice([[long, value], [long + "=" + value]])
+        return [short, value]
+
+    @staticmethod
+    def edit_skip(flags, edits, text):
+        return None
+
+    def restore(self, records):
+        """Some records of the tree, with other lists."""
+        text = b""
+        for path in sorted(set(self.paths(records)), key=components):
+            if path == b"nosuch":
+                text += b"# file: nosuch\nuser::rwx\ngroup::r-x\nother::---\n\n"
+                continue
+            text += b"# file: " + path + b"\n"
+            if self.as_root and self.maybe(0.7):
+                text += b"# owner: " + self.random.choice(USERS).encode() + b"\n"
+            if self.as_root and self.maybe(0.7):
+                text += b"# group: " + self.random.choice(GROUPS).encode() + b"\n"
+            if self.maybe(0.5):
+                text += b"# flags: " + self.pick(b"s--", b"-s-", b"--t", b"---", b"sst") + b"\n"
+            entries = self.whole_list()
+            if records.is_directory(path) and self.maybe(0.6):
+                entries += ["default:" + it for it in self.whole_list()]
+            text += "".join(it + "\n" for it in entries).encode() + b"\n"
+        words = ["setfacl"] + ["--test"] * self.maybe(0.1) + [self.pick("--restore=-")]
+        return Line(words, words, text)
+
+    def chacl(self, records):
+        kind = self.pick("-l", "-l", "", "", "-d", "-b", "-R", "-D", "-B")
+        recursive = ["-r"] * self.maybe(0.2)
+        paths = self.paths(records)
+        lists = {"": 1, "-d": 1, "-b": 2}.get(kind, 0)
+        words = [kind] * bool(kind) + recursive + [",".join(self.whole_list()) for _ in range(lists)]
+        meant = self.meant(records, paths, bool(recursive))
+        if kind == "-l":
+            return Line(["chacl", *words, *paths], ["chacl", "-l", *meant], compared=True)
+        real = [kind] * bool(kind) + recursive + words[len(words) - lists :] * bool(lists)
+        return Line(["chacl", *words, *paths], ["chacl", *real, *self.meant_once(records, paths, bool(recursive))])
+
+    def attr(self, records):
+        path = self.paths(records, most=1)[0]
+        names = ["system.posix_acl_access"]
+        skip = None
+        if path in records.of:
+            entries = [it for it in records.of[path][0].split(b"\n") if not it.startswith((b"#", b"default:"))]
+            skip = "attr of a minimal list, which the system keeps in the mode" if len(entries) == 3 else None
+            names += ["system.posix_acl_default"] * (b"\ndefault:" in records.of[path][0])
+        options = [word for name in names for word in ("-n", name)]
+        return Line(["attr", path], ["getfattr", "-e", "hex", *options, "--", path], compared=True, skip=skip)
+
+    def setattr(self, records):
+        path = self.paths(records, most=1)[0]
+        name = self.pick("system.posix_acl_access", "system.posix_acl_default")
+        keys = sorted({(tag, self.pick(1, 2, 30001)) for tag in (2, 8) for _ in range(self.pick(0, 1, 2))})
+        whole = sorted(keys + [(1, 2**32 - 1), (4, 2**32 - 1), (32, 2**32 - 1)] + [(16, 2**32 - 1)] * bool(keys))
+        value = (2).to_bytes(4, "little")
+        for tag, who in whole:
+            value += tag.to_bytes(2, "little") + self.random.randrange(8).to_bytes(2, "little") + who.to_bytes(4, "little")
+        if self.maybe(0.2):
+            value = value[: self.random.randrange(len(value))] or b"\0"
+        word = f"0x{value.hex()}"
+        return Line(["setattr", f"{name}={word}", path], ["setfattr", "-n", name, "-v", word, "--", path])
+
+    def line(self, records, tools):
+        tool = self.random.choices(tools, [{"setfacl": 6, "getfacl": 3}.get(it, 1.5) for it in tools])[0]
+        return getattr(self, tool)(records)
+
+
+class Comparison:
+    def __init__(self, given):
+        self.given = given
+        self.counts = {"accepted": 0, "refused": 0, "in part": 0, "differ": 0}
+        self.skipped = {}
+
+    def report(self, line, what, records, real, mine):
+        self.counts["differ"] += 1
+        print(f"\nDIFFERS, {what}: {line.written().decode()}")
+        if line.text is not None:
+            print("  text: " + line.text.decode().replace("\n", "\n        "))
+        for path in records.paths():
+            if path in b" ".join(line.words) or b"-R" in line.words or b"-r" in line.words:
+                print("  before: " + records.of[path][0].decode().replace("\n", " | "))
+        print("  real tool: " + real + "\n  program:   " + mine, flush=True)
+
+    def step(self, facl, tree, line, before):
+        """Runs a line; returns the listing after it."""
+        printed, messages = facl.answer(line.written(), line.text)
+        mine_refused = any(": warning: " not in it for it in messages)
+        status, out, faults = tree.run(line.real, line.text)
+        mine, _ = facl.answer(b"getfacl -R -n .")
+        real = tree.listing()
+        records = Records(before)
+        told = f"status {status} {faults.decode(errors='replace').strip()!r}"
+        what = None
+        if mine_refused != (status != 0):
+            what = "accepted by one alone"
+        elif line.compared and not mine_refused and out != printed:
+            what, told, messages = "output", repr(out.decode()), [repr(printed.decode())]
+        elif not mine_refused and real != mine:
+            what, told, messages = "listing", self.changed(mine, real), [self.changed(real, mine)]
+        elif mine_refused and mine != before:
+            what = "a refused line changed files"
+        if what:
+            self.report(line, what, records, told, "".join(messages).strip() or "accepted")
+        elif mine_refused:
+            self.counts["refused"] += 1
+            self.counts["in part"] += real != before
+        else:
+            self.counts["accepted"] += 1
+        if self.given.verbose:
+            print(f"{line.written().decode()}: {'DIFFERS' if what else 'refused' if mine_refused else 'accepted'}")
+        if real != mine:
+            tree.rebuild(mine)
+            if tree.listing() != mine:
+                self.report(line, "the listing restored", records, self.changed(mine, tree.listing()), "")
+        return mine
+
+    @staticmethod
+    def changed(old, new):
+        old = Records(old).of
+        new = Records(new).of
+        found = [record for path, (record, _) in new.items() if path not in old or old[path][0] != record]
+        found += [b"no " + path for path in old if path not in new]
+        return b"; ".join(it.replace(b"\n", b" | ") for it in found).decode()
+
+    def session(self, lines, folder, tools, count):
+        facl = Facl(self.given.program, folder)
+        tree = Tree(folder, START)
+        listing, _ = facl.answer(b"getfacl -R -n .")
+        if tree.listing() != listing:
+            self.report(Line(["load"], []), "the first tree", Records(listing), tree.listing().decode(), listing.decode())
+        for _ in range(count):
+            line = lines.line(Records(listing), tools)
+            if line.skip:
+                self.skipped[line.skip] = self.skipped.get(line.skip, 0) + 1
+                continue
+            listing = self.step(facl, tree, line, listing)
+        facl.end()
+
+
+def served(program, folder):
+    """The tools that the program has, of those that are compared; and of the others why they are left out."""
+    facl = Facl(program, folder)
+    found, missing = [], {}
+    for tool in TOOLS:
+        _, messages = facl.answer(tool.encode())
+        real = {"attr": "getfattr", "setattr": "setfattr", "creat": "sh"}.get(tool, tool)
+        if messages[0].endswith("unknown tool\n"):
+            missing[tool] = "not served by the program"
+        elif not shutil.which(real):
+            missing[tool] = f"{real} is not installed"
+        else:
+            found.append(tool)
+    facl.end()
+    return found, missing
+
+
+def main():
+    options = argparse.ArgumentParser(description="Compares the program with the real tools.")
+    options.add_argument("--program", required=True, type=os.path.realpath)
+    options.add_argument("--folder", default=None)
+    options.add_argument("--sessions", type=int, default=10)
+    options.add_argument("--lines", type=int, default=40)
+    options.add_argument("--seed", type=int, default=1)
+    options.add_argument("--verbose", action="store_true")
+    given = options.parse_args()
+    for tool in ("getfacl", "setfacl"):
+        if not shutil.which(tool):
+            sys.exit(f"compare.py: {tool} is not installed (Debian package acl)")
+    as_root = os.geteuid() == 0
+    with tempfile.TemporaryDirectory(prefix="facl-compare-", dir=given.folder) as folder:
+        os.umask(0o22)
+        if subprocess.run(["setfacl", "-m", "u:1:r", folder], capture_output=True).returncode != 0:
+            sys.exit(f"compare.py: {folder} takes no lists: give another --folder")
+        for name in ("passwd", "group"):
+            with open(os.path.join(folder, name), "wb") as out:
+                subprocess.run(["getent", name], stdout=out, check=True)
+        with open(os.path.join(folder, "dump"), "wb") as out:
+            out.write(START)
+        tools, missing = served(given.program, folder)
+        comparison = Comparison(given)
+        for k in range(given.sessions):
+            lines = Lines(given.seed * 1000 + k, as_root)
+            comparison.session(lines, folder, tools, given.lines)
+    counts = comparison.counts
+    print(f"\n{given.sessions} sessions of {given.lines} lines, seed {given.seed}, tools {' '.join(tools)}:")
+    print(f"{counts['accepted']} lines accepted by both, with the same listing of all files after each;")
+    print(f"{counts['refused']} refused by both ({counts['in part']} of them done in part by the real tool);")
+    print(f"{counts['differ']} differ.")
+    for why, times in comparison.skipped.items():
+        print(f"left out {times} times: {why}")
+    for tool, why in missing.items():
+        print(f"left out: {tool}, {why}")
+    sys.exit(1 if counts["differ"] else 0)
+
+
+main()
