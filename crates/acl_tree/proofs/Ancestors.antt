@@ -1,13 +1,15 @@
 -- The files that a path is below, one component after another.
-use Rattle.std.proofs.Common.{◌≡◌, ℕ, ◌+◌, ◌<◌, Bool, true, false, cond, ◌||◌, ◌&&◌, List, [], ◌∷◌, ◌++◌, take, length, filter, map, Bor, Option, Some, None, is_some, get_or, Ordering, Less, Equal, Greater, refl, sym, ap, subst, ◌∙◌, true≢false}
+use Rattle.std.specs.Prelude.{unwrap_or}
+use Rattle.std.proofs.Common.{◌≡◌, ℕ, ◌+◌, ◌<◌, Vec, Global, IsTrue, rules, Bool, true, false, cond, ◌||◌, ◌&&◌, List, [], ◌∷◌, ◌++◌, take, length, filter, map, Bor, Option, Some, None, is_some, get_or, Ordering, Less, Equal, Greater, refl, sym, ap, subst, ◌∙◌, true≢false}
 use Rattle.std.specs.Option.{option_copied}
 use Rattle.std.specs.Ordering.{is_eq, is_gt, nat_cmp, eq_by_cmp}
 use Rattle.std.specs.Cmp.Lexicographic.{slice_cmp}
 use Rattle.std.specs.FinMap.{find}
+use Rattle.std.specs.List.{list_all}
 use Rattle.std.proofs.lemmas.Bool.{and_parts}
 use Rattle.std.proofs.lemmas.Cmp.{tied_itself, nat_list_cmp_total}
 use Rattle.std.proofs.lemmas.List.{map-append, take_more}
-use Rattle.acl_names.specs.Paths.{path_cmp}
+use Rattle.acl_names.specs.Paths.{path_cmp, path_from}
 use Rattle.acl_names.proofs.PathOrder.{path_total, exact_paths}
 use Rattle.path_map.specs.Inner.{After}
 use Rattle.path_map.proofs.Convex.{not_before}
@@ -111,3 +113,30 @@ no_ancestors (e ∷ t) = ap (λ b. map (λ e. e.0) (cond b (e ∷ filter (λ e. 
 pub ancestors_more : (q : PathOf) (c : List ℕ) (t : Files) → IsInOrder t → (b : Bool) → is_some (find path_cmp q t) ≡ b
     → ancestors (q ++ c ∷ []) t ≡ ancestors q t ++ cond b (q ∷ []) []
 ancestors_more q c t order b is = more q c t order ∙ ap (λ b. ancestors q t ++ cond b (q ∷ []) []) is
+
+-- ---- components
+
+true_of : (b : Bool) → IsTrue b → b ≡ true
+true_of true h = refl
+true_of false h = absurd (search rules)
+
+to_true : (b : Bool) → b ≡ true → IsTrue b
+to_true b h = subst IsTrue (sym h) refl
+
+-- what holds of all holds of a first part
+valid_start : {A : Type 0} (f : A → Bool) (x : List A) (c : A) (y : List A) → list_all f (x ++ c ∷ y) ≡ true → list_all f (x ++ c ∷ []) ≡ true
+valid_start f [] c y h = ap (λ b. b && true) (and_parts (f c) (list_all f y) h).0
+valid_start f (a ∷ x) c y h =
+    let both = and_parts (f a) (list_all f (x ++ c ∷ y)) h in
+    ap (λ b. b && list_all f (x ++ c ∷ [])) both.0 ∙ valid_start f x c y both.1
+
+pub append_next : {A : Type 0} (x : List A) (c : A) (y : List A) → (x ++ c ∷ []) ++ y ≡ x ++ c ∷ y
+append_next [] c y = refl
+append_next (a ∷ x) c y = ap (λ l. a ∷ l) (append_next x c y)
+
+-- no components are the root
+pub root_is : (parts : List (Vec ℕ Global)) (p : PathOf) → parts ≡ [] → path_from (map (λ v. v.items) parts) ≡ Some p → p ≡ []
+root_is parts p none is = ap (λ (o : Option PathOf). unwrap_or o []) (sym is ∙ ap (λ (l : List (Vec ℕ Global)). path_from (map (λ v. v.items) l)) none)
+
+pub valid_next : {A : Type 0} (f : A → Bool) (x : List A) (c : A) (y all : List A) → x ++ c ∷ y ≡ all → IsTrue (list_all f all) → IsTrue (list_all f (x ++ c ∷ []))
+valid_next f x c y all e h = to_true _ (valid_start f x c y (ap (list_all f) e ∙ true_of _ h))

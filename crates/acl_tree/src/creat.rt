@@ -18,6 +18,7 @@ use crate::dump::MAX_FILES;
 use crate::moved::UsersMove;
 use crate::staged::Staged;
 use crate::tree::{Record, Tree};
+use crate::walks::components_of;
 use acl_edit::{Kind, Node, create};
 use acl_names::{Name, Path};
 use acl_people::People;

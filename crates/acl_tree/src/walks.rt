@@ -1,6 +1,8 @@
 //! The files around a path: at it or below it, and above it.
 
-ghost use Rattle.std.specs.Prelude.{◌≡◌, IfOk, map};
+ghost use Rattle.std.specs.Prelude.{◌≡◌, ◌++◌, ◌∷◌, [], IfOk, IsTrue, map};
+ghost use Rattle.std.specs.List.{list_all};
+ghost use Rattle.acl_names.specs.Paths.{is_component};
 ghost use Rattle.acl_tree.specs.Walks.{within, ancestors};
 
 use crate::tree::Tree;
@@ -17,6 +19,16 @@ pub(crate) fn components_of(alloc: Global, path: &Path) -> Result<Vec<Vec<u8>>, 
         parts.push(Vec::from_slice(alloc, component)?)?;
     }
     Ok(parts)
+}
+
+/// The path with one component more. Fails only if memory runs out.
+fn child_of(alloc: Global, path: &Path, name: &[u8]) -> Result<Path, AllocError>
+    requires { IsTrue (list_all is_component (path.now ++ name.now ∷ [])) }
+    ensures { IfOk result (λ child. child ≡ path.now ++ name.now ∷ []) }
+{
+    let mut parts = components_of(alloc, path)?;
+    parts.push(Vec::from_slice(alloc, name)?)?;
+    Ok(Path::new(parts).unwrap())
 }
 
 impl Tree {
@@ -39,14 +51,14 @@ impl Tree {
     {
         self.is_sound();
         let mut paths = Vec::new(alloc);
-        let mut above = Vec::new(alloc);
+        let mut above = Path::new(Vec::new(alloc)).unwrap();
         let mut rest = path.components();
         while let Some(component) = rest.next() {
-            let top = Path::new(above.clone()?).unwrap();
-            if self.get(&top).is_some() {
-                paths.push(top)?;
+            let next = child_of(alloc, &above, component)?;
+            if self.get(&above).is_some() {
+                paths.push(above)?;
             }
-            above.push(Vec::from_slice(alloc, component)?)?;
+            above = next;
         }
         Ok(paths)
     }

@@ -1,4 +1,4 @@
-use Rattle.std.proofs.Common.{◌≡◌, ◌++◌, List, ℕ, map, length}
+use Rattle.std.proofs.Common.{◌≡◌, ◌++◌, List, length}
 use Rattle.acl_tree.specs.Files.{PathOf, Files}
 use Rattle.acl_tree.specs.Walks.{ancestors}
 use Rattle.acl_tree.proofs.tree.Tree.ancestors.Given as goal
@@ -9,7 +9,7 @@ pub record IsFollowed (paths : List PathOf) (above rest path : PathOf) (t : File
   pub split : above ++ rest ≡ path
 
 abbrev pub invariant-loop-component : goal.invariant-loop-component
-invariant-loop-component l = IsFollowed l.paths.items (map (λ v. v.items) l.above.items) l.rest l.path l.self.files
+invariant-loop-component l = IsFollowed l.paths.items l.above l.rest l.path l.self.files
 
 abbrev pub decreases-loop-component : goal.decreases-loop-component
 decreases-loop-component l = length l.rest
