@@ -1,0 +1,29 @@
+-- What chacl(1) `-l` prints of files.
+use Rattle.std.specs.Prelude.{ℕ, List, [], ◌∷◌, ◌++◌, Option, Some, None, codes}
+use Rattle.std.specs.List.{flat_map}
+use Rattle.acl_entry.specs.Lists.{KeyMap, entries}
+use Rattle.acl_names.specs.Paths.{path_text}
+use Rattle.acl_text.specs.Writing.{short}
+use Rattle.acl_dump.specs.Writing.{slash_text}
+use Rattle.acl_tree.specs.Found.{FoundFile}
+use Rattle.facl_listings.specs.Listings.{has_slash}
+
+-- the path of a file; a directory's ends in `/` where nothing else shows that it is one
+abbrev pub path_shown : FoundFile → List ℕ
+path_shown file = path_text file.path ++ slash_text (has_slash file)
+
+module _ (user_name group_name : ℕ → Option (List ℕ)) where
+  -- a default list comes after a `/`
+  abbrev pub default_part : Option KeyMap → List ℕ
+  default_part None = []
+  default_part (Some dacl) = codes "/" ++ short user_name group_name (entries dacl)
+
+  -- a file: its path and, in brackets, its lists in the short form
+  abbrev pub chacl_line : FoundFile → List ℕ
+  chacl_line file =
+      path_shown file
+      ++ (codes " [" ++ (short user_name group_name (entries file.node.label.acl) ++ (default_part file.node.dacl ++ 93 ∷ 10 ∷ [])))
+
+  -- the files one after another
+  abbrev pub chacl_listing : List FoundFile → List ℕ
+  chacl_listing files = flat_map chacl_line files
