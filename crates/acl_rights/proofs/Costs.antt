@@ -1,0 +1,113 @@
+-- What a line costs.
+use Rattle.std.proofs.Common.{◌≡◌, not, Option, Some, None, length-append, ℕ, zero, suc, ◌+◌, ◌*◌, ◌<◌, ◌≤◌, Bool, true, false, cond, List, [], ◌∷◌, length, map, filter, refl, sym, ap, subst, ◌∙◌, arith}
+use Rattle.std.specs.Prelude.{count_by, option_and_then, if◌then◌else◌}
+use Rattle.std.specs.Option.{option_map_or}
+use Rattle.std.specs.FinMap.{find}
+use Rattle.acl_names.specs.Paths.{path_cmp}
+use Rattle.std.proofs.lemmas.List.{length-map}
+use Rattle.std.proofs.lemmas.List.Sums.{length-filter}
+use Rattle.acl_edit.specs.declared.node.Node.{Node}
+use Rattle.acl_people.specs.Registers.{Register}
+use Rattle.acl_tree.specs.Files.{PathOf, Files, Recorded}
+use Rattle.acl_tree.specs.Changed.{same_label, is_changed, changed_between}
+use Rattle.acl_tree.proofs.Changes.{label_itself}
+use Rattle.acl_people.specs.Registers.{persons}
+use Rattle.acl_tree.specs.Tells.{StagedState}
+use Rattle.acl_tree.specs.declared.moved.UsersMove.{UsersMove}
+use Rattle.acl_tree.specs.declared.moved.UsersMove.TheVariants.{Same, Loaded, Moved, Joined, Left}
+use Rattle.path_map.specs.Entries.{IsInOrder}
+use Rattle.acl_rights.specs.Tables.{Verdict, Rows}
+use Rattle.acl_rights.specs.Kept.{GoesFrom}
+use Rattle.acl_group_files.proofs.Maps.{map_filter, find-filter, same_found}
+use Rattle.acl_rights.proofs.Goes.{moves, moved_user_in, joins}
+use Rattle.acl_rights.specs.Stages.{mentions_one, moves_asked, most_asked}
+
+right_le : (a b c d : ℕ) → d ≡ a + b → b ≡ c → c ≤ d
+right_le a b c d e f = omega (arith, e, f)
+
+left_le : (a b c d : ℕ) → d ≡ a + b → a ≡ c → c ≤ d
+left_le a b c d e f = omega (arith, e, f)
+
+pub all_users : (known : Register) → length (persons known) ≡ length known.users
+all_users known = length-map known.users _
+
+pub within : (t : StagedState) → length t.changed * length t.state.people.users ≤ most_asked t
+within t = left_le (length t.changed * length t.state.people.users) (moves_asked t.moved t.state.tree.files) _ (most_asked t) refl refl
+
+-- the changed files, by every user
+pub changed_cost : (t : StagedState) {A : Type 0} (f : A → PathOf × Node) (files : List A) (n : ℕ) → map f files ≡ t.changed → n ≡ length t.state.people.users → length files * n ≤ most_asked t
+changed_cost t f files n is users =
+    subst (λ k. k ≤ most_asked t) (sym (ap (λ k. k * n) (sym (length-map files f)) ∙ (λ i. length (is i) * users i))) (within t)
+
+-- the files that mention a group that joined or left
+pub moved_cost : (t : StagedState) (at : ℕ) (groups : List ℕ) → t.moved ≡ Moved at groups → length (filter (mentions_one groups) t.state.tree.files) ≤ most_asked t
+moved_cost t at groups is =
+    right_le (length t.changed * length t.state.people.users) (moves_asked t.moved t.state.tree.files) _ (most_asked t) refl
+    (ap (λ m. moves_asked m t.state.tree.files) is ∙ sym (length-filter (mentions_one groups) t.state.tree.files))
+
+-- all files, for a user who joined
+pub joined_cost : (t : StagedState) → t.moved ≡ Joined → length t.state.tree.files ≤ most_asked t
+joined_cost t is =
+    right_le (length t.changed * length t.state.people.users) (moves_asked t.moved t.state.tree.files) _ (most_asked t) refl (ap (λ m. moves_asked m t.state.tree.files) is)
+
+-- ---- a line costs no more than every user at every file
+
+one_more : (n u : ℕ) → suc n * u ≡ u + n * u
+one_more n u = grind arith
+
+no_times : (u : ℕ) → 0 * u ≡ 0
+no_times u = grind arith
+
+pub times_le : (a b u : ℕ) → a ≤ b → a * u ≤ b * u
+times_le zero b u h = omega arith
+times_le (suc a) zero u h = absurd (omega arith)
+times_le (suc a) (suc b) u h = omega (arith, one_more a u, one_more b u, times_le a b u (omega arith))
+
+some_times : (n u : ℕ) → 0 < u → n ≤ n * u
+some_times zero u h = omega arith
+some_times (suc n) u h = omega (arith, one_more n u, some_times n u h)
+
+few_pass : {A : Type 0} (test : A → Bool) (xs : List A) → length (filter test xs) ≤ length xs
+few_pass test [] = omega arith
+few_pass test (x ∷ xs) = by (test x) (few_pass test xs)
+  where
+    by : (b : Bool) → length (filter test xs) ≤ length xs → length (cond b (x ∷ filter test xs) (filter test xs)) ≤ suc (length xs)
+    by true le = omega (arith, le)
+    by false le = omega (arith, le)
+
+unchanged_at : (o : Option Node) → option_and_then (λ n. if option_map_or (λ m. not (same_label m.label n.label)) o true then Some n else None) o ≡ None
+unchanged_at None = refl
+unchanged_at (Some n) = ap (λ b. cond (not b) (Some n) None) (label_itself n.label)
+
+-- what stays changes nothing
+pub none_changed : (fs : Files) → IsInOrder fs → changed_between fs fs ≡ []
+none_changed fs h = same_found (changed_between fs fs) [] (map_filter (is_changed fs) fs h) refl (λ p. find-filter (is_changed fs) p fs h ∙ unchanged_at (find path_cmp p fs))
+
+module _ (V : Verdict) (rows : Rows) (t : StagedState) (goes : GoesFrom V rows t) (order : IsInOrder t.state.tree.files) where
+  few_changed : length t.changed ≤ length t.state.tree.files
+  few_changed = subst (λ (es : Files). length es ≤ length t.state.tree.files) (sym goes.tells.changed) (few_pass (is_changed goes.state.tree.files) t.state.tree.files)
+
+  no_change : t.state.tree ≡ goes.state.tree → length t.changed ≡ 0
+  no_change same = ap length (goes.tells.changed ∙ ap (λ (r : Recorded). changed_between r.files t.state.tree.files) (sym same) ∙ none_changed t.state.tree.files order)
+
+  with_user : (n : ℕ) → n ≤ length t.state.tree.files → 0 < length t.state.people.users → length t.changed ≡ 0 → length t.changed * length t.state.people.users + n ≤ length t.state.tree.files * length t.state.people.users
+  with_user n le some none =
+      let zero_times : length t.changed * length t.state.people.users ≡ 0 = ap (λ k. k * length t.state.people.users) none ∙ no_times (length t.state.people.users) in
+      omega (arith, zero_times, le, some_times (length t.state.tree.files) (length t.state.people.users) some)
+
+  by_move : (m : UsersMove) → t.moved ≡ m → length t.changed * length t.state.people.users + moves_asked m t.state.tree.files ≤ length t.state.tree.files * length t.state.people.users
+  by_move Same is = omega (arith, times_le (length t.changed) (length t.state.tree.files) (length t.state.people.users) few_changed)
+  by_move Loaded is = omega (arith, times_le (length t.changed) (length t.state.tree.files) (length t.state.people.users) few_changed)
+  by_move (Moved user groups) is =
+      let m = moves V rows t goes user groups is in
+      let some : 0 < length t.state.people.users = omega (arith, moved_user_in V rows t goes user groups is, all_users t.state.people) in
+      with_user (count_by (mentions_one groups) t.state.tree.files)
+      (subst (λ n. n ≤ length t.state.tree.files) (length-filter (mentions_one groups) t.state.tree.files) (few_pass (mentions_one groups) t.state.tree.files)) some (no_change m.0)
+  by_move Joined is =
+      let j = joins V rows t goes is in
+      let some : 0 < length t.state.people.users = omega (arith, ap length j.1.becomes ∙ length-append (persons goes.state.people) (j.1.next ∷ []), all_users t.state.people) in
+      with_user (length t.state.tree.files) (omega arith) some (no_change j.0)
+  by_move (Left user) is = omega (arith, times_le (length t.changed) (length t.state.tree.files) (length t.state.people.users) few_changed)
+
+  pub most_le : most_asked t ≤ length t.state.tree.files * length t.state.people.users
+  most_le = by_move t.moved refl

@@ -1,0 +1,7 @@
+pub mod Orders
+pub mod Lines
+pub mod Goes
+pub mod Costs
+pub mod Asked
+pub mod Reached
+pub mod Refreshed

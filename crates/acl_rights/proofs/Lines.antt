@@ -1,0 +1,172 @@
+-- The rows after a line.
+use Rattle.std.proofs.Common.{◌≡◌, ℕ, zero, suc, ◌<◌, Bool, true, false, not, ◌||◌, eqb, List, [], ◌∷◌, ◌++◌, length, map, filter, take, drop, get_or, set, Option, Some, None, refl, sym, ap, subst, ◌∙◌, arith}
+use Rattle.std.specs.Prelude.{option_map, option_and_then, slice_get, if◌then◌else◌}
+use Rattle.std.specs.Option.{option_map_or, option_or}
+use Rattle.std.specs.List.{AllByRecursion, remove}
+use Rattle.std.specs.FinSet as sets
+use Rattle.std.specs.FinMap.{find}
+use Rattle.std.proofs.lemmas.Bool.{eqb-true}
+use Rattle.std.proofs.lemmas.List.{map-set, map-append, length-map}
+use Rattle.std.proofs.Math.Seq.{map-set_same}
+use Rattle.acl_entry.specs.Mentions.{mentions, meets, is_one_of, AgreeOnMentions}
+use Rattle.acl_entry.specs.Person.{Person}
+use Rattle.acl_entry.specs.declared.label.Label.{Label}
+use Rattle.acl_names.specs.Paths.{path_cmp}
+use Rattle.acl_edit.specs.declared.node.Node.{Node}
+use Rattle.acl_tree.specs.Files.{PathOf, Files}
+use Rattle.acl_tree.specs.Changed.{same_label, changed_between, gone_between}
+use Rattle.acl_people.specs.Moves.{MovesUser, in_just_one}
+use Rattle.acl_tree.proofs.Changes.{label_told}
+use Rattle.path_map.specs.Entries.{IsInOrder}
+use Rattle.acl_rights.specs.Tables.{Verdict, cells_of, rows_of}
+use Rattle.acl_rights.specs.Stages.{mentions_one}
+use Rattle.path_map.specs.Merged.{merged, put_all}
+use Rattle.path_map.proofs.Merges.{in_order-put_all}
+use Rattle.path_map.proofs.Rows.{find_put_all, rows_merged}
+use Rattle.acl_group_files.proofs.Maps.{map_values, map_filter, find-values, find-filter, same_found}
+
+-- ---- files that change
+
+module _ (V : Verdict) (us : List Person) where
+  -- a file with another label has another row, at most
+  same_row : (o : Option Node) (n : Node) → option_map_or (λ m. not (same_label m.label n.label)) o true ≡ false → option_map (cells_of V us) o ≡ Some (cells_of V us n)
+  same_row None n h = cc
+  same_row (Some m) n h = ap (λ (f : Label). Some (map (λ u. V u f) us)) (label_told m.label n.label (yes (same_label m.label n.label) h))
+    where
+      yes : (b : Bool) → not b ≡ false → b ≡ true
+      yes true h = refl
+      yes false h = cc
+
+  -- rows put where a file changed, and removed where one is gone, are those of the new files
+  pub changed_whole : (old new : Files) → IsInOrder old → IsInOrder new → merged (rows_of V us (changed_between old new)) (gone_between old new) (rows_of V us old) ≡ rows_of V us new
+  changed_whole old new o n = rows_merged (cells_of V us) (λ o m. option_map_or (λ k. not (same_label k.label m.label)) o true) same_row old new o n
+
+-- ---- a user who moves
+
+or_false : (a b : Bool) → (a || b) ≡ false → (a ≡ false) × (b ≡ false)
+or_false true b h = cc
+or_false false b h = (refl, h)
+
+pub not_met : (ms groups : List ℕ) (g : ℕ) → meets ms groups ≡ false → is_one_of g ms ≡ true → is_one_of g groups ≡ false
+not_met [] groups g h is = cc
+not_met (m ∷ ms) groups g h is =
+    let parts = or_false (is_one_of m groups) (meets ms groups) h in
+    by (eqb m g) refl parts.0 is (not_met ms groups g parts.1)
+  where
+    by : (b : Bool) → eqb m g ≡ b → is_one_of m groups ≡ false → (b || is_one_of g ms) ≡ true → (is_one_of g ms ≡ true → is_one_of g groups ≡ false) → is_one_of g groups ≡ false
+    by true same out is rest = subst (λ x. is_one_of x groups ≡ false) (eqb-true m g same) out
+    by false same out is rest = rest is
+
+alike : (a b : Bool) → in_just_one a b ≡ false → a ≡ b
+alike true true h = refl
+alike true false h = cc
+alike false true h = cc
+alike false false h = refl
+
+pub agree : (us ws : List Person) (at : ℕ) (groups : List ℕ) (m : MovesUser us ws at groups) (f : Label) → meets (mentions f) groups ≡ false → AgreeOnMentions m.change.after m.change.before f
+agree us ws at groups m f h = record {
+  uid = m.change.uid;
+  groups = λ g is. sym (alike (sets.contains m.change.before.groups g) (sets.contains m.change.after.groups g) (sym (m.moved.just g) ∙ not_met (mentions f) groups g h is));
+}
+
+pub read_got : {A : Type 0} (xs : List A) (i : ℕ) (x : A) → slice_get xs i ≡ Some x → get_or xs i x ≡ x
+read_got [] i x h = refl
+read_got (y ∷ xs) zero x h = cc
+read_got (y ∷ xs) (suc i) x h = read_got xs i x h
+
+pub got_in : {A : Type 0} (xs : List A) (i : ℕ) (x : A) → slice_get xs i ≡ Some x → i < length xs
+got_in [] i x h = cc
+got_in (y ∷ xs) zero x h = omega arith
+got_in (y ∷ xs) (suc i) x h = let lt = got_in xs i x h in omega (arith, lt)
+
+pub set_here : {A : Type 0} (xs : List A) (at : ℕ) (x : A) → at < length xs → slice_get (set xs at x) at ≡ Some x
+set_here [] at x lt = absurd (omega arith)
+set_here (y ∷ xs) zero x lt = refl
+set_here (y ∷ xs) (suc at) x lt = set_here xs at x (omega (arith, lt))
+
+length_set : {A : Type 0} (xs : List A) (i : ℕ) (x : A) → length (set xs i x) ≡ length xs
+length_set [] i x = refl
+length_set (y ∷ xs) zero x = refl
+length_set (y ∷ xs) (suc i) x = ap suc (length_set xs i x)
+
+module _ (V : Verdict) (us ws : List Person) (at : ℕ) (groups : List ℕ) (m : MovesUser us ws at groups) where
+  pub moved_in : at < length us
+  moved_in = got_in us at m.change.before m.change.was
+
+  pub moved_long : length ws ≡ length us
+  moved_long = ap length m.change.becomes ∙ length_set us at m.change.after
+
+  -- the one who moved, as the new people have them
+  pub moved_next : (x : Person) → slice_get ws at ≡ Some x → x ≡ m.change.after
+  moved_next x is = some_same (sym is ∙ ap (λ (l : List Person). slice_get l at) m.change.becomes ∙ set_here us at m.change.after moved_in)
+    where
+      some_same : {X : Type 0} {a b : X} → Some a ≡ Some b → a ≡ b
+      some_same e = cc
+
+  -- the cells with that of the moved user asked for again
+  pub cells_again : (n : Node) (x : Person) → slice_get ws at ≡ Some x → set (cells_of V us n) at (V x n.label) ≡ cells_of V ws n
+  cells_again n x is =
+      ap (λ u. set (cells_of V us n) at (V u n.label)) (moved_next x is)
+      ∙ sym (map-set (λ u. V u n.label) us at m.change.after)
+      ∙ ap (λ (l : List Person). cells_of V l n) (sym m.change.becomes)
+
+  module _ (local : (u w : Person) (f : Label) → AgreeOnMentions u w f → V u f ≡ V w f) where
+    cells_kept : (n : Node) → meets (mentions n.label) groups ≡ false → cells_of V us n ≡ cells_of V ws n
+    cells_kept n h =
+        sym (map-set_same (λ u. V u n.label) us at m.change.after m.change.before
+        (local m.change.after m.change.before n.label (agree us ws at groups m n.label h) ∙ ap (λ u. V u n.label) (sym (read_got us at m.change.before m.change.was))))
+        ∙ ap (λ (l : List Person). cells_of V l n) (sym m.change.becomes)
+
+    row_moved : (b : Option Node)
+        → option_or (option_map (cells_of V ws) (option_and_then (λ n. if meets (mentions n.label) groups then Some n else None) b)) (option_map (cells_of V us) b) ≡ option_map (cells_of V ws) b
+    row_moved None = refl
+    row_moved (Some n) = by (meets (mentions n.label) groups) refl
+      where
+        by : (c : Bool) → meets (mentions n.label) groups ≡ c → option_or (option_map (cells_of V ws) (if c then Some n else None)) (Some (cells_of V us n)) ≡ Some (cells_of V ws n)
+        by true is = refl
+        by false is = ap Some (cells_kept n is)
+
+    -- rows put where a label mentions one of the groups are those of the new users
+    pub moved_whole : (fs : Files) → IsInOrder fs → put_all (rows_of V ws (filter (mentions_one groups) fs)) (rows_of V us fs) ≡ rows_of V ws fs
+    moved_whole fs o =
+        let puts = rows_of V ws (filter (mentions_one groups) fs) in
+        let puts_order = map_values (λ (e : PathOf × Node). cells_of V ws e.1) (filter (mentions_one groups) fs) (map_filter (mentions_one groups) fs o) in
+        same_found (put_all puts (rows_of V us fs)) (rows_of V ws fs)
+        (in_order-put_all puts (rows_of V us fs) (map_values (λ (e : PathOf × Node). cells_of V us e.1) fs o)) (map_values (λ (e : PathOf × Node). cells_of V ws e.1) fs o) (λ p.
+        find_put_all p puts (rows_of V us fs) puts_order
+        ∙ (λ i. option_or ((find-values (cells_of V ws) p (filter (mentions_one groups) fs) ∙ ap (option_map (cells_of V ws)) (find-filter (mentions_one groups) p fs o)) i) (find-values (cells_of V us) p fs i))
+        ∙ row_moved (find path_cmp p fs)
+        ∙ sym (find-values (cells_of V ws) p fs))
+
+-- ---- a user who joins, and one who leaves
+
+take_seen : {A B : Type 0} (f : A → B) (n : ℕ) (xs : List A) → take n (map f xs) ≡ map f (take n xs)
+take_seen f zero [] = refl
+take_seen f zero (x ∷ xs) = refl
+take_seen f (suc n) [] = refl
+take_seen f (suc n) (x ∷ xs) = ap (λ l. f x ∷ l) (take_seen f n xs)
+
+drop_seen : {A B : Type 0} (f : A → B) (n : ℕ) (xs : List A) → drop n (map f xs) ≡ map f (drop n xs)
+drop_seen f zero [] = refl
+drop_seen f zero (x ∷ xs) = refl
+drop_seen f (suc n) [] = refl
+drop_seen f (suc n) (x ∷ xs) = drop_seen f n xs
+
+module _ (V : Verdict) where
+  pub longer : (us : List Person) (u : Person) (n : Node) → cells_of V us n ++ V u n.label ∷ [] ≡ cells_of V (us ++ u ∷ []) n
+  longer us u n = sym (map-append (λ u. V u n.label) us (u ∷ []))
+
+  pub shorter : (us : List Person) (at : ℕ) (fs : Files) → map (λ (r : PathOf × List ℕ). (r.0, remove r.1 at)) (rows_of V us fs) ≡ rows_of V (remove us at) fs
+  shorter us at [] = refl
+  shorter us at (e ∷ fs) =
+      let cells : remove (cells_of V us e.1) at ≡ cells_of V (remove us at) e.1 =
+      (λ i. take_seen (λ (u : Person). V u e.1.label) at us i ++ drop_seen (λ (u : Person). V u e.1.label) (suc at) us i) ∙ sym (map-append (λ (u : Person). V u e.1.label) (take at us) (drop (suc at) us)) in
+      λ i. (e.0, cells i) ∷ shorter us at fs i
+
+  pub wide : (us : List Person) (at : ℕ) (fs : Files) → at < length us → AllByRecursion (λ (r : PathOf × List ℕ). at < length r.1) (rows_of V us fs)
+  wide us at [] lt = tt
+  wide us at (e ∷ fs) lt = (subst (λ n. at < n) (sym (length-map us (λ (u : Person). V u e.1.label))) lt, wide us at fs lt)
+
+  pub row_paths : (us : List Person) (fs : Files) → map (λ (r : PathOf × List ℕ). r.0) (rows_of V us fs) ≡ map (λ (e : PathOf × Node). e.0) fs
+  row_paths us [] = refl
+  row_paths us (e ∷ fs) = ap (λ ps. e.0 ∷ ps) (row_paths us fs)

@@ -1,0 +1,626 @@
+-- A line changes few answers along paths.
+use Rattle.std.proofs.Common.{◌≡◌, ℕ, zero, suc, ◌+◌, ◌*◌, ◌^◌, ◌<◌, ◌≤◌, Bool, true, false, cond, not, eqb, ◌||◌, ◌&&◌, List, [], ◌∷◌, length, map, filter, take, drop, set, is_some, Option, Some, None, Ordering, Less, Equal, Greater, ◌++◌, append_assoc, IsTrue, refl, sym, ap, subst, ◌∙◌, arith}
+use Rattle.std.specs.Prelude.{option_map, option_and_then, slice_get, count_by, if◌then◌else◌, nat_lt}
+use Rattle.std.specs.Option.{option_map_or}
+use Rattle.std.specs.List.{list_all, list_any, sum_by, AllByRecursion, remove}
+use Rattle.std.specs.Ordering.{is_eq, is_lt, is_gt}
+use Rattle.std.specs.FinMap.{find, is_sorted}
+use Rattle.std.specs.FinMap.Entries.{below_all}
+use Rattle.std.proofs.lemmas.Bool.{and_parts, eqb-true, eq-eqb, ltb-true, ltb-false}
+use Rattle.std.proofs.lemmas.List.{length-map}
+use Rattle.std.proofs.lemmas.List.Sums.{sum_by-cons}
+use Rattle.std.proofs.lemmas.Cmp.{tied_itself}
+use Rattle.acl_entry.specs.Check.{has}
+use Rattle.acl_entry.specs.Mentions.{AgreeOnMentions}
+use Rattle.acl_entry.specs.Person.{Person}
+use Rattle.acl_entry.specs.declared.label.Label.{Label}
+use Rattle.acl_names.specs.Paths.{path_cmp}
+use Rattle.acl_names.proofs.PathOrder.{path_total, exact_paths}
+use Rattle.acl_edit.specs.declared.node.Node.{Node}
+use Rattle.acl_tree.specs.Below.{is_within, is_below}
+use Rattle.acl_tree.specs.Changed.{same_label, is_changed, changed_between, gone_between}
+use Rattle.acl_tree.specs.Files.{PathOf, Files, Recorded}
+use Rattle.acl_people.specs.Registers.{persons}
+use Rattle.acl_people.specs.Moves.{MovesUser}
+use Rattle.acl_tree.specs.Sound.{holds_below}
+use Rattle.acl_tree.specs.Tells.{StagedState, UsersMoved}
+use Rattle.acl_tree.specs.declared.moved.UsersMove.{UsersMove}
+use Rattle.acl_tree.specs.declared.moved.UsersMove.TheVariants.{Same, Loaded, Moved, Joined, Left}
+use Rattle.acl_tree.proofs.Changes.{label_told}
+use Rattle.path_map.proofs.Places.{above}
+use Rattle.path_map.specs.Entries.{IsInOrder}
+use Rattle.acl_rights.specs.Tables.{Verdict, Rows, cells_of, rows_of}
+use Rattle.acl_rights.specs.Stages.{mentions_one}
+use Rattle.acl_rights.specs.Reach.{execute, passes, reach, reached_from, reached_rows, user_left, lies_within, moves_refreshed, most_refreshed}
+use Rattle.acl_reach.specs.Differing.{place_before, is_as_before, is_as_in, fails_from, differing}
+use Rattle.acl_rights.specs.Kept.{GoesFrom}
+use Rattle.acl_group_files.proofs.Maps.{map_values, map_filter, find-values, find-filter, same_found}
+use Rattle.acl_rights.proofs.Lines.{agree, got_in, set_here}
+use Rattle.acl_rights.proofs.Reached.{reached_is, cell_reached}
+use Rattle.acl_rights.proofs.Goes.{moves, joins, leaves, old_order}
+use Rattle.acl_reach.proofs.Walks.{below_within, within_below, both}
+use Rattle.path_map.proofs.Convex.{not_before}
+use Rattle.std.proofs.lemmas.Cmp.{nat_list_cmp_total}
+
+clash : (b : Bool) → b ≡ true → b ≡ false → ⊥
+clash b h k = cc
+
+false_from : (b : Bool) → (b ≡ true → ⊥) → b ≡ false
+false_from true h = absurd (h refl)
+false_from false h = refl
+
+or_false : (a b : Bool) → (a || b) ≡ false → (a ≡ false) × (b ≡ false)
+or_false true b h = cc
+or_false false b h = (refl, h)
+
+-- ---- counts of cells
+
+abbrev mark : Bool → ℕ
+mark b = if b then 0 else 1
+
+unit : (b : Bool) → mark b ≤ 1
+unit true = omega arith
+unit false = omega arith
+
+missed_most : (t : ℕ → ℕ → Bool) (n : ℕ) (cells : List ℕ) → fails_from t n cells ≤ length cells
+missed_most t n [] = omega arith
+missed_most t n (c ∷ cells) = omega (arith, unit (t n c), missed_most t (suc n) cells)
+
+missed_none : (t : ℕ → ℕ → Bool) (n : ℕ) (cells : List ℕ) → ((i c : ℕ) → slice_get cells i ≡ Some c → t (n + i) c ≡ true) → fails_from t n cells ≡ 0
+missed_none t n [] h = refl
+missed_none t n (c ∷ cells) h =
+    let e : n + 0 ≡ n = omega arith in
+    let head : mark (t n c) ≡ 0 = ap mark (ap (λ k. t k c) (sym e) ∙ h 0 c refl) in
+    let rest = missed_none t (suc n) cells (λ i d is. let e : suc n + i ≡ n + suc i = omega arith in ap (λ k. t k d) e ∙ h (suc i) d is) in
+    omega (arith, head, rest)
+
+missed_one : (t : ℕ → ℕ → Bool) (j n : ℕ) (cells : List ℕ) → ((i c : ℕ) → slice_get cells i ≡ Some c → (n + i ≡ j → ⊥) → t (n + i) c ≡ true) → fails_from t n cells ≤ 1
+missed_one t j n [] h = omega arith
+missed_one t j n (c ∷ cells) h = by (eqb n j) refl (missed_one t j (suc n) cells)
+  where
+    next : (i : ℕ) → suc n + i ≡ n + suc i
+    next i = omega arith
+
+    by : (b : Bool) → eqb n j ≡ b → (((i d : ℕ) → slice_get cells i ≡ Some d → (suc n + i ≡ j → ⊥) → t (suc n + i) d ≡ true) → fails_from t (suc n) cells ≤ 1) → fails_from t n (c ∷ cells) ≤ 1
+    by true is more =
+        let same = eqb-true n j is in
+        let rest = missed_none t (suc n) cells (λ i d got. ap (λ k. t k d) (next i) ∙ h (suc i) d got (λ (e : n + suc i ≡ j). absurd (omega (arith, e, same)))) in
+        omega (arith, unit (t n c), rest)
+    by false is more =
+        let e : n + 0 ≡ n = omega arith in
+        let head : mark (t n c) ≡ 0 = ap mark (ap (λ k. t k c) (sym e) ∙ h 0 c refl (λ at. clash (eqb n j) (eq-eqb n j (sym e ∙ at)) is)) in
+        let rest = more (λ i d got apart. ap (λ k. t k d) (next i) ∙ h (suc i) d got (λ at. apart (next i ∙ at))) in
+        omega (arith, head, rest)
+
+-- ---- maps and their elements
+
+first_before : {A : Type 0} (x : PathOf) (es : List (PathOf × A)) (e : PathOf × A) (fs : List (PathOf × A)) → IsTrue (below_all path_cmp x (es ++ e ∷ fs)) → is_lt (path_cmp x e.0) ≡ true
+first_before x [] e fs h = (and_parts (is_lt (path_cmp x e.0)) (below_all path_cmp x fs) h).0
+first_before x (d ∷ es) e fs h = first_before x es e fs (and_parts (is_lt (path_cmp x d.0)) (below_all path_cmp x (es ++ e ∷ fs)) h).1
+
+less : (o : Ordering) → is_lt o ≡ true → o ≡ Less
+less Less h = refl
+less Equal h = cc
+less Greater h = cc
+
+equal : (o : Ordering) → is_eq o ≡ true → o ≡ Equal
+equal Less h = cc
+equal Equal h = refl
+equal Greater h = cc
+
+found_mid : {A : Type 0} (pre : List (PathOf × A)) (e : PathOf × A) (es : List (PathOf × A)) → IsInOrder (pre ++ e ∷ es) → find path_cmp e.0 (pre ++ e ∷ es) ≡ Some e.1
+found_mid [] e es h = ap (λ o. cond (is_eq o) (Some e.1) (find path_cmp e.0 es)) (tied_itself path_total e.0)
+found_mid (d ∷ pre) e es h =
+    let parts = and_parts (below_all path_cmp d.0 (pre ++ e ∷ es)) (is_sorted path_cmp (pre ++ e ∷ es)) h in
+    ap (λ o. cond (is_eq o) (Some d.1) (find path_cmp e.0 (pre ++ e ∷ es))) (above d.0 e.0 (less (path_cmp d.0 e.0) (first_before d.0 pre e es parts.0))) ∙ found_mid pre e es parts.1
+
+any_found : {A : Type 0} (f : PathOf × A → Bool) (es : List (PathOf × A)) (q : PathOf) (a : A) → list_any f es ≡ false → find path_cmp q es ≡ Some a → f (q, a) ≡ false
+any_found f [] q a none is = cc
+any_found f (e ∷ es) q a none is = by (is_eq (path_cmp q e.0)) refl is (any_found f es q a (or_false (f e) (list_any f es) none).1)
+  where
+    by : (b : Bool) → is_eq (path_cmp q e.0) ≡ b → cond b (Some e.1) (find path_cmp q es) ≡ Some a → (find path_cmp q es ≡ Some a → f (q, a) ≡ false) → f (q, a) ≡ false
+    by true same here more =
+        let path = exact_paths q e.0 (equal (path_cmp q e.0) same) in
+        let back : a ≡ e.1 = cc in
+        ap f (λ i. (path i, back i)) ∙ (or_false (f e) (list_any f es) none).0
+    by false other there more = more there
+
+any_filter : {A : Type 0} (f t : A → Bool) (es : List A) → list_any f (filter t es) ≡ list_any (λ e. t e && f e) es
+any_filter f t [] = refl
+any_filter f t (e ∷ es) = by (any_filter f t es) (t e)
+  where
+    by : list_any f (filter t es) ≡ list_any (λ e. t e && f e) es → (b : Bool) → list_any f (cond b (e ∷ filter t es) (filter t es)) ≡ ((b && f e) || list_any (λ e. t e && f e) es)
+    by more true = ap (λ b. f e || b) more
+    by more false = more
+
+each_found : {A : Type 0} (P : PathOf → Type 0) (t : PathOf × A → Bool) (es : List (PathOf × A)) (q : PathOf) (a : A) → AllByRecursion (λ e. P e.0) (filter t es) → find path_cmp q es ≡ Some a → t (q, a) ≡ true → P q
+each_found P t [] q a all is ok = cc
+each_found P t (e ∷ es) q a all is ok = by (is_eq (path_cmp q e.0)) refl is (λ h there. each_found P t es q a h there ok)
+  where
+    rest : (b : Bool) → AllByRecursion (λ e. P e.0) (cond b (e ∷ filter t es) (filter t es)) → AllByRecursion (λ e. P e.0) (filter t es)
+    rest true h = h.1
+    rest false h = h
+
+    first : (b : Bool) → AllByRecursion (λ e. P e.0) (cond b (e ∷ filter t es) (filter t es)) → b ≡ true → P e.0
+    first true h k = h.0
+    first false h k = cc
+
+    by : (b : Bool) → is_eq (path_cmp q e.0) ≡ b → cond b (Some e.1) (find path_cmp q es) ≡ Some a → (AllByRecursion (λ e. P e.0) (filter t es) → find path_cmp q es ≡ Some a → P q) → P q
+    by true same here more =
+        let path = exact_paths q e.0 (equal (path_cmp q e.0) same) in
+        let value : e.1 ≡ a = cc in
+        let back = sym path in
+        subst P (sym path) (first (t e) all (ap t (λ i. (back i, value i)) ∙ ok))
+    by false other there more = more (rest (t e) all) there
+
+-- ---- who passes depends on what stands above alone
+
+all_kept : {A : Type 0} (f : A → Bool) (p : PathOf) (es : List (PathOf × A)) → list_all (λ e. not (is_below e.0 p) || f e.1) es ≡ list_all (λ (e : PathOf × Bool). e.1) (map (λ (e : PathOf × A). (e.0, f e.1)) (filter (λ e. is_below e.0 p) es))
+all_kept {A = A} f p [] = refl
+all_kept {A = A} f p (e ∷ es) = by (all_kept f p es) (is_below e.0 p)
+  where
+    by : list_all (λ e. not (is_below e.0 p) || f e.1) es ≡ list_all (λ (e : PathOf × Bool). e.1) (map (λ (e : PathOf × A). (e.0, f e.1)) (filter (λ e. is_below e.0 p) es)) → (b : Bool) → ((not b || f e.1) && list_all (λ e. not (is_below e.0 p) || f e.1) es) ≡ list_all (λ (e : PathOf × Bool). e.1) (map (λ (e : PathOf × A). (e.0, f e.1)) (cond b (e ∷ filter (λ e. is_below e.0 p) es) (filter (λ e. is_below e.0 p) es)))
+    by more true = ap (λ b. f e.1 && b) more
+    by more false = more
+
+found_kept : {A : Type 0} (f : A → Bool) (p q : PathOf) (es : List (PathOf × A)) → IsInOrder es
+    → find path_cmp q (map (λ (e : PathOf × A). (e.0, f e.1)) (filter (λ e. is_below e.0 p) es)) ≡ (if is_below q p then option_map f (find path_cmp q es) else None)
+found_kept {A = A} f p q es o = find-values f q (filter (λ e. is_below e.0 p) es) ∙ ap (option_map f) (find-filter (λ e. is_below e.0 p) q es o) ∙ by (is_below q p) (find path_cmp q es)
+  where
+    by : (b : Bool) (x : Option A) → option_map f (option_and_then (λ a. if b then Some a else None) x) ≡ (if b then option_map f x else None)
+    by true None = refl
+    by true (Some a) = refl
+    by false None = refl
+    by false (Some a) = refl
+
+pub alike_above : {A B : Type 0} (f : A → Bool) (g : B → Bool) (p : PathOf) (es : List (PathOf × A)) (fs : List (PathOf × B)) → IsInOrder es → IsInOrder fs
+    → ((q : PathOf) → is_below q p ≡ true → option_map f (find path_cmp q es) ≡ option_map g (find path_cmp q fs))
+    → list_all (λ e. not (is_below e.0 p) || f e.1) es ≡ list_all (λ e. not (is_below e.0 p) || g e.1) fs
+alike_above {A = A} {B = B} f g p es fs o r h =
+    all_kept f p es
+    ∙ ap (list_all (λ (e : PathOf × Bool). e.1)) (same_found (map (λ (e : PathOf × A). (e.0, f e.1)) (filter (λ e. is_below e.0 p) es)) (map (λ (e : PathOf × B). (e.0, g e.1)) (filter (λ e. is_below e.0 p) fs))
+    (map_values (λ (e : PathOf × A). f e.1) (filter (λ e. is_below e.0 p) es) (map_filter (λ e. is_below e.0 p) es o))
+    (map_values (λ (e : PathOf × B). g e.1) (filter (λ e. is_below e.0 p) fs) (map_filter (λ e. is_below e.0 p) fs r))
+    (λ q. found_kept f p q es o ∙ by q (is_below q p) refl ∙ sym (found_kept g p q fs r)))
+    ∙ sym (all_kept g p fs)
+  where
+    by : (q : PathOf) (b : Bool) → is_below q p ≡ b → (if b then option_map f (find path_cmp q es) else None) ≡ (if b then option_map g (find path_cmp q fs) else None)
+    by q true is = h q is
+    by q false is = refl
+
+-- ---- rows, one by one
+
+within_itself : (p : PathOf) → is_within p p ≡ true
+within_itself [] = refl
+within_itself (x ∷ p) = both _ _ (ap is_eq (tied_itself nat_list_cmp_total x)) (within_itself p)
+
+within_cases : (q p : PathOf) → is_within q p ≡ true → is_below q p ≡ false → q ≡ p
+within_cases q p w apart = by (path_cmp q p) refl
+  where
+    late : (o : Ordering) → o ≡ Greater → is_gt o ≡ false → ⊥
+    late o h k = cc
+
+    by : (o : Ordering) → path_cmp q p ≡ o → q ≡ p
+    by Less is = absurd (clash (is_below q p) (within_below q p w is) apart)
+    by Equal is = exact_paths q p is
+    by Greater is = absurd (late (path_cmp q p) is (not_before q p w))
+
+some_same : (a b : ℕ) → Some a ≡ Some b → a ≡ b
+some_same a b h = cc
+
+long_row : (rows : Rows) (p : PathOf) (n : ℕ) (cells : List ℕ) → length (reached_from rows p n cells) ≡ length cells
+long_row rows p n [] = refl
+long_row rows p n (c ∷ cells) = ap suc (long_row rows p (suc n) cells)
+
+sum_le : {A B : Type 0} (f : A → B) (F : B → ℕ) (a : A → ℕ) (P : A → Type 0) (es : List A) → AllByRecursion P es → ((e : A) → P e → F (f e) ≤ a e) → sum_by F (map f es) ≤ sum_by a es
+sum_le f F a P [] all h = omega arith
+sum_le f F a P (e ∷ es) all h =
+    let more = sum_le f F a P es all.1 h in
+    omega (arith, sum_by-cons F (f e) (map f es), sum_by-cons a e es, h e all.0, more)
+
+map_twice : {A B C : Type 0} (f : A → B) (g : B → C) (es : List A) → map g (map f es) ≡ map (λ e. g (f e)) es
+map_twice f g [] = refl
+map_twice f g (e ∷ es) = ap (λ l. g (f e) ∷ l) (map_twice f g es)
+
+finds : {A : Type 0} (all pre es : List (PathOf × A)) → pre ++ es ≡ all → IsInOrder all → AllByRecursion (λ e. find path_cmp e.0 all ≡ Some e.1) es
+finds all pre [] is o = tt
+finds all pre (e ∷ es) is o =
+    (ap (find path_cmp e.0) (sym is) ∙ found_mid pre e es (subst IsInOrder (sym is) o), finds all (pre ++ e ∷ []) es (append_assoc pre (e ∷ []) es ∙ is) o)
+
+times_one : (l : ℕ) → l * 1 ≡ l
+times_one l = grind arith
+
+times_none : (l : ℕ) → l * 0 ≡ 0
+times_none l = grind arith
+
+times_more : (l a b : ℕ) → l * (a + b) ≡ l * a + l * b
+times_more l a b = grind arith
+
+sum_parts : {A : Type 0} (l : ℕ) (c : A → Bool) (x : A → ℕ) (es : List A) → sum_by (λ e. l * (if c e then 1 else 0) + x e) es ≡ l * count_by c es + sum_by x es
+sum_parts l c x [] = let e = times_none l in omega (arith, e)
+sum_parts l c x (e ∷ es) =
+    let more = sum_parts l c x es in
+    let heads = sum_by-cons (λ e. l * (if c e then 1 else 0) + x e) e es in
+    let counts = ap (λ k. l * k) (sum_by-cons (λ e. if c e then 1 else 0) e es) ∙ times_more l (if c e then 1 else 0) (count_by c es) in
+    let rest = sum_by-cons x e es in
+    omega (arith, heads, counts, rest, more)
+
+module _ (V : Verdict) (us ws : List Person) (fs gs : Files) (fo : IsInOrder fs) (go : IsInOrder gs) where
+  -- a user's answer at a file was there before
+  record IsKept (move : UsersMove) (e : PathOf × Node) (i : ℕ) (w : Person) : Type 0 where
+    pub node : Node
+    pub user : Person
+    pub found : find path_cmp e.0 fs ≡ Some node
+    pub was : slice_get us (place_before (user_left move) i) ≡ Some user
+    pub same : reach V fs user (e.0, node) ≡ reach V gs w e
+
+  old_cell : (move : UsersMove) (e : PathOf × Node) (i : ℕ) (w : Person) → IsKept move e i w
+      → option_and_then (λ (cells : List ℕ). slice_get cells (place_before (user_left move) i)) (find path_cmp e.0 (reached_rows (rows_of V us fs))) ≡ Some (reach V gs w e)
+  old_cell move e i w k =
+      let j = place_before (user_left move) i in
+      ap (option_and_then (λ (cells : List ℕ). slice_get cells j)) (reached_is V us fs e.0)
+      ∙ cell_reached V us fs e.0 j (find path_cmp e.0 fs)
+      ∙ ap (option_and_then (λ n. option_map (λ u. reach V fs u (e.0, n)) (slice_get us j))) k.found
+      ∙ ap (option_map (λ u. reach V fs u (e.0, k.node))) k.was
+      ∙ ap Some k.same
+
+  abbrev row_cells : PathOf × Node → List ℕ
+  row_cells e = reached_from (rows_of V ws gs) e.0 0 (cells_of V ws e.1)
+
+  abbrev row_test : UsersMove → PathOf × Node → ℕ → ℕ → Bool
+  row_test move e = is_as_in (user_left move) (find path_cmp e.0 (reached_rows (rows_of V us fs)))
+
+  cell_kept : (move : UsersMove) (e : PathOf × Node) (i c : ℕ) → slice_get (row_cells e) i ≡ Some c → ((w : Person) → slice_get ws i ≡ Some w → IsKept move e i w) → row_test move e i c ≡ true
+  cell_kept move e i c is kept = by (slice_get ws i) refl (sym (cell_reached V ws gs e.0 i (Some e.1)) ∙ is)
+    where
+      by : (o : Option Person) → slice_get ws i ≡ o → option_map (λ u. reach V gs u (e.0, e.1)) (slice_get ws i) ≡ Some c → row_test move e i c ≡ true
+      by None none h = absurd (nothing (option_map (λ u. reach V gs u (e.0, e.1)) (slice_get ws i)) (ap (option_map (λ u. reach V gs u (e.0, e.1))) none) h)
+        where
+          nothing : (o : Option ℕ) → o ≡ None → o ≡ Some c → ⊥
+          nothing o h k = cc
+      by (Some w) here h =
+          let value : reach V gs w e ≡ c = some_same (reach V gs w e) c (sym (ap (option_map (λ u. reach V gs u (e.0, e.1))) here) ∙ h) in
+          ap (λ o. is_as_before o c) (old_cell move e i w (kept w here)) ∙ eq-eqb (reach V gs w e) c value
+
+  abbrev row_missed : UsersMove → PathOf × Node → ℕ
+  row_missed move e = fails_from (row_test move e) 0 (row_cells e)
+
+  row_most : (move : UsersMove) (e : PathOf × Node) → row_missed move e ≤ length ws
+  row_most move e = omega (arith, missed_most (row_test move e) 0 (row_cells e), long_row (rows_of V ws gs) e.0 0 (cells_of V ws e.1), length-map ws (λ u. V u e.1.label))
+
+  from_none : (i : ℕ) → 0 + i ≡ i
+  from_none i = omega arith
+
+  row_none : (move : UsersMove) (e : PathOf × Node) → ((i : ℕ) (w : Person) → slice_get ws i ≡ Some w → IsKept move e i w) → row_missed move e ≡ 0
+  row_none move e kept = missed_none (row_test move e) 0 (row_cells e) (λ i c is. ap (λ k. row_test move e k c) (from_none i) ∙ cell_kept move e i c is (kept i))
+
+  row_one : (move : UsersMove) (j : ℕ) (e : PathOf × Node) → ((i : ℕ) (w : Person) → slice_get ws i ≡ Some w → (i ≡ j → ⊥) → IsKept move e i w) → row_missed move e ≤ 1
+  row_one move j e kept =
+      missed_one (row_test move e) j 0 (row_cells e) (λ i c is apart. ap (λ k. row_test move e k c) (from_none i) ∙ cell_kept move e i c is (λ w here. kept i w here (λ same. apart (from_none i ∙ same))))
+
+  -- as many are missed as each file allows
+  rows_missed : (move : UsersMove) (a : PathOf × Node → ℕ) → ((e : PathOf × Node) → find path_cmp e.0 gs ≡ Some e.1 → row_missed move e ≤ a e)
+      → differing (user_left move) (reached_rows (rows_of V us fs)) (reached_rows (rows_of V ws gs)) ≤ sum_by a gs
+  rows_missed move a h =
+      let A = reached_rows (rows_of V us fs) in
+      let F : PathOf × List ℕ → ℕ = λ r. fails_from (is_as_in (user_left move) (find path_cmp r.0 A)) 0 r.1 in
+      let G : PathOf × List ℕ → PathOf × List ℕ = λ r. (r.0, reached_from (rows_of V ws gs) r.0 0 r.1) in
+      let H : PathOf × Node → PathOf × List ℕ = λ e. (e.0, cells_of V ws e.1) in
+      subst (λ n. n ≤ sum_by a gs) (ap (sum_by F) (sym (map_twice H G gs)))
+      (sum_le (λ (e : PathOf × Node). G (H e)) F a (λ e. find path_cmp e.0 gs ≡ Some e.1) gs (finds gs [] gs refl go) h)
+
+  -- ---- what is the same at a path and above it is reached alike
+
+  module _ (u w : Person) (p : PathOf) (h : (q : PathOf) → is_within q p ≡ true → option_map (λ (n : Node). V u n.label) (find path_cmp q fs) ≡ option_map (λ (n : Node). V w n.label) (find path_cmp q gs)) where
+    passes_kept : passes V fs u p ≡ passes V gs w p
+    passes_kept =
+        alike_above (λ (n : Node). has (V u n.label) execute) (λ (n : Node). has (V w n.label) execute) p fs gs fo go
+        (λ q below. twice u (find path_cmp q fs) ∙ ap (option_map (λ c. has c execute)) (h q (below_within q p below)) ∙ sym (twice w (find path_cmp q gs)))
+      where
+        twice : (v : Person) (o : Option Node) → option_map (λ (n : Node). has (V v n.label) execute) o ≡ option_map (λ c. has c execute) (option_map (λ (n : Node). V v n.label) o)
+        twice v None = refl
+        twice v (Some n) = refl
+
+    reach_kept : (m n : Node) → find path_cmp p fs ≡ Some m → find path_cmp p gs ≡ Some n → reach V fs u (p, m) ≡ reach V gs w (p, n)
+    reach_kept m n here there =
+        let value : V u m.label ≡ V w n.label =
+        some_same (V u m.label) (V w n.label) (sym (ap (option_map (λ (n : Node). V u n.label)) here) ∙ h p (within_itself p) ∙ ap (option_map (λ (n : Node). V w n.label)) there) in
+        λ i. if passes_kept i then value i else 0
+
+  -- ---- files that neither changed nor lie below one that did
+
+  module _ (apart : AllByRecursion (λ e. holds_below gs e.0 ≡ false) (gone_between fs gs)) (p : PathOf) (n : Node) (here : find path_cmp p gs ≡ Some n) (out : lies_within (changed_between fs gs) (p, n) ≡ false) where
+    not_changed : (q : PathOf) (m : Node) → is_within q p ≡ true → find path_cmp q gs ≡ Some m → is_changed fs (q, m) ≡ false
+    not_changed q m w is =
+        let none = any_found (λ e. is_changed fs e && is_within e.0 p) gs q m (sym (any_filter (λ e. is_within e.0 p) (is_changed fs) gs) ∙ out) is in
+        false_from (is_changed fs (q, m)) (λ c. clash (is_changed fs (q, m) && is_within q p) (both _ _ c w) none)
+
+    not_gone : (q : PathOf) (m : Node) → is_within q p ≡ true → find path_cmp q gs ≡ None → find path_cmp q fs ≡ Some m → ⊥
+    not_gone q m w none is =
+        let left = each_found (λ r. holds_below gs r ≡ false) (λ e. not (is_some (find path_cmp e.0 gs))) fs q m apart is (ap (λ o. not (is_some o)) none) in
+        let below = any_found (λ e. is_below q e.0) gs p n left here in
+        differ (find path_cmp q gs) none (ap (λ r. find path_cmp r gs) (within_cases q p w below) ∙ here)
+      where
+        differ : (o : Option Node) → o ≡ None → o ≡ Some n → ⊥
+        differ o h k = cc
+
+    labels_kept : (q : PathOf) → is_within q p ≡ true → option_map (λ (m : Node). m.label) (find path_cmp q fs) ≡ option_map (λ (m : Node). m.label) (find path_cmp q gs)
+    labels_kept q w = by (find path_cmp q fs) (find path_cmp q gs) refl refl
+      where
+        told : (a b : Label) → not (same_label a b) ≡ false → a ≡ b
+        told a b h = label_told a b (yes (same_label a b) h)
+          where
+            yes : (b : Bool) → not b ≡ false → b ≡ true
+            yes true h = refl
+            yes false h = cc
+
+        new_one : (m : Node) → find path_cmp q fs ≡ None → find path_cmp q gs ≡ Some m → ⊥
+        new_one m was is = clash true refl (ap (λ o. option_map_or (λ (k : Node). not (same_label k.label m.label)) o true) (sym was) ∙ not_changed q m w is)
+
+        by : (a b : Option Node) → find path_cmp q fs ≡ a → find path_cmp q gs ≡ b → option_map (λ (m : Node). m.label) a ≡ option_map (λ (m : Node). m.label) b
+        by None None was is = refl
+        by None (Some m) was is = absurd (new_one m was is)
+        by (Some k) None was is = absurd (not_gone q k w is was)
+        by (Some k) (Some m) was is = ap Some (told k.label m.label (ap (λ o. option_map_or (λ (k : Node). not (same_label k.label m.label)) o true) (sym was) ∙ not_changed q m w is))
+
+    verdicts_kept : (u : Person) (q : PathOf) → is_within q p ≡ true → option_map (λ (n : Node). V u n.label) (find path_cmp q fs) ≡ option_map (λ (n : Node). V u n.label) (find path_cmp q gs)
+    verdicts_kept u q w = twice (find path_cmp q fs) ∙ ap (option_map (V u)) (labels_kept q w) ∙ sym (twice (find path_cmp q gs))
+      where
+        twice : (o : Option Node) → option_map (λ (n : Node). V u n.label) o ≡ option_map (V u) (option_map (λ (n : Node). n.label) o)
+        twice None = refl
+        twice (Some n) = refl
+
+    was_there : (o : Option Node) → find path_cmp p fs ≡ o → (m : Node) × (find path_cmp p fs ≡ Some m)
+    was_there None is = absurd (gone (ap (option_map (λ (m : Node). m.label)) (sym is) ∙ labels_kept p (within_itself p) ∙ ap (option_map (λ (m : Node). m.label)) here))
+      where
+        gone : None ≡ Some n.label → ⊥
+        gone h = cc
+    was_there (Some m) is = (m, is)
+
+  -- ---- how much a line misses
+
+  abbrev old_reached : Rows
+  old_reached = reached_rows (rows_of V us fs)
+
+  abbrev new_reached : Rows
+  new_reached = reached_rows (rows_of V ws gs)
+
+  -- never more than every user at every file
+  all_missed : (move : UsersMove) → differing (user_left move) old_reached new_reached ≤ length gs * length ws
+  all_missed move =
+      let each = rows_missed move (λ e. length ws) (λ e found. row_most move e) in
+      let sum = evenly (length ws) gs in
+      omega (arith, each, sum)
+    where
+      even_more : (n l : ℕ) → suc n * l ≡ l + n * l
+      even_more n l = grind arith
+
+      evenly : (l : ℕ) (es : Files) → sum_by (λ e. l) es ≡ length es * l
+      evenly l [] = let e : 0 * l ≡ 0 = grind arith in omega (arith, e)
+      evenly l (e ∷ es) =
+          let more = evenly l es in
+          let first = sum_by-cons (λ e. l) e es in
+          omega (arith, first, more, even_more (length es) l)
+
+  -- all users at files that changed, and others at as many as are told
+  module _ (move : UsersMove) (x : PathOf × Node → ℕ) (rest : (e : PathOf × Node) → find path_cmp e.0 gs ≡ Some e.1 → lies_within (changed_between fs gs) e ≡ false → row_missed move e ≤ x e) where
+    parts_missed : differing (user_left move) old_reached new_reached ≤ length ws * count_by (lies_within (changed_between fs gs)) gs + sum_by x gs
+    parts_missed =
+        let l = length ws in
+        let c = lies_within (changed_between fs gs) in
+        let each = rows_missed move (λ e. l * (if c e then 1 else 0) + x e) (λ e found. by e found (c e) refl) in
+        omega (arith, each, sum_parts l c x gs)
+      where
+        by : (e : PathOf × Node) → find path_cmp e.0 gs ≡ Some e.1 → (b : Bool) → lies_within (changed_between fs gs) e ≡ b → row_missed move e ≤ length ws * (if b then 1 else 0) + x e
+        by e found true is = omega (arith, row_most move e, times_one (length ws))
+        by e found false is = omega (arith, rest e found is, times_none (length ws))
+
+  -- a user with the same groups keeps the answers at files that neither changed nor lie below one that did
+  module _ (apart : AllByRecursion (λ e. holds_below gs e.0 ≡ false) (gone_between fs gs)) where
+    same_kept : (move : UsersMove) (e : PathOf × Node) → find path_cmp e.0 gs ≡ Some e.1 → lies_within (changed_between fs gs) e ≡ false → (i : ℕ) (w : Person) → slice_get us (place_before (user_left move) i) ≡ Some w → IsKept move e i w
+    same_kept move e found out i w was =
+        let there = was_there apart e.0 e.1 found out (find path_cmp e.0 fs) refl in
+        record {
+          node = there.0;
+          user = w;
+          found = there.1;
+          was = was;
+          same = reach_kept w w e.0 (verdicts_kept apart e.0 e.1 found out w) there.0 e.1 there.1 found;
+        }
+
+    -- no user moved
+    none_moved : (move : UsersMove) → ((i : ℕ) (w : Person) → slice_get ws i ≡ Some w → slice_get us (place_before (user_left move) i) ≡ Some w)
+        → differing (user_left move) old_reached new_reached ≤ length ws * count_by (lies_within (changed_between fs gs)) gs
+    none_moved move was =
+        let parts = parts_missed move (λ e. 0) (λ e found out. let n = row_none move e (λ i w is. same_kept move e found out i w (was i w is)) in omega (arith, n)) in
+        omega (arith, parts, zeros gs)
+      where
+        zeros : (es : Files) → sum_by (λ e. 0) es ≡ 0
+        zeros [] = refl
+        zeros (e ∷ es) = let first = sum_by-cons (λ e. 0) e es in let more = zeros es in omega (arith, first, more)
+
+    -- one user moved, as one who wasn't there
+    one_came : (move : UsersMove) (j : ℕ) → ((i : ℕ) (w : Person) → slice_get ws i ≡ Some w → (i ≡ j → ⊥) → slice_get us (place_before (user_left move) i) ≡ Some w)
+        → differing (user_left move) old_reached new_reached ≤ length ws * count_by (lies_within (changed_between fs gs)) gs + length gs
+    one_came move j was =
+        let parts = parts_missed move (λ e. 1) (λ e found out. row_one move j e (λ i w is other. same_kept move e found out i w (was i w is other))) in
+        omega (arith, parts, ones gs)
+      where
+        ones : (es : Files) → sum_by (λ e. 1) es ≡ length es
+        ones [] = refl
+        ones (e ∷ es) = let first = sum_by-cons (λ e. 1) e es in let more = ones es in omega (arith, first, more)
+
+    -- one user moved, whose answers differ where a label does that mentions a group
+    one_moved : (move : UsersMove) (j : ℕ) (c : PathOf × Node → Bool) → ((i : ℕ) (w : Person) → slice_get ws i ≡ Some w → (i ≡ j → ⊥) → slice_get us (place_before (user_left move) i) ≡ Some w)
+        → ((i : ℕ) (w : Person) (e : PathOf × Node) → slice_get ws i ≡ Some w → i ≡ j → find path_cmp e.0 gs ≡ Some e.1 → c e ≡ false → IsKept move e i w)
+        → differing (user_left move) old_reached new_reached ≤ length ws * count_by (lies_within (changed_between fs gs)) gs + count_by c gs
+    one_moved move j c was here =
+        parts_missed move (λ e. if c e then 1 else 0) (λ e found out. by e found out (c e) refl)
+      where
+        by : (e : PathOf × Node) → find path_cmp e.0 gs ≡ Some e.1 → lies_within (changed_between fs gs) e ≡ false → (b : Bool) → c e ≡ b → row_missed move e ≤ (if b then 1 else 0)
+        by e found out true is = row_one move j e (λ i w at other. same_kept move e found out i w (was i w at other))
+        by e found out false is =
+            let n = row_none move e (λ i w at. pick i w at (eqb i j) refl) in omega (arith, n)
+          where
+            pick : (i : ℕ) (w : Person) → slice_get ws i ≡ Some w → (b : Bool) → eqb i j ≡ b → IsKept move e i w
+            pick i w at true same = here i w e at (eqb-true i j same) found is
+            pick i w at false other = same_kept move e found out i w (was i w at (λ same. clash (eqb i j) (eq-eqb i j same) other))
+
+-- ---- places of users
+
+set_other : {A : Type 0} (xs : List A) (at i : ℕ) (x : A) → (i ≡ at → ⊥) → slice_get (set xs at x) i ≡ slice_get xs i
+set_other [] at i x apart = refl
+set_other (y ∷ xs) zero zero x apart = absurd (apart refl)
+set_other (y ∷ xs) zero (suc i) x apart = refl
+set_other (y ∷ xs) (suc at) zero x apart = refl
+set_other (y ∷ xs) (suc at) (suc i) x apart = set_other xs at i x (λ e. apart (ap suc e))
+
+joined_was : {A : Type 0} (xs : List A) (y : A) (i : ℕ) (w : A) → slice_get (xs ++ y ∷ []) i ≡ Some w → (i ≡ length xs → ⊥) → slice_get xs i ≡ Some w
+joined_was [] y zero w h apart = absurd (apart refl)
+joined_was [] y (suc i) w h apart = h
+joined_was (x ∷ xs) y zero w h apart = h
+joined_was (x ∷ xs) y (suc i) w h apart = joined_was xs y i w h (λ e. apart (ap suc e))
+
+drop_none : {A : Type 0} (xs : List A) → drop 0 xs ≡ xs
+drop_none [] = refl
+drop_none (x ∷ xs) = refl
+
+left_before : {A : Type 0} (xs : List A) (at i : ℕ) → i < at → slice_get (take at xs ++ drop (suc at) xs) i ≡ slice_get xs i
+left_before [] zero i lt = refl
+left_before [] (suc at) i lt = refl
+left_before (x ∷ xs) zero i lt = absurd (omega (arith, lt))
+left_before (x ∷ xs) (suc at) zero lt = refl
+left_before (x ∷ xs) (suc at) (suc i) lt = left_before xs at i (omega (arith, lt))
+
+left_after : {A : Type 0} (xs : List A) (at i : ℕ) → at ≤ i → slice_get (take at xs ++ drop (suc at) xs) i ≡ slice_get xs (suc i)
+left_after [] zero i le = refl
+left_after [] (suc at) i le = refl
+left_after (x ∷ xs) zero i le = ap (λ l. slice_get l i) (drop_none xs)
+left_after (x ∷ xs) (suc at) zero le = absurd (omega (arith, le))
+left_after (x ∷ xs) (suc at) (suc i) le = left_after xs at i (omega (arith, le))
+
+left_was : {A : Type 0} (xs : List A) (at i : ℕ) → slice_get (remove xs at) i ≡ slice_get xs (if nat_lt i at then i else suc i)
+left_was xs at i = by (nat_lt i at) refl
+  where
+    by : (b : Bool) → nat_lt i at ≡ b → slice_get (take at xs ++ drop (suc at) xs) i ≡ slice_get xs (if b then i else suc i)
+    by true is = left_before xs at i (ltb-true i at is)
+    by false is = left_after xs at i (let h = ltb-false i at is in omega (arith, h))
+
+person_same : (a b : Person) → Some a ≡ Some b → a ≡ b
+person_same a b h = cc
+
+-- ---- a line
+
+module _ (V : Verdict) (local : (u w : Person) (f : Label) → AgreeOnMentions u w f → V u f ≡ V w f) (rows : Rows) (t : StagedState) (goes : GoesFrom V rows t) (ro : IsInOrder rows) (go : IsInOrder t.state.tree.files) where
+  abbrev us : List Person
+  us = persons goes.state.people
+
+  abbrev ws : List Person
+  ws = persons t.state.people
+
+  abbrev fs : Files
+  fs = goes.state.tree.files
+
+  abbrev gs : Files
+  gs = t.state.tree.files
+
+  fo : IsInOrder fs
+  fo = old_order V rows t goes ro
+
+  alone : AllByRecursion (λ e. holds_below gs e.0 ≡ false) (gone_between fs gs)
+  alone = subst (AllByRecursion (λ e. holds_below gs e.0 ≡ false)) goes.tells.gone goes.tells.apart
+
+  abbrev line_missed : UsersMove → ℕ
+  line_missed move = differing (user_left move) (reached_rows (rows_of V us fs)) (reached_rows (rows_of V ws gs))
+
+  abbrev at_changed : ℕ
+  at_changed = length ws * count_by (lies_within (changed_between fs gs)) gs
+
+  line_same : t.moved ≡ Same → line_missed Same ≤ at_changed + 0
+  line_same is =
+      let people : persons t.state.people ≡ persons goes.state.people = subst (λ m. UsersMoved goes.state t.state m) is goes.tells.users in
+      let n = none_moved V us ws fs gs fo go alone Same (λ i w got. ap (λ (l : List Person). slice_get l i) (sym people) ∙ got) in
+      omega (arith, n)
+
+  line_loaded : t.moved ≡ Loaded → line_missed Loaded ≤ at_changed + 0
+  line_loaded is =
+      let none : gs ≡ [] = subst (λ m. UsersMoved goes.state t.state m) is goes.tells.users in
+      let n = all_missed V us ws fs gs fo go Loaded in
+      let long : length gs * length ws ≡ 0 = ap (λ (l : Files). length l * length ws) none ∙ nothing (length ws) in
+      omega (arith, n, long)
+    where
+      nothing : (l : ℕ) → 0 * l ≡ 0
+      nothing l = grind arith
+
+  line_moved : (at : ℕ) (groups : List ℕ) → t.moved ≡ Moved at groups → line_missed (Moved at groups) ≤ at_changed + count_by (lies_within (filter (mentions_one groups) gs)) gs
+  line_moved at groups is =
+      one_moved V us ws fs gs fo go alone (Moved at groups) at (lies_within (filter (mentions_one groups) gs)) others him
+    where
+      m : MovesUser us ws at groups
+      m = (moves V rows t goes at groups is).1
+
+      files : fs ≡ gs
+      files = ap (λ (r : Recorded). r.files) (sym (moves V rows t goes at groups is).0)
+
+      others : (i : ℕ) (w : Person) → slice_get ws i ≡ Some w → (i ≡ at → ⊥) → slice_get us i ≡ Some w
+      others i w got other = sym (ap (λ (l : List Person). slice_get l i) m.change.becomes ∙ set_other us at i m.change.after other) ∙ got
+
+      next_is : (i : ℕ) (w : Person) → slice_get ws i ≡ Some w → i ≡ at → m.change.after ≡ w
+      next_is i w got same =
+          person_same m.change.after w (sym (ap (λ (l : List Person). slice_get l at) m.change.becomes ∙ set_here us at m.change.after (got_in us at m.change.before m.change.was)) ∙ ap (slice_get ws) (sym same) ∙ got)
+
+      verdicts : (w : Person) → m.change.after ≡ w → (e : PathOf × Node) → lies_within (filter (mentions_one groups) gs) e ≡ false → (q : PathOf) → is_within q e.0 ≡ true
+          → option_map (λ (n : Node). V m.change.before n.label) (find path_cmp q fs) ≡ option_map (λ (n : Node). V w n.label) (find path_cmp q gs)
+      verdicts w next e out q within = ap (λ (l : Files). option_map (λ (n : Node). V m.change.before n.label) (find path_cmp q l)) files ∙ by (find path_cmp q gs) refl
+        where
+          by : (o : Option Node) → find path_cmp q gs ≡ o → option_map (λ (n : Node). V m.change.before n.label) o ≡ option_map (λ (n : Node). V w n.label) o
+          by None here = refl
+          by (Some n) here =
+              let none = any_found (λ x. mentions_one groups x && is_within x.0 e.0) gs q n (sym (any_filter (λ x. is_within x.0 e.0) (mentions_one groups) gs) ∙ out) here in
+              let unmet = false_from (mentions_one groups (q, n)) (λ c. clash (mentions_one groups (q, n) && is_within q e.0) (both _ _ c within) none) in
+              ap Some (sym (local m.change.after m.change.before n.label (agree us ws at groups m n.label unmet)) ∙ ap (λ u. V u n.label) next)
+
+      him : (i : ℕ) (w : Person) (e : PathOf × Node) → slice_get ws i ≡ Some w → i ≡ at → find path_cmp e.0 gs ≡ Some e.1 → lies_within (filter (mentions_one groups) gs) e ≡ false → IsKept V us ws fs gs fo go (Moved at groups) e i w
+      him i w e got same found out =
+          let there : find path_cmp e.0 fs ≡ Some e.1 = ap (find path_cmp e.0) files ∙ found in
+          record {
+            node = e.1;
+            user = m.change.before;
+            found = there;
+            was = ap (slice_get us) same ∙ m.change.was;
+            same = reach_kept V us ws fs gs fo go m.change.before w e.0 (verdicts w (next_is i w got same) e out) e.1 e.1 there found;
+          }
+
+  line_joined : t.moved ≡ Joined → line_missed Joined ≤ at_changed + length gs
+  line_joined is =
+      let j = (joins V rows t goes is).1 in
+      one_came V us ws fs gs fo go alone Joined (length us) (λ i w got other. joined_was us j.next i w (sym (ap (λ (l : List Person). slice_get l i) j.becomes) ∙ got) other)
+
+  line_left : (at : ℕ) → t.moved ≡ Left at → line_missed (Left at) ≤ at_changed + 0
+  line_left at is =
+      let j = (leaves V rows t goes at is).1 in
+      let n = none_moved V us ws fs gs fo go alone (Left at) (λ i w got. sym (ap (λ (l : List Person). slice_get l i) j.becomes ∙ left_was us at i) ∙ got) in
+      omega (arith, n)
+
+  line : (move : UsersMove) → t.moved ≡ move → line_missed move ≤ at_changed + moves_refreshed move gs
+  line Same is = line_same is
+  line Loaded is = line_loaded is
+  line (Moved at groups) is = line_moved at groups is
+  line Joined is = line_joined is
+  line (Left at) is = line_left at is
+
+  stands : reached_rows rows ≡ reached_rows (rows_of V us fs)
+  stands = ap reached_rows goes.rows_are
+
+  pub line_most : differing (user_left t.moved) (reached_rows rows) (reached_rows (rows_of V ws gs)) ≤ most_refreshed t
+  line_most =
+      let parts = line t.moved refl in
+      let all : at_changed ≡ length t.state.people.users * count_by (lies_within t.changed) gs =
+      (let long = length-map t.state.people.users _ in let told = sym goes.tells.changed in λ i. long i * count_by (lies_within (told i)) gs) in
+      subst (λ (r : Rows). differing (user_left t.moved) r (reached_rows (rows_of V ws gs)) ≤ most_refreshed t) (sym stands) (omega (arith, parts, all))
+
+  pub line_fits : length gs * length t.state.people.users < 2 ^ 64 → differing (user_left t.moved) (reached_rows rows) (reached_rows (rows_of V ws gs)) < 2 ^ 64
+  line_fits room =
+      let n = all_missed V us ws fs gs fo go t.moved in
+      let long : length gs * length ws ≡ length gs * length t.state.people.users = ap (λ k. length gs * k) (length-map t.state.people.users _) in
+      subst (λ (r : Rows). differing (user_left t.moved) r (reached_rows (rows_of V ws gs)) < 2 ^ 64) (sym stands) (omega (arith, n, long, room))

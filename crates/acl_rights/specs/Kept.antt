@@ -1,0 +1,12 @@
+-- For inner functions: rows of the state from which a line goes.
+use Rattle.std.specs.Prelude.{◌≡◌}
+use Rattle.acl_people.specs.Registers.{persons}
+use Rattle.acl_tree.specs.Step.{State}
+use Rattle.acl_tree.specs.Tells.{StagedState, Tells}
+use Rattle.acl_rights.specs.Tables.{Verdict, Rows, rows_of}
+
+-- the rows are those of some state, from which the line goes
+pub record GoesFrom (V : Verdict) (rows : Rows) (t : StagedState) : Type 0 where
+  pub state : State
+  pub rows_are : rows ≡ rows_of V (persons state.people) state.tree.files
+  pub tells : Tells state t

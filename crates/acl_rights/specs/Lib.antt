@@ -1,0 +1,4 @@
+pub mod Tables
+pub mod Stages
+pub mod Reach
+pub mod Kept

@@ -1,0 +1,68 @@
+-- Search along the path: what is granted where each recorded directory above grants execute.
+use Rattle.std.specs.Prelude.{ℕ, ◌+◌, ◌*◌, ◌||◌, not, Bool, List, map, filter, length, slice_get, Option, Some, None, option_map, option_and_then, count_by, if◌then◌else◌}
+use Rattle.std.specs.List.{list_any, list_all}
+use Rattle.std.specs.FinMap.{find}
+use Rattle.acl_entry.specs.Perms.{Perms}
+use Rattle.acl_entry.specs.Check.{has}
+use Rattle.acl_entry.specs.Person.{Person}
+use Rattle.acl_names.specs.Paths.{path_cmp}
+use Rattle.acl_edit.specs.declared.node.Node.{Node}
+use Rattle.acl_people.specs.Registers.{persons}
+use Rattle.acl_tree.specs.Below.{is_within, is_below}
+use Rattle.acl_tree.specs.Files.{PathOf, Files}
+use Rattle.acl_tree.specs.Step.{State}
+use Rattle.acl_tree.specs.Tells.{StagedState}
+use Rattle.acl_tree.specs.declared.moved.UsersMove.{UsersMove}
+use Rattle.acl_tree.specs.declared.moved.UsersMove.TheVariants.{Same, Loaded, Moved, Joined, Left}
+pub use Rattle.acl_reach.specs.Reach.{execute, can_search, passes_in, reach_cell, reached_from, reached_rows, reached_at}
+use Rattle.acl_reach.specs.Differing.{differing}
+use Rattle.acl_rights.specs.Tables.{Verdict, Rows, places_from}
+use Rattle.acl_rights.specs.Stages.{mentions_one}
+
+-- ---- in a state
+
+-- execute is granted on each recorded proper ancestor
+abbrev pub passes : Verdict → Files → Person → PathOf → Bool
+passes V fs u p = list_all (λ e. not (is_below e.0 p) || has (V u e.1.label) execute) fs
+
+-- what a user may do with a file, if the user can search each recorded directory above; else nothing
+abbrev pub reach : Verdict → Files → Person → PathOf × Node → ℕ
+reach V fs u e = if passes V fs u e.0 then V u e.1.label else 0
+
+abbrev pub reach_at : Verdict → State → ℕ → PathOf → Option ℕ
+reach_at V s user p = option_and_then (λ n. option_map (λ u. reach V s.tree.files u (p, n)) (slice_get (persons s.people) user)) (find path_cmp p s.tree.files)
+
+abbrev pub users_reaching : Verdict → State → PathOf → Perms → Option (List ℕ)
+users_reaching V s p q = option_map (λ n. places_from (λ u. has (reach V s.tree.files u (p, n)) q) 0 (persons s.people)) (find path_cmp p s.tree.files)
+
+abbrev pub files_reached : Verdict → State → ℕ → Perms → Option (List PathOf)
+files_reached V s user q = option_map (λ u. map (λ e. e.0) (filter (λ e. has (reach V s.tree.files u e) q) s.tree.files)) (slice_get (persons s.people) user)
+
+-- ---- how many verdicts along paths are new or other ones
+
+-- the place of the user who left
+abbrev pub user_left : UsersMove → Option ℕ
+user_left Same = None
+user_left Loaded = None
+user_left (Moved user groups) = None
+user_left Joined = None
+user_left (Left user) = Some user
+
+-- the pairs of a user and a path whose verdict along the path is new or another
+abbrev pub unlike : UsersMove → Rows → Rows → ℕ
+unlike move old new = differing (user_left move) (reached_rows old) (reached_rows new)
+
+-- the file is one of some files, or below one
+abbrev pub lies_within : Files → PathOf × Node → Bool
+lies_within tops e = list_any (λ top. is_within top.0 e.0) tops
+
+-- the most verdicts that the users' move changes, beside those of changed files
+abbrev pub moves_refreshed : UsersMove → Files → ℕ
+moves_refreshed Same fs = 0
+moves_refreshed Loaded fs = 0
+moves_refreshed (Moved user groups) fs = count_by (lies_within (filter (mentions_one groups) fs)) fs
+moves_refreshed Joined fs = length fs
+moves_refreshed (Left user) fs = 0
+
+abbrev pub most_refreshed : StagedState → ℕ
+most_refreshed t = length t.state.people.users * count_by (lies_within t.changed) t.state.tree.files + moves_refreshed t.moved t.state.tree.files

@@ -1,0 +1,43 @@
+-- A line on a table.
+use Rattle.std.specs.Prelude.{ℕ, ◌+◌, ◌*◌, Bool, true, false, length, count_by}
+use Rattle.acl_tree.specs.Files.{Files}
+use Rattle.acl_tree.specs.Step.{State}
+use Rattle.acl_tree.specs.Tells.{StagedState, Tells}
+use Rattle.acl_tree.specs.declared.moved.UsersMove.{UsersMove}
+use Rattle.acl_tree.specs.declared.moved.UsersMove.TheVariants.{Same, Loaded, Moved, Joined, Left}
+pub use Rattle.acl_group_files.specs.Groups.{mentions_one, mentioning, sum_mentioning}
+use Rattle.acl_rights.specs.Tables.{Verdict, Table, IsWhole}
+
+-- the index is the whole table of some state, from which the line goes
+pub record CanStage (V : Verdict) (index : Table) (t : StagedState) : Type 0 where
+  pub state : State
+  pub whole : IsWhole V state index
+  pub tells : Tells state t
+
+-- the most verdicts that the users' move costs
+abbrev pub moves_asked : UsersMove → Files → ℕ
+moves_asked Same fs = 0
+moves_asked Loaded fs = 0
+moves_asked (Moved user groups) fs = count_by (mentions_one groups) fs
+moves_asked Joined fs = length fs
+moves_asked (Left user) fs = 0
+
+-- the most verdicts that a line costs
+abbrev pub most_asked : StagedState → ℕ
+most_asked t = length t.changed * length t.state.people.users + moves_asked t.moved t.state.tree.files
+
+-- the most labels that are fetched as users move
+abbrev pub most_looked : UsersMove → Files → ℕ
+most_looked Same fs = 0
+most_looked Loaded fs = 0
+most_looked (Moved user groups) fs = sum_mentioning groups fs
+most_looked Joined fs = 0
+most_looked (Left user) fs = 0
+
+-- whether one user has other groups
+abbrev pub moves_groups : UsersMove → Bool
+moves_groups Same = false
+moves_groups Loaded = false
+moves_groups (Moved user groups) = true
+moves_groups Joined = false
+moves_groups (Left user) = false

@@ -1,0 +1,64 @@
+-- The whole table of verdicts of a state.
+use Rattle.std.specs.Prelude.{◌≡◌, ℕ, List, length, map, filter, slice_get, Option, option_map, option_and_then, refl}
+use Rattle.std.specs.Coded.{Coded, code_by, coded×, coded_ℕ}
+use Rattle.std.specs.FinMap.{find}
+use Rattle.acl_entry.specs.Check.{has}
+use Rattle.acl_entry.specs.Perms.{Perms}
+use Rattle.acl_entry.specs.Person.{Person}
+use Rattle.acl_names.specs.Paths.{path_cmp}
+use Rattle.acl_people.specs.Registers.{persons}
+use Rattle.acl_edit.specs.declared.node.Node.{Node}
+use Rattle.acl_tree.specs.Files.{PathOf, Files}
+use Rattle.acl_tree.specs.Step.{State}
+use Rattle.acl_tree.specs.Tells.{coded_files}
+pub use Rattle.acl_verdicts.specs.Rows.{Verdict, Rows, coded_rows, places_from, who_in, grants_to, may_in}
+
+-- what each user may do with a file
+abbrev pub cells_of : Verdict → List Person → Node → List ℕ
+cells_of V users n = map (λ u. V u n.label) users
+
+abbrev pub rows_of : Verdict → List Person → Files → Rows
+rows_of V users fs = map (λ e. (e.0, cells_of V users e.1)) fs
+
+-- how many users there are, the files, and a row for each
+pub record Table : Type 0 where
+  pub users : ℕ
+  pub files : Files
+  pub rows : Rows
+
+abbrev pub coded_table : Coded Table
+coded_table =
+    code_by (ℕ × (Files × Rows)) (coded× coded_ℕ (coded× coded_files coded_rows)) (λ t. (t.users, (t.files, t.rows))) (λ p. record { users = p.0; files = p.1.0; rows = p.1.1 }) (λ _. refl)
+
+-- the whole table of a state: every user against every file, judged afresh
+pub record IsWhole (V : Verdict) (s : State) (t : Table) : Type 0 where
+  pub users : t.users ≡ length s.people.users
+  pub files : t.files ≡ s.tree.files
+  pub rows : t.rows ≡ rows_of V (persons s.people) s.tree.files
+
+-- a staged table, how many labels were fetched for it, and how many verdicts along paths are new or other ones
+pub record Staged : Type 0 where
+  pub table : Table
+  pub looked : ℕ
+  pub refreshed : ℕ
+
+abbrev pub coded_staged : Coded Staged
+coded_staged = code_by (Table × (ℕ × ℕ)) (coded× coded_table (coded× coded_ℕ coded_ℕ)) (λ s. (s.table, (s.looked, s.refreshed))) (λ p. record { table = p.0; looked = p.1.0; refreshed = p.1.1 }) (λ _. refl)
+
+-- ---- what is asked of a table
+
+abbrev pub cell_at : Table → ℕ → PathOf → Option ℕ
+cell_at t user p = option_and_then (λ cells. slice_get cells user) (find path_cmp p t.rows)
+
+-- ---- what is asked of a state
+
+abbrev pub verdict_at : Verdict → State → ℕ → PathOf → Option ℕ
+verdict_at V s user p = option_and_then (λ n. option_map (λ u. V u n.label) (slice_get (persons s.people) user)) (find path_cmp p s.tree.files)
+
+-- the users to whom a request is granted on a file
+abbrev pub users_granted : Verdict → State → PathOf → Perms → Option (List ℕ)
+users_granted V s p q = option_map (λ n. places_from (λ u. has (V u n.label) q) 0 (persons s.people)) (find path_cmp p s.tree.files)
+
+-- the files on which a request is granted to a user
+abbrev pub files_granted : Verdict → State → ℕ → Perms → Option (List PathOf)
+files_granted V s user q = option_map (λ u. map (λ e. e.0) (filter (λ e. has (V u e.1.label) q) s.tree.files)) (slice_get (persons s.people) user)

@@ -1,0 +1,338 @@
+//! The index: the whole table of verdicts of a state, and of verdicts along paths.
+
+ghost use Rattle.std.specs.Prelude.{◌≡◌, ◌+◌, ◌*◌, ◌<◌, ◌≤◌, ◌^◌, ◌↔◌, ℕ, List, length, map, IfOk, OnOk, option_map, if◌then◌else◌, nat_lt, true, Some, None};
+ghost use Rattle.std.specs.Option.{option_copied};
+ghost use Rattle.std.specs.FinMap.{find};
+ghost use Rattle.acl_entry.specs.Person.{Person};
+ghost use Rattle.acl_names.specs.Paths.{path_cmp};
+ghost use Rattle.acl_tree.specs.Step as step;
+
+use crate::judged::judged_tree;
+use crate::reach::{NewReached, staged_reached};
+use crate::rows::{NewRows, staged_rows};
+use acl_entry::{Perm, Requests};
+use acl_group_files::GroupLists;
+use acl_names::Path;
+use acl_people::People;
+use acl_reach::reached_of;
+use acl_tree::{Staged, Tree};
+use acl_verdicts::{Cells, Judge, granted_paths, granted_users};
+use path_map::PathMap;
+use std::alloc::{AllocError, Global};
+use std::marker::{Model, PhantomData};
+use std::rc::Rc;
+
+/// The whole table of verdicts of a state: what each user may do with each file, with and without search along
+/// the file's path, and for each group the files that mention it.
+#[derive(Drop)]
+pub struct Index<J> {
+    users: usize,
+    tree: Tree,
+    rows: PathMap<Cells>,
+    reached: PathMap<Cells>,
+    lists: GroupLists,
+    judge: PhantomData<J>,
+}
+
+impl<J> Model for Index<J> {
+    ghost use Rattle.acl_rights.specs.Tables.{Table, coded_table};
+    ghost use Rattle.std.specs.Prelude.{◌≡◌};
+    ghost use Rattle.acl_group_files.specs.Groups.{AreLists};
+    ghost use Rattle.acl_rights.specs.Reach.{reached_rows};
+
+    ghost Value = { Table };
+
+    ghost coded = { coded_table };
+
+    ghost view = { λ a. record { users = a.users; files = a.tree.files; rows = a.rows } };
+
+    ghost invariant = { λ a. AreLists a.tree.files a.lists × (a.reached ≡ reached_rows a.rows) };
+}
+
+/// A whole new table, not yet in place. It has to be put in place by [`Index::commit`] or discarded by
+/// [`Rows::give_up`].
+pub struct Rows<J> {
+    index: Index<J>,
+    looked: u64,
+    refreshed: u64,
+}
+
+impl<J> Model for Rows<J> {
+    ghost use Rattle.acl_rights.specs.Tables.{Staged as StagedTable, coded_staged};
+
+    ghost Value = { StagedTable };
+
+    ghost coded = { coded_staged };
+
+    ghost view = { λ a. record { table = a.index; looked = a.looked; refreshed = a.refreshed } };
+}
+
+impl<J: Judge> Rows<J> {
+    /// How many labels were fetched for a change of memberships. Allocates nothing.
+    pub fn looked(&self) -> u64
+        ensures { result ≡ self.now.looked }
+    {
+        self.looked
+    }
+
+    /// How many verdicts along paths are new or other ones than before. Allocates nothing.
+    pub fn refreshed(&self) -> u64
+        ensures { result ≡ self.now.refreshed }
+    {
+        self.refreshed
+    }
+
+    /// Discards the table. Allocates nothing.
+    pub fn give_up(self) {
+        let Rows {
+            index: _index,
+            looked: _looked,
+            refreshed: _refreshed,
+        } = self;
+    }
+}
+
+impl<J: Judge> Index<J> {
+    ghost use Rattle.acl_rights.specs.Tables.{Table, IsWhole, cell_at, verdict_at, who_in, may_in, users_granted, files_granted};
+    ghost use Rattle.acl_rights.specs.Stages.{CanStage, most_asked, most_looked, moves_groups};
+    ghost use Rattle.acl_rights.specs.Reach.{most_refreshed, unlike, reached_rows, reached_at, reach_at, users_reaching, files_reached};
+
+    /// The table of a state: a verdict is asked for on every user and every file. Fails only if memory runs out.
+    pub fn build(
+        alloc: Global,
+        judge: &mut J,
+        tree: &Tree,
+        people: &People,
+    ) -> Result<Index<J>, AllocError>
+        requires room { J.asked_of judge.old + length tree.now.files * length people.now.users < 2 ^ 64 }
+        ensures whole { IfOk result (λ index. IsWhole J.verdict_of (record { tree = tree.now; people = people.now }) index) }
+        ensures asked { OnOk result (J.asked_of judge.new ≡ J.asked_of judge.old + length tree.now.files * length people.now.users) }
+        ensures at_most { J.asked_of judge.new ≤ J.asked_of judge.old + length tree.now.files * length people.now.users }
+    {
+        let lists = GroupLists::of_tree(alloc, tree)?;
+        let shared = tree.share()?;
+        let rows = judged_tree(alloc, judge, tree, people.subjects())?;
+        let reached = reached_of(alloc, &rows, &PathMap::new(alloc))?;
+        Ok(Index {
+            users: people.users(),
+            tree: shared,
+            rows,
+            reached,
+            lists,
+            judge: PhantomData,
+        })
+    }
+
+    /// The table of the state after a line. The judge is asked for verdicts that the line can have changed, and
+    /// for no others. Fails only if memory runs out.
+    pub fn stage(
+        &self,
+        alloc: Global,
+        judge: &mut J,
+        staged: &Staged,
+    ) -> Result<Rows<J>, AllocError>
+        requires room { J.asked_of judge.old + length staged.now.state.tree.files * length staged.now.state.people.users < 2 ^ 64 }
+        requires goes { CanStage J.verdict_of self.now staged.now }
+        ensures whole { IfOk result (λ rows. IsWhole J.verdict_of staged.now.state rows.table) }
+        ensures at_most { J.asked_of judge.new ≤ J.asked_of judge.old + most_asked staged.now }
+        ensures bounded { J.asked_of judge.new ≤ J.asked_of judge.old + length staged.now.state.tree.files * length staged.now.state.people.users }
+        ensures looked_most { IfOk result (λ rows. rows.looked ≤ most_looked staged.now.moved staged.now.state.tree.files) }
+        ensures looked_least { IfOk result (λ rows. moves_groups staged.now.moved ≡ true → J.asked_of judge.new ≤ J.asked_of judge.old + rows.looked) }
+        ensures refreshed_most { IfOk result (λ rows. rows.refreshed ≤ most_refreshed staged.now) }
+        ensures refreshed_least { IfOk result (λ rows. unlike staged.now.moved self.now.rows rows.table.rows ≤ rows.refreshed) }
+    {
+        staged.tree().is_sound();
+        let lists = self.lists.staged(
+            alloc,
+            &self.tree,
+            staged.tree(),
+            staged.changed(),
+            staged.gone(),
+        )?;
+        let tree = staged.tree().share()?;
+        let new = staged_rows(alloc, judge, &self.rows, &self.lists, staged)?;
+        let NewRows { rows, looked } = new;
+        let along = staged_reached::<J>(alloc, &self.rows, &self.reached, &rows, staged)?;
+        let NewReached { reached, refreshed } = along;
+        let index = Index {
+            users: staged.people().users(),
+            tree,
+            rows,
+            reached,
+            lists,
+            judge: PhantomData,
+        };
+        Ok(Rows {
+            index,
+            looked,
+            refreshed,
+        })
+    }
+
+    /// Puts a staged table in place of this one. Allocates nothing.
+    pub fn commit(&mut self, staged: Rows<J>)
+        ensures { self.new ≡ staged.table }
+    {
+        let Rows {
+            index,
+            looked: _looked,
+            refreshed: _refreshed,
+        } = staged;
+        *self = index;
+    }
+
+    fn cell(&self, user: usize, path: &Path) -> Option<Requests>
+        ensures { result ≡ cell_at self.now user path.now }
+    {
+        let cells = self.rows.get(path)?;
+        cells.get(user)
+    }
+
+    /// What a user may do with a file, if both are there. Allocates nothing.
+    pub fn get(&self, user: usize, path: &Path) -> Option<Requests>
+        ensures cell { result ≡ cell_at self.now user path.now }
+        ensures verdict { (s : step.State) → IsWhole J.verdict_of s self.now → result ≡ verdict_at J.verdict_of s user path.now }
+    {
+        self.cell(user, path)
+    }
+
+    fn users(
+        &self,
+        alloc: Global,
+        path: &Path,
+        request: Perm,
+    ) -> Result<Option<Vec<usize>>, AllocError>
+        ensures { IfOk result (λ found. option_map (λ users. users.items) found ≡ option_map (who_in request) (find path_cmp path.now self.now.rows)) }
+    {
+        let Some(cells) = self.row(path) else {
+            return Ok(None);
+        };
+        let users = granted_users(alloc, cells, request)?;
+        Ok(Some(users))
+    }
+
+    /// The users who are granted a request on a file, if it is there, by their places. Fails
+    /// only if memory runs out.
+    pub fn who(
+        &self,
+        alloc: Global,
+        path: &Path,
+        request: Perm,
+    ) -> Result<Option<Vec<usize>>, AllocError>
+        ensures told { IfOk result (λ found. option_map (λ users. users.items) found ≡ option_map (who_in request) (find path_cmp path.now self.now.rows)) }
+        ensures whole { IfOk result (λ found. (s : step.State) → IsWhole J.verdict_of s self.now → option_map (λ users. users.items) found ≡ users_granted J.verdict_of s path.now request) }
+    {
+        self.users(alloc, path, request)
+    }
+
+    fn paths(
+        &self,
+        alloc: Global,
+        user: usize,
+        request: Perm,
+    ) -> Result<Option<Vec<Rc<Path>>>, AllocError>
+        ensures { IfOk result (λ found. option_map (λ paths. map (λ p. p.value) paths.items) found ≡ (if nat_lt user self.now.users then Some (may_in request user self.now.rows) else None)) }
+    {
+        if user >= self.users {
+            return Ok(None);
+        }
+        let paths = granted_paths(alloc, &self.rows, user, request)?;
+        Ok(Some(paths))
+    }
+
+    /// The files on which a request is granted to a user, if the user is there, in path order. Fails
+    /// only if memory runs out.
+    pub fn may(
+        &self,
+        alloc: Global,
+        user: usize,
+        request: Perm,
+    ) -> Result<Option<Vec<Rc<Path>>>, AllocError>
+        ensures told { IfOk result (λ found. option_map (λ paths. map (λ p. p.value) paths.items) found ≡ (if nat_lt user self.now.users then Some (may_in request user self.now.rows) else None)) }
+        ensures whole { IfOk result (λ found. (s : step.State) → IsWhole J.verdict_of s self.now → option_map (λ paths. map (λ p. p.value) paths.items) found ≡ files_granted J.verdict_of s user request) }
+    {
+        self.paths(alloc, user, request)
+    }
+
+    fn reach_cell(&self, user: usize, path: &Path) -> Option<Requests>
+        ensures { result ≡ reached_at self.now.rows user path.now }
+    {
+        let cells = self.reached.get(path)?;
+        cells.get(user)
+    }
+
+    /// What a user may do with a file, if both are there and the user can search each recorded directory above; else
+    /// nothing. Allocates nothing.
+    pub fn get_reach(&self, user: usize, path: &Path) -> Option<Requests>
+        ensures cell { result ≡ reached_at self.now.rows user path.now }
+        ensures reach { (s : step.State) → IsWhole J.verdict_of s self.now → result ≡ reach_at J.verdict_of s user path.now }
+    {
+        self.reach_cell(user, path)
+    }
+
+    fn reaching(
+        &self,
+        alloc: Global,
+        path: &Path,
+        request: Perm,
+    ) -> Result<Option<Vec<usize>>, AllocError>
+        ensures { IfOk result (λ found. option_map (λ users. users.items) found ≡ option_map (who_in request) (find path_cmp path.now (reached_rows self.now.rows))) }
+    {
+        let Some(cells) = self.reached.get(path) else {
+            return Ok(None);
+        };
+        let users = granted_users(alloc, cells.as_slice(), request)?;
+        Ok(Some(users))
+    }
+
+    /// The users who reach a file with a request, if it is there, by their places. Fails
+    /// only if memory runs out.
+    pub fn who_reach(
+        &self,
+        alloc: Global,
+        path: &Path,
+        request: Perm,
+    ) -> Result<Option<Vec<usize>>, AllocError>
+        ensures told { IfOk result (λ found. option_map (λ users. users.items) found ≡ option_map (who_in request) (find path_cmp path.now (reached_rows self.now.rows))) }
+        ensures whole { IfOk result (λ found. (s : step.State) → IsWhole J.verdict_of s self.now → option_map (λ users. users.items) found ≡ users_reaching J.verdict_of s path.now request) }
+    {
+        self.reaching(alloc, path, request)
+    }
+
+    fn reached_paths(
+        &self,
+        alloc: Global,
+        user: usize,
+        request: Perm,
+    ) -> Result<Option<Vec<Rc<Path>>>, AllocError>
+        ensures { IfOk result (λ found. option_map (λ paths. map (λ p. p.value) paths.items) found ≡ (if nat_lt user self.now.users then Some (may_in request user (reached_rows self.now.rows)) else None)) }
+    {
+        if user >= self.users {
+            return Ok(None);
+        }
+        let paths = granted_paths(alloc, &self.reached, user, request)?;
+        Ok(Some(paths))
+    }
+
+    /// The files that a user reaches with a request, if the user is there, in path order. Fails
+    /// only if memory runs out.
+    pub fn may_reach(
+        &self,
+        alloc: Global,
+        user: usize,
+        request: Perm,
+    ) -> Result<Option<Vec<Rc<Path>>>, AllocError>
+        ensures told { IfOk result (λ found. option_map (λ paths. map (λ p. p.value) paths.items) found ≡ (if nat_lt user self.now.users then Some (may_in request user (reached_rows self.now.rows)) else None)) }
+        ensures whole { IfOk result (λ found. (s : step.State) → IsWhole J.verdict_of s self.now → option_map (λ paths. map (λ p. p.value) paths.items) found ≡ files_reached J.verdict_of s user request) }
+    {
+        self.reached_paths(alloc, user, request)
+    }
+
+    /// What each user may do with a file, if it is there. Allocates nothing.
+    pub fn row(&self, path: &Path) -> Option<&[Requests]>
+        ensures row { option_copied result ≡ find path_cmp path.now self.now.rows }
+    {
+        let cells = self.rows.get(path)?;
+        Some(cells.as_slice())
+    }
+}

@@ -1,0 +1,79 @@
+//! Rows of files on which all verdicts are asked for.
+
+ghost use Rattle.std.specs.Prelude.{◌≡◌, ◌+◌, ◌*◌, ◌<◌, ◌≤◌, ◌^◌, length, map, IfOk, OnOk};
+ghost use Rattle.acl_rights.specs.Tables.{cells_of, rows_of};
+
+use acl_entry::Subject;
+use acl_tree::{Record, Tree};
+use acl_verdicts::{Cells, Judge, judged};
+use path_map::{Entry, PathMap};
+use std::alloc::{AllocError, Global};
+use std::rc::Rc;
+
+/// The row of a file. Verdicts that are those of another row share its memory.
+fn judged_row<J: Judge>(
+    alloc: Global,
+    judge: &mut J,
+    file: &Record,
+    users: &[Rc<Subject>],
+    other: Option<&Cells>,
+) -> Result<Rc<Entry<Cells>>, AllocError>
+    requires { J.asked_of judge.old + length users.now < 2 ^ 64 }
+    ensures row { IfOk result (λ row. row.value ≡ (file.now.0, cells_of J.verdict_of (map (λ s. s.value) users.now) file.now.1)) }
+    ensures asked { OnOk result (J.asked_of judge.new ≡ J.asked_of judge.old + length users.now) }
+    ensures at_most { J.asked_of judge.new ≤ J.asked_of judge.old + length users.now }
+{
+    let path = file.shared_path().clone()?;
+    let cells = judged(alloc, judge, users, &file.value().label, other)?;
+    Ok(Rc::new(alloc, Entry::new(path, cells))?)
+}
+
+/// The last row, for the next to share.
+pub fn last_row(rows: &[Rc<Entry<Cells>>]) -> Option<&Cells> {
+    match rows.last() {
+        Some(row) => Some(row.value()),
+        None => None,
+    }
+}
+
+/// A row for each file of a tree.
+pub fn judged_tree<J: Judge>(
+    alloc: Global,
+    judge: &mut J,
+    tree: &Tree,
+    users: &[Rc<Subject>],
+) -> Result<PathMap<Cells>, AllocError>
+    requires { J.asked_of judge.old + length tree.now.files * length users.now < 2 ^ 64 }
+    ensures rows { IfOk result (λ rows. rows ≡ rows_of J.verdict_of (map (λ s. s.value) users.now) tree.now.files) }
+    ensures asked { OnOk result (J.asked_of judge.new ≡ J.asked_of judge.old + length tree.now.files * length users.now) }
+    ensures at_most { J.asked_of judge.new ≤ J.asked_of judge.old + length tree.now.files * length users.now }
+{
+    tree.is_sound();
+    let mut rows = Vec::new(alloc);
+    let mut files = tree.iter();
+    while let Some(file) = files.next() {
+        let row = judged_row(alloc, judge, file, users, last_row(&rows))?;
+        rows.push(row)?;
+    }
+    let all = PathMap::from_sorted(alloc, &rows)?;
+    Ok(all)
+}
+
+/// A row for each of some files.
+pub fn judged_records<J: Judge>(
+    alloc: Global,
+    judge: &mut J,
+    files: &[Rc<Record>],
+    users: &[Rc<Subject>],
+) -> Result<Vec<Rc<Entry<Cells>>>, AllocError>
+    requires { J.asked_of judge.old + length files.now * length users.now < 2 ^ 64 }
+    ensures rows { IfOk result (λ rows. map (λ r. r.value) rows.items ≡ rows_of J.verdict_of (map (λ s. s.value) users.now) (map (λ r. r.value) files.now)) }
+    ensures at_most { J.asked_of judge.new ≤ J.asked_of judge.old + length files.now * length users.now }
+{
+    let mut rows = Vec::with_capacity(alloc, files.len())?;
+    for file in files {
+        let row = judged_row(alloc, judge, file, users, last_row(&rows))?;
+        rows.push(row)?;
+    }
+    Ok(rows)
+}
