@@ -14,6 +14,8 @@ mod files;
 #[cfg(test)]
 mod loads;
 #[cfg(test)]
+mod people;
+#[cfg(test)]
 mod restores;
 #[cfg(test)]
 mod rm;

@@ -4,10 +4,11 @@
 use crate::shown::{expect_files, expect_text, listing, outcome};
 use acl_dump::{DumpUse, read_dump};
 use acl_edit::{Change, Edit, Kind, Specs};
+use acl_entry::Id;
 use acl_names::{Name, Path, read_path};
 use acl_people::People;
 use acl_text::{Sep, Want, read_entries};
-use acl_tree::{Command, DumpRecords, NewFile, Paths, State, Table};
+use acl_tree::{Command, DumpRecords, Membership, NewFile, NewUser, Paths, State, Table, UserName};
 use std::alloc::Global;
 use std::process::Abort;
 
@@ -23,6 +24,12 @@ pub enum Line {
     Creat(&'static [u8], Kind, u16, u16, &'static [u8]),
     /// Whether directories are removed too, with all files below.
     Rm(bool, &'static [&'static [u8]]),
+    /// A user and a group.
+    Gpasswd(&'static [u8], &'static [u8], Membership),
+    Usermod(&'static [u8], &'static [u8]),
+    /// A name, an id and a group.
+    Useradd(&'static [u8], u32, &'static [u8]),
+    Userdel(&'static [u8]),
 }
 
 /// A command and what comes of it.
@@ -73,6 +80,14 @@ fn name(rt: &impl Abort, alloc: Global, text: &[u8]) -> Name {
     Name::from_bytes(alloc, text).expect(rt, "memory")
 }
 
+fn new_user(rt: &impl Abort, alloc: Global, text: &[u8], uid: u32, group: &[u8]) -> NewUser {
+    NewUser {
+        name: UserName::new(name(rt, alloc, text)).expect(rt, "a user's name"),
+        uid: Id::new(uid).expect(rt, "an id"),
+        group: name(rt, alloc, group),
+    }
+}
+
 /// The command of a row.
 pub fn command(rt: &impl Abort, alloc: Global, people: &People, line: &Line) -> Command<'static> {
     match line {
@@ -103,6 +118,21 @@ pub fn command(rt: &impl Abort, alloc: Global, people: &People, line: &Line) -> 
         Line::Rm(recursive, names) => Command::Rm {
             paths: paths(rt, alloc, names),
             recursive: *recursive,
+        },
+        Line::Gpasswd(user, group, change) => Command::Gpasswd {
+            user: name(rt, alloc, user),
+            group: name(rt, alloc, group),
+            change: *change,
+        },
+        Line::Usermod(user, group) => Command::Usermod {
+            user: name(rt, alloc, user),
+            group: name(rt, alloc, group),
+        },
+        Line::Useradd(text, uid, group) => {
+            Command::Useradd(new_user(rt, alloc, text, *uid, group))
+        }
+        Line::Userdel(user) => Command::Userdel {
+            user: name(rt, alloc, user),
         },
     }
 }

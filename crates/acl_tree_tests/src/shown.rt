@@ -1,7 +1,7 @@
 //! What comes of a command, and what files are, as texts.
 use crate::rows::path;
 use acl_edit::{Kind, Node};
-use acl_entry::{Acl, Id, Label, Subject};
+use acl_entry::{Acl, Id, Label, Perm, Requests, Subject, granted};
 use acl_names::{Name, Path, append_path};
 use acl_people::People;
 use acl_text::{Names, append_id, append_short};
@@ -24,7 +24,7 @@ fn words(fault: &TreeFault) -> &'static [u8] {
         TreeFault::AlreadyLoaded => b"already loaded",
         TreeFault::Text(_) => b"text ",
         TreeFault::UserExists { .. } => b"user exists ",
-        TreeFault::UidExists { .. } => b"user id in use",
+        TreeFault::UidExists { .. } => b"user id in use ",
         TreeFault::TooManyUsers => b"too many users",
         TreeFault::NoMemory => b"no memory",
     }
@@ -50,11 +50,12 @@ fn name_of(fault: &TreeFault) -> Option<&Name> {
     }
 }
 
-/// The fault of a text or of an edit.
+/// The fault of a text or of an edit, or an id.
 fn inner(rt: &impl Abort, alloc: Global, fault: &TreeFault) -> String {
     let text = match fault {
         TreeFault::Text(fault) => format!(in alloc; "{:?}, {}", fault.kind, fault.at),
         TreeFault::Edit { fault, .. } => format!(in alloc; ": {fault:?}"),
+        TreeFault::UidExists { id } => format!(in alloc; "{}", id.number()),
         _ => format!(in alloc; ""),
     };
     text.expect(rt, "memory")
@@ -85,10 +86,27 @@ fn fault_text(rt: &impl Abort, alloc: Global, fault: &TreeFault) -> Vec<u8> {
     text
 }
 
-fn moved(users: &UsersMove) -> &'static str {
-    match users {
-        UsersMove::Same => "",
-        UsersMove::Loaded => ", users loaded",
+fn moved(rt: &impl Abort, alloc: Global, users: &UsersMove) -> String {
+    let text = match users {
+        UsersMove::Same => format!(in alloc; ""),
+        UsersMove::Loaded => format!(in alloc; ", users loaded"),
+        UsersMove::Moved { user, .. } => format!(in alloc; ", user {user} moved:"),
+        UsersMove::Joined => format!(in alloc; ", a user joined"),
+        UsersMove::Left { user } => format!(in alloc; ", user {user} left"),
+    };
+    text.expect(rt, "memory")
+}
+
+fn push_ids(rt: &impl Abort, text: &mut Vec<u8>, ids: &[Id]) {
+    for id in ids {
+        push(rt, text, b" ");
+        append_id(text, *id, None).expect(rt, "memory");
+    }
+}
+
+fn push_moved(rt: &impl Abort, text: &mut Vec<u8>, users: &UsersMove) {
+    if let UsersMove::Moved { groups, .. } = users {
+        push_ids(rt, text, groups.as_slice());
     }
 }
 
@@ -96,10 +114,12 @@ fn moved(users: &UsersMove) -> &'static str {
 fn staged_text(rt: &impl Abort, alloc: Global, staged: &Staged) -> Vec<u8> {
     let changed = staged.changed().len();
     let gone = staged.gone().len();
-    let users = moved(staged.moved());
-    format!(in alloc; "done: {changed} changed, {gone} gone{users}")
+    let users = moved(rt, alloc, staged.moved());
+    let mut text = format!(in alloc; "done: {changed} changed, {gone} gone{users}")
         .expect(rt, "memory")
-        .into_bytes()
+        .into_bytes();
+    push_moved(rt, &mut text, staged.moved());
+    text
 }
 
 /// Runs a command, and says what came of it.
@@ -237,4 +257,38 @@ pub fn listing(rt: &impl Abort, alloc: Global, tree: &Tree, people: &People) -> 
     push_files(rt, &mut text, tree, people);
     push_users(rt, &mut text, people);
     text
+}
+
+fn push_request(rt: &impl Abort, text: &mut Vec<u8>, requests: Requests, number: u8) {
+    let perm = Perm::from_number(number).expect(rt, "permissions");
+    if requests.has(perm) {
+        push(rt, text, b" ");
+        push(rt, text, &perm.text());
+    }
+}
+
+/// What a user is granted on a file: the requests from execute to all.
+fn granted_text(rt: &impl Abort, alloc: Global, user: &Subject, label: &Label) -> Vec<u8> {
+    let requests = granted(user, label);
+    let mut text = Vec::new(alloc);
+    for number in 1..8 {
+        push_request(rt, &mut text, requests, number);
+    }
+    text
+}
+
+/// A user is granted these requests on a file.
+pub fn expect_granted(
+    rt: &impl Abort,
+    alloc: Global,
+    state: &State,
+    user: &[u8],
+    file: &[u8],
+    want: &str,
+) {
+    let at = state.people().find_user(user).expect(rt, "a user");
+    let user = state.people().subject(at).expect(rt, "a user");
+    let path = path(rt, alloc, file);
+    let node = state.tree().get(&path).expect(rt, "a file");
+    expect_text(rt, granted_text(rt, alloc, user, &node.label), want);
 }

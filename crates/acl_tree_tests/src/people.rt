@@ -1,0 +1,388 @@
+//! Memberships, primary groups, and users who come and go.
+use crate::rows::{Line, Row, after, command, expect_outcome};
+use crate::shown::{expect_granted, expect_text, listing};
+use crate::texts::{FIVE, GROUP, PEOPLE};
+use acl_tree::{Command, Membership, State, Table};
+use std::alloc::Global;
+use std::process::Abort;
+
+static FAULTS: [Row; 12] = [
+    // The user before the group.
+    Row {
+        line: Line::Gpasswd(b"nosuch", b"none", Membership::Add),
+        outcome: "no such user nosuch",
+        files: &[],
+    },
+    Row {
+        line: Line::Gpasswd(b"joe", b"none", Membership::Remove),
+        outcome: "no such group none",
+        files: &[],
+    },
+    Row {
+        line: Line::Gpasswd(b"joe", b"adm", Membership::Remove),
+        outcome: "not a member",
+        files: &[],
+    },
+    // The primary group does not make a member.
+    Row {
+        line: Line::Gpasswd(b"joe", b"users", Membership::Remove),
+        outcome: "not a member",
+        files: &[],
+    },
+    Row {
+        line: Line::Usermod(b"1003", b"99"),
+        outcome: "no such user 1003",
+        files: &[],
+    },
+    Row {
+        line: Line::Usermod(b"joe", b"99"),
+        outcome: "no such group 99",
+        files: &[],
+    },
+    // The name before the id, the id before the group.
+    Row {
+        line: Line::Useradd(b"joe", 1001, b"none"),
+        outcome: "user exists joe",
+        files: &[],
+    },
+    Row {
+        line: Line::Useradd(b"eve", 1001, b"none"),
+        outcome: "user id in use 1001",
+        files: &[],
+    },
+    Row {
+        line: Line::Useradd(b"eve", 1003, b"none"),
+        outcome: "no such group none",
+        files: &[],
+    },
+    Row {
+        line: Line::Userdel(b"nosuch"),
+        outcome: "no such user nosuch",
+        files: &[],
+    },
+    // Digits alone are an id.
+    Row {
+        line: Line::Userdel(b"50"),
+        outcome: "no such user 50",
+        files: &[],
+    },
+    Row {
+        line: Line::Usermod(b"4294967295", b"staff"),
+        outcome: "no such user 4294967295",
+        files: &[],
+    },
+];
+
+/// Users is the primary group of joe.
+static JOINS: [Row; 3] = [
+    Row {
+        line: Line::Gpasswd(b"joe", b"users", Membership::Add),
+        outcome: "done: 0 changed, 0 gone",
+        files: &[],
+    },
+    Row {
+        line: Line::Gpasswd(b"joe", b"adm", Membership::Add),
+        outcome: "done: 0 changed, 0 gone, user 1 moved: 70",
+        files: &[],
+    },
+    // Once more, by ids.
+    Row {
+        line: Line::Gpasswd(b"1000", b"70", Membership::Add),
+        outcome: "done: 0 changed, 0 gone",
+        files: &[],
+    },
+];
+
+static LEAVES: [Row; 3] = [
+    Row {
+        line: Line::Gpasswd(b"joe", b"adm", Membership::Remove),
+        outcome: "done: 0 changed, 0 gone, user 1 moved: 70",
+        files: &[],
+    },
+    Row {
+        line: Line::Chmod(0o770, false, &[b"pub"]),
+        outcome: "done: 1 changed, 0 gone",
+        files: &[],
+    },
+    Row {
+        line: Line::Gpasswd(b"joe", b"users", Membership::Remove),
+        outcome: "done: 0 changed, 0 gone",
+        files: &[],
+    },
+];
+
+static TWO_GROUPS: [Row; 2] = [
+    Row {
+        line: Line::Gpasswd(b"joe", b"adm", Membership::Add),
+        outcome: "done: 0 changed, 0 gone, user 1 moved: 70",
+        files: &[],
+    },
+    Row {
+        line: Line::Setfacl(
+            b"",
+            b"u::rw-,g::---,g:users:r,g:adm:w,m::rwx,o::-",
+            false,
+            &[b"f"],
+        ),
+        outcome: "done: 1 changed, 0 gone",
+        files: &[(
+            b"f",
+            "---- lisa:staff u::rw-,g::---,g:adm:-w-,g:users:r--,m::rwx,o::---",
+        )],
+    },
+];
+
+static PRIMARY: [Row; 2] = [
+    Row {
+        line: Line::Usermod(b"joe", b"staff"),
+        outcome: "done: 0 changed, 0 gone, user 1 moved: 50 100",
+        files: &[],
+    },
+    Row {
+        line: Line::Usermod(b"joe", b"staff"),
+        outcome: "done: 0 changed, 0 gone",
+        files: &[],
+    },
+];
+
+/// A name twice in a row, and two rows of one group.
+static TWICE: [Row; 6] = [
+    Row {
+        line: Line::Load(
+            Table::Group,
+            b"staff:x:50:\nusers:x:100:\ncool:x:60:lisa,joe,lisa\nsquad:x:60:joe\n",
+        ),
+        outcome: "done: 0 changed, 0 gone, users loaded",
+        files: &[],
+    },
+    Row {
+        line: Line::Gpasswd(b"lisa", b"cool", Membership::Remove),
+        outcome: "done: 0 changed, 0 gone, user 0 moved: 60",
+        files: &[],
+    },
+    Row {
+        line: Line::Gpasswd(b"lisa", b"cool", Membership::Remove),
+        outcome: "not a member",
+        files: &[],
+    },
+    Row {
+        line: Line::Gpasswd(b"joe", b"cool", Membership::Remove),
+        outcome: "done: 0 changed, 0 gone",
+        files: &[],
+    },
+    Row {
+        line: Line::Gpasswd(b"joe", b"squad", Membership::Remove),
+        outcome: "done: 0 changed, 0 gone, user 1 moved: 60",
+        files: &[],
+    },
+    Row {
+        line: Line::Gpasswd(b"joe", b"squad", Membership::Remove),
+        outcome: "not a member",
+        files: &[],
+    },
+];
+
+static COMES: [Row; 3] = [
+    Row {
+        line: Line::Useradd(b"bob", 1003, b"staff"),
+        outcome: "done: 0 changed, 0 gone, a user joined",
+        files: &[],
+    },
+    Row {
+        line: Line::Useradd(b"eve", 1003, b"staff"),
+        outcome: "user id in use 1003",
+        files: &[],
+    },
+    Row {
+        line: Line::Useradd(b"bob", 9, b"staff"),
+        outcome: "user exists bob",
+        files: &[],
+    },
+];
+
+static GOES: [Row; 4] = [
+    Row {
+        line: Line::Setfacl(b"", b"u:joe:rw", false, &[b"f"]),
+        outcome: "done: 1 changed, 0 gone",
+        files: &[],
+    },
+    Row {
+        line: Line::Userdel(b"joe"),
+        outcome: "done: 0 changed, 0 gone, user 1 left",
+        files: &[(
+            b"f",
+            "---- lisa:staff u::rw-,u:1000:rw-,g::r--,m::rw-,o::---",
+        )],
+    },
+    Row {
+        line: Line::Userdel(b"joe"),
+        outcome: "no such user joe",
+        files: &[],
+    },
+    Row {
+        line: Line::Useradd(b"zoe", 1000, b"cool"),
+        outcome: "done: 0 changed, 0 gone, a user joined",
+        files: &[(
+            b"f",
+            "---- lisa:staff u::rw-,u:zoe:rw-,g::r--,m::rw-,o::---",
+        )],
+    },
+];
+
+static COMES_AGAIN: [Row; 3] = [
+    Row {
+        line: Line::Gpasswd(b"joe", b"adm", Membership::Add),
+        outcome: "done: 0 changed, 0 gone, user 1 moved: 70",
+        files: &[],
+    },
+    Row {
+        line: Line::Userdel(b"1000"),
+        outcome: "done: 0 changed, 0 gone, user 1 left",
+        files: &[],
+    },
+    Row {
+        line: Line::Useradd(b"joe", 1000, b"60"),
+        outcome: "done: 0 changed, 0 gone, a user joined",
+        files: &[],
+    },
+];
+
+/// The groups alone.
+static GROUPS: [Row; 1] = [Row {
+    line: Line::Load(Table::Group, GROUP),
+    outcome: "done: 0 changed, 0 gone, users loaded",
+    files: &[],
+}];
+
+static FIRST_USER: [Row; 2] = [
+    Row {
+        line: Line::Useradd(b"bob", 0, b"adm"),
+        outcome: "done: 0 changed, 0 gone, a user joined",
+        files: &[],
+    },
+    Row {
+        line: Line::Load(Table::Passwd, b""),
+        outcome: "already loaded",
+        files: &[],
+    },
+];
+
+/// The users with their groups, in the order of their rows.
+fn expect_users(rt: &impl Abort, alloc: Global, state: State, want: &str) {
+    let text = listing(rt, alloc, state.tree(), state.people());
+    expect_text(rt, text, want);
+}
+
+#[test]
+fn each_fault_in_its_order(rt: HostRuntime) {
+    after(&rt, rt.alloc(), &[&PEOPLE, &FAULTS]);
+}
+
+#[test]
+fn a_member_is_granted_what_the_group_is(rt: HostRuntime) {
+    let alloc = rt.alloc();
+    let state = after(&rt, alloc, &[&PEOPLE, &FIVE, &JOINS]);
+    expect_granted(&rt, alloc, &state, b"joe", b"log", " r--");
+    let all = " --x -w- -wx r-- r-x rw- rwx";
+    expect_granted(&rt, alloc, &state, b"joe", b"pub", all);
+}
+
+#[test]
+fn who_leaves_is_not(rt: HostRuntime) {
+    let alloc = rt.alloc();
+    let state = after(&rt, alloc, &[&PEOPLE, &FIVE, &JOINS, &LEAVES]);
+    expect_granted(&rt, alloc, &state, b"joe", b"log", "");
+    expect_granted(&rt, alloc, &state, b"joe", b"pub", " --x r-- r-x");
+}
+
+#[test]
+fn each_group_grants_by_itself(rt: HostRuntime) {
+    let alloc = rt.alloc();
+    let state = after(&rt, alloc, &[&PEOPLE, &FIVE, &TWO_GROUPS]);
+    expect_granted(&rt, alloc, &state, b"joe", b"f", " -w- r--");
+}
+
+#[test]
+fn another_primary_group(rt: HostRuntime) {
+    let alloc = rt.alloc();
+    let state = after(&rt, alloc, &[&PEOPLE, &FIVE, &PRIMARY]);
+    expect_granted(&rt, alloc, &state, b"joe", b"f", " r--");
+}
+
+#[test]
+fn every_occurrence_is_removed(rt: HostRuntime) {
+    let alloc = rt.alloc();
+    let state = after(&rt, alloc, &[&PEOPLE[..1], &TWICE]);
+    expect_users(
+        &rt,
+        alloc,
+        state,
+        "pg-\nlisa: staff\njoe: users\nann: users\n",
+    );
+}
+
+#[test]
+fn a_user_comes(rt: HostRuntime) {
+    let alloc = rt.alloc();
+    let state = after(&rt, alloc, &[&PEOPLE, &FIVE, &COMES]);
+    expect_granted(&rt, alloc, &state, b"bob", b"f", " r--");
+}
+
+#[test]
+fn a_user_goes(rt: HostRuntime) {
+    let alloc = rt.alloc();
+    let state = after(&rt, alloc, &[&PEOPLE, &FIVE, &GOES]);
+    expect_granted(&rt, alloc, &state, b"zoe", b"f", " -w- r-- rw-");
+}
+
+#[test]
+fn a_user_comes_again_without_groups(rt: HostRuntime) {
+    let alloc = rt.alloc();
+    let state = after(&rt, alloc, &[&PEOPLE, &COMES_AGAIN]);
+    expect_users(
+        &rt,
+        alloc,
+        state,
+        "pg-\nlisa: staff cool\nann: users\njoe: cool\n",
+    );
+}
+
+#[test]
+fn users_count_as_loaded(rt: HostRuntime) {
+    let alloc = rt.alloc();
+    let state = after(&rt, alloc, &[&GROUPS, &FIRST_USER]);
+    expect_users(&rt, alloc, state, "pg-\nbob: adm\n");
+}
+
+/// The largest number of users.
+const MAX_USERS: u32 = 65536;
+
+fn push_row(rt: &impl Abort, alloc: Global, text: &mut Vec<u8>, number: u32) {
+    let row = format!(in alloc; "u{number}:x:{number}:50:::\n").expect(rt, "memory");
+    text.extend_from_slice(row.as_bytes()).expect(rt, "memory");
+}
+
+fn many_users(rt: &impl Abort, alloc: Global) -> Vec<u8> {
+    let mut text = Vec::new(alloc);
+    for number in 0..MAX_USERS {
+        push_row(rt, alloc, &mut text, number);
+    }
+    text
+}
+
+static ONE_MORE: Line = Line::Useradd(b"bob", MAX_USERS, b"staff");
+
+#[test]
+fn at_most_so_many_users(rt: HostRuntime) {
+    let alloc = rt.alloc();
+    let mut state = after(&rt, alloc, &[&GROUPS]);
+    let passwd = many_users(&rt, alloc);
+    let load = Command::Load {
+        which: Table::Passwd,
+        bytes: &passwd,
+    };
+    let loaded = "done: 0 changed, 0 gone, users loaded";
+    expect_outcome(&rt, alloc, &mut state, load, loaded);
+    let new = command(&rt, alloc, state.people(), &ONE_MORE);
+    expect_outcome(&rt, alloc, &mut state, new, "too many users");
+}
