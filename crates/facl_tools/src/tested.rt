@@ -73,9 +73,7 @@ fn files_after(
             ..
         } => files_of(alloc, staged.tree(), paths, *recursive),
         Command::Restore { records } => files_of_records(alloc, staged.tree(), records),
-        Command::Load { .. } | Command::Chmod { .. } | Command::Creat(_) | Command::Rm { .. } => {
-            Ok(Vec::new(alloc))
-        }
+        _ => Ok(Vec::new(alloc)),
     }
 }
 
