@@ -7,6 +7,10 @@
 #[cfg(test)]
 mod devices;
 #[cfg(test)]
+mod edits;
+#[cfg(test)]
+mod entry_texts;
+#[cfg(test)]
 mod failing;
 #[cfg(test)]
 mod listings;
@@ -14,6 +18,8 @@ mod listings;
 mod loads;
 #[cfg(test)]
 mod modes;
+#[cfg(test)]
+mod restores;
 #[cfg(test)]
 mod rows;
 #[cfg(test)]
