@@ -9,4 +9,6 @@ pub mod Chacl
 pub mod Creation
 pub mod Removal
 pub mod Attributes
+pub mod Memberships
+pub mod Accounts
 pub mod Tools

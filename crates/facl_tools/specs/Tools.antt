@@ -31,6 +31,8 @@ use Rattle.facl_tools.specs.Chacl.{chacl_line}
 use Rattle.facl_tools.specs.Creation.{creat_line}
 use Rattle.facl_tools.specs.Removal.{rm_line}
 use Rattle.facl_tools.specs.Attributes.{attr_line, setattr_line}
+use Rattle.facl_tools.specs.Memberships.{gpasswd_line, usermod_line}
+use Rattle.facl_tools.specs.Accounts.{useradd_line, userdel_line}
 use Rattle.facl_tools.specs.Operands.{path_at, paths_from, name_meant, user_or_fault, file_or_fault, recorded_or_fault}
 
 -- who may do what with which files: what an access check grants
@@ -104,9 +106,13 @@ is_served tools.Chacl = true
 is_served tools.Chmod = true
 is_served tools.Creat = true
 is_served tools.Rm = true
+is_served tools.Gpasswd = true
+is_served tools.Usermod = true
 is_served tools.Attr = true
 is_served tools.Setattr = true
 is_served tools.Can = true
+is_served tools.Useradd = true
+is_served tools.Userdel = true
 is_served _ = false
 
 abbrev pub tool_line : Verdict → State → Tool → Words → List ℕ → Result Reply LineFault
@@ -117,7 +123,11 @@ tool_line verdict s tools.Chacl w text = chacl_line s w
 tool_line verdict s tools.Chmod w text = chmod_line s w
 tool_line verdict s tools.Creat w text = creat_line s w
 tool_line verdict s tools.Rm w text = rm_line s w
+tool_line verdict s tools.Gpasswd w text = gpasswd_line s w
+tool_line verdict s tools.Usermod w text = usermod_line s w
 tool_line verdict s tools.Attr w text = attr_line s w
 tool_line verdict s tools.Setattr w text = setattr_line s w
 tool_line verdict s tools.Can w text = can_line verdict s w
+tool_line verdict s tools.Useradd w text = useradd_line s w
+tool_line verdict s tools.Userdel w text = userdel_line s w
 tool_line verdict s _ w text = Err UnknownTool

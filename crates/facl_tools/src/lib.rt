@@ -13,6 +13,7 @@ mod creat;
 mod edits;
 mod effect;
 mod getfacl;
+mod gpasswd;
 mod lists;
 mod load;
 mod mode;
@@ -24,6 +25,9 @@ mod setfacl_entries;
 mod setfacl_line;
 mod tested;
 mod tools;
+mod useradd;
+mod userdel;
+mod usermod;
 
 pub use effect::Effect;
 pub use tools::{is_served, tool_line};

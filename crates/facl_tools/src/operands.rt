@@ -1,6 +1,7 @@
 //! The operands of a line: files and users.
 
-ghost use Rattle.std.specs.Prelude.{◌≡◌, IfOk, option_map};
+ghost use Rattle.std.specs.Prelude.{◌≡◌, [], IfOk, option_map};
+ghost use Rattle.std.specs.List.{slice_index_or};
 ghost use Rattle.facl_tools.specs.Replies.{Gives};
 ghost use Rattle.facl_tools.specs.Operands.{path_at, paths_from, name_meant, user_of, user_or_fault, file_or_fault};
 
@@ -11,7 +12,7 @@ use acl_people::People;
 use acl_text::{FaultKind, TextFault, trim};
 use acl_tree::{Paths, Tree, TreeFault};
 use facl_messages::{LineFault, Source};
-use facl_usage::Word;
+use facl_usage::{OperandPlace, Word, Words};
 use std::alloc::{AllocError, Global};
 
 /// The path of the operand at a place, counted from 1.
@@ -54,6 +55,17 @@ pub(crate) fn name_meant(alloc: Global, word: &str) -> Result<Name, AllocError>
     ensures { IfOk result (λ name. name ≡ name_meant word.now) }
 {
     read_name(alloc, trim(word.as_bytes()))
+}
+
+/// The name that an operand for a user or a group means.
+pub(crate) fn name_at(
+    alloc: Global,
+    words: &Words,
+    operand: OperandPlace,
+) -> Result<Name, AllocError>
+    ensures { IfOk result (λ name. name ≡ name_meant (slice_index_or words.now.operands operand.0 [])) }
+{
+    name_meant(alloc, words.operands.get(operand))
 }
 
 /// The user that a word means.

@@ -12,10 +12,14 @@ use crate::chmod::chmod;
 use crate::creat::creat;
 use crate::effect::Effect;
 use crate::getfacl::getfacl;
+use crate::gpasswd::gpasswd;
 use crate::load::load;
 use crate::rm::rm;
 use crate::setattr::setattr;
 use crate::setfacl::setfacl;
+use crate::useradd::useradd;
+use crate::userdel::userdel;
+use crate::usermod::usermod;
 use acl_tree::State;
 use facl_messages::LineFault;
 use facl_usage::{Tool, Words};
@@ -34,9 +38,13 @@ pub fn is_served(tool: Tool) -> bool
             | Tool::Chmod
             | Tool::Creat
             | Tool::Rm
+            | Tool::Gpasswd
+            | Tool::Usermod
             | Tool::Attr
             | Tool::Setattr
             | Tool::Can
+            | Tool::Useradd
+            | Tool::Userdel
     )
 }
 
@@ -58,9 +66,13 @@ pub fn tool_line(
         Tool::Chmod => chmod(alloc, state, words),
         Tool::Creat => creat(alloc, state, words),
         Tool::Rm => rm(alloc, state, words),
+        Tool::Gpasswd => gpasswd(alloc, state, words),
+        Tool::Usermod => usermod(alloc, state, words),
         Tool::Attr => attr(alloc, state, words),
         Tool::Setattr => setattr(alloc, state, words),
         Tool::Can => can(alloc, state, words),
+        Tool::Useradd => useradd(alloc, state, words),
+        Tool::Userdel => userdel(alloc, state, words),
         _ => Err(LineFault::UnknownTool),
     }
 }

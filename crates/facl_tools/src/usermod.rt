@@ -1,0 +1,37 @@
+//! The tool usermod(8): a user gets another primary group.
+
+ghost use Rattle.facl_tools.specs.Replies.{Gives, left};
+ghost use Rattle.facl_tools.specs.Memberships.{usermod_group, usermod_line};
+
+use crate::change::prepare;
+use crate::effect::Effect;
+use crate::operands::{name_at, name_meant};
+use acl_tree::{Command, State};
+use facl_messages::LineFault;
+use facl_usage::Words;
+use facl_usage::places::usermod::{GROUP, USER};
+use std::alloc::Global;
+
+/// Makes a group the primary group of the user of a line.
+fn usermod_group(
+    alloc: Global,
+    state: &State,
+    words: &Words,
+    group: &str,
+) -> Result<Effect, LineFault>
+    ensures { Gives (left state.now) result (usermod_group state.now words.now group.now) }
+{
+    let user = name_at(alloc, words, USER)?;
+    let group = name_meant(alloc, group)?;
+    prepare(alloc, state, &Command::Usermod { user, group })
+}
+
+/// Changes the primary group of a user.
+pub(crate) fn usermod(alloc: Global, state: &State, words: &Words) -> Result<Effect, LineFault>
+    ensures { Gives (left state.now) result (usermod_line state.now words.now) }
+{
+    match words.values.get(GROUP) {
+        Some(group) => usermod_group(alloc, state, words, group),
+        None => Err(LineFault::Usage),
+    }
+}
