@@ -65,6 +65,45 @@ default:other::---
 
 # The list of `log` has nine entries, one more than a list holds without memory of its own.
 
+# Files whose lists are short.
+SHORT_DUMP = """# file: .
+# owner: lisa
+# group: staff
+user::rwx
+group::r-x
+other::r-x
+
+# file: f
+# owner: lisa
+# group: staff
+user::rw-
+group::r--
+other::---
+
+# file: run
+# owner: lisa
+# group: staff
+user::rwx
+group::r-x
+other::r-x
+
+# file: pub/
+# owner: ann
+# group: users
+user::rwx
+group::r-x
+group:adm:rwx
+mask::rwx
+other::r-x
+
+# file: log
+# owner: lisa
+# group: adm
+user::rw-
+group::r--
+other::---
+"""
+
 # Each unit: the lines that it takes.
 QUESTIONS = [
     ["getfacl -R ."],
@@ -82,6 +121,45 @@ QUESTIONS = [
     ["can nobody f"],
     ["chmod 9 f"],
     ["getfacl -s -a -E -R ."],
+]
+# Each tool that changes files or users, and then what they leave.
+CHANGES = [
+    ["setfacl -R -m u:joe:rX,g:cool:rw ."],
+    ["creat -d --user=ann --mode=0750 pub/s"],
+    ["setfacl -m d:u:joe:rwx pub/s"],
+    ["gpasswd -a joe adm"],
+    ["chmod -R 750 pub"],
+    ["chacl -b u::rwx,g::r-x,o::- u::rwx,g::r-x,o::- pub"],
+    [
+        "setfacl --restore=-",
+        "# file: f",
+        "# owner: ann",
+        "user::rw-",
+        "group::r--",
+        "other::---",
+        ".",
+    ],
+    ["usermod -g cool joe"],
+    ["setfacl -x u:joe f log"],
+    ["rm -r pub"],
+    ["useradd -u 7 -g adm kim"],
+    ["userdel ann"],
+    ["getfacl -R ."],
+    ["index"],
+]
+# The tools that these leave out.
+ATTRIBUTES = [
+    ["attr f"],
+    [
+        "setattr system.posix_acl_access=0x0200000001000600ffffffff02000700e8030000"
+        "04000400ffffffff10000700ffffffff20000000ffffffff f"
+    ],
+    ["attr f"],
+    ["setattr system.posix_acl_access=0x020000 f"],
+    ["chacl -l f pub"],
+    ["chacl u::rw-,u:joe:r,g::r--,o::- f"],
+    ["chacl -R f"],
+    ["gpasswd -d joe adm"],
 ]
 LOADS = [
     ["load passwd"] + PASSWD.splitlines() + ["."],
@@ -173,17 +251,26 @@ def sweep(name, program, units):
     print(f"{name}: {n - 1} growths refused in turn: {kinds['stopped']} runs stopped, {kinds['refused']} lines refused, {kinds['unharmed']} as without")
 
 
+def options_of(folder, dump):
+    """The program's words for the texts, which are written into the folder."""
+    files = []
+    for option, text in (("passwd", PASSWD), ("group", GROUP), ("dump", dump)):
+        path = os.path.join(folder, option)
+        with open(path, "w", encoding="ascii") as file:
+            file.write(text)
+        files += ["--" + option, path]
+    return files
+
+
 def main():
     program, preloaded = sys.argv[1:]
     with tempfile.TemporaryDirectory() as folder:
-        files = []
-        for option, text in (("passwd", PASSWD), ("group", GROUP), ("dump", DUMP)):
-            path = os.path.join(folder, option)
-            with open(path, "w", encoding="ascii") as file:
-                file.write(text)
-            files += ["--" + option, path]
+        files = options_of(folder, DUMP)
         sweep("texts as files", Program(program, preloaded, files), QUESTIONS)
         sweep("texts by load", Program(program, preloaded, []), LOADS + QUESTIONS)
+        files = options_of(folder, SHORT_DUMP)
+        sweep("changes", Program(program, preloaded, files), CHANGES)
+        sweep("attributes and lists", Program(program, preloaded, files), ATTRIBUTES)
 
 
 if __name__ == "__main__":
