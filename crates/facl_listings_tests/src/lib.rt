@@ -1,6 +1,6 @@
 //! Worked listings, and each public call of `facl_listings` once.
 //!
-//! They stand apart from `facl_listings`, since a crate with tests is proved twice.
+//! They are in a crate of their own, since a crate with tests is proved twice.
 #![tactic(auto)]
 
 #[cfg(test)]

@@ -1,8 +1,10 @@
 //! Listings of one file and of several.
-use crate::made::{found, setup};
+use crate::made::{all_found, setup};
 use acl_dump::Effective;
+use acl_tree::State;
 use facl_listings::{Options, append_listing, listing_is_loaded_again};
-use std::test::Fail;
+use std::alloc::Global;
+use std::process::Abort;
 
 const PLAIN: Options = Options {
     access_only: false,
@@ -19,16 +21,16 @@ const BARE: Options = Options {
 
 struct Row {
     options: Options,
-    name: &'static [u8],
-    has_below: bool,
+    names: &'static [&'static [u8]],
+    have_below: bool,
     text: &'static [u8],
 }
 
-static ROWS: [Row; 6] = [
+static ROWS: [Row; 7] = [
     Row {
         options: PLAIN,
-        name: b"somedir",
-        has_below: false,
+        names: &[b"somedir"],
+        have_below: false,
         text: b"# file: somedir\n# owner: lisa\n# group: staff\n# flags: -s-\nuser::rwx\nuser:joe:rwx\t\t\t#effective:r-x\ngroup::rwx\t\t\t#effective:r-x\ngroup:cool:r-x\nmask::r-x\nother::r-x\ndefault:user::rwx\ndefault:user:joe:rwx\t\t#effective:r-x\ndefault:group::r-x\ndefault:mask::r-x\ndefault:other::---\n\n",
     },
     Row {
@@ -36,8 +38,8 @@ static ROWS: [Row; 6] = [
             effective: Effective::Always,
             ..BARE
         },
-        name: b"pub",
-        has_below: false,
+        names: &[b"pub"],
+        have_below: false,
         text: b"user::rwx\ngroup::r-x\t\t\t#effective:r-x\ngroup:adm:rwx\t\t\t#effective:rwx\nmask::rwx\nother::r-x\n\n",
     },
     Row {
@@ -48,8 +50,8 @@ static ROWS: [Row; 6] = [
             numeric: true,
             ..BARE
         },
-        name: b"somedir",
-        has_below: false,
+        names: &[b"somedir"],
+        have_below: false,
         text: b"user::rwx\nuser:1000:rwx\ngroup::rwx\ngroup:60:r-x\nmask::r-x\nother::r-x\n\n",
     },
     Row {
@@ -57,54 +59,46 @@ static ROWS: [Row; 6] = [
             numeric: true,
             ..PLAIN
         },
-        name: b"pub",
-        has_below: false,
+        names: &[b"pub"],
+        have_below: false,
         text: b"# file: pub/\n# owner: 1002\n# group: 100\nuser::rwx\ngroup::r-x\ngroup:70:rwx\nmask::rwx\nother::r-x\n\n",
     },
     Row {
         options: PLAIN,
-        name: b"pub",
-        has_below: true,
+        names: &[b"pub"],
+        have_below: true,
         text: b"# file: pub\n# owner: ann\n# group: users\nuser::rwx\ngroup::r-x\ngroup:adm:rwx\nmask::rwx\nother::r-x\n\n",
     },
     Row {
         options: PLAIN,
-        name: b".",
-        has_below: false,
+        names: &[b"."],
+        have_below: false,
         text: b"# file: .\n# owner: lisa\n# group: staff\nuser::rwx\ngroup::r-x\nother::r-x\n\n",
+    },
+    // Files of base entries alone are left out.
+    Row {
+        options: Options {
+            skip_base: true,
+            ..BARE
+        },
+        names: &[b".", b"f", b"pub"],
+        have_below: false,
+        text: b"user::rwx\ngroup::r-x\ngroup:adm:rwx\nmask::rwx\nother::r-x\n\n",
     },
 ];
 
-#[test]
-fn one_file(rt: HostRuntime) -> Result<(), Fail> {
-    let alloc = rt.alloc();
-    let (tree, people) = setup(&rt, alloc)?;
-    for row in &ROWS {
-        let mut files = Vec::new(alloc);
-        files.push(found(&rt, alloc, &tree, row.name, row.has_below)?)?;
-        let mut text = Vec::new(alloc);
-        append_listing(&mut text, &people, &row.options, &files)?;
-        assert!(rt; text.as_slice() == row.text);
-    }
-    listing_is_loaded_again(&people, &tree);
-    Ok(())
+fn expect_listing(rt: &impl Abort, alloc: Global, state: &State, row: &Row) {
+    let files = all_found(rt, alloc, state.tree(), row.names, row.have_below);
+    let mut text = Vec::new(alloc);
+    append_listing(&mut text, state.people(), &row.options, &files).expect(rt, "memory");
+    assert!(rt; text.as_slice() == row.text);
 }
 
 #[test]
-fn files_that_are_left_out(rt: HostRuntime) -> Result<(), Fail> {
-    let alloc = rt.alloc();
-    let (tree, people) = setup(&rt, alloc)?;
-    let mut files = Vec::new(alloc);
-    for name in [b".".as_slice(), b"f", b"pub"] {
-        files.push(found(&rt, alloc, &tree, name, false)?)?;
+fn files(rt: HostRuntime) {
+    let state = setup(&rt, rt.alloc());
+    for row in &ROWS {
+        expect_listing(&rt, rt.alloc(), &state, row);
     }
-    let options = Options {
-        skip_base: true,
-        ..BARE
-    };
-    let mut text = Vec::new(alloc);
-    append_listing(&mut text, &people, &options, &files)?;
-    let expected: &[u8] = b"user::rwx\ngroup::r-x\ngroup:adm:rwx\nmask::rwx\nother::r-x\n\n";
-    assert!(rt; text.as_slice() == expected);
-    Ok(())
+    listing_is_loaded_again(state.people(), state.tree());
 }

@@ -1,11 +1,9 @@
 //! Short ways to make a state and its files in tests.
-use acl_names::read_path;
-use acl_people::People;
-use acl_tree::{Command, Found, Record, Table, Tree, TreeFault};
+use acl_names::{Path, read_path};
+use acl_tree::{Command, Found, Record, State, Table, Tree};
 use std::alloc::Global;
 use std::process::Abort;
 use std::rc::Rc;
-use std::test::Fail;
 
 const PASSWD: &[u8] = b"lisa:x:1001:50:Lisa:/home/lisa:/bin/sh\n\
 joe:x:1000:100:Joe:/home/joe:/bin/sh\nann:x:1002:100:Ann:/home/ann:/bin/sh\n";
@@ -20,55 +18,52 @@ const DUMP: &[u8] =
 group:cool:r-x\nmask::r-x\nother::r-x\ndefault:user::rwx\ndefault:user:joe:rwx\ndefault:group::r-x\n\
 default:mask::r-x\ndefault:other::---\n";
 
-fn load(
-    rt: &impl Abort,
-    alloc: Global,
-    tree: &mut Tree,
-    people: &mut People,
-    which: Table,
-    text: &[u8],
-) -> Result<(), Fail> {
-    let command = Command::Load { which, bytes: text };
-    assert!(rt; run(alloc, tree, people, &command).is_none());
-    Ok(())
+fn load(rt: &impl Abort, alloc: Global, state: &mut State, which: Table, bytes: &[u8]) {
+    let command = Command::Load { which, bytes };
+    let staged = state.prepare(alloc, &command).expect(rt, "a text");
+    state.commit(staged);
 }
 
-/// Runs a command, which is refused where a fault is given back.
-fn run(
-    alloc: Global,
-    tree: &mut Tree,
-    people: &mut People,
-    command: &Command<'_>,
-) -> Option<TreeFault> {
-    match tree.prepare(alloc, people, command) {
-        Ok(staged) => {
-            tree.commit(people, staged);
-            None
-        }
-        Err(fault) => Some(fault),
-    }
+/// The state of the texts above.
+pub fn setup(rt: &impl Abort, alloc: Global) -> State {
+    let mut state = State::new(alloc).expect(rt, "memory");
+    load(rt, alloc, &mut state, Table::Passwd, PASSWD);
+    load(rt, alloc, &mut state, Table::Group, GROUP);
+    load(rt, alloc, &mut state, Table::Dump, DUMP);
+    state
 }
 
-/// The tree and the people of the texts above.
-pub fn setup(rt: &impl Abort, alloc: Global) -> Result<(Tree, People), Fail> {
-    let mut tree = Tree::new(alloc);
-    let mut people = People::new(alloc)?;
-    load(rt, alloc, &mut tree, &mut people, Table::Passwd, PASSWD)?;
-    load(rt, alloc, &mut tree, &mut people, Table::Group, GROUP)?;
-    load(rt, alloc, &mut tree, &mut people, Table::Dump, DUMP)?;
-    Ok((tree, people))
+fn path(rt: &impl Abort, alloc: Global, name: &[u8]) -> Path {
+    read_path(alloc, name)
+        .expect(rt, "memory")
+        .expect(rt, "a path")
 }
 
-/// A file of the tree, and whether another one is to lie below it.
-pub fn found(
+fn record(rt: &impl Abort, alloc: Global, tree: &Tree, path: Path) -> Record {
+    let node = tree.get(&path).expect(rt, "a file");
+    let node = node.try_clone(alloc).expect(rt, "memory");
+    Record::new(Rc::new(alloc, path).expect(rt, "memory"), node)
+}
+
+/// A file of the tree, and whether another one is to be below it.
+fn found(rt: &impl Abort, alloc: Global, tree: &Tree, name: &[u8], has_below: bool) -> Found {
+    let file = record(rt, alloc, tree, path(rt, alloc, name));
+    Found::new(Rc::new(alloc, file).expect(rt, "memory"), has_below)
+}
+
+/// Files of the tree, in this order.
+pub fn all_found(
     rt: &impl Abort,
     alloc: Global,
     tree: &Tree,
-    name: &[u8],
-    has_below: bool,
-) -> Result<Found, Fail> {
-    let path = read_path(alloc, name)?.expect(rt, "a path");
-    let node = tree.get(&path).expect(rt, "a file").try_clone(alloc)?;
-    let file = Record::new(Rc::new(alloc, path)?, node);
-    Ok(Found::new(Rc::new(alloc, file)?, has_below))
+    names: &[&[u8]],
+    have_below: bool,
+) -> Vec<Found> {
+    let mut files = Vec::new(alloc);
+    for name in names {
+        files
+            .push(found(rt, alloc, tree, name, have_below))
+            .expect(rt, "memory");
+    }
+    files
 }
