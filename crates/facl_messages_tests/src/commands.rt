@@ -1,96 +1,125 @@
 //! The messages of refused commands.
 use acl_edit::EditFault;
 use acl_entry::{Id, Key, ListFault};
-use acl_names::{Name, read_path};
+use acl_names::{Name, Path, read_path};
 use acl_text::{FaultKind, TextFault, Which};
 use acl_tree::TreeFault;
 use facl_messages::{LineFault, append_message};
 use std::alloc::Global;
-use std::test::Fail;
+use std::process::Abort;
 
-fn message(alloc: Global, tool: &[u8], refused: TreeFault) -> Result<Vec<u8>, Fail> {
+/// The message of a refused line is this one.
+fn expect(rt: &impl Abort, alloc: Global, tool: &[u8], refused: TreeFault, want: &str) {
     let mut text = Vec::new(alloc);
-    append_message(&mut text, 2, tool, &LineFault::from(refused))?;
-    Ok(text)
+    append_message(&mut text, 2, tool, &LineFault::from(refused)).expect(rt, "memory");
+    assert!(rt; text.as_slice() == want.as_bytes(), "{want}");
+}
+
+fn path(rt: &impl Abort, alloc: Global, text: &[u8]) -> Path {
+    read_path(alloc, text)
+        .expect(rt, "memory")
+        .expect(rt, "a path")
+}
+
+fn name(rt: &impl Abort, alloc: Global, text: &[u8]) -> Name {
+    Name::from_bytes(alloc, text).expect(rt, "memory")
+}
+
+fn no_file(rt: &impl Abort, alloc: Global, tool: &[u8], file: &[u8], want: &str) {
+    let path = path(rt, alloc, file);
+    expect(rt, alloc, tool, TreeFault::NoSuchFile { path }, want);
+}
+
+fn edit(rt: &impl Abort, alloc: Global, tool: &[u8], fault: EditFault, want: &str) {
+    let path = path(rt, alloc, b"f");
+    expect(rt, alloc, tool, TreeFault::Edit { path, fault }, want);
 }
 
 #[test]
-fn paths_and_names(rt: HostRuntime) -> Result<(), Fail> {
-    let path = read_path(rt.alloc(), b"/a//x\\012y/")?.ok_or("path")?;
-    let text = message(rt.alloc(), b"chmod", TreeFault::NoSuchFile { path })?;
-    assert!(rt; text.as_slice() == b"line 2: chmod: a/x\\012y: no such file\n".as_slice());
-    let path = read_path(rt.alloc(), b"/")?.ok_or("path")?;
-    let text = message(rt.alloc(), b"rm", TreeFault::NoSuchFile { path })?;
-    assert!(rt; text.as_slice() == b"line 2: rm: .: no such file\n".as_slice());
-    let name = Name::from_bytes(rt.alloc(), b"al b")?;
-    let text = message(rt.alloc(), b"can", TreeFault::NoSuchUser { name })?;
-    assert!(rt; text.as_slice() == b"line 2: can: al\\040b: no such user\n".as_slice());
-    Ok(())
+fn missing_files(rt: HostRuntime) {
+    let alloc = rt.alloc();
+    let file = "line 2: chmod: a/x\\012y: no such file\n";
+    no_file(&rt, alloc, b"chmod", b"/a//x\\012y/", file);
+    no_file(&rt, alloc, b"rm", b"/", "line 2: rm: .: no such file\n");
 }
 
 #[test]
-fn loads(rt: HostRuntime) -> Result<(), Fail> {
-    let text = message(rt.alloc(), b"load", TreeFault::AlreadyLoaded)?;
-    assert!(rt; text.as_slice() == b"line 2: load: already loaded\n".as_slice());
-    let text = message(rt.alloc(), b"load", TreeFault::TooMany)?;
-    assert!(rt; text.as_slice() == b"line 2: load: too many files\n".as_slice());
+fn loads(rt: HostRuntime) {
+    let alloc = rt.alloc();
+    let loaded = "line 2: load: already loaded\n";
+    expect(&rt, alloc, b"load", TreeFault::AlreadyLoaded, loaded);
+    let too_many = "line 2: load: too many files\n";
+    expect(&rt, alloc, b"load", TreeFault::TooMany, too_many);
     let fault = TextFault {
         kind: FaultKind::RepeatedFile,
         at: 8,
     };
-    let text = message(rt.alloc(), b"load", TreeFault::Text(fault))?;
-    assert!(rt; text.as_slice() == b"line 2: load: text line 8: file repeated\n".as_slice());
-    let text = message(rt.alloc(), b"load", TreeFault::NoMemory)?;
-    assert!(rt; text.as_slice() == b"line 2: facl: no memory\n".as_slice());
-    Ok(())
+    let repeated = "line 2: load: text line 8: file repeated\n";
+    expect(&rt, alloc, b"load", TreeFault::Text(fault), repeated);
+    let no_memory = "line 2: facl: no memory\n";
+    expect(&rt, alloc, b"load", TreeFault::NoMemory, no_memory);
 }
 
 #[test]
-fn files_and_edits(rt: HostRuntime) -> Result<(), Fail> {
-    let path = read_path(rt.alloc(), b"f")?.ok_or("path")?;
-    let text = message(rt.alloc(), b"creat", TreeFault::NotDirectory { path })?;
-    assert!(rt; text.as_slice() == b"line 2: creat: f: not a directory\n".as_slice());
-    let path = read_path(rt.alloc(), b"f")?.ok_or("path")?;
-    let text = message(rt.alloc(), b"creat", TreeFault::Exists { path })?;
-    assert!(rt; text.as_slice() == b"line 2: creat: f: exists\n".as_slice());
-    let path = read_path(rt.alloc(), b"pub")?.ok_or("path")?;
-    let text = message(rt.alloc(), b"rm", TreeFault::IsDirectory { path })?;
-    assert!(rt; text.as_slice() == b"line 2: rm: pub: is a directory\n".as_slice());
-    let path = read_path(rt.alloc(), b"f")?.ok_or("path")?;
-    let fault = EditFault::DefaultOnFile;
-    let text = message(rt.alloc(), b"chacl", TreeFault::Edit { path, fault })?;
-    assert!(rt;
-        text.as_slice() == b"line 2: chacl: f: only directories have default lists\n".as_slice()
-    );
-    let path = read_path(rt.alloc(), b"f")?.ok_or("path")?;
+fn paths(rt: HostRuntime) {
+    let alloc = rt.alloc();
+    let parent = TreeFault::NotDirectory {
+        path: path(&rt, alloc, b"f"),
+    };
+    let not_directory = "line 2: creat: f: not a directory\n";
+    expect(&rt, alloc, b"creat", parent, not_directory);
+    let there = TreeFault::Exists {
+        path: path(&rt, alloc, b"f"),
+    };
+    expect(&rt, alloc, b"creat", there, "line 2: creat: f: exists\n");
+    let directory = TreeFault::IsDirectory {
+        path: path(&rt, alloc, b"pub"),
+    };
+    let is_directory = "line 2: rm: pub: is a directory\n";
+    expect(&rt, alloc, b"rm", directory, is_directory);
+}
+
+#[test]
+fn edits(rt: HostRuntime) {
+    let alloc = rt.alloc();
+    let default = "line 2: chacl: f: only directories have default lists\n";
+    edit(&rt, alloc, b"chacl", EditFault::DefaultOnFile, default);
     let fault = EditFault::List(Which::Access, ListFault::MissingMask { at: 2 });
-    let text = message(rt.alloc(), b"setfacl", TreeFault::Edit { path, fault })?;
-    assert!(rt;
-        text.as_slice() == b"line 2: setfacl: f: access list: entry 2 needs a mask\n".as_slice()
-    );
-    let path = read_path(rt.alloc(), b"f")?.ok_or("path")?;
+    let no_mask = "line 2: setfacl: f: access list: entry 2 needs a mask\n";
+    edit(&rt, alloc, b"setfacl", fault, no_mask);
     let fault = EditFault::List(Which::Default, ListFault::MissingBase { key: Key::Owner });
-    let text = message(rt.alloc(), b"setfacl", TreeFault::Edit { path, fault })?;
-    assert!(rt;
-        text.as_slice() == b"line 2: setfacl: f: default list: user:: missing\n".as_slice()
-    );
-    Ok(())
+    let no_owner = "line 2: setfacl: f: default list: user:: missing\n";
+    edit(&rt, alloc, b"setfacl", fault, no_owner);
 }
 
 #[test]
-fn users_and_groups(rt: HostRuntime) -> Result<(), Fail> {
-    let name = Name::from_bytes(rt.alloc(), b"99")?;
-    let text = message(rt.alloc(), b"usermod", TreeFault::NoSuchGroup { name })?;
-    assert!(rt; text.as_slice() == b"line 2: usermod: 99: no such group\n".as_slice());
-    let text = message(rt.alloc(), b"gpasswd", TreeFault::NotMember)?;
-    assert!(rt; text.as_slice() == b"line 2: gpasswd: not a member\n".as_slice());
-    let name = Name::from_bytes(rt.alloc(), b"bob")?;
-    let text = message(rt.alloc(), b"useradd", TreeFault::UserExists { name })?;
-    assert!(rt; text.as_slice() == b"line 2: useradd: bob: user exists\n".as_slice());
-    let id = Id::new(1001).ok_or("id")?;
-    let text = message(rt.alloc(), b"useradd", TreeFault::UidExists { id })?;
-    assert!(rt; text.as_slice() == b"line 2: useradd: 1001: user id in use\n".as_slice());
-    let text = message(rt.alloc(), b"useradd", TreeFault::TooManyUsers)?;
-    assert!(rt; text.as_slice() == b"line 2: useradd: too many users\n".as_slice());
-    Ok(())
+fn names(rt: HostRuntime) {
+    let alloc = rt.alloc();
+    let user = TreeFault::NoSuchUser {
+        name: name(&rt, alloc, b"al b"),
+    };
+    let no_user = "line 2: can: al\\040b: no such user\n";
+    expect(&rt, alloc, b"can", user, no_user);
+    let group = TreeFault::NoSuchGroup {
+        name: name(&rt, alloc, b"99"),
+    };
+    let no_group = "line 2: usermod: 99: no such group\n";
+    expect(&rt, alloc, b"usermod", group, no_group);
+    let there = TreeFault::UserExists {
+        name: name(&rt, alloc, b"bob"),
+    };
+    let exists = "line 2: useradd: bob: user exists\n";
+    expect(&rt, alloc, b"useradd", there, exists);
+}
+
+#[test]
+fn users_and_groups(rt: HostRuntime) {
+    let alloc = rt.alloc();
+    let not_member = "line 2: gpasswd: not a member\n";
+    expect(&rt, alloc, b"gpasswd", TreeFault::NotMember, not_member);
+    let id = Id::new(1001).expect(&rt, "an id");
+    let in_use = "line 2: useradd: 1001: user id in use\n";
+    expect(&rt, alloc, b"useradd", TreeFault::UidExists { id }, in_use);
+    let too_many = "line 2: useradd: too many users\n";
+    expect(&rt, alloc, b"useradd", TreeFault::TooManyUsers, too_many);
 }

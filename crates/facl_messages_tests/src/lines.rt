@@ -1,7 +1,8 @@
 //! The messages of lines and of runs, but for those of texts and commands.
 use acl_tree::{Table, TreeFault};
 use facl_messages::{LineFault, RunFault, Spare, append_message, append_run_fault};
-use std::test::Fail;
+use std::alloc::Global;
+use std::process::Abort;
 
 const LINES: [(LineFault, &str); 9] = [
     (LineFault::LineTooLong, "line 1: facl: line too long\n"),
@@ -42,33 +43,40 @@ const RUNS: [(RunFault, &str); 6] = [
     (RunFault::NoMemory, "no memory"),
 ];
 
+/// The message of a line that is refused is this one.
+fn expect_line(rt: &impl Abort, alloc: Global, fault: &LineFault, want: &str) {
+    let mut text = Vec::new(alloc);
+    append_message(&mut text, 1, b"setfacl", fault).expect(rt, "memory");
+    assert!(rt; text.as_slice() == want.as_bytes(), "{want}");
+}
+
 #[test]
-fn lines(rt: HostRuntime) -> Result<(), Fail> {
+fn lines(rt: HostRuntime) {
     for (fault, message) in &LINES {
-        let mut text = Vec::new(rt.alloc());
-        append_message(&mut text, 1, b"setfacl", fault)?;
-        assert!(rt; text.as_slice() == message.as_bytes(), "{message}");
+        expect_line(&rt, rt.alloc(), fault, message);
     }
-    Ok(())
+}
+
+/// The message of a run that ends by a fault is this one.
+fn expect_run(rt: &impl Abort, alloc: Global, fault: &RunFault, want: &str) {
+    let mut text = Vec::new(alloc);
+    append_run_fault(&mut text, fault).expect(rt, "memory");
+    assert!(rt; text.as_slice() == want.as_bytes(), "{want}");
 }
 
 #[test]
-fn runs(rt: HostRuntime) -> Result<(), Fail> {
+fn runs(rt: HostRuntime) {
     for (fault, message) in &RUNS {
-        let mut text = Vec::new(rt.alloc());
-        append_run_fault(&mut text, fault)?;
-        assert!(rt; text.as_slice() == message.as_bytes(), "{message}");
+        expect_run(&rt, rt.alloc(), fault, message);
     }
-    Ok(())
 }
 
 #[test]
-fn without_memory(rt: HostRuntime) -> Result<(), Fail> {
-    let mut spare = Spare::new(rt.alloc())?;
+fn without_memory(rt: HostRuntime) {
+    let mut spare = Spare::new(rt.alloc()).expect(&rt, "memory");
     assert!(rt; spare.as_bytes().is_empty());
     spare.put_no_memory(u64::MAX);
     assert!(rt; spare.as_bytes() == b"line 18446744073709551615: facl: no memory\n".as_slice());
     spare.put_no_memory(7);
     assert!(rt; spare.as_bytes() == b"line 7: facl: no memory\n".as_slice());
-    Ok(())
 }

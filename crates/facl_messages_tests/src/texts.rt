@@ -2,7 +2,8 @@
 use acl_entry::{Key, ListFault};
 use acl_text::{FaultKind, TextFault, Which};
 use facl_messages::{LineFault, Source, append_message};
-use std::test::Fail;
+use std::alloc::Global;
+use std::process::Abort;
 
 const NO_MASK: FaultKind = FaultKind::List(Which::Access, ListFault::MissingMask { at: 2 });
 
@@ -147,26 +148,22 @@ const MESSAGES: [(Source, FaultKind, usize, &str); 22] = [
     ),
 ];
 
+/// The message of a line with this fault is this one.
+fn expect(rt: &impl Abort, alloc: Global, fault: &LineFault, want: &str) {
+    let mut text = Vec::new(alloc);
+    append_message(&mut text, 30, b"setfacl", fault).expect(rt, "memory");
+    let line = format!(in alloc; "line 30: setfacl: {want}\n").expect(rt, "memory");
+    assert!(rt; text.as_slice() == line.as_bytes(), "{want}");
+}
+
 #[test]
-fn texts(rt: HostRuntime) -> Result<(), Fail> {
+fn texts(rt: HostRuntime) {
     for (source, kind, at, message) in &MESSAGES {
-        let fault = LineFault::of_text(
-            *source,
-            TextFault {
-                kind: *kind,
-                at: *at,
-            },
-        );
-        let mut text = Vec::new(rt.alloc());
-        append_message(&mut text, 30, b"setfacl", &fault)?;
-        let told = text
-            .as_slice()
-            .strip_prefix(b"line 30: setfacl: ")
-            .ok_or("tool")?;
-        assert!(rt;
-            told.strip_suffix(b"\n") == Some(message.as_bytes()),
-            "{message}"
-        );
+        let fault = TextFault {
+            kind: *kind,
+            at: *at,
+        };
+        let fault = LineFault::of_text(*source, fault);
+        expect(&rt, rt.alloc(), &fault, message);
     }
-    Ok(())
 }
