@@ -12,7 +12,7 @@ use Rattle.std.proofs.lemmas.Cmp.{tied_itself}
 use Rattle.acl_entry.specs.Check.{has}
 use Rattle.acl_names.specs.Paths.{path_cmp}
 use Rattle.acl_names.proofs.PathOrder.{path_total, exact_paths}
-use Rattle.acl_tree.specs.Below.{is_within, is_below}
+use Rattle.acl_load.specs.Below.{is_within, is_below}
 use Rattle.path_map.specs.Entries.{PathOf, IsInOrder}
 use Rattle.path_map.proofs.Places.{above}
 use Rattle.path_map.proofs.Convex.{convex}

@@ -6,7 +6,7 @@ use Rattle.std.specs.FinMap.{find}
 use Rattle.acl_entry.specs.Perms.{Perms}
 use Rattle.acl_entry.specs.Check.{has}
 use Rattle.acl_names.specs.Paths.{path_cmp}
-use Rattle.acl_tree.specs.Below.{is_below}
+use Rattle.acl_load.specs.Below.{is_below}
 use Rattle.path_map.specs.Entries.{PathOf}
 use Rattle.acl_verdicts.specs.Rows.{Rows}
 

@@ -3,7 +3,7 @@ use Rattle.std.specs.Prelude.{◌≡◌, ℕ, suc, ◌++◌, Bool, true, List, [
 use Rattle.std.specs.declared.cmp.Ordering.TheVariants.{Less}
 use Rattle.std.specs.List.{AllByRecursion}
 use Rattle.acl_names.specs.Paths.{path_cmp}
-use Rattle.acl_tree.specs.Below.{is_below}
+use Rattle.acl_load.specs.Below.{is_below}
 use Rattle.path_map.specs.Entries.{PathOf}
 use Rattle.acl_verdicts.specs.Rows.{Rows}
 use Rattle.acl_reach.specs.Reach.{can_search, passes_in, reached_from}

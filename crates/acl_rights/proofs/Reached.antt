@@ -12,7 +12,7 @@ use Rattle.acl_names.specs.Paths.{path_cmp}
 use Rattle.acl_names.proofs.PathOrder.{exact_paths}
 use Rattle.std.specs.Ordering.{is_eq}
 use Rattle.acl_edit.specs.declared.node.Node.{Node}
-use Rattle.acl_tree.specs.Below.{is_below}
+use Rattle.acl_load.specs.Below.{is_below}
 use Rattle.acl_tree.specs.Files.{PathOf, Files}
 use Rattle.acl_people.specs.Registers.{person, persons}
 use Rattle.acl_tree.specs.Step.{State}

@@ -8,7 +8,7 @@ use Rattle.acl_entry.specs.Person.{Person}
 use Rattle.acl_names.specs.Paths.{path_cmp}
 use Rattle.acl_edit.specs.declared.node.Node.{Node}
 use Rattle.acl_people.specs.Registers.{persons}
-use Rattle.acl_tree.specs.Below.{is_within, is_below}
+use Rattle.acl_load.specs.Below.{is_within, is_below}
 use Rattle.acl_tree.specs.Files.{PathOf, Files}
 use Rattle.acl_tree.specs.Step.{State}
 use Rattle.acl_tree.specs.Tells.{StagedState}

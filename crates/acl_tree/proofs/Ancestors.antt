@@ -15,9 +15,9 @@ use Rattle.path_map.specs.Inner.{After}
 use Rattle.path_map.proofs.Convex.{not_before}
 use Rattle.path_map.proofs.Merges.{later_after}
 use Rattle.acl_tree.specs.Files.{PathOf, Files, IsInOrder}
-use Rattle.acl_tree.specs.Below.{is_below, is_within}
+use Rattle.acl_load.specs.Below.{is_below, is_within}
 use Rattle.acl_tree.specs.Walks.{ancestors}
-use Rattle.acl_tree.proofs.Follows.{below_within, below_less, within_below}
+use Rattle.acl_load.proofs.Follows.{below_within, below_less, within_below}
 use Rattle.acl_tree.proofs.Selected.{filter_alike, filter_apart}
 
 -- ---- paths

@@ -21,7 +21,7 @@ use Rattle.acl_tree.specs.Files.{PathOf, Files, IsInOrder}
 use Rattle.acl_tree.specs.EditCommand.{unless_missing}
 use Rattle.acl_tree.specs.Edits.{and_others, edit_each, edit_all, with_edits}
 use Rattle.acl_tree.specs.Laws.{Says, IsAsRecorded}
-use Rattle.acl_tree.specs.Loading.{record_at}
+use Rattle.acl_load.specs.Loading.{record_at}
 use Rattle.acl_tree.specs.Operands.{is_file, first_missing, files_meant}
 use Rattle.acl_tree.specs.Restoring.{edit_of, edit_if_some, restore_one, paths_of}
 use Rattle.acl_tree.specs.Sound.{ArePlaced, IsSoundTree}

@@ -1,6 +1,5 @@
 -- Files some of which are edited.
-use Rattle.std.specs.List.{list_any}
-use Rattle.std.proofs.Common.{◌≡◌, ◌&&◌, ◌||◌, List, [], ◌∷◌, map, refl, ap, ◌∙◌, Bool}
+use Rattle.std.proofs.Common.{◌≡◌, ◌&&◌, [], ◌∷◌, refl, ap, ◌∙◌, Bool}
 use Rattle.std.specs.Ordering.{is_lt}
 use Rattle.std.specs.FinMap.{is_sorted}
 use Rattle.std.specs.FinMap.Entries.{below_all}
@@ -20,7 +19,3 @@ sorted-edited test g (e ∷ t) = ap (λ b. b && is_sorted path_cmp (edit_files t
 -- an edit keeps the order
 pub in_order-edited : (test : PathOf → Bool) (g : PathOf → Node → Node) (t : Files) → IsInOrder t → IsInOrder (edit_files test g t)
 in_order-edited test g t h = sorted-edited test g t ∙ h
-
-pub any-map : {A B : Type 0} (p : B → Bool) (f : A → B) (xs : List A) → list_any p (map f xs) ≡ list_any (λ x. p (f x)) xs
-any-map p f [] = refl
-any-map p f (x ∷ xs) = ap (λ b. p (f x) || b) (any-map p f xs)

@@ -1,9 +1,4 @@
-pub mod Shared
 pub mod Edited
-pub mod Follows
-pub mod Loaded
-pub mod Mapped
-pub mod SortedRecords
 pub mod Kept
 pub mod Changes
 pub mod Selected

@@ -21,7 +21,7 @@ use Rattle.path_map.specs.Merged.{has}
 use Rattle.path_map.proofs.Convex.{not_before}
 use Rattle.path_map.proofs.Differences.{Fail, put_passes, Leads, leads_all, has_put_all}
 use Rattle.acl_tree.specs.Files.{PathOf, Files, Recorded, max_files}
-use Rattle.acl_tree.specs.Below.{is_below, is_within}
+use Rattle.acl_load.specs.Below.{is_below, is_within}
 use Rattle.acl_tree.specs.Changed.{same_label, is_changed, changed_between, gone_between}
 use Rattle.acl_tree.specs.Creat.{exists, parent, only_directory, directory_at, creat_in, creat_by}
 use Rattle.acl_tree.specs.declared.command.NewFile.{NewFile}
@@ -30,8 +30,8 @@ use Rattle.acl_tree.specs.declared.command.TreeFault.TheVariants.{NotDirectory, 
 use Rattle.acl_tree.specs.Inner.{IsNewIn}
 use Rattle.acl_tree.specs.Sound.{holds_below, IsPlaced, ArePlaced, IsSoundTree}
 use Rattle.acl_tree.proofs.Changes.{label_itself}
-use Rattle.acl_tree.proofs.Follows.{below_within, within_below, not_below_itself}
-use Rattle.acl_tree.proofs.Shared.{in_order-put}
+use Rattle.acl_load.proofs.Follows.{below_within, within_below, not_below_itself}
+use Rattle.acl_load.proofs.Shared.{in_order-put}
 
 -- ---- tests of lists
 

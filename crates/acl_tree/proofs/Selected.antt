@@ -20,12 +20,13 @@ use Rattle.path_map.proofs.Merges.{before_from, later_after}
 use Rattle.path_map.proofs.Places.{above, below}
 use Rattle.path_map.proofs.Ranges.{from_from, from_end}
 use Rattle.acl_tree.specs.Files.{PathOf, Files, IsInOrder}
-use Rattle.acl_tree.specs.Below.{is_within}
+use Rattle.acl_load.specs.Below.{is_within}
 use Rattle.acl_tree.specs.Operands.{means, is_file}
 use Rattle.acl_tree.specs.Sound.{holds_below}
 use Rattle.acl_tree.specs.Found.{found_file, found_in, files_found}
-use Rattle.acl_tree.specs.Inner.{next_file_below, NoneBefore, Ascend}
-use Rattle.acl_tree.proofs.Follows.{told_by_next}
+use Rattle.acl_tree.specs.Inner.{NoneBefore, Ascend}
+use Rattle.acl_load.specs.Inner.{next_file_below}
+use Rattle.acl_load.proofs.Follows.{told_by_next}
 
 equal : (o : Ordering) → is_eq o ≡ true → o ≡ Equal
 equal Less h = absurd (true≢false (sym h))

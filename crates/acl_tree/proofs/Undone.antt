@@ -14,7 +14,7 @@ use Rattle.acl_tree.specs.declared.command.Command.TheVariants.{Creat, Rm}
 use Rattle.acl_tree.specs.declared.command.NewFile.{NewFile}
 use Rattle.acl_tree.specs.declared.command.TreeFault.TheVariants.{IsDirectory}
 use Rattle.acl_tree.specs.Files.{PathOf, Files}
-use Rattle.acl_tree.specs.Below.{is_within}
+use Rattle.acl_load.specs.Below.{is_within}
 use Rattle.acl_tree.specs.Creat.{row_of, exists, creat}
 use Rattle.acl_tree.specs.Operands.{is_file}
 use Rattle.acl_tree.specs.Rm.{refusal, first_refused, without_files, or_refused}

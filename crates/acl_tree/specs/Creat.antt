@@ -13,7 +13,7 @@ use Rattle.acl_tree.specs.declared.command.NewFile.{NewFile}
 use Rattle.acl_tree.specs.declared.command.TreeFault.{TreeFault}
 use Rattle.acl_tree.specs.declared.command.TreeFault.TheVariants.{NoSuchFile, NotDirectory, Exists, NoSuchUser, TooMany}
 use Rattle.acl_tree.specs.Files.{PathOf, Files, Recorded, max_files}
-use Rattle.acl_tree.specs.Below.{is_within}
+use Rattle.acl_load.specs.Below.{is_within}
 
 -- the row of the user that a word means
 abbrev pub row_of : Register → List ℕ → Option PasswdRow

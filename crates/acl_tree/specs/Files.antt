@@ -1,17 +1,8 @@
 -- The files of a tree: their paths and nodes, in path order.
-use Rattle.std.specs.Prelude.{ℕ, List, [], Bool, false, IsTrue, refl}
+use Rattle.std.specs.Prelude.{ℕ, [], Bool, false, refl}
 use Rattle.std.specs.Coded.{Coded, code_by, coded×, coded_ℕ, coded_list, coded_bool}
-use Rattle.std.specs.FinMap.{is_sorted}
-use Rattle.acl_names.specs.Paths.{path_cmp}
-use Rattle.acl_edit.specs.declared.node.Node.{Node}
 use Rattle.acl_edit.specs.contracts.node.Node as node_contracts
-pub use Rattle.path_map.specs.Entries.{PathOf}
-
-abbrev pub Files : Type 0
-Files = List (PathOf × Node)
-
-abbrev pub IsInOrder : Files → Type 0
-IsInOrder es = IsTrue (is_sorted path_cmp es)
+pub use Rattle.acl_load.specs.Files.{PathOf, Files, IsInOrder}
 
 -- the largest number of files of a tree
 abbrev pub max_files : ℕ

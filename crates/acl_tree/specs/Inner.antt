@@ -12,9 +12,7 @@ use Rattle.acl_edit.specs.declared.node.Kind.TheVariants.{Directory}
 use Rattle.acl_tree.specs.declared.edit.FileFault.{FileFault}
 use Rattle.acl_tree.specs.Files.{PathOf, Files, max_files}
 use Rattle.acl_tree.specs.Creat.{exists, parent}
-use Rattle.acl_tree.specs.Below.{is_below}
 use Rattle.acl_tree.specs.Found.{FoundFile}
-use Rattle.acl_tree.specs.Loading.{node_of}
 use Rattle.acl_tree.specs.Changed.{same_label}
 use Rattle.acl_tree.specs.Restoring.{edit_of, edit_if_some}
 use Rattle.acl_tree.specs.Sound.{IsSoundTree}
@@ -31,32 +29,6 @@ pub record Prepares (old : State) (is : Result State TreeFault) (move : UsersMov
   pub sound : IfOk result (λ staged. IsSoundTree staged.state.tree)
   pub tells : IfOk result (λ staged. Tells old staged)
   pub moved : IfOk result (λ staged. staged.moved ≡ move)
-
--- ---- the next file in path order
-
--- whether the first of the records that follow is below a path
-abbrev pub next_below : PathOf → List DumpRecord → Bool
-next_below p [] = false
-next_below p (r ∷ rs) = is_below p r.path
-
--- the files of records in path order, each by the one that follows it
-abbrev pub files_from : List DumpRecord → Files
-files_from [] = []
-files_from (r ∷ rs) = (r.path, node_of (next_below r.path rs) r) ∷ files_from rs
-
--- whether the first of the files that follow is below a path
-abbrev pub next_file_below : PathOf → Files → Bool
-next_file_below p [] = false
-next_file_below p (e ∷ es) = is_below p e.0
-
--- a record's file, before the files that follow it
-abbrev pub file_before : DumpRecord → Files → Files
-file_before r es = (r.path, node_of (next_file_below r.path es) r) ∷ es
-
--- the files of records in path order, before the files that follow them
-abbrev pub files_before : List DumpRecord → Files → Files
-files_before [] es = es
-files_before (r ∷ rs) es = file_before r (files_before rs es)
 
 -- ---- operands in path order
 

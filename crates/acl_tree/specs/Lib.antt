@@ -1,7 +1,5 @@
 pub mod Files
-pub mod Below
 pub mod Operands
-pub mod Loading
 pub mod Creat
 pub mod Rm
 pub mod Memberships

@@ -9,7 +9,7 @@ use Rattle.acl_edit.specs.declared.node.Node.{Node}
 use Rattle.acl_tree.specs.declared.command.TreeFault.{TreeFault}
 use Rattle.acl_tree.specs.Files.{PathOf, Recorded}
 use Rattle.acl_tree.specs.Operands.{first_missing}
-use Rattle.acl_tree.specs.Loading.{record_at}
+use Rattle.acl_load.specs.Loading.{record_at}
 use Rattle.acl_tree.specs.Edits.{edit_all}
 use Rattle.acl_tree.specs.EditCommand.{unless_missing}
 

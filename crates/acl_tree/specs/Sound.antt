@@ -1,15 +1,10 @@
 -- The facts of every tree. That each list is valid is a fact of every list, by its type.
-use Rattle.std.specs.Prelude.{◌≡◌, ◌≤◌, ⊤, [], ◌∷◌, length, Bool, true, false, ◌||◌, ◌==◌}
-use Rattle.std.specs.List.{list_any}
+use Rattle.std.specs.Prelude.{◌≡◌, ◌≤◌, ⊤, [], ◌∷◌, length, true, false, ◌||◌, ◌==◌}
 use Rattle.acl_edit.specs.Nodes as nodes
 use Rattle.acl_edit.specs.declared.node.Node.{Node}
 use Rattle.acl_edit.specs.declared.node.Kind.TheVariants.{Directory}
 use Rattle.acl_tree.specs.Files.{PathOf, Files, IsInOrder, Recorded, max_files}
-use Rattle.acl_tree.specs.Below.{is_below}
-
--- whether a file lies below a path
-abbrev pub holds_below : Files → PathOf → Bool
-holds_below es p = list_any (λ e. is_below p e.0) es
+pub use Rattle.acl_load.specs.Files.{holds_below}
 
 -- the root and what has a file below it are directories, and only directories have default lists
 pub record IsPlaced (es : Files) (e : PathOf × Node) : Type 0 where

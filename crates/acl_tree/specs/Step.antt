@@ -18,7 +18,7 @@ use Rattle.acl_tree.specs.declared.command.Table.TheVariants.{Passwd, Group, Dum
 use Rattle.acl_tree.specs.declared.command.TreeFault.{TreeFault}
 use Rattle.acl_tree.specs.declared.command.TreeFault.TheVariants.{NoSuchFile, TooMany, AlreadyLoaded, Text, NoMemory}
 use Rattle.acl_tree.specs.Files.{PathOf, Recorded, coded_recorded, no_files, max_files}
-use Rattle.acl_tree.specs.Loading.{files_of}
+use Rattle.acl_load.specs.Loading.{files_of}
 use Rattle.acl_tree.specs.Creat.{creat}
 use Rattle.acl_tree.specs.Rm.{rm}
 use Rattle.acl_tree.specs.Memberships.{UserChange, gpasswd, usermod}

@@ -13,19 +13,12 @@ ghost use Rattle.acl_tree.specs.EditCommand.{edit_one, edited_tree};
 ghost use Rattle.acl_tree.specs.Files.{PathOf, Recorded, IsInOrder};
 ghost use Rattle.acl_tree.specs.Laws.{EditsEach, MasksEach, LeavesUnnamed, IsAsRecorded};
 ghost use Rattle.acl_tree.specs.Restoring.{restore_one, paths_of, restored_tree};
-ghost use Rattle.acl_tree.specs.Loading.{files_of, loaded_at};
+ghost use Rattle.acl_load.specs.Loading.{files_of, loaded_at};
 ghost use Rattle.acl_tree.specs.Sound.{IsSoundTree};
 ghost use Rattle.acl_tree.specs.Step.{State, step};
 ghost use Rattle.acl_tree.specs.declared.command.Command.{Command};
 ghost use Rattle.acl_tree.specs.declared.command.Command.TheVariants as commands;
 ghost use Rattle.acl_tree.specs.declared.command.NewFile.{NewFile};
-
-/// Proof only. The files of a dump are a map of its records: at a path is the file of that path's record, and where
-/// no record has the path there is none. The order of the records doesn't matter.
-#[tactic(auto, using(crate::proofs::Mapped::loaded_found))]
-pub fn each_record_is_a_file()
-    ensures { (records : List DumpRecord) (p : PathOf) → find path_cmp p (files_of records) ≡ loaded_at p records }
-{}
 
 /// Proof only. An edit and a restore make each of their files what the edit of that one file makes of it, and leave
 /// every other file as it was. So the rules on the masks that a line leaves hold at each file of a recursion.

@@ -1,7 +1,6 @@
 //! The files of a tree, and whole commands on them: each acts on all its files or on none.
 #![tactic(auto)]
 
-mod below;
 mod chmod;
 mod command;
 mod creat;
@@ -18,7 +17,6 @@ mod prepare;
 mod restore;
 mod rm;
 mod selection;
-mod sorting;
 mod stage_people;
 mod staged;
 mod state;
@@ -28,13 +26,13 @@ mod userdel;
 mod usermod;
 mod walks;
 
+pub use acl_load::{each_record_is_a_file, is_below};
 pub use acl_people::{People, UserName};
-pub use below::is_below;
 pub use command::{Command, Membership, NewFile, NewUser, Paths, Table, TreeFault};
 pub use found::Found;
 pub use laws::{
-    each_file_is_edited, each_record_is_a_file, new_file_is_removed,
-    restore_of_what_is_changes_nothing, unnamed_files_stay,
+    each_file_is_edited, new_file_is_removed, restore_of_what_is_changes_nothing,
+    unnamed_files_stay,
 };
 pub use moved::{GroupIds, UsersMove};
 pub use restore::DumpRecords;

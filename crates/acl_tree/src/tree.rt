@@ -8,13 +8,11 @@ ghost use Rattle.acl_tree.specs.Files.{no_files};
 ghost use Rattle.acl_tree.specs.Sound.{IsSoundTree};
 
 use acl_edit::Node;
+pub use acl_load::Record;
 use acl_names::Path;
-use path_map::{Entries, Entry, PathMap};
+use path_map::{Entries, PathMap};
 use std::alloc::{AllocError, Global};
 use std::marker::Model;
-
-/// A file: its path, and its node. Trees share it.
-pub type Record = Entry<Node>;
 
 /// A cursor over the files of a tree: those that are still to come, in path order.
 pub type Files<'a> = Entries<'a, Node>;

@@ -21,8 +21,8 @@ use Rattle.acl_dump.proofs.WrittenRecords.{dump_again}
 use Rattle.acl_tree.specs.declared.command.TreeFault.{TreeFault}
 use Rattle.acl_tree.specs.declared.command.TreeFault.TheVariants.{TooMany}
 use Rattle.acl_tree.specs.Files.{PathOf, Files, IsInOrder, no_files}
-use Rattle.acl_tree.specs.Below.{is_below}
-use Rattle.acl_tree.specs.Loading.{node_of, has_below, as_files, files_of}
+use Rattle.acl_load.specs.Below.{is_below}
+use Rattle.acl_load.specs.Loading.{node_of, has_below, as_files, files_of}
 use Rattle.acl_tree.specs.Operands.{is_file}
 use Rattle.acl_tree.specs.Sound.{holds_below, IsPlaced, ArePlaced}
 use Rattle.acl_tree.specs.Found.{FoundFile, found_in, files_found}

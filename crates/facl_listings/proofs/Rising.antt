@@ -13,8 +13,8 @@ use Rattle.acl_dump.specs.declared.record.DumpRecord.{DumpRecord}
 use Rattle.acl_dump.specs.Records.{same_path}
 use Rattle.acl_dump.specs.Again.{AreApart, paths}
 use Rattle.acl_tree.specs.Files.{PathOf, Files, IsInOrder}
-use Rattle.acl_tree.specs.Loading.{insert_record, in_path_order}
-use Rattle.acl_tree.proofs.Follows.{above}
+use Rattle.acl_load.specs.Loading.{insert_record, in_path_order}
+use Rattle.acl_load.proofs.Follows.{above}
 
 -- each of them comes before the path
 abbrev pub Before : List PathOf → PathOf → Type 0

@@ -11,7 +11,7 @@ use Rattle.acl_dump.specs.declared.record.DumpRecord.{DumpRecord}
 use Rattle.acl_edit.specs.declared.edit.Edit.{Edit}
 use Rattle.acl_edit.specs.declared.edit.EditFault.{EditFault}
 use Rattle.acl_edit.specs.declared.node.Node.{Node}
-use Rattle.acl_tree.specs.Below.{is_within}
+use Rattle.acl_load.specs.Below.{is_within}
 use Rattle.acl_tree.specs.EditCommand.{edit_one, edited_tree, unless_missing}
 use Rattle.acl_tree.specs.Edits.{edit_all}
 use Rattle.acl_tree.specs.Files.{PathOf, Recorded, IsInOrder}

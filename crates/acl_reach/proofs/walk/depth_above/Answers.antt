@@ -1,5 +1,5 @@
 use Rattle.std.proofs.Common.{arith, ◌∙◌, sym, ap}
-use Rattle.acl_tree.specs.Below.{is_below}
+use Rattle.acl_load.specs.Below.{is_below}
 use Rattle.acl_reach.proofs.Walks.{shrink_step, top_step, none_left}
 use Rattle.acl_reach.proofs.walk.depth_above.Goals as goal
 

@@ -5,7 +5,7 @@ use Rattle.std.proofs.lemmas.List.Sorted.{ranks_by, list_any-IsPermutation}
 use Rattle.acl_names.specs.Paths.{path_cmp}
 use Rattle.acl_names.proofs.PathOrder.{path_total}
 use Rattle.acl_tree.specs.Operands.{means, is_file}
-use Rattle.acl_tree.proofs.Edited.{any-map}
+use Rattle.acl_load.proofs.Shared.{any-map}
 use Rattle.acl_tree.proofs.Selected.{ascend_sorted}
 use Rattle.acl_tree.proofs.selection.in_order.Goals as goal
 

@@ -2,10 +2,10 @@ use Rattle.std.proofs.Common.{◌≡◌, List, map, sym, ap, subst, ◌∙◌}
 use Rattle.acl_edit.specs.declared.edit.Edit.{Edit}
 use Rattle.path_map.specs.Entries.{IsInOrder}
 use Rattle.acl_tree.specs.Files.{PathOf}
-use Rattle.acl_tree.specs.Loading.{in_path_order}
+use Rattle.acl_load.specs.Loading.{in_path_order}
 use Rattle.acl_tree.specs.Restoring.{edit_of}
 use Rattle.acl_tree.specs.Inner.{edits_by_path}
-use Rattle.acl_tree.proofs.Loaded.{in_order-records}
+use Rattle.acl_load.proofs.Loaded.{in_order-records}
 use Rattle.acl_tree.proofs.Restored.{restored_by_path}
 use Rattle.acl_tree.proofs.restore.Restoration.of.Goals as goal
 

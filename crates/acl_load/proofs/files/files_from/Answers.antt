@@ -1,9 +1,9 @@
 use Rattle.std.proofs.Common.{◌≡◌, [], ◌∷◌, ◌++◌, map, reverse, ap, sym, ◌∙◌, arith}
 use Rattle.std.proofs.lemmas.Grind.{common_steps}
 use Rattle.std.proofs.lemmas.List.{map-append}
-use Rattle.acl_tree.specs.Inner.{next_file_below, files_before}
-use Rattle.acl_tree.proofs.Loaded.{one_before, before_none, map-reverse}
-use Rattle.acl_tree.proofs.dump.files_from.Goals as goal
+use Rattle.acl_load.specs.Inner.{next_file_below, files_before}
+use Rattle.acl_load.proofs.Loaded.{one_before, before_none, map-reverse}
+use Rattle.acl_load.proofs.files.files_from.Goals as goal
 
 pub loop-entry-preserved : goal.loop-entry-preserved
 loop-entry-preserved c =

@@ -2,12 +2,12 @@
 
 ghost use Rattle.std.specs.Prelude.{◌≡◌, true};
 ghost use Rattle.acl_dump.specs.OwnPaths.{have_own_paths};
-ghost use Rattle.acl_tree.specs.Loading.{in_path_order};
+ghost use Rattle.acl_load.specs.Loading.{in_path_order};
 
 use acl_dump::DumpRecord;
 
 /// The records in path order. Allocates nothing.
-pub(crate) fn in_path_order(records: Vec<DumpRecord>) -> Vec<DumpRecord>
+pub fn in_path_order(records: Vec<DumpRecord>) -> Vec<DumpRecord>
     requires { have_own_paths records.items ≡ true }
     ensures { result.items ≡ in_path_order records.items }
 {

@@ -1,7 +1,7 @@
 use Rattle.std.proofs.Common.{rules}
 use Rattle.std.proofs.lemmas.Fn.{always_returns_same}
-use Rattle.acl_tree.proofs.SortedRecords.{is_before, by_paths, sorted_are}
-use Rattle.acl_tree.proofs.sorting.in_path_order.Goals as goal
+use Rattle.acl_load.proofs.SortedRecords.{is_before, by_paths, sorted_are}
+use Rattle.acl_load.proofs.sorting.in_path_order.Goals as goal
 
 pub returns : goal.returns
 returns c =

@@ -8,10 +8,10 @@ use Rattle.std.specs.FinMap.Entries.{by_order, find-put}
 use Rattle.acl_names.specs.Paths.{path_cmp}
 use Rattle.acl_names.proofs.PathOrder.{path_total, exact_paths}
 use Rattle.acl_dump.specs.declared.record.DumpRecord.{DumpRecord}
-use Rattle.acl_tree.specs.Files.{PathOf}
-use Rattle.acl_tree.specs.Below.{is_below}
-use Rattle.acl_tree.specs.Loading.{insert_record, in_path_order, node_of, has_below, files_of, record_at, loaded_at}
-use Rattle.acl_tree.proofs.Loaded.{seen, put_insert}
+use Rattle.acl_load.specs.Files.{PathOf}
+use Rattle.acl_load.specs.Below.{is_below}
+use Rattle.acl_load.specs.Loading.{insert_record, in_path_order, node_of, has_below, files_of, record_at, loaded_at}
+use Rattle.acl_load.proofs.Loaded.{seen, put_insert}
 
 or_none : {V : Type 0} (o : Option V) → option_or o None ≡ o
 or_none None = refl

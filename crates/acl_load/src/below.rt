@@ -1,7 +1,7 @@
 //! Which paths are below which.
 
 ghost use Rattle.std.specs.Prelude.{◌≡◌};
-ghost use Rattle.acl_tree.specs.Below.{is_below};
+ghost use Rattle.acl_load.specs.Below.{is_below};
 
 use acl_names::Path;
 use std::cmp::Ordering;

@@ -1,7 +1,7 @@
 use Rattle.std.proofs.Common.{◌≡◌, [], map, length}
 use Rattle.std.specs.Prelude.{reverse}
-use Rattle.acl_tree.specs.Inner.{files_before}
-use Rattle.acl_tree.proofs.dump.files_from.Given as goal
+use Rattle.acl_load.specs.Inner.{files_before}
+use Rattle.acl_load.proofs.files.files_from.Given as goal
 
 abbrev pub invariant-loop-entry : goal.invariant-loop-entry
 invariant-loop-entry l = files_before l.left.items (reverse (map (λ r. r.value) l.files.items)) ≡ files_before l.fn.sorted.items []

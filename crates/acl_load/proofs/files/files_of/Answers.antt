@@ -1,8 +1,8 @@
 use Rattle.std.proofs.Common.{ap, ◌∙◌}
 use Rattle.std.proofs.lemmas.Result.{IfOk-weaker}
-use Rattle.acl_tree.specs.Inner.{files_from}
-use Rattle.acl_tree.proofs.Loaded.{files_are}
-use Rattle.acl_tree.proofs.dump.files_of.Goals as goal
+use Rattle.acl_load.specs.Inner.{files_from}
+use Rattle.acl_load.proofs.Loaded.{files_are}
+use Rattle.acl_load.proofs.files.files_of.Goals as goal
 
 pub returns : goal.returns
 returns c =

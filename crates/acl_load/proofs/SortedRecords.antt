@@ -17,8 +17,8 @@ use Rattle.acl_names.proofs.PathOrder.{path_total, exact_paths}
 use Rattle.acl_dump.specs.declared.record.DumpRecord.{DumpRecord}
 use Rattle.acl_dump.specs.OwnPaths.{have_own_paths}
 use Rattle.acl_dump.specs.Records.{same_path, is_repeated}
-use Rattle.acl_tree.specs.Files.{PathOf}
-use Rattle.acl_tree.specs.Loading.{insert_record, in_path_order, record_at}
+use Rattle.acl_load.specs.Files.{PathOf}
+use Rattle.acl_load.specs.Loading.{insert_record, in_path_order, record_at}
 
 abbrev has : PathOf → DumpRecord → Bool
 has p r = same_path p r.path

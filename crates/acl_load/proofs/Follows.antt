@@ -10,10 +10,10 @@ use Rattle.std.proofs.lemmas.Cmp.{tied_itself}
 use Rattle.acl_names.specs.Paths.{path_cmp}
 use Rattle.acl_names.proofs.PathOrder.{path_total}
 use Rattle.acl_edit.specs.declared.node.Node.{Node}
-use Rattle.acl_tree.specs.Files.{PathOf, Files, IsInOrder}
-use Rattle.acl_tree.specs.Below.{is_within, is_below}
-use Rattle.acl_tree.specs.Sound.{holds_below}
-use Rattle.acl_tree.specs.Inner.{next_file_below}
+use Rattle.acl_load.specs.Files.{PathOf, Files, IsInOrder}
+use Rattle.acl_load.specs.Below.{is_within, is_below}
+use Rattle.acl_load.specs.Files.{holds_below}
+use Rattle.acl_load.specs.Inner.{next_file_below}
 use Rattle.path_map.proofs.Convex.{convex}
 pub use Rattle.path_map.proofs.Places.{above}
 

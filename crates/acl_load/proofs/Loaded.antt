@@ -9,14 +9,14 @@ use Rattle.acl_names.proofs.PathOrder.{exact_paths}
 use Rattle.acl_dump.specs.declared.record.DumpRecord.{DumpRecord}
 use Rattle.acl_edit.specs.declared.node.Node.{Node}
 use Rattle.path_map.specs.Entries.{IsInOrder}
-use Rattle.acl_tree.specs.Files.{PathOf, Files}
-use Rattle.acl_tree.specs.Below.{is_below}
-use Rattle.acl_tree.specs.Loading.{insert_record, in_path_order, node_of, has_below, as_files, files_of}
-use Rattle.acl_tree.specs.Sound.{holds_below}
-use Rattle.acl_tree.specs.Inner.{next_below, files_from, next_file_below, file_before, files_before}
-use Rattle.acl_tree.proofs.Shared.{in_order-put}
-use Rattle.acl_tree.proofs.Edited.{any-map}
-use Rattle.acl_tree.proofs.Follows.{told_by_next}
+use Rattle.acl_load.specs.Files.{PathOf, Files}
+use Rattle.acl_load.specs.Below.{is_below}
+use Rattle.acl_load.specs.Loading.{insert_record, in_path_order, node_of, has_below, as_files, files_of}
+use Rattle.acl_load.specs.Files.{holds_below}
+use Rattle.acl_load.specs.Inner.{next_below, files_from, next_file_below, file_before, files_before}
+use Rattle.acl_load.proofs.Shared.{in_order-put}
+use Rattle.acl_load.proofs.Shared.{any-map}
+use Rattle.acl_load.proofs.Follows.{told_by_next}
 
 -- ---- path order
 

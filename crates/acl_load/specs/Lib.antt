@@ -1,0 +1,4 @@
+pub mod Below
+pub mod Files
+pub mod Loading
+pub mod Inner
