@@ -1,6 +1,7 @@
 //! Writing the headers of a record, and records (getfacl(1)).
 
-ghost use Rattle.std.specs.Prelude.{◌≡◌, ◌++◌, OnOk, OnErr, take, length};
+ghost use Rattle.std.specs.Prelude.{◌≡◌, ◌++◌, OnOk, OnErr};
+ghost use Rattle.std.specs.Io.{StartsWith};
 ghost use Rattle.acl_dump.specs.Writing.{mark, marks, flags_text, file_text, owner_text, group_text, header_text, record_text};
 
 use crate::effective::Effective;
@@ -27,7 +28,7 @@ fn marks(flags: [bool; 3]) -> [u8; 3]
 
 fn push_flags(text: &mut Vec<u8>, flags: Option<[bool; 3]>) -> Result<(), AllocError>
     ensures ok { OnOk result (text.new.items ≡ text.old.items ++ flags_text flags) }
-    ensures err { OnErr result (take (length text.old.items) text.new.items ≡ text.old.items) }
+    ensures err { OnErr result (StartsWith text.new.items text.old.items) }
 {
     let Some(flags) = flags else {
         return Ok(());
@@ -40,7 +41,7 @@ fn push_flags(text: &mut Vec<u8>, flags: Option<[bool; 3]>) -> Result<(), AllocE
 
 fn push_file(text: &mut Vec<u8>, path: &Path, slash: bool) -> Result<(), AllocError>
     ensures ok { OnOk result (text.new.items ≡ text.old.items ++ file_text path.now slash) }
-    ensures err { OnErr result (take (length text.old.items) text.new.items ≡ text.old.items) }
+    ensures err { OnErr result (StartsWith text.new.items text.old.items) }
 {
     text.extend_from_slice(b"# file: ")?;
     append_path(text, path)?;
@@ -53,7 +54,7 @@ fn push_file(text: &mut Vec<u8>, path: &Path, slash: bool) -> Result<(), AllocEr
 
 fn push_owner<N: Names>(text: &mut Vec<u8>, owner: &Option<Id>, names: &N) -> Result<(), AllocError>
     ensures ok { OnOk result (text.new.items ≡ text.old.items ++ owner_text (N.user_name names.now) owner.now) }
-    ensures err { OnErr result (take (length text.old.items) text.new.items ≡ text.old.items) }
+    ensures err { OnErr result (StartsWith text.new.items text.old.items) }
 {
     match owner {
         None => Ok(()),
@@ -68,7 +69,7 @@ fn push_owner<N: Names>(text: &mut Vec<u8>, owner: &Option<Id>, names: &N) -> Re
 
 fn push_group<N: Names>(text: &mut Vec<u8>, group: &Option<Id>, names: &N) -> Result<(), AllocError>
     ensures ok { OnOk result (text.new.items ≡ text.old.items ++ group_text (N.group_name names.now) group.now) }
-    ensures err { OnErr result (take (length text.old.items) text.new.items ≡ text.old.items) }
+    ensures err { OnErr result (StartsWith text.new.items text.old.items) }
 {
     match group {
         None => Ok(()),
@@ -91,7 +92,7 @@ fn push_header<N: Names>(
     names: &N,
 ) -> Result<(), AllocError>
     ensures ok { OnOk result (text.new.items ≡ text.old.items ++ header_text (N.user_name names.now) (N.group_name names.now) path.now slash owner.now group.now flags) }
-    ensures err { OnErr result (take (length text.old.items) text.new.items ≡ text.old.items) }
+    ensures err { OnErr result (StartsWith text.new.items text.old.items) }
 {
     push_file(text, path, slash)?;
     push_owner(text, owner, names)?;
@@ -132,7 +133,7 @@ fn push_record<N: Names>(
     names: &N,
 ) -> Result<(), AllocError>
     ensures ok { OnOk result (text.new.items ≡ text.old.items ++ record_text (N.user_name names.now) (N.group_name names.now) dump_record.now) }
-    ensures err { OnErr result (take (length text.old.items) text.new.items ≡ text.old.items) }
+    ensures err { OnErr result (StartsWith text.new.items text.old.items) }
 {
     append_header(
         text,

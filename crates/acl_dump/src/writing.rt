@@ -1,6 +1,7 @@
 //! Writing the records of a dump (getfacl(1)).
 
-ghost use Rattle.std.specs.Prelude.{◌≡◌, ◌++◌, ◌∷◌, [], OnOk, OnErr, take, length};
+ghost use Rattle.std.specs.Prelude.{◌≡◌, ◌++◌, ◌∷◌, [], OnOk, OnErr, length};
+ghost use Rattle.std.specs.Io.{StartsWith};
 ghost use Rattle.std.specs.List.{flat_map};
 ghost use Rattle.acl_entry.specs.Lists as lists;
 ghost use Rattle.acl_text.specs.declared.fault.Which.TheVariants.{Default};
@@ -40,7 +41,7 @@ fn push_comment(
     bytes: usize,
 ) -> Result<(), AllocError>
     ensures ok { OnOk result (text.new.items ≡ text.old.items ++ comment how mask.now entry.now bytes) }
-    ensures err { OnErr result (take (length text.old.items) text.new.items ≡ text.old.items) }
+    ensures err { OnErr result (StartsWith text.new.items text.old.items) }
 {
     let Some(mask) = mask else {
         return Ok(());
@@ -70,7 +71,7 @@ fn push_shown<N: Names>(
     names: &N,
 ) -> Result<(), AllocError>
     ensures ok { OnOk result (text.new.items ≡ text.old.items ++ shown (N.user_name names.now) (N.group_name names.now) which entry.now) }
-    ensures err { OnErr result (take (length text.old.items) text.new.items ≡ text.old.items) }
+    ensures err { OnErr result (StartsWith text.new.items text.old.items) }
 {
     text.extend_from_slice(front(which))?;
     append_entry(text, entry, Form::Long, names)
@@ -85,7 +86,7 @@ fn push_line<N: Names>(
     names: &N,
 ) -> Result<(), AllocError>
     ensures ok { OnOk result (text.new.items ≡ text.old.items ++ entry_line (N.user_name names.now) (N.group_name names.now) how which mask.now entry.now) }
-    ensures err { OnErr result (take (length text.old.items) text.new.items ≡ text.old.items) }
+    ensures err { OnErr result (StartsWith text.new.items text.old.items) }
 {
     let before = text.len();
     push_shown(text, which, entry, names)?;
@@ -104,7 +105,7 @@ fn push_list<N: Names>(
     names: &N,
 ) -> Result<(), AllocError>
     ensures ok { OnOk result (text.new.items ≡ text.old.items ++ flat_map (entry_line (N.user_name names.now) (N.group_name names.now) how which mask.now) entries.now) }
-    ensures err { OnErr result (take (length text.old.items) text.new.items ≡ text.old.items) }
+    ensures err { OnErr result (StartsWith text.new.items text.old.items) }
 {
     for entry in entries {
         push_line(text, how, which, mask, entry, names)?;

@@ -1,6 +1,7 @@
 //! Names of users and groups.
 
-ghost use Rattle.std.specs.Prelude.{◌≡◌, ◌++◌, List, ℕ, IfOk, OnOk, OnErr, take, length};
+ghost use Rattle.std.specs.Prelude.{◌≡◌, ◌++◌, List, ℕ, IfOk, OnOk, OnErr};
+ghost use Rattle.std.specs.Io.{StartsWith};
 ghost use Rattle.acl_names.specs.Names.{decoded, escaped};
 
 use crate::escape::{is_escaped_in_names, push_byte, unit};
@@ -95,7 +96,7 @@ pub fn append_name(text: &mut Vec<u8>, name: &[u8]) -> Result<(), AllocError>
 
 fn push_name(text: &mut Vec<u8>, name: &[u8]) -> Result<(), AllocError>
     ensures ok { OnOk result (text.new.items ≡ text.old.items ++ escaped name.now) }
-    ensures err { OnErr result (take (length text.old.items) text.new.items ≡ text.old.items) }
+    ensures err { OnErr result (StartsWith text.new.items text.old.items) }
 {
     for b in name {
         push_byte(text, *b, is_escaped_in_names(*b))?;

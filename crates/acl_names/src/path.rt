@@ -1,6 +1,7 @@
 //! Paths, by their components.
 
-ghost use Rattle.std.specs.Prelude.{◌≡◌, ◌++◌, ℕ, List, Some, map, IsTrue, IfOk, OnOk, OnErr, take, length};
+ghost use Rattle.std.specs.Prelude.{◌≡◌, ◌++◌, ℕ, List, Some, map, IsTrue, IfOk, OnOk, OnErr};
+ghost use Rattle.std.specs.Io.{StartsWith};
 ghost use Rattle.std.specs.List.{list_any, list_all, flat_map};
 ghost use Rattle.acl_names.specs.Names.{escaped_where, is_escaped_in_paths};
 ghost use Rattle.acl_names.specs.Paths.{is_component, is_allowed, path_from, is_nothing, is_dot_dot, is_refused, path_of, path_cmp, path_text, after_slash, components_of};
@@ -191,7 +192,7 @@ pub fn append_path(text: &mut Vec<u8>, path: &Path) -> Result<(), AllocError>
 
 fn push_path(text: &mut Vec<u8>, components: Components<'_>) -> Result<(), AllocError>
     ensures ok { OnOk result (text.new.items ≡ text.old.items ++ path_text components.entry) }
-    ensures err { OnErr result (take (length text.old.items) text.new.items ≡ text.old.items) }
+    ensures err { OnErr result (StartsWith text.new.items text.old.items) }
 {
     let mut others = components;
     let Some(first) = others.next() else {
@@ -204,7 +205,7 @@ fn push_path(text: &mut Vec<u8>, components: Components<'_>) -> Result<(), Alloc
 
 fn push_others(text: &mut Vec<u8>, components: Components<'_>) -> Result<(), AllocError>
     ensures ok { OnOk result (text.new.items ≡ text.old.items ++ escaped_where is_escaped_in_paths (flat_map after_slash components.entry)) }
-    ensures err { OnErr result (take (length text.old.items) text.new.items ≡ text.old.items) }
+    ensures err { OnErr result (StartsWith text.new.items text.old.items) }
 {
     let mut others = components;
     while let Some(other) = others.next() {
@@ -216,7 +217,7 @@ fn push_others(text: &mut Vec<u8>, components: Components<'_>) -> Result<(), All
 
 fn push_component(text: &mut Vec<u8>, component: &[u8]) -> Result<(), AllocError>
     ensures ok { OnOk result (text.new.items ≡ text.old.items ++ escaped_where is_escaped_in_paths component.now) }
-    ensures err { OnErr result (take (length text.old.items) text.new.items ≡ text.old.items) }
+    ensures err { OnErr result (StartsWith text.new.items text.old.items) }
 {
     for b in component {
         push_byte(text, *b, is_escaped_in_paths(*b))?;

@@ -1,6 +1,7 @@
 //! Writing lists (acl(5), "ACL text forms"; getfacl(1)).
 
-ghost use Rattle.std.specs.Prelude.{◌≡◌, ◌++◌, ◌∷◌, [], IfOk, OnOk, OnErr, Ok, true, length, take};
+ghost use Rattle.std.specs.Prelude.{◌≡◌, ◌++◌, ◌∷◌, [], IfOk, OnOk, OnErr, Ok, true};
+ghost use Rattle.std.specs.Io.{StartsWith};
 ghost use Rattle.std.specs.List.{flat_map};
 ghost use Rattle.std.specs.Option.{option_copied};
 ghost use Rattle.acl_entry.specs.Lists as lists;
@@ -69,7 +70,7 @@ fn push_entry<N: Names>(
     names: &N,
 ) -> Result<(), AllocError>
     ensures ok { OnOk result (text.new.items ≡ text.old.items ++ entry_text (N.user_name names.now) (N.group_name names.now) form entry.now) }
-    ensures err { OnErr result (take (length text.old.items) text.new.items ≡ text.old.items) }
+    ensures err { OnErr result (StartsWith text.new.items text.old.items) }
 {
     text.extend_from_slice(tag(form, &entry.key))?;
     append_qualifier(text, &entry.key, names)?;
@@ -124,7 +125,7 @@ fn push_long<N: Names>(text: &mut Vec<u8>, entries: &[Entry], names: &N) -> Resu
 
 fn push_others<N: Names>(text: &mut Vec<u8>, others: &[Entry], names: &N) -> Result<(), AllocError>
     ensures ok { OnOk result (text.new.items ≡ text.old.items ++ flat_map (after_comma (N.user_name names.now) (N.group_name names.now)) others.now) }
-    ensures err { OnErr result (take (length text.old.items) text.new.items ≡ text.old.items) }
+    ensures err { OnErr result (StartsWith text.new.items text.old.items) }
 {
     for other in others {
         text.push(b',')?;
@@ -135,7 +136,7 @@ fn push_others<N: Names>(text: &mut Vec<u8>, others: &[Entry], names: &N) -> Res
 
 fn push_short<N: Names>(text: &mut Vec<u8>, entries: &[Entry], names: &N) -> Result<(), AllocError>
     ensures ok { OnOk result (text.new.items ≡ text.old.items ++ short (N.user_name names.now) (N.group_name names.now) entries.now) }
-    ensures err { OnErr result (take (length text.old.items) text.new.items ≡ text.old.items) }
+    ensures err { OnErr result (StartsWith text.new.items text.old.items) }
 {
     let [first, others @ ..] = entries else {
         return Ok(());

@@ -1,6 +1,7 @@
 //! The listings of getfacl(1).
 
-ghost use Rattle.std.specs.Prelude.{◌≡◌, ◌++◌, OnOk, OnErr, take, length};
+ghost use Rattle.std.specs.Prelude.{◌≡◌, ◌++◌, OnOk, OnErr};
+ghost use Rattle.std.specs.Io.{StartsWith};
 ghost use Rattle.facl_listings.specs.Listings.{has_base_alone, is_listed, has_slash, flags_told, headers, default_entries, file_text, files_text, listing};
 
 use crate::options::Options;
@@ -50,7 +51,7 @@ fn push_headers<N: Names>(
     file: &Found,
 ) -> Result<(), AllocError>
     ensures ok { OnOk result (text.new.items ≡ text.old.items ++ headers (N.user_name names.now) (N.group_name names.now) options.now file.now) }
-    ensures err { OnErr result (take (length text.old.items) text.new.items ≡ text.old.items) }
+    ensures err { OnErr result (StartsWith text.new.items text.old.items) }
 {
     if options.omit_header {
         return Ok(());
@@ -74,7 +75,7 @@ fn push_default<N: Names>(
     node: &Node,
 ) -> Result<(), AllocError>
     ensures ok { OnOk result (text.new.items ≡ text.old.items ++ default_entries (N.user_name names.now) (N.group_name names.now) options.now node.now) }
-    ensures err { OnErr result (take (length text.old.items) text.new.items ≡ text.old.items) }
+    ensures err { OnErr result (StartsWith text.new.items text.old.items) }
 {
     match &node.dacl {
         Some(dacl) if !options.access_only => {
@@ -91,7 +92,7 @@ fn push_file<N: Names>(
     file: &Found,
 ) -> Result<(), AllocError>
     ensures ok { OnOk result (text.new.items ≡ text.old.items ++ file_text (N.user_name names.now) (N.group_name names.now) options.now file.now) }
-    ensures err { OnErr result (take (length text.old.items) text.new.items ≡ text.old.items) }
+    ensures err { OnErr result (StartsWith text.new.items text.old.items) }
 {
     push_headers(text, names, options, file)?;
     let node = file.node();
@@ -114,7 +115,7 @@ fn push_files<N: Names>(
     files: &[Found],
 ) -> Result<(), AllocError>
     ensures ok { OnOk result (text.new.items ≡ text.old.items ++ files_text (N.user_name names.now) (N.group_name names.now) options.now files.now) }
-    ensures err { OnErr result (take (length text.old.items) text.new.items ≡ text.old.items) }
+    ensures err { OnErr result (StartsWith text.new.items text.old.items) }
 {
     for file in files {
         if is_listed(options, file) {
@@ -131,7 +132,7 @@ fn push_listing<N: Names>(
     files: &[Found],
 ) -> Result<(), AllocError>
     ensures ok { OnOk result (text.new.items ≡ text.old.items ++ listing (N.user_name names.now) (N.group_name names.now) options.now files.now) }
-    ensures err { OnErr result (take (length text.old.items) text.new.items ≡ text.old.items) }
+    ensures err { OnErr result (StartsWith text.new.items text.old.items) }
 {
     if options.numeric {
         push_files(text, &NoNames, options, files)

@@ -1,6 +1,7 @@
 //! The requests that a user is granted, as a line.
 
-ghost use Rattle.std.specs.Prelude.{◌≡◌, ◌++◌, OnOk, OnErr, take, length};
+ghost use Rattle.std.specs.Prelude.{◌≡◌, ◌++◌, OnOk, OnErr};
+ghost use Rattle.std.specs.Io.{StartsWith};
 ghost use Rattle.facl_listings.specs.Requests.{request_text, requests_granted, requests_text, requests_line};
 
 use acl_entry::{Perm, Requests};
@@ -12,7 +13,7 @@ const NUMBERS: [u8; 7] = [1, 2, 3, 4, 5, 6, 7];
 /// Adds a request that is granted, behind a space where it is not the first.
 fn push_request(text: &mut Vec<u8>, request: Perm, is_first: bool) -> Result<(), AllocError>
     ensures ok { OnOk result (text.new.items ≡ text.old.items ++ request_text is_first request) }
-    ensures err { OnErr result (take (length text.old.items) text.new.items ≡ text.old.items) }
+    ensures err { OnErr result (StartsWith text.new.items text.old.items) }
 {
     if !is_first {
         text.push(b' ')?;
@@ -23,7 +24,7 @@ fn push_request(text: &mut Vec<u8>, request: Perm, is_first: bool) -> Result<(),
 
 fn push_requests(text: &mut Vec<u8>, granted: Requests) -> Result<(), AllocError>
     ensures ok { OnOk result (text.new.items ≡ text.old.items ++ requests_text (requests_granted granted)) }
-    ensures err { OnErr result (take (length text.old.items) text.new.items ≡ text.old.items) }
+    ensures err { OnErr result (StartsWith text.new.items text.old.items) }
 {
     let mut is_first = true;
     for number in &NUMBERS {
@@ -42,7 +43,7 @@ fn push_requests(text: &mut Vec<u8>, granted: Requests) -> Result<(), AllocError
 
 fn push_line(text: &mut Vec<u8>, granted: Requests) -> Result<(), AllocError>
     ensures ok { OnOk result (text.new.items ≡ text.old.items ++ requests_line granted) }
-    ensures err { OnErr result (take (length text.old.items) text.new.items ≡ text.old.items) }
+    ensures err { OnErr result (StartsWith text.new.items text.old.items) }
 {
     push_requests(text, granted)?;
     text.push(b'\n')?;

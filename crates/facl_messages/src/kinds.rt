@@ -1,6 +1,7 @@
 //! What is told of a text's fault.
 
-ghost use Rattle.std.specs.Prelude.{◌≡◌, ◌++◌, OnOk, OnErr, length, take};
+ghost use Rattle.std.specs.Prelude.{◌≡◌, ◌++◌, OnOk, OnErr};
+ghost use Rattle.std.specs.Io.{StartsWith};
 ghost use Rattle.facl_messages.specs.Texts.{is_of_whole_list, kind_text, list_name, list_text, source_name, text_fault_text};
 
 use crate::fault::Source;
@@ -25,7 +26,7 @@ pub(crate) fn push_file_list(
     fault: &ListFault,
 ) -> Result<(), AllocError>
     ensures ok { OnOk result (text.new.items ≡ text.old.items ++ (list_name which ++ list_text fault.now)) }
-    ensures err { OnErr result (take (length text.old.items) text.new.items ≡ text.old.items) }
+    ensures err { OnErr result (StartsWith text.new.items text.old.items) }
 {
     text.extend_from_slice(list_name(which))?;
     push_list_fault(text, fault)
@@ -34,7 +35,7 @@ pub(crate) fn push_file_list(
 /// Adds the text of what is wrong with a piece of text.
 pub(crate) fn push_kind(text: &mut Vec<u8>, kind: &FaultKind) -> Result<(), AllocError>
     ensures ok { OnOk result (text.new.items ≡ text.old.items ++ kind_text kind.now) }
-    ensures err { OnErr result (take (length text.old.items) text.new.items ≡ text.old.items) }
+    ensures err { OnErr result (StartsWith text.new.items text.old.items) }
 {
     match kind {
         FaultKind::BadTag => text.extend_from_slice(b"bad tag"),
@@ -84,7 +85,7 @@ pub(crate) fn push_text_fault(
     fault: &TextFault,
 ) -> Result<(), AllocError>
     ensures ok { OnOk result (text.new.items ≡ text.old.items ++ text_fault_text source fault.now) }
-    ensures err { OnErr result (take (length text.old.items) text.new.items ≡ text.old.items) }
+    ensures err { OnErr result (StartsWith text.new.items text.old.items) }
 {
     if !is_of_whole_list(fault) {
         push_numbered(text, source_name(source), fault.at, b": ")?;

@@ -1,6 +1,7 @@
 //! What is told of a list's fault.
 
-ghost use Rattle.std.specs.Prelude.{◌≡◌, ◌++◌, OnOk, OnErr, codes, decimal, length, take};
+ghost use Rattle.std.specs.Prelude.{◌≡◌, ◌++◌, OnOk, OnErr, codes, decimal};
+ghost use Rattle.std.specs.Io.{StartsWith};
 ghost use Rattle.acl_text.specs.declared.form.Form.TheVariants.{Long};
 ghost use Rattle.acl_text.specs.Writing.{tag_text};
 ghost use Rattle.facl_messages.specs.Texts.{list_text};
@@ -17,7 +18,7 @@ pub(crate) fn push_numbered(
     after: &[u8],
 ) -> Result<(), AllocError>
     ensures ok { OnOk result (text.new.items ≡ text.old.items ++ (before.now ++ decimal number ++ after.now)) }
-    ensures err { OnErr result (take (length text.old.items) text.new.items ≡ text.old.items) }
+    ensures err { OnErr result (StartsWith text.new.items text.old.items) }
 {
     let mut buffer = Buffer::new();
     text.extend_from_slice(before)?;
@@ -39,7 +40,7 @@ fn missing_base(key: &Key) -> &'static [u8]
 /// Adds the text of a list's fault.
 pub(crate) fn push_list_fault(text: &mut Vec<u8>, fault: &ListFault) -> Result<(), AllocError>
     ensures ok { OnOk result (text.new.items ≡ text.old.items ++ list_text fault.now) }
-    ensures err { OnErr result (take (length text.old.items) text.new.items ≡ text.old.items) }
+    ensures err { OnErr result (StartsWith text.new.items text.old.items) }
 {
     match fault {
         ListFault::Repeated { at } => push_numbered(text, b"entry ", *at, b" is repeated"),

@@ -1,6 +1,7 @@
 //! The message of a refused line, and the warning of an accepted one.
 
-ghost use Rattle.std.specs.Prelude.{◌≡◌, ◌++◌, OnOk, OnErr, length, take};
+ghost use Rattle.std.specs.Prelude.{◌≡◌, ◌++◌, OnOk, OnErr};
+ghost use Rattle.std.specs.Io.{StartsWith};
 ghost use Rattle.facl_messages.specs.Messages.{head, line_text, message, numbered, teller, warning};
 
 use crate::fault::LineFault;
@@ -30,7 +31,7 @@ fn teller<'a>(tool: &'a [u8], fault: &LineFault) -> &'a [u8]
 /// Adds the text of why a line is refused.
 fn push_line_fault(text: &mut Vec<u8>, fault: &LineFault) -> Result<(), AllocError>
     ensures ok { OnOk result (text.new.items ≡ text.old.items ++ line_text fault.now) }
-    ensures err { OnErr result (take (length text.old.items) text.new.items ≡ text.old.items) }
+    ensures err { OnErr result (StartsWith text.new.items text.old.items) }
 {
     match fault {
         LineFault::LineTooLong => text.extend_from_slice(b"line too long"),
@@ -52,7 +53,7 @@ fn push_line_fault(text: &mut Vec<u8>, fault: &LineFault) -> Result<(), AllocErr
 /// Adds `line N: ` for the line with this number.
 fn push_number(text: &mut Vec<u8>, number: u64) -> Result<(), AllocError>
     ensures ok { OnOk result (text.new.items ≡ text.old.items ++ numbered number) }
-    ensures err { OnErr result (take (length text.old.items) text.new.items ≡ text.old.items) }
+    ensures err { OnErr result (StartsWith text.new.items text.old.items) }
 {
     let mut buffer = Buffer::new();
     text.extend_from_slice(b"line ")?;
@@ -63,7 +64,7 @@ fn push_number(text: &mut Vec<u8>, number: u64) -> Result<(), AllocError>
 /// Adds `line N: TOOL: `.
 fn push_head(text: &mut Vec<u8>, number: u64, told_by: &[u8]) -> Result<(), AllocError>
     ensures ok { OnOk result (text.new.items ≡ text.old.items ++ head number told_by.now) }
-    ensures err { OnErr result (take (length text.old.items) text.new.items ≡ text.old.items) }
+    ensures err { OnErr result (StartsWith text.new.items text.old.items) }
 {
     push_number(text, number)?;
     text.extend_from_slice(told_by)?;
@@ -81,7 +82,7 @@ pub fn append_message(
     fault: &LineFault,
 ) -> Result<(), AllocError>
     ensures ok { OnOk result (text.new.items ≡ text.old.items ++ message number tool.now fault.now) }
-    ensures err { OnErr result (take (length text.old.items) text.new.items ≡ text.old.items) }
+    ensures err { OnErr result (StartsWith text.new.items text.old.items) }
 {
     push_head(text, number, teller(tool, fault))?;
     push_line_fault(text, fault)?;
@@ -93,7 +94,7 @@ pub fn append_message(
 #[tactic(auto, unfolding(crate::specs::Messages::warning))]
 pub fn append_warning(text: &mut Vec<u8>, number: u64) -> Result<(), AllocError>
     ensures ok { OnOk result (text.new.items ≡ text.old.items ++ warning number) }
-    ensures err { OnErr result (take (length text.old.items) text.new.items ≡ text.old.items) }
+    ensures err { OnErr result (StartsWith text.new.items text.old.items) }
 {
     push_head(text, number, b"setfacl")?;
     text.extend_from_slice(b"warning: default entries dropped\n")

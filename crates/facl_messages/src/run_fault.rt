@@ -1,6 +1,7 @@
 //! What the program prints of a run that ended early.
 
-ghost use Rattle.std.specs.Prelude.{◌≡◌, ◌++◌, OnOk, OnErr, length, take};
+ghost use Rattle.std.specs.Prelude.{◌≡◌, ◌++◌, OnOk, OnErr};
+ghost use Rattle.std.specs.Io.{StartsWith};
 ghost use Rattle.facl_messages.specs.Messages.{run_fault_text, setup_text, table_name};
 
 use crate::fault::RunFault;
@@ -20,7 +21,7 @@ fn table_name(which: Table) -> &'static [u8]
 
 fn push_setup(text: &mut Vec<u8>, which: Table, fault: &TreeFault) -> Result<(), AllocError>
     ensures ok { OnOk result (text.new.items ≡ text.old.items ++ setup_text which fault.now) }
-    ensures err { OnErr result (take (length text.old.items) text.new.items ≡ text.old.items) }
+    ensures err { OnErr result (StartsWith text.new.items text.old.items) }
 {
     text.extend_from_slice(b"setup: ")?;
     text.extend_from_slice(table_name(which))?;
@@ -32,7 +33,7 @@ fn push_setup(text: &mut Vec<u8>, which: Table, fault: &TreeFault) -> Result<(),
 /// want of memory only, and then what stood before still stands.
 pub fn append_run_fault(text: &mut Vec<u8>, fault: &RunFault) -> Result<(), AllocError>
     ensures ok { OnOk result (text.new.items ≡ text.old.items ++ run_fault_text fault.now) }
-    ensures err { OnErr result (take (length text.old.items) text.new.items ≡ text.old.items) }
+    ensures err { OnErr result (StartsWith text.new.items text.old.items) }
 {
     match fault {
         RunFault::Read => text.extend_from_slice(b"read fault"),

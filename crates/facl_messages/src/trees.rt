@@ -1,6 +1,7 @@
 //! What is told of a command's fault.
 
-ghost use Rattle.std.specs.Prelude.{◌≡◌, ◌++◌, OnOk, OnErr, codes, decimal, length, take};
+ghost use Rattle.std.specs.Prelude.{◌≡◌, ◌++◌, OnOk, OnErr, codes, decimal};
+ghost use Rattle.std.specs.Io.{StartsWith};
 ghost use Rattle.acl_names.specs.Names.{escaped};
 ghost use Rattle.acl_names.specs.Paths.{path_text};
 ghost use Rattle.facl_messages.specs.declared.fault.Source.TheVariants.{TextLine};
@@ -19,7 +20,7 @@ use std::alloc::AllocError;
 /// Adds a path, and what is wrong with it.
 fn push_of_path(text: &mut Vec<u8>, path: &Path, fault: &[u8]) -> Result<(), AllocError>
     ensures ok { OnOk result (text.new.items ≡ text.old.items ++ (path_text path.now ++ fault.now)) }
-    ensures err { OnErr result (take (length text.old.items) text.new.items ≡ text.old.items) }
+    ensures err { OnErr result (StartsWith text.new.items text.old.items) }
 {
     append_path(text, path)?;
     text.extend_from_slice(fault)
@@ -28,7 +29,7 @@ fn push_of_path(text: &mut Vec<u8>, path: &Path, fault: &[u8]) -> Result<(), All
 /// Adds a name, and what is wrong with it.
 fn push_of_name(text: &mut Vec<u8>, name: &Name, fault: &[u8]) -> Result<(), AllocError>
     ensures ok { OnOk result (text.new.items ≡ text.old.items ++ (escaped name.now ++ fault.now)) }
-    ensures err { OnErr result (take (length text.old.items) text.new.items ≡ text.old.items) }
+    ensures err { OnErr result (StartsWith text.new.items text.old.items) }
 {
     append_name(text, name.as_bytes())?;
     text.extend_from_slice(fault)
@@ -37,7 +38,7 @@ fn push_of_name(text: &mut Vec<u8>, name: &Name, fault: &[u8]) -> Result<(), All
 /// Adds the text of a fault in a text that is loaded.
 fn push_in_text(text: &mut Vec<u8>, fault: &TextFault) -> Result<(), AllocError>
     ensures ok { OnOk result (text.new.items ≡ text.old.items ++ placed TextLine fault.now) }
-    ensures err { OnErr result (take (length text.old.items) text.new.items ≡ text.old.items) }
+    ensures err { OnErr result (StartsWith text.new.items text.old.items) }
 {
     push_numbered(text, b"text line ", fault.at, b": ")?;
     push_kind(text, &fault.kind)
@@ -46,7 +47,7 @@ fn push_in_text(text: &mut Vec<u8>, fault: &TextFault) -> Result<(), AllocError>
 /// Adds the text of why a file is not edited.
 fn push_edit_fault(text: &mut Vec<u8>, fault: &EditFault) -> Result<(), AllocError>
     ensures ok { OnOk result (text.new.items ≡ text.old.items ++ edit_text fault.now) }
-    ensures err { OnErr result (take (length text.old.items) text.new.items ≡ text.old.items) }
+    ensures err { OnErr result (StartsWith text.new.items text.old.items) }
 {
     match fault {
         EditFault::DefaultOnFile => {
@@ -60,7 +61,7 @@ fn push_edit_fault(text: &mut Vec<u8>, fault: &EditFault) -> Result<(), AllocErr
 /// Adds a path, and why its file is not edited.
 fn push_edit_of(text: &mut Vec<u8>, path: &Path, fault: &EditFault) -> Result<(), AllocError>
     ensures ok { OnOk result (text.new.items ≡ text.old.items ++ (path_text path.now ++ codes ": " ++ edit_text fault.now)) }
-    ensures err { OnErr result (take (length text.old.items) text.new.items ≡ text.old.items) }
+    ensures err { OnErr result (StartsWith text.new.items text.old.items) }
 {
     push_of_path(text, path, b": ")?;
     push_edit_fault(text, fault)
@@ -69,7 +70,7 @@ fn push_edit_of(text: &mut Vec<u8>, path: &Path, fault: &EditFault) -> Result<()
 /// Adds the text of an id that another user has.
 fn push_of_id(text: &mut Vec<u8>, id: Id) -> Result<(), AllocError>
     ensures ok { OnOk result (text.new.items ≡ text.old.items ++ (decimal id ++ codes ": user id in use")) }
-    ensures err { OnErr result (take (length text.old.items) text.new.items ≡ text.old.items) }
+    ensures err { OnErr result (StartsWith text.new.items text.old.items) }
 {
     let mut buffer = Buffer::new();
     text.extend_from_slice(buffer.format(id.number()).as_bytes())?;
@@ -79,7 +80,7 @@ fn push_of_id(text: &mut Vec<u8>, id: Id) -> Result<(), AllocError>
 /// Adds the text of why a command is refused.
 pub(crate) fn push_tree_fault(text: &mut Vec<u8>, fault: &TreeFault) -> Result<(), AllocError>
     ensures ok { OnOk result (text.new.items ≡ text.old.items ++ tree_text fault.now) }
-    ensures err { OnErr result (take (length text.old.items) text.new.items ≡ text.old.items) }
+    ensures err { OnErr result (StartsWith text.new.items text.old.items) }
 {
     match fault {
         TreeFault::NoSuchFile { path } => push_of_path(text, path, b": no such file"),
