@@ -6,10 +6,8 @@ ghost use Rattle.acl_names.specs.Paths.{path_cmp};
 ghost use Rattle.acl_edit.specs.Creation.{inherit};
 ghost use Rattle.acl_edit.specs.Nodes.{IsSound};
 ghost use Rattle.acl_tree.specs.Creat.{row_of, exists, parent, directory_at, creat_by, creat};
-ghost use Rattle.acl_tree.specs.Inner.{IsNewIn};
-ghost use Rattle.acl_tree.specs.Sound.{IsSoundTree};
-ghost use Rattle.acl_tree.specs.Step.{with_tree, Stages};
-ghost use Rattle.acl_tree.specs.Tells.{Tells};
+ghost use Rattle.acl_tree.specs.Inner.{Prepares, IsNewIn};
+ghost use Rattle.acl_tree.specs.Step.{with_tree, state_from};
 ghost use Rattle.acl_tree.specs.declared.command.TreeFault.TheVariants.{NoMemory, NoSuchUser};
 ghost use Rattle.acl_tree.specs.declared.moved.UsersMove.TheVariants.{Same};
 
@@ -125,10 +123,7 @@ impl Tree {
         people: &People,
         new: &NewFile,
     ) -> Result<Staged, TreeFault>
-        ensures made { Stages (λ s. s.state) result (with_tree (record { tree = self.now; people = people.now }) (creat new.now people.now self.now)) }
-        ensures sound { IfOk result (λ staged. IsSoundTree staged.state.tree) }
-        ensures tells { IfOk result (λ staged. Tells (record { tree = self.now; people = people.now }) staged) }
-        ensures moved { IfOk result (λ staged. staged.moved ≡ Same) }
+        ensures { Prepares (state_from self.now people.now) (with_tree (state_from self.now people.now) (creat new.now people.now self.now)) Same result }
     {
         let owner = row_of(alloc, people, &new.user)?;
         let file = new_file(self, alloc, new, owner)?;

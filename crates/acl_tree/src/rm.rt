@@ -3,11 +3,9 @@
 ghost use Rattle.std.specs.Prelude.{◌≡◌, ◌≢◌, None, Some, map, IfOk, IfErr, OnOk};
 ghost use Rattle.std.specs.FinMap.{find};
 ghost use Rattle.acl_names.specs.Paths.{path_cmp};
-ghost use Rattle.acl_tree.specs.Inner.{file_of};
+ghost use Rattle.acl_tree.specs.Inner.{Prepares, file_of};
 ghost use Rattle.acl_tree.specs.Rm.{refusal, first_refused, rm};
-ghost use Rattle.acl_tree.specs.Sound.{IsSoundTree};
-ghost use Rattle.acl_tree.specs.Step.{with_tree, Stages};
-ghost use Rattle.acl_tree.specs.Tells.{Tells};
+ghost use Rattle.acl_tree.specs.Step.{with_tree, state_from};
 ghost use Rattle.acl_tree.specs.declared.command.TreeFault.TheVariants.{NoMemory};
 ghost use Rattle.acl_tree.specs.declared.moved.UsersMove.TheVariants.{Same};
 
@@ -79,10 +77,7 @@ impl Tree {
         paths: &Paths,
         recursive: bool,
     ) -> Result<Staged, TreeFault>
-        ensures made { Stages (λ s. s.state) result (with_tree (record { tree = self.now; people = people.now }) (rm recursive paths.now self.now)) }
-        ensures sound { IfOk result (λ staged. IsSoundTree staged.state.tree) }
-        ensures tells { IfOk result (λ staged. Tells (record { tree = self.now; people = people.now }) staged) }
-        ensures moved { IfOk result (λ staged. staged.moved ≡ Same) }
+        ensures { Prepares (state_from self.now people.now) (with_tree (state_from self.now people.now) (rm recursive paths.now self.now)) Same result }
     {
         check_all(self, alloc, recursive, paths.as_slice())?;
         let files = select(self, alloc, paths.as_slice(), recursive)?;
