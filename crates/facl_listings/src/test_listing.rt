@@ -1,6 +1,7 @@
 //! What setfacl(1) prints with `--test`.
 
-ghost use Rattle.std.specs.Prelude.{◌≡◌, ◌++◌, ◌∷◌, [], OnOk, OnErr, codes, take, length};
+ghost use Rattle.std.specs.Prelude.{◌≡◌, ◌++◌, ◌∷◌, [], OnOk, OnErr, codes};
+ghost use Rattle.std.specs.Io.{StartsWith};
 ghost use Rattle.std.specs.List.{flat_map};
 ghost use Rattle.facl_listings.specs.TestListing.{path_shown, default_entry, default_entries, lists_text, file_line, test_listing};
 
@@ -14,7 +15,7 @@ use std::alloc::AllocError;
 
 fn push_path(text: &mut Vec<u8>, file: &Found) -> Result<(), AllocError>
     ensures ok { OnOk result (text.new.items ≡ text.old.items ++ path_shown file.now) }
-    ensures err { OnErr result (take (length text.old.items) text.new.items ≡ text.old.items) }
+    ensures err { OnErr result (StartsWith text.new.items text.old.items) }
 {
     append_path(text, file.path())?;
     if has_slash(file) {
@@ -29,7 +30,7 @@ fn push_default_entry<N: Names>(
     entry: &Entry,
 ) -> Result<(), AllocError>
     ensures ok { OnOk result (text.new.items ≡ text.old.items ++ default_entry (N.user_name names.now) (N.group_name names.now) entry.now) }
-    ensures err { OnErr result (take (length text.old.items) text.new.items ≡ text.old.items) }
+    ensures err { OnErr result (StartsWith text.new.items text.old.items) }
 {
     text.extend_from_slice(b",d:")?;
     append_entry(text, entry, Form::Short, names)
@@ -41,7 +42,7 @@ fn push_default_entries<N: Names>(
     entries: &[Entry],
 ) -> Result<(), AllocError>
     ensures ok { OnOk result (text.new.items ≡ text.old.items ++ flat_map (default_entry (N.user_name names.now) (N.group_name names.now)) entries.now) }
-    ensures err { OnErr result (take (length text.old.items) text.new.items ≡ text.old.items) }
+    ensures err { OnErr result (StartsWith text.new.items text.old.items) }
 {
     for entry in entries {
         push_default_entry(text, names, entry)?;
@@ -55,7 +56,7 @@ fn push_default<N: Names>(
     dacl: &Option<Acl>,
 ) -> Result<(), AllocError>
     ensures ok { OnOk result (text.new.items ≡ text.old.items ++ default_entries (N.user_name names.now) (N.group_name names.now) dacl.now) }
-    ensures err { OnErr result (take (length text.old.items) text.new.items ≡ text.old.items) }
+    ensures err { OnErr result (StartsWith text.new.items text.old.items) }
 {
     match dacl {
         Some(dacl) => push_default_entries(text, names, dacl.entries()),
@@ -65,7 +66,7 @@ fn push_default<N: Names>(
 
 fn push_lists<N: Names>(text: &mut Vec<u8>, names: &N, node: &Node) -> Result<(), AllocError>
     ensures ok { OnOk result (text.new.items ≡ text.old.items ++ lists_text (N.user_name names.now) (N.group_name names.now) node.now) }
-    ensures err { OnErr result (take (length text.old.items) text.new.items ≡ text.old.items) }
+    ensures err { OnErr result (StartsWith text.new.items text.old.items) }
 {
     append_short(text, &node.label.acl, names)?;
     push_default(text, names, &node.dacl)
@@ -74,7 +75,7 @@ fn push_lists<N: Names>(text: &mut Vec<u8>, names: &N, node: &Node) -> Result<()
 /// Adds what comes after a path.
 fn push_lists_of<N: Names>(text: &mut Vec<u8>, names: &N, node: &Node) -> Result<(), AllocError>
     ensures ok { OnOk result (text.new.items ≡ text.old.items ++ (codes ": " ++ (lists_text (N.user_name names.now) (N.group_name names.now) node.now ++ 10 ∷ []))) }
-    ensures err { OnErr result (take (length text.old.items) text.new.items ≡ text.old.items) }
+    ensures err { OnErr result (StartsWith text.new.items text.old.items) }
 {
     text.extend_from_slice(b": ")?;
     push_lists(text, names, node)?;
@@ -84,7 +85,7 @@ fn push_lists_of<N: Names>(text: &mut Vec<u8>, names: &N, node: &Node) -> Result
 
 fn push_file<N: Names>(text: &mut Vec<u8>, names: &N, file: &Found) -> Result<(), AllocError>
     ensures ok { OnOk result (text.new.items ≡ text.old.items ++ file_line (N.user_name names.now) (N.group_name names.now) file.now) }
-    ensures err { OnErr result (take (length text.old.items) text.new.items ≡ text.old.items) }
+    ensures err { OnErr result (StartsWith text.new.items text.old.items) }
 {
     push_path(text, file)?;
     push_lists_of(text, names, file.node())
@@ -92,7 +93,7 @@ fn push_file<N: Names>(text: &mut Vec<u8>, names: &N, file: &Found) -> Result<()
 
 fn push_files<N: Names>(text: &mut Vec<u8>, names: &N, files: &[Found]) -> Result<(), AllocError>
     ensures ok { OnOk result (text.new.items ≡ text.old.items ++ test_listing (N.user_name names.now) (N.group_name names.now) files.now) }
-    ensures err { OnErr result (take (length text.old.items) text.new.items ≡ text.old.items) }
+    ensures err { OnErr result (StartsWith text.new.items text.old.items) }
 {
     for file in files {
         push_file(text, names, file)?;
