@@ -1,6 +1,9 @@
 //! The recorded files around a path.
-use crate::made::{path, setup};
+use crate::rows::{after, path};
+use crate::shown::expect_text;
+use crate::texts::{FOUR, PEOPLE};
 use acl_names::{Path, append_path};
+use acl_tree::Tree;
 use std::alloc::Global;
 use std::process::Abort;
 
@@ -14,26 +17,24 @@ fn joined(rt: &impl Abort, alloc: Global, paths: &[Path]) -> Vec<u8> {
     text
 }
 
-fn expect_above(rt: &impl Abort, alloc: Global, name: &[u8], want: &str) {
-    let (tree, _people) = setup(rt, alloc);
+fn expect_above(rt: &impl Abort, alloc: Global, tree: &Tree, name: &[u8], want: &str) {
     let paths = tree.ancestors(alloc, &path(rt, alloc, name));
-    let found = joined(rt, alloc, &paths.expect(rt, "memory"));
-    assert!(rt; found.as_slice() == want.as_bytes(), "not {want}");
+    expect_text(rt, joined(rt, alloc, &paths.expect(rt, "memory")), want);
 }
 
-fn expect_within(rt: &impl Abort, alloc: Global, name: &[u8], want: &str) {
-    let (tree, _people) = setup(rt, alloc);
+fn expect_within(rt: &impl Abort, alloc: Global, tree: &Tree, name: &[u8], want: &str) {
     let paths = tree.within(alloc, &path(rt, alloc, name));
-    let found = joined(rt, alloc, &paths.expect(rt, "memory"));
-    assert!(rt; found.as_slice() == want.as_bytes(), "not {want}");
+    expect_text(rt, joined(rt, alloc, &paths.expect(rt, "memory")), want);
 }
 
 #[test]
 fn recorded_files_around_a_path(rt: HostRuntime) {
     let alloc = rt.alloc();
-    expect_above(&rt, alloc, b"d/e", ". d ");
-    expect_above(&rt, alloc, b"d/x/y", ". d ");
-    expect_above(&rt, alloc, b".", "");
-    expect_within(&rt, alloc, b"d", "d d/e ");
-    expect_within(&rt, alloc, b"x", "");
+    let state = after(&rt, alloc, &[&PEOPLE, &FOUR]);
+    let tree = state.tree();
+    expect_above(&rt, alloc, tree, b"d/e", ". d ");
+    expect_above(&rt, alloc, tree, b"d/x/y", ". d ");
+    expect_above(&rt, alloc, tree, b".", "");
+    expect_within(&rt, alloc, tree, b"d", "d d/e ");
+    expect_within(&rt, alloc, tree, b"x", "");
 }
