@@ -1,37 +1,50 @@
 //! Tests of the words of lines, and of which lines take a text.
 use facl_script::{SplitFault, is_text_word, says_nothing, split_words, takes_text};
-use std::test::Fail;
+use std::alloc::Global;
+use std::process::Abort;
 
-#[test]
-fn splits_words(rt: HostRuntime) -> Result<(), Fail> {
-    let words = split_words(rt.alloc(), b" a\tb  'c d'e '' x'#'\r ")?;
-    let expected = ["a", "b", "c de", "", "x#\r"];
-    assert_eq!(rt; words.len(), expected.len());
-    for (word, text) in words.iter().zip(expected) {
-        assert_eq!(rt; word.as_str(), text);
+/// Lines, each with its words in brackets.
+static WORDS: [(&[u8], &str); 6] = [
+    (b" a\tb  'c d'e '' x'#'\r ", "[a][b][c de][][x#\r]"),
+    (b"\xc3\xa9'\xc3\xbc \xc3\xb1'", "[éü ñ]"),
+    (b"", ""),
+    (b" \t ", ""),
+    (b"#", ""),
+    (b"\t# ' \xff", ""),
+];
+
+fn push_words(rt: &impl Abort, text: &mut String, words: &[String]) {
+    for word in words {
+        text.push_str("[").expect(rt, "memory");
+        text.push_str(word.as_str()).expect(rt, "memory");
+        text.push_str("]").expect(rt, "memory");
     }
-    let words = split_words(rt.alloc(), "é'ü ñ'".as_bytes())?;
-    assert_eq!(rt; words.len(), 1);
-    assert_eq!(rt; words[0].as_str(), "éü ñ");
-    Ok(())
+}
+
+fn expect_words(rt: &impl Abort, alloc: Global, line: &[u8], want: &str) {
+    let words = split_words(alloc, line).expect(rt, "words");
+    let mut text = String::new(alloc);
+    push_words(rt, &mut text, &words);
+    assert!(rt; text.as_str() == want, "{want}");
 }
 
 #[test]
-fn refuses_lines(rt: HostRuntime) -> Result<(), Fail> {
-    assert_eq!(rt;
-        split_words(rt.alloc(), b"can 'joe f").err(),
-        Some(SplitFault::OpenQuote)
-    );
-    assert_eq!(rt;
-        split_words(rt.alloc(), b"can \xff 'joe").err(),
-        Some(SplitFault::NotUtf8)
-    );
-    for line in [b"".as_slice(), b" \t ", b"#", b"\t# ' \xff"] {
-        assert!(rt; says_nothing(line));
-        assert_eq!(rt; split_words(rt.alloc(), line)?.len(), 0);
+fn splits_words(rt: HostRuntime) {
+    for (line, words) in &WORDS {
+        expect_words(&rt, rt.alloc(), line, words);
+        assert!(rt; says_nothing(line) == words.is_empty());
     }
     assert!(rt; !says_nothing(b"\r"));
-    Ok(())
+}
+
+fn expect_fault(rt: &impl Abort, alloc: Global, line: &[u8], want: SplitFault) {
+    assert!(rt; split_words(alloc, line).err() == Some(want));
+}
+
+#[test]
+fn refuses_lines(rt: HostRuntime) {
+    expect_fault(&rt, rt.alloc(), b"can 'joe f", SplitFault::OpenQuote);
+    expect_fault(&rt, rt.alloc(), b"can \xff 'joe", SplitFault::NotUtf8);
 }
 
 #[test]

@@ -1,10 +1,12 @@
 //! Tests of whole runs.
 use crate::devices::{CommentReader, EndingReader, FailingReader, FailingWriter};
 use crate::echo::Echo;
+use crate::ran::{echo, expect_echo};
 use facl_script::{
     Feed, SCRIPT_LIMIT, ScriptFault, Sink, StdFeed, StdSink, run_session, say, write_whole,
 };
-use std::test::Fail;
+use std::alloc::Global;
+use std::process::Abort;
 
 /// Lines that are given back, two with a text; a comment; an open quote, which the session gives back too; a text without end.
 const SCRIPT: &[u8] = b"ab\n# x\nload c\nd\n\n.\ny -\n.\n'\nload\nz";
@@ -14,7 +16,7 @@ const OUT: &[u8] = b"ab\nload c\nd\n\ny -\n'\n";
 const ERR: &[u8] = b"text without end\n";
 
 #[test]
-fn runs_over_memory(rt: HostRuntime) -> Result<(), Fail> {
+fn runs_over_memory(rt: HostRuntime) {
     let mut session = Echo::new(rt.alloc());
     let mut out = Vec::new(rt.alloc());
     let mut err = Vec::new(rt.alloc());
@@ -31,99 +33,77 @@ fn runs_over_memory(rt: HostRuntime) -> Result<(), Fail> {
     assert_eq!(rt; err.as_slice(), ERR);
     assert!(rt; session.has_refused());
     assert!(rt; !reader.failed());
-    Ok(())
+}
+
+const SCRIPTS: [&[u8]; 6] = [b"", b"a", b"a\n", b"load", b"load\nb", b"load\n."];
+
+fn expect_end(rt: &impl Abort, alloc: Global, script: &[u8]) {
+    let mut reader = EndingReader {
+        bytes: script,
+        has_ended: false,
+    };
+    let found = echo(alloc, &mut reader, Vec::new(alloc), Vec::new(alloc));
+    assert!(rt; found.is_ok());
 }
 
 #[test]
-fn reads_nothing_after_the_end(rt: HostRuntime) -> Result<(), Fail> {
-    for script in [
-        b"".as_slice(),
-        b"a",
-        b"a\n",
-        b"load",
-        b"load\nb",
-        b"load\n.",
-    ] {
-        let mut reader = EndingReader {
-            bytes: script,
-            has_ended: false,
-        };
-        let mut out = Vec::new(rt.alloc());
-        let mut err = Vec::new(rt.alloc());
-        let status = run_session(
-            rt.alloc(),
-            &mut Echo::new(rt.alloc()),
-            &mut StdFeed::new(&mut reader),
-            &mut StdSink::new(&mut out),
-            &mut StdSink::new(&mut err),
-        );
-        assert!(rt; status.is_ok());
+fn reads_nothing_after_the_end(rt: HostRuntime) {
+    for script in SCRIPTS {
+        expect_end(&rt, rt.alloc(), script);
     }
-    Ok(())
 }
 
-#[test]
-fn stops_where_out_fails(rt: HostRuntime) -> Result<(), Fail> {
-    for takes_nothing in [false, true] {
-        for k in 0..OUT.len() + 1 {
-            let mut out = FailingWriter {
-                held: Vec::new(rt.alloc()),
-                left: k,
-                takes_nothing,
-            };
-            let mut err = Vec::new(rt.alloc());
-            let mut sink = StdSink::new(&mut out);
-            let status = run_session(
-                rt.alloc(),
-                &mut Echo::new(rt.alloc()),
-                &mut StdFeed::new(SCRIPT),
-                &mut sink,
-                &mut StdSink::new(&mut err),
-            );
-            let is_whole = k == OUT.len();
-            assert_eq!(rt; sink.failed(), !is_whole, "at {k}");
-            assert_eq!(rt;
-                status,
-                if is_whole {
-                    Ok(true)
-                } else {
-                    Err(ScriptFault::Write)
-                },
-                "at {k}"
-            );
-            assert_eq!(rt; out.held.as_slice(), &OUT[..k], "at {k}");
-            assert_eq!(rt; err.len(), if is_whole { ERR.len() } else { 0 }, "at {k}");
-        }
+fn failing_after(alloc: Global, left: usize, takes_nothing: bool) -> FailingWriter {
+    FailingWriter {
+        held: Vec::new(alloc),
+        left,
+        takes_nothing,
     }
-    Ok(())
+}
+
+fn expect_held(rt: &impl Abort, writer: FailingWriter, bytes: &[u8]) {
+    assert!(rt; writer.held.as_slice() == bytes);
+}
+
+/// How a run ends whose writer takes so many of its bytes.
+fn status_at(taken: &[u8], all: &[u8]) -> Result<bool, ScriptFault> {
+    if taken.len() == all.len() {
+        Ok(true)
+    } else {
+        Err(ScriptFault::Write)
+    }
+}
+
+fn expect_out_fails(rt: &impl Abort, alloc: Global, taken: &[u8], takes_nothing: bool) {
+    let mut out = failing_after(alloc, taken.len(), takes_nothing);
+    let mut err = Vec::new(alloc);
+    let found = echo(alloc, SCRIPT, &mut out, &mut err);
+    assert!(rt; found == status_at(taken, OUT));
+    assert!(rt; err.is_empty() == (taken.len() < OUT.len()));
+    expect_held(rt, out, taken);
 }
 
 #[test]
-fn stops_where_err_fails(rt: HostRuntime) -> Result<(), Fail> {
-    let script = b"load\nx\n";
+fn stops_where_out_fails(rt: HostRuntime) {
+    for k in 0..OUT.len() + 1 {
+        expect_out_fails(&rt, rt.alloc(), &OUT[..k], false);
+        expect_out_fails(&rt, rt.alloc(), &OUT[..k], true);
+    }
+}
+
+fn expect_err_fails(rt: &impl Abort, alloc: Global, taken: &[u8]) {
+    let mut err = failing_after(alloc, taken.len(), false);
+    let script = b"load\nx\n".as_slice();
+    let found = echo(alloc, script, Vec::new(alloc), &mut err);
+    assert!(rt; found == status_at(taken, ERR));
+    expect_held(rt, err, taken);
+}
+
+#[test]
+fn stops_where_err_fails(rt: HostRuntime) {
     for k in 0..ERR.len() + 1 {
-        let mut out = Vec::new(rt.alloc());
-        let mut err = FailingWriter {
-            held: Vec::new(rt.alloc()),
-            left: k,
-            takes_nothing: false,
-        };
-        let status = run_session(
-            rt.alloc(),
-            &mut Echo::new(rt.alloc()),
-            &mut StdFeed::new(script.as_slice()),
-            &mut StdSink::new(&mut out),
-            &mut StdSink::new(&mut err),
-        );
-        let want = if k == ERR.len() {
-            Ok(true)
-        } else {
-            Err(ScriptFault::Write)
-        };
-        assert_eq!(rt; status, want, "at {k}");
-        assert_eq!(rt; err.held.as_slice(), &ERR[..k], "at {k}");
+        expect_err_fails(&rt, rt.alloc(), &ERR[..k]);
     }
-    Ok(())
 }
 
 /// How many bytes of the output come of the units whose last LF is among the first `j` bytes of the script.
@@ -137,135 +117,143 @@ fn told(j: usize) -> usize {
     }
 }
 
-#[test]
-fn stops_where_the_reader_fails(rt: HostRuntime) -> Result<(), Fail> {
-    for j in 0..SCRIPT.len() + 1 {
-        let mut reader = FailingReader {
-            bytes: SCRIPT,
-            at: 0,
-            left: j,
-        };
-        let mut out = Vec::new(rt.alloc());
-        let mut err = Vec::new(rt.alloc());
-        let status = run_session(
-            rt.alloc(),
-            &mut Echo::new(rt.alloc()),
-            &mut StdFeed::new(&mut reader),
-            &mut StdSink::new(&mut out),
-            &mut StdSink::new(&mut err),
-        );
-        assert_eq!(rt; status, Err(ScriptFault::Read), "at {j}");
-        assert_eq!(rt; out.len(), told(j), "at {j}");
-        assert_eq!(rt; err.len(), 0, "at {j}");
-    }
-    Ok(())
+fn expect_reader_fails(rt: &impl Abort, alloc: Global, given: usize) {
+    let mut reader = FailingReader {
+        bytes: SCRIPT,
+        at: 0,
+        left: given,
+    };
+    let mut out = Vec::new(alloc);
+    let mut err = Vec::new(alloc);
+    let found = echo(alloc, &mut reader, &mut out, &mut err);
+    assert_eq!(rt; found, Err(ScriptFault::Read), "at {given}");
+    assert!(rt; out.len() == told(given) && err.is_empty(), "at {given}");
 }
 
-/// A script with a line of `n` bytes, made of `#` or of text.
-fn long_line(rt: &HostRuntime, before: &[u8], n: usize, after: &[u8]) -> Result<Vec<u8>, Fail> {
-    let mut script = Vec::from_slice(rt.alloc(), before)?;
+#[test]
+fn stops_where_the_reader_fails(rt: HostRuntime) {
+    for given in 0..SCRIPT.len() + 1 {
+        expect_reader_fails(&rt, rt.alloc(), given);
+    }
+}
+
+/// Adds a line of so many `#`, after and before other bytes.
+fn push_line(rt: &impl Abort, script: &mut Vec<u8>, before: &[u8], n: usize, after: &[u8]) {
+    script.extend_from_slice(before).expect(rt, "memory");
     for _ in 0..n {
-        script.push(b'#')?;
+        script.push(b'#').expect(rt, "memory");
     }
-    script.extend_from_slice(after)?;
-    Ok(script)
+    script.extend_from_slice(after).expect(rt, "memory");
+}
+
+/// A script with a line of `#`, and what it writes.
+struct Long {
+    before: &'static [u8],
+    length: usize,
+    after: &'static [u8],
+    out: &'static [u8],
+    err: &'static [u8],
+}
+
+static LONG: [Long; 6] = [
+    Long {
+        before: b"",
+        length: 65_536,
+        after: b"\nab\n",
+        out: b"ab\n",
+        err: b"",
+    },
+    Long {
+        before: b"",
+        length: 65_537,
+        after: b"\nab\n",
+        out: b"ab\n",
+        err: b"line too long\n",
+    },
+    Long {
+        before: b"",
+        length: 65_537,
+        after: b"",
+        out: b"",
+        err: b"line too long\n",
+    },
+    Long {
+        before: b"load\n",
+        length: 65_537,
+        after: b"\n.\nab\n",
+        out: b"ab\n",
+        err: b"text line too long\n",
+    },
+    Long {
+        before: b"load\n",
+        length: 65_537,
+        after: b"\nab\n",
+        out: b"",
+        err: b"text without end\n",
+    },
+    Long {
+        before: b"load\n",
+        length: 65_537,
+        after: b"",
+        out: b"",
+        err: b"text without end\n",
+    },
+];
+
+fn expect_long(rt: &impl Abort, alloc: Global, row: &Long) {
+    let mut script = Vec::new(alloc);
+    push_line(rt, &mut script, row.before, row.length, row.after);
+    let status = Ok(!row.err.is_empty());
+    expect_echo(rt, alloc, script.as_slice(), status, (row.out, row.err));
 }
 
 #[test]
-fn looks_at_lengths(rt: HostRuntime) -> Result<(), Fail> {
-    let cases = [
-        (
-            b"".as_slice(),
-            65_536,
-            b"\nab\n".as_slice(),
-            b"ab\n".as_slice(),
-            b"".as_slice(),
-        ),
-        (b"", 65_537, b"\nab\n", b"ab\n", b"line too long\n"),
-        (b"", 65_537, b"", b"", b"line too long\n"),
-        (
-            b"load\n",
-            65_537,
-            b"\n.\nab\n",
-            b"ab\n",
-            b"text line too long\n",
-        ),
-        (b"load\n", 65_537, b"\nab\n", b"", b"text without end\n"),
-        (b"load\n", 65_537, b"", b"", b"text without end\n"),
-    ];
-    for (before, n, after, want_out, want_err) in cases {
-        let script = long_line(&rt, before, n, after)?;
-        let mut out = Vec::new(rt.alloc());
-        let mut err = Vec::new(rt.alloc());
-        let status = run_session(
-            rt.alloc(),
-            &mut Echo::new(rt.alloc()),
-            &mut StdFeed::new(script.as_slice()),
-            &mut StdSink::new(&mut out),
-            &mut StdSink::new(&mut err),
-        );
-        assert_eq!(rt; status, Ok(!want_err.is_empty()));
-        assert_eq!(rt; out.as_slice(), want_out);
-        assert_eq!(rt; err.as_slice(), want_err);
+fn looks_at_lengths(rt: HostRuntime) {
+    for row in &LONG {
+        expect_long(&rt, rt.alloc(), row);
     }
-    Ok(())
 }
 
 #[test]
-fn keeps_bytes_at_the_edges_of_chunks(rt: HostRuntime) -> Result<(), Fail> {
-    let mut script = long_line(&rt, b"x", 40_000, b"\n")?;
-    let second = long_line(&rt, b"load\n", 65_536, b"\n")?;
-    script.extend_from_slice(&second)?;
-    let whole = script.len();
-    script.extend_from_slice(b".\n")?;
-    let mut out = Vec::new(rt.alloc());
+fn keeps_bytes_at_the_edges_of_chunks(rt: HostRuntime) {
+    let alloc = rt.alloc();
+    let mut text = Vec::new(alloc);
+    push_line(&rt, &mut text, b"x", 40_000, b"\n");
+    push_line(&rt, &mut text, b"load\n", 65_536, b"\n");
+    let mut script = text.clone().expect(&rt, "memory");
+    script.extend_from_slice(b".\n").expect(&rt, "memory");
+    expect_echo(&rt, alloc, script.as_slice(), Ok(false), (&text, b""));
+}
+
+const TOTALS: [(u64, Result<bool, ScriptFault>); 3] = [
+    (SCRIPT_LIMIT, Ok(false)),
+    (SCRIPT_LIMIT + 1, Err(ScriptFault::TooLong)),
+    (u64::MAX, Err(ScriptFault::TooLong)),
+];
+
+#[test]
+fn ends_long_scripts(rt: HostRuntime) {
+    for (total, want) in TOTALS {
+        let reader = CommentReader { given: 0, total };
+        expect_echo(&rt, rt.alloc(), reader, want, (b"", b""));
+    }
+}
+
+#[test]
+fn writes(rt: HostRuntime) {
+    let mut held = Vec::new(rt.alloc());
     let mut err = Vec::new(rt.alloc());
-    let status = run_session(
-        rt.alloc(),
-        &mut Echo::new(rt.alloc()),
-        &mut StdFeed::new(script.as_slice()),
-        &mut StdSink::new(&mut out),
-        &mut StdSink::new(&mut err),
-    );
-    assert_eq!(rt; status, Ok(false));
-    assert!(rt; whole <= script.len());
-    assert_eq!(rt; out.as_slice(), &script[..whole]);
-    Ok(())
+    let mut out = StdSink::new(&mut held);
+    assert!(rt; write_whole(&mut out, b"ab").is_ok());
+    assert!(rt; say(&mut out, &mut StdSink::new(&mut err), b"c", b"d").is_ok());
+    assert!(rt; !out.failed());
+    assert!(rt; held.as_slice() == b"abc".as_slice());
+    assert!(rt; err.as_slice() == b"d".as_slice());
 }
 
 #[test]
-fn ends_long_scripts(rt: HostRuntime) -> Result<(), Fail> {
-    for (total, want) in [
-        (SCRIPT_LIMIT, Ok(false)),
-        (SCRIPT_LIMIT + 1, Err(ScriptFault::TooLong)),
-        (u64::MAX, Err(ScriptFault::TooLong)),
-    ] {
-        let mut out = Vec::new(rt.alloc());
-        let mut err = Vec::new(rt.alloc());
-        let status = run_session(
-            rt.alloc(),
-            &mut Echo::new(rt.alloc()),
-            &mut StdFeed::new(CommentReader { given: 0, total }),
-            &mut StdSink::new(&mut out),
-            &mut StdSink::new(&mut err),
-        );
-        assert_eq!(rt; status, want);
-    }
-    Ok(())
-}
-
-#[test]
-fn writes(rt: HostRuntime) -> Result<(), Fail> {
-    let mut out = Vec::new(rt.alloc());
-    let mut err = Vec::new(rt.alloc());
-    write_whole(&mut StdSink::new(&mut out), b"ab")?;
-    say(
-        &mut StdSink::new(&mut out),
-        &mut StdSink::new(&mut err),
-        b"c",
-        b"d",
-    )?;
-    assert_eq!(rt; out.as_slice(), b"abc".as_slice());
-    assert_eq!(rt; err.as_slice(), b"d".as_slice());
-    Ok(())
+fn fails(rt: HostRuntime) {
+    let mut out = StdSink::new(failing_after(rt.alloc(), 1, false));
+    assert!(rt; write_whole(&mut out, b"ab").is_err());
+    assert!(rt; out.failed());
 }
