@@ -1,6 +1,6 @@
 //! By groups the paths of the files that mention them.
 
-ghost use Rattle.std.specs.Prelude.{◌≡◌, ◌==◌, [], if◌then◌else◌, ℕ, map, IfOk, OnOk};
+ghost use Rattle.std.specs.Prelude.{◌≡◌, ◌==◌, [], true, if◌then◌else◌, ℕ, map, IfOk, OnOk};
 ghost use Rattle.std.specs.Option.{option_map_or};
 ghost use Rattle.path_map.specs.Entries.{IsInOrder};
 ghost use Rattle.path_map.specs.Merged.{merged, without_all};
@@ -64,6 +64,13 @@ fn copied(
 {
     let copy = lists.clone()?;
     Ok(copy)
+}
+
+/// Whether there are no files.
+fn are_none(files: &[Rc<Record>]) -> bool
+    ensures { result ≡ true → map (λ r. r.value) files.now ≡ [] }
+{
+    files.is_empty()
 }
 
 /// The files of a tree.
@@ -143,7 +150,7 @@ impl GroupLists {
     }
 
     /// The lists of a new tree, where these are those of the old one. Only the lists of groups that a changed
-    /// file mentions or mentioned, or one that is gone mentioned, are rebuilt. Fails only if memory runs out.
+    /// file mentions or mentioned, or one that is gone mentioned, are rebuilt; with no such file all are shared. Fails only if memory runs out.
     pub fn staged(
         &self,
         alloc: Global,
@@ -159,6 +166,12 @@ impl GroupLists {
     {
         old.is_sound();
         new.is_sound();
+        if are_none(changed) {
+            if are_none(gone) {
+                let same = self.share()?;
+                return Ok(same);
+            }
+        }
         let groups = touched_groups(alloc, old, changed, gone)?;
         let puts = noted_of(alloc, changed)?;
         let before = noted_before(alloc, old, changed)?;

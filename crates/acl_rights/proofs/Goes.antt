@@ -21,6 +21,7 @@ use Rattle.acl_rights.specs.Tables.{Verdict, Rows, cells_of, rows_of}
 use Rattle.acl_rights.specs.Stages.{mentions_one}
 use Rattle.acl_rights.specs.Kept.{GoesFrom}
 use Rattle.acl_group_files.proofs.Maps.{map_values, map_filter, find-values, found_passed, seen_at, same_length}
+use Rattle.path_map.proofs.Joined.{merged_nothing}
 use Rattle.acl_rights.proofs.Orders.{same_order}
 use Rattle.acl_rights.proofs.Lines.{changed_whole, moved_whole, row_paths, cells_again, moved_in, moved_long, set_here, shorter, wide}
 
@@ -51,6 +52,13 @@ module _ (V : Verdict) (rows : Rows) (t : StagedState) (goes : GoesFrom V rows t
         let those = gone_are ∙ goes.tells.gone in
         let rows_are = goes.rows_are ∙ ap (λ (l : List Person). rows_of V l goes.state.tree.files) (sym same_users) in
         (λ i. merged (these i) (those i) (rows_are i)) ∙ changed_whole V us goes.state.tree.files t.state.tree.files (old_order r) n
+
+    -- with no file changed and none gone the rows are the same
+    pub same_rows : t.changed ≡ [] → t.gone ≡ [] → IsInOrder rows → IsInOrder t.state.tree.files → rows ≡ rows_of V (persons t.state.people) t.state.tree.files
+    same_rows unchanged none r n =
+        let puts : Rows = [] in
+        let gone : Files = [] in
+        sym (merged_nothing puts gone rows refl refl) ∙ changed_goes puts gone r n (sym (ap (rows_of V (persons t.state.people)) unchanged)) (sym none)
 
   module _ (at : ℕ) (groups : List ℕ) (is : t.moved ≡ Moved at groups) where
     pub moves : (t.state.tree ≡ goes.state.tree) × MovesUser (persons goes.state.people) (persons t.state.people) at groups

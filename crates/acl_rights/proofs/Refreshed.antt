@@ -31,7 +31,7 @@ use Rattle.path_map.proofs.Places.{above}
 use Rattle.path_map.specs.Entries.{IsInOrder}
 use Rattle.acl_rights.specs.Tables.{Verdict, Rows, cells_of, rows_of}
 use Rattle.acl_rights.specs.Stages.{mentions_one}
-use Rattle.acl_rights.specs.Reach.{execute, passes, reach, reached_from, reached_rows, user_left, lies_within, moves_refreshed, most_refreshed}
+use Rattle.acl_rights.specs.Reach.{execute, passes, reach, reached_from, reached_rows, place_left, lies_within, moves_refreshed, most_refreshed}
 use Rattle.acl_reach.specs.Differing.{place_before, is_as_before, is_as_in, fails_from, differing}
 use Rattle.acl_rights.specs.Kept.{GoesFrom}
 use Rattle.acl_group_files.proofs.Maps.{map_values, map_filter, find-values, find-filter, same_found}
@@ -251,13 +251,13 @@ module _ (V : Verdict) (us ws : List Person) (fs gs : Files) (fo : IsInOrder fs)
     pub node : Node
     pub user : Person
     pub found : find path_cmp e.0 fs ≡ Some node
-    pub was : slice_get us (place_before (user_left move) i) ≡ Some user
+    pub was : slice_get us (place_before (place_left move) i) ≡ Some user
     pub same : reach V fs user (e.0, node) ≡ reach V gs w e
 
   old_cell : (move : UsersMove) (e : PathOf × Node) (i : ℕ) (w : Person) → IsKept move e i w
-      → option_and_then (λ (cells : List ℕ). slice_get cells (place_before (user_left move) i)) (find path_cmp e.0 (reached_rows (rows_of V us fs))) ≡ Some (reach V gs w e)
+      → option_and_then (λ (cells : List ℕ). slice_get cells (place_before (place_left move) i)) (find path_cmp e.0 (reached_rows (rows_of V us fs))) ≡ Some (reach V gs w e)
   old_cell move e i w k =
-      let j = place_before (user_left move) i in
+      let j = place_before (place_left move) i in
       ap (option_and_then (λ (cells : List ℕ). slice_get cells j)) (reached_is V us fs e.0)
       ∙ cell_reached V us fs e.0 j (find path_cmp e.0 fs)
       ∙ ap (option_and_then (λ n. option_map (λ u. reach V fs u (e.0, n)) (slice_get us j))) k.found
@@ -268,7 +268,7 @@ module _ (V : Verdict) (us ws : List Person) (fs gs : Files) (fo : IsInOrder fs)
   row_cells e = reached_from (rows_of V ws gs) e.0 0 (cells_of V ws e.1)
 
   abbrev row_test : UsersMove → PathOf × Node → ℕ → ℕ → Bool
-  row_test move e = is_as_in (user_left move) (find path_cmp e.0 (reached_rows (rows_of V us fs)))
+  row_test move e = is_as_in (place_left move) (find path_cmp e.0 (reached_rows (rows_of V us fs)))
 
   cell_kept : (move : UsersMove) (e : PathOf × Node) (i c : ℕ) → slice_get (row_cells e) i ≡ Some c → ((w : Person) → slice_get ws i ≡ Some w → IsKept move e i w) → row_test move e i c ≡ true
   cell_kept move e i c is kept = by (slice_get ws i) refl (sym (cell_reached V ws gs e.0 i (Some e.1)) ∙ is)
@@ -300,10 +300,10 @@ module _ (V : Verdict) (us ws : List Person) (fs gs : Files) (fo : IsInOrder fs)
 
   -- as many are missed as each file allows
   rows_missed : (move : UsersMove) (a : PathOf × Node → ℕ) → ((e : PathOf × Node) → find path_cmp e.0 gs ≡ Some e.1 → row_missed move e ≤ a e)
-      → differing (user_left move) (reached_rows (rows_of V us fs)) (reached_rows (rows_of V ws gs)) ≤ sum_by a gs
+      → differing (place_left move) (reached_rows (rows_of V us fs)) (reached_rows (rows_of V ws gs)) ≤ sum_by a gs
   rows_missed move a h =
       let A = reached_rows (rows_of V us fs) in
-      let F : PathOf × List ℕ → ℕ = λ r. fails_from (is_as_in (user_left move) (find path_cmp r.0 A)) 0 r.1 in
+      let F : PathOf × List ℕ → ℕ = λ r. fails_from (is_as_in (place_left move) (find path_cmp r.0 A)) 0 r.1 in
       let G : PathOf × List ℕ → PathOf × List ℕ = λ r. (r.0, reached_from (rows_of V ws gs) r.0 0 r.1) in
       let H : PathOf × Node → PathOf × List ℕ = λ e. (e.0, cells_of V ws e.1) in
       subst (λ n. n ≤ sum_by a gs) (ap (sum_by F) (sym (map_twice H G gs)))
@@ -386,7 +386,7 @@ module _ (V : Verdict) (us ws : List Person) (fs gs : Files) (fo : IsInOrder fs)
   new_reached = reached_rows (rows_of V ws gs)
 
   -- never more than every user at every file
-  all_missed : (move : UsersMove) → differing (user_left move) old_reached new_reached ≤ length gs * length ws
+  all_missed : (move : UsersMove) → differing (place_left move) old_reached new_reached ≤ length gs * length ws
   all_missed move =
       let each = rows_missed move (λ e. length ws) (λ e found. row_most move e) in
       let sum = evenly (length ws) gs in
@@ -404,7 +404,7 @@ module _ (V : Verdict) (us ws : List Person) (fs gs : Files) (fo : IsInOrder fs)
 
   -- all users at files that changed, and others at as many as are told
   module _ (move : UsersMove) (x : PathOf × Node → ℕ) (rest : (e : PathOf × Node) → find path_cmp e.0 gs ≡ Some e.1 → lies_within (changed_between fs gs) e ≡ false → row_missed move e ≤ x e) where
-    parts_missed : differing (user_left move) old_reached new_reached ≤ length ws * count_by (lies_within (changed_between fs gs)) gs + sum_by x gs
+    parts_missed : differing (place_left move) old_reached new_reached ≤ length ws * count_by (lies_within (changed_between fs gs)) gs + sum_by x gs
     parts_missed =
         let l = length ws in
         let c = lies_within (changed_between fs gs) in
@@ -417,7 +417,7 @@ module _ (V : Verdict) (us ws : List Person) (fs gs : Files) (fo : IsInOrder fs)
 
   -- a user with the same groups keeps the answers at files that neither changed nor lie below one that did
   module _ (apart : AllByRecursion (λ e. holds_below gs e.0 ≡ false) (gone_between fs gs)) where
-    same_kept : (move : UsersMove) (e : PathOf × Node) → find path_cmp e.0 gs ≡ Some e.1 → lies_within (changed_between fs gs) e ≡ false → (i : ℕ) (w : Person) → slice_get us (place_before (user_left move) i) ≡ Some w → IsKept move e i w
+    same_kept : (move : UsersMove) (e : PathOf × Node) → find path_cmp e.0 gs ≡ Some e.1 → lies_within (changed_between fs gs) e ≡ false → (i : ℕ) (w : Person) → slice_get us (place_before (place_left move) i) ≡ Some w → IsKept move e i w
     same_kept move e found out i w was =
         let there = was_there apart e.0 e.1 found out (find path_cmp e.0 fs) refl in
         record {
@@ -429,8 +429,8 @@ module _ (V : Verdict) (us ws : List Person) (fs gs : Files) (fo : IsInOrder fs)
         }
 
     -- no user moved
-    none_moved : (move : UsersMove) → ((i : ℕ) (w : Person) → slice_get ws i ≡ Some w → slice_get us (place_before (user_left move) i) ≡ Some w)
-        → differing (user_left move) old_reached new_reached ≤ length ws * count_by (lies_within (changed_between fs gs)) gs
+    none_moved : (move : UsersMove) → ((i : ℕ) (w : Person) → slice_get ws i ≡ Some w → slice_get us (place_before (place_left move) i) ≡ Some w)
+        → differing (place_left move) old_reached new_reached ≤ length ws * count_by (lies_within (changed_between fs gs)) gs
     none_moved move was =
         let parts = parts_missed move (λ e. 0) (λ e found out. let n = row_none move e (λ i w is. same_kept move e found out i w (was i w is)) in omega (arith, n)) in
         omega (arith, parts, zeros gs)
@@ -440,8 +440,8 @@ module _ (V : Verdict) (us ws : List Person) (fs gs : Files) (fo : IsInOrder fs)
         zeros (e ∷ es) = let first = sum_by-cons (λ e. 0) e es in let more = zeros es in omega (arith, first, more)
 
     -- one user moved, as one who wasn't there
-    one_came : (move : UsersMove) (j : ℕ) → ((i : ℕ) (w : Person) → slice_get ws i ≡ Some w → (i ≡ j → ⊥) → slice_get us (place_before (user_left move) i) ≡ Some w)
-        → differing (user_left move) old_reached new_reached ≤ length ws * count_by (lies_within (changed_between fs gs)) gs + length gs
+    one_came : (move : UsersMove) (j : ℕ) → ((i : ℕ) (w : Person) → slice_get ws i ≡ Some w → (i ≡ j → ⊥) → slice_get us (place_before (place_left move) i) ≡ Some w)
+        → differing (place_left move) old_reached new_reached ≤ length ws * count_by (lies_within (changed_between fs gs)) gs + length gs
     one_came move j was =
         let parts = parts_missed move (λ e. 1) (λ e found out. row_one move j e (λ i w is other. same_kept move e found out i w (was i w is other))) in
         omega (arith, parts, ones gs)
@@ -451,9 +451,9 @@ module _ (V : Verdict) (us ws : List Person) (fs gs : Files) (fo : IsInOrder fs)
         ones (e ∷ es) = let first = sum_by-cons (λ e. 1) e es in let more = ones es in omega (arith, first, more)
 
     -- one user moved, whose answers differ where a label does that mentions a group
-    one_moved : (move : UsersMove) (j : ℕ) (c : PathOf × Node → Bool) → ((i : ℕ) (w : Person) → slice_get ws i ≡ Some w → (i ≡ j → ⊥) → slice_get us (place_before (user_left move) i) ≡ Some w)
+    one_moved : (move : UsersMove) (j : ℕ) (c : PathOf × Node → Bool) → ((i : ℕ) (w : Person) → slice_get ws i ≡ Some w → (i ≡ j → ⊥) → slice_get us (place_before (place_left move) i) ≡ Some w)
         → ((i : ℕ) (w : Person) (e : PathOf × Node) → slice_get ws i ≡ Some w → i ≡ j → find path_cmp e.0 gs ≡ Some e.1 → c e ≡ false → IsKept move e i w)
-        → differing (user_left move) old_reached new_reached ≤ length ws * count_by (lies_within (changed_between fs gs)) gs + count_by c gs
+        → differing (place_left move) old_reached new_reached ≤ length ws * count_by (lies_within (changed_between fs gs)) gs + count_by c gs
     one_moved move j c was here =
         parts_missed move (λ e. if c e then 1 else 0) (λ e found out. by e found out (c e) refl)
       where
@@ -509,6 +509,17 @@ left_was xs at i = by (nat_lt i at) refl
 person_same : (a b : Person) → Some a ≡ Some b → a ≡ b
 person_same a b h = cc
 
+none_within : (fs : Files) → count_by (lies_within []) fs ≡ 0
+none_within [] = refl
+none_within (f ∷ fs) = let e = sum_by-cons (λ (g : PathOf × Node). 0) f fs in let r = none_within fs in omega (arith, e, r)
+
+-- a line that changes no file and moves no user changes nothing along paths
+pub same_least : (t : StagedState) → t.moved ≡ Same → t.changed ≡ [] → most_refreshed t ≡ 0
+same_least t is none =
+    let users = length t.state.people.users in
+    let count : count_by (lies_within t.changed) t.state.tree.files ≡ 0 = ap (λ (es : Files). count_by (lies_within es) t.state.tree.files) none ∙ none_within t.state.tree.files in
+    (λ i. users * count i + moves_refreshed (is i) t.state.tree.files) ∙ (let e = times_none users in omega (arith, e))
+
 -- ---- a line
 
 module _ (V : Verdict) (local : (u w : Person) (f : Label) → AgreeOnMentions u w f → V u f ≡ V w f) (rows : Rows) (t : StagedState) (goes : GoesFrom V rows t) (ro : IsInOrder rows) (go : IsInOrder t.state.tree.files) where
@@ -531,7 +542,7 @@ module _ (V : Verdict) (local : (u w : Person) (f : Label) → AgreeOnMentions u
   alone = subst (AllByRecursion (λ e. holds_below gs e.0 ≡ false)) goes.tells.gone goes.tells.apart
 
   abbrev line_missed : UsersMove → ℕ
-  line_missed move = differing (user_left move) (reached_rows (rows_of V us fs)) (reached_rows (rows_of V ws gs))
+  line_missed move = differing (place_left move) (reached_rows (rows_of V us fs)) (reached_rows (rows_of V ws gs))
 
   abbrev at_changed : ℕ
   at_changed = length ws * count_by (lies_within (changed_between fs gs)) gs
@@ -612,15 +623,15 @@ module _ (V : Verdict) (local : (u w : Person) (f : Label) → AgreeOnMentions u
   stands : reached_rows rows ≡ reached_rows (rows_of V us fs)
   stands = ap reached_rows goes.rows_are
 
-  pub line_most : differing (user_left t.moved) (reached_rows rows) (reached_rows (rows_of V ws gs)) ≤ most_refreshed t
+  pub line_most : differing (place_left t.moved) (reached_rows rows) (reached_rows (rows_of V ws gs)) ≤ most_refreshed t
   line_most =
       let parts = line t.moved refl in
       let all : at_changed ≡ length t.state.people.users * count_by (lies_within t.changed) gs =
       (let long = length-map t.state.people.users _ in let told = sym goes.tells.changed in λ i. long i * count_by (lies_within (told i)) gs) in
-      subst (λ (r : Rows). differing (user_left t.moved) r (reached_rows (rows_of V ws gs)) ≤ most_refreshed t) (sym stands) (omega (arith, parts, all))
+      subst (λ (r : Rows). differing (place_left t.moved) r (reached_rows (rows_of V ws gs)) ≤ most_refreshed t) (sym stands) (omega (arith, parts, all))
 
-  pub line_fits : length gs * length t.state.people.users < 2 ^ 64 → differing (user_left t.moved) (reached_rows rows) (reached_rows (rows_of V ws gs)) < 2 ^ 64
+  pub line_fits : length gs * length t.state.people.users < 2 ^ 64 → differing (place_left t.moved) (reached_rows rows) (reached_rows (rows_of V ws gs)) < 2 ^ 64
   line_fits room =
       let n = all_missed V us ws fs gs fo go t.moved in
       let long : length gs * length ws ≡ length gs * length t.state.people.users = ap (λ k. length gs * k) (length-map t.state.people.users _) in
-      subst (λ (r : Rows). differing (user_left t.moved) r (reached_rows (rows_of V ws gs)) < 2 ^ 64) (sym stands) (omega (arith, n, long, room))
+      subst (λ (r : Rows). differing (place_left t.moved) r (reached_rows (rows_of V ws gs)) < 2 ^ 64) (sym stands) (omega (arith, n, long, room))

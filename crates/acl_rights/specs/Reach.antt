@@ -41,16 +41,16 @@ files_reached V s user q = option_map (λ u. map (λ e. e.0) (filter (λ e. has 
 -- ---- how many verdicts along paths are new or other ones
 
 -- the place of the user who left
-abbrev pub user_left : UsersMove → Option ℕ
-user_left Same = None
-user_left Loaded = None
-user_left (Moved user groups) = None
-user_left Joined = None
-user_left (Left user) = Some user
+abbrev pub place_left : UsersMove → Option ℕ
+place_left Same = None
+place_left Loaded = None
+place_left (Moved user groups) = None
+place_left Joined = None
+place_left (Left user) = Some user
 
 -- the pairs of a user and a path whose verdict along the path is new or another
 abbrev pub unlike : UsersMove → Rows → Rows → ℕ
-unlike move old new = differing (user_left move) (reached_rows old) (reached_rows new)
+unlike move old new = differing (place_left move) (reached_rows old) (reached_rows new)
 
 -- the file is one of some files, or below one
 abbrev pub lies_within : Files → PathOf × Node → Bool

@@ -1,7 +1,8 @@
 //! Rows of files on which all verdicts are asked for.
 
-ghost use Rattle.std.specs.Prelude.{◌≡◌, ◌+◌, ◌*◌, ◌<◌, ◌≤◌, ◌^◌, length, map, IfOk, OnOk};
-ghost use Rattle.acl_rights.specs.Tables.{cells_of, rows_of};
+ghost use Rattle.std.specs.Prelude.{◌≡◌, ◌+◌, ◌*◌, ◌<◌, ◌≤◌, ◌^◌, List, length, map, IfOk, IfSome, OnOk};
+ghost use Rattle.acl_entry.specs.Person.{Person};
+ghost use Rattle.acl_rights.specs.Tables.{Verdict, cells_of, rows_of};
 
 use acl_entry::Subject;
 use acl_tree::{Record, Tree};
@@ -59,7 +60,49 @@ pub fn judged_tree<J: Judge>(
     Ok(all)
 }
 
-/// A row for each of some files.
+/// The last of some rows, where the file of that row has the label of another.
+fn row_of_label<'a>(
+    file: &Record,
+    before: &[Rc<Record>],
+    rows: &'a [Rc<Entry<Cells>>],
+) -> Option<&'a Cells>
+    ensures { IfSome result (λ cells. (V : Verdict) (us : List Person) → map (λ r. r.value) rows.now ≡ rows_of V us (map (λ r. r.value) before.now) → cells.now ≡ cells_of V us file.now.1) }
+{
+    if rows.is_empty() || before.len() != rows.len() {
+        return None;
+    }
+    let at = rows.len() - 1;
+    if !before[at].value().same_label(file.value()) {
+        return None;
+    }
+    Some(rows[at].value())
+}
+
+/// The row of a file after those of other files: the last row's verdicts where its file has the same label.
+fn next_row<J: Judge>(
+    alloc: Global,
+    judge: &mut J,
+    file: &Record,
+    before: &[Rc<Record>],
+    rows: &[Rc<Entry<Cells>>],
+    users: &[Rc<Subject>],
+) -> Result<Rc<Entry<Cells>>, AllocError>
+    requires room { J.asked_of judge.old + length users.now < 2 ^ 64 }
+    requires rows { map (λ r. r.value) rows.now ≡ rows_of J.verdict_of (map (λ s. s.value) users.now) (map (λ r. r.value) before.now) }
+    ensures row { IfOk result (λ row. row.value ≡ (file.now.0, cells_of J.verdict_of (map (λ s. s.value) users.now) file.now.1)) }
+    ensures at_most { J.asked_of judge.new ≤ J.asked_of judge.old + length users.now }
+{
+    if let Some(cells) = row_of_label(file, before, rows) {
+        let path = file.shared_path().clone()?;
+        let row = Rc::new(alloc, Entry::new(path, cells.share()?))?;
+        return Ok(row);
+    }
+    let row = judged_row(alloc, judge, file, users, last_row(rows))?;
+    Ok(row)
+}
+
+/// A row for each of some files. Verdicts are asked for once where files that follow one another have the same
+/// label.
 pub fn judged_records<J: Judge>(
     alloc: Global,
     judge: &mut J,
@@ -71,8 +114,8 @@ pub fn judged_records<J: Judge>(
     ensures at_most { J.asked_of judge.new ≤ J.asked_of judge.old + length files.now * length users.now }
 {
     let mut rows = Vec::with_capacity(alloc, files.len())?;
-    for file in files {
-        let row = judged_row(alloc, judge, file, users, last_row(&rows))?;
+    for at in 0..files.len() {
+        let row = next_row(alloc, judge, &files[at], &files[..at], &rows, users)?;
         rows.push(row)?;
     }
     Ok(rows)

@@ -1,9 +1,10 @@
 //! Verdicts along paths after a line, made from the rows that are kept.
 
-ghost use Rattle.std.specs.Prelude.{◌≡◌, ◌≤◌, ◌<◌, ◌*◌, ◌^◌, length, IfOk};
+ghost use Rattle.std.specs.Prelude.{◌≡◌, ◌≤◌, ◌<◌, ◌*◌, ◌^◌, [], true, length, IfOk};
 ghost use Rattle.acl_people.specs.Registers.{persons};
+ghost use Rattle.acl_tree.specs.declared.moved.UsersMove.TheVariants.{Same};
 ghost use Rattle.acl_rights.specs.Tables.{rows_of};
-ghost use Rattle.acl_rights.specs.Reach.{reached_rows, unlike, most_refreshed, user_left};
+ghost use Rattle.acl_rights.specs.Reach.{reached_rows, unlike, most_refreshed, place_left};
 ghost use Rattle.acl_rights.specs.Kept.{GoesFrom};
 
 use acl_reach::{differing, reached_of};
@@ -20,8 +21,8 @@ pub struct NewReached {
 }
 
 /// The place of the user who left.
-fn user_left(moved: &UsersMove) -> Option<usize>
-    ensures { result ≡ user_left moved.now }
+fn place_left(moved: &UsersMove) -> Option<usize>
+    ensures { result ≡ place_left moved.now }
 {
     match moved {
         UsersMove::Left { user } => Some(*user),
@@ -29,7 +30,24 @@ fn user_left(moved: &UsersMove) -> Option<usize>
     }
 }
 
-/// The verdicts along paths after a line. Rows that are as before are shared.
+/// Whether a line changes no file that the check looks at, and moves no user.
+fn is_same(staged: &Staged) -> bool
+    ensures { result ≡ true → (staged.now.moved ≡ Same) × ((staged.now.changed ≡ []) × (staged.now.gone ≡ [])) }
+{
+    match staged.moved() {
+        UsersMove::Same => {
+            if staged.changed().is_empty() {
+                staged.gone().is_empty()
+            } else {
+                false
+            }
+        }
+        _ => false,
+    }
+}
+
+/// The verdicts along paths after a line. Rows that are as before are shared, and all of them
+/// where the line changes nothing.
 pub fn staged_reached<J: Judge>(
     alloc: Global,
     old: &PathMap<Cells>,
@@ -47,7 +65,14 @@ pub fn staged_reached<J: Judge>(
 {
     old.is_in_order();
     staged.tree().is_sound();
+    if is_same(staged) {
+        let same = old_reached.share()?;
+        return Ok(NewReached {
+            reached: same,
+            refreshed: 0,
+        });
+    }
     let reached = reached_of(alloc, rows, old_reached)?;
-    let refreshed = differing(user_left(staged.moved()), old_reached, &reached);
+    let refreshed = differing(place_left(staged.moved()), old_reached, &reached);
     Ok(NewReached { reached, refreshed })
 }

@@ -9,7 +9,7 @@ use Rattle.acl_group_files.specs.Groups.{PathSet, set_of, mentioning, mentions_g
 use Rattle.acl_group_files.specs.Inner.{kept_at, mentioned_group, groups_of}
 use Rattle.acl_group_files.proofs.Maps.{map_filter}
 use Rattle.acl_group_files.proofs.Listed.{set_order}
-use Rattle.acl_group_files.proofs.Replaced.{list_after, lists_after, one_replaced}
+use Rattle.acl_group_files.proofs.Replaced.{list_after, lists_after, list_stays, one_replaced}
 use Rattle.acl_group_files.proofs.lists.GroupLists.staged.Goals as goal
 
 pub loop-group-init : goal.loop-group-init
@@ -60,3 +60,11 @@ returns c g =
     let all = take_all c.loop-group.group-index ids c.loop-group-test.false in
     lists_after fs gs c.is_sound.ensures.order c.is_sound-2.ensures.order c.args.self.now ids c.requires.lists touched g _
     (ap (λ m. kept_at m g) c.in_ok-new.ensures.ok ∙ c.loop-group.invariant g ∙ ap (λ (l : List ℕ). if is_one_of g l then set_of (mentioning g gs) else list_at c.args.self.now g) all)
+
+pub returns-then-are_none-2 : goal.returns-then-are_none-2
+returns-then-are_none-2 c g =
+    let fs = c.args.old.now.files in
+    let gs = c.args.new.now.files in
+    let changed = sym c.requires.changed ∙ c.are_none.ensures c.if-are_none.true in
+    let gone = sym c.requires.gone ∙ c.are_none-then-are_none.ensures c.if-are_none-2.true in
+    c.in_ok-same.ensures g ∙ c.requires.lists g ∙ list_stays g fs gs c.is_sound.ensures.order c.is_sound-2.ensures.order (λ i. is_one_of g (groups_of fs (changed i) (gone i)))
