@@ -5,7 +5,7 @@ use crate::texts::WHOLE;
 use facl::Status;
 use std::test::Fail;
 
-static TEXTS: [Row; 6] = [
+static TEXTS: [Row; 7] = [
     Row {
         name: "the first faulty entry, and there the lowest kind",
         setup: WHOLE,
@@ -110,6 +110,36 @@ line 6: setfacl: entry 1: both removed and modified\n\
 line 10: setfacl: entry 2: both removed and modified\n\
 line 14: setfacl: entry 2: unknown user\n",
         status: Status::Refused,
+    },
+    Row {
+        name: "removed entries and lists",
+        setup: WHOLE,
+        script: b"setfacl -m u:joe:rw,g:adm:r f\n\
+setfacl -X - f\n\
+u:joe # gone\n\
+\n\
+g:adm:\n\
+.\n\
+getfacl -c f\n\
+setfacl -m d:u:joe:rwx .\n\
+setfacl -k .\n\
+setfacl -b pub\n\
+getfacl -c . pub\n",
+        out: b"user::rw-\n\
+group::r--\n\
+mask::r--\n\
+other::---\n\
+\n\
+user::rwx\n\
+group::r-x\n\
+other::r-x\n\
+\n\
+user::rwx\n\
+group::r-x\n\
+other::r-x\n\
+\n",
+        err: b"",
+        status: Status::Accepted,
     },
     Row {
         name: "examples of the manual",
