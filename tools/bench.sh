@@ -63,3 +63,10 @@ echo "| \`setfacl --restore\` | $(seconds setfacl --restore=../restored) |"
 echo "| \`getfacl -R .\` | $(seconds getfacl -R .) |"
 echo "| \`getfacl -R -n .\`, which looks up no names | $(seconds getfacl -R -n .) |"
 echo "| \`chmod -R 750 .\` | $(seconds chmod -R 750 .) |"
+echo "| \`setfacl -R -m u:1001:rX .\` | $(seconds setfacl -R -m u:1001:rX .) |"
+# One file a call, with the start of the program.
+each_file() {
+    find . -type f | head -n "$files" | xargs -n 1 setfacl -m u:1001:rwx
+}
+files=1000
+echo "| \`setfacl -m\` of one file a call, $files calls | $(seconds each_file) |"

@@ -16,6 +16,8 @@ import time
 HERE = os.path.dirname(os.path.realpath(__file__))
 LINES = 1000
 PER_DIRECTORY = 100
+# At most so many records of the dump are restored, since the bytes of a script are limited.
+MAX_RESTORED = 100_000
 # What is aimed at: so small a part of a `chmod -R`, in a tree of so many files.
 GOAL = 2_000
 GOAL_FILES = 1_000_000
@@ -57,6 +59,18 @@ def files_of(count):
     return [f"d{k * 37 % directories:05}/f{k % PER_DIRECTORY:03}" for k in range(LINES)]
 
 
+def first_records(folder, count):
+    """The first records of the dump, as the lines of a text."""
+    lines, records = [], 0
+    with open(f"{folder}/dump") as dump:
+        for line in dump:
+            records += line.startswith("# file:")
+            if records > count:
+                break
+            lines.append(line.rstrip("\n"))
+    return lines
+
+
 def run_once(program, folder, count, users):
     session = Session(program, folder)
     files = files_of(count)
@@ -66,6 +80,9 @@ def run_once(program, folder, count, users):
     times["can"] = session.answer([f"can u{k % users} {file}" for k, file in enumerate(files)])
     times["one"] = session.answer([f"chmod 640 {file}" for file in files])
     times["all"] = session.answer(["chmod -R 750 ."])
+    times["edit one"] = session.answer([f"setfacl -m u:u{k % users}:rwx {file}" for k, file in enumerate(files)])
+    times["edit all"] = session.answer(["setfacl -R -m u:u1:rX ."])
+    times["restore"] = session.answer(["setfacl --restore=-", *first_records(folder, MAX_RESTORED), "."])
     session.end()
     return times
 
@@ -82,7 +99,8 @@ def row(count, best):
     a_line = lambda name: f"{best[name] / LINES * 1e6:.1f} us"
     ratio = best["all"] / (best["one"] / LINES)
     cells = [f"{count:,}", a_file("load"), a_file("list"), a_file("all"), a_line("one"), f"1/{ratio:,.0f}"]
-    return cells + [a_line("can"), a_line("get")]
+    cells += [a_line("can"), a_line("get"), a_file("edit all"), a_line("edit one")]
+    return cells + [f"{best['restore'] / min(count, MAX_RESTORED) * 1e6:.2f} us"]
 
 
 def main():
@@ -91,6 +109,7 @@ def main():
     program, runs, users, counts = sys.argv[1], int(sys.argv[2]), int(sys.argv[3]), [int(it) for it in sys.argv[4:]]
     head = ["Files", "load, a file", "`getfacl -R .`, a file", "`chmod -R`, a file", "`chmod` of one file"]
     head += ["of that `chmod -R`", "`can`, a line", "`getfacl` of one file"]
+    head += ["`setfacl -R -m`, a file", "`setfacl -m` of one file", "`setfacl --restore`, a record"]
     print("| " + " | ".join(head) + " |\n|" + "---|" * len(head), flush=True)
     for count in counts:
         best = measured(program, runs, users, count)
