@@ -11,4 +11,5 @@ pub mod Removal
 pub mod Attributes
 pub mod Memberships
 pub mod Accounts
+pub mod RemovedKeys
 pub mod Tools

@@ -18,6 +18,7 @@ mod lists;
 mod load;
 mod mode;
 mod operands;
+mod removed_keys;
 mod rm;
 mod setattr;
 mod setfacl;

@@ -43,7 +43,7 @@ fn change(alloc: Global, state: &State, line: &SetfaclLine<'_>) -> Result<Effect
     ensures { Gives (left state.now) result (change_line state.now line.now) }
 {
     let entries = Given::of(alloc, state.people(), line)?;
-    match entries.both_at(line.as_default) {
+    match entries.both_at(alloc, line.as_default)? {
         Some(at) => Err(LineFault::Both { at }),
         None => change_files(alloc, state, line, entries),
     }

@@ -1,18 +1,18 @@
 //! The entries of a setfacl(1) line.
 
-ghost use Rattle.std.specs.Prelude.{◌≡◌, option_map};
-ghost use Rattle.std.specs.List.{list_any};
+ghost use Rattle.std.specs.Prelude.{◌≡◌, option_map, IfOk};
+ghost use Rattle.std.specs.List.{find};
+ghost use Rattle.facl_tools.specs.RemovedKeys.{removes};
 ghost use Rattle.facl_tools.specs.Replies.{Gives};
-ghost use Rattle.facl_tools.specs.Setfacl as specs;
-ghost use Rattle.facl_tools.specs.Setfacl.{both_at, change_of, drops, entries_given, given, has_default, is_same_entry};
+ghost use Rattle.facl_tools.specs.Setfacl.{both_at, change_of, drops, entries_given, given, has_default};
 
+use crate::removed_keys::RemovedKeys;
 use crate::setfacl_line::{EntryText, SetfaclLine};
 use acl_edit::{Change, Specs};
 use acl_people::People;
 use acl_text::{Spec, Want, read_entries};
 use facl_messages::{LineFault, Source};
-use std::alloc::Global;
-use std::cmp::Ordering;
+use std::alloc::{AllocError, Global};
 
 /// The entries of a line.
 #[derive(Drop)]
@@ -40,19 +40,12 @@ fn entries_given(
     }
 }
 
-/// Whether two entries are of one list and have one key, where `-d` drops none of them.
-fn is_same_entry(as_default: bool, a: &Spec, b: &Spec) -> bool
-    ensures { result ≡ is_same_entry as_default a.now b.now }
+/// The place of the first entry whose key is removed.
+fn first_removed(removed: &RemovedKeys, as_default: bool, specs: &[Spec]) -> Option<usize>
+    ensures { result ≡ option_map (λ s. s.at) (find (λ s. removes as_default removed.now s) specs.now) }
 {
-    !(as_default && a.dflt) && a.dflt == b.dflt && a.key.order(b.key) == Ordering::Equal
-}
-
-fn is_among(as_default: bool, spec: &Spec, specs: &[Spec]) -> bool
-    ensures { result ≡ list_any (λ s. is_same_entry as_default spec.now s) specs.now }
-{
-    specs
-        .iter()
-        .any(|other| is_same_entry(as_default, spec, other))
+    let first = specs.iter().find(|spec| removed.removes(as_default, spec))?;
+    Some(first.at)
 }
 
 fn has_default(specs: &[Spec]) -> bool
@@ -76,17 +69,12 @@ impl Given {
         })
     }
 
-    /// The place of the first modified entry that is removed too.
-    pub fn both_at(&self, as_default: bool) -> Option<usize>
-        ensures { result ≡ both_at as_default self.now }
+    /// The place of the first modified entry that is removed too. Fails only if memory runs out.
+    pub fn both_at(&self, alloc: Global, as_default: bool) -> Result<Option<usize>, AllocError>
+        ensures { IfOk result (λ at. at ≡ both_at as_default self.now) }
     {
-        let removed = self.removed.as_slice();
-        let both = self
-            .modified
-            .as_slice()
-            .iter()
-            .find(|spec| is_among(as_default, spec, removed))?;
-        Some(both.at)
+        let removed = RemovedKeys::of(alloc, self.removed.as_slice())?;
+        Ok(first_removed(&removed, as_default, self.modified.as_slice()))
     }
 
     /// Whether `-d` drops a default entry.
