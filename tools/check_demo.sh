@@ -40,6 +40,10 @@ cp "$top/demo/stderr" wanted_err
 compare "the worked session" 1 --passwd "$top/demo/passwd" --group "$top/demo/group" --dump "$top/demo/dump"
 compare "the worked session, its FILEs in another order" 1 \
     --dump "$top/demo/dump" --passwd "$top/demo/passwd" --group "$top/demo/group"
+cp "$top/demo/plan" script
+cp "$top/demo/plan.stdout" wanted_out
+: >wanted_err
+compare "the plan" 0 --passwd "$top/demo/passwd" --group "$top/demo/group" --dump "$top/demo/dump"
 
 echo 'frob' >script
 : >wanted_out

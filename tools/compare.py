@@ -519,8 +519,9 @@ class Lines:
             return EMPTY_PERMS
         if {"-d", "--default"} & set(flags) and any(it.startswith("d") for it in removed + given if it[:6] != "daemon"):
             return "setfacl -d beside default entries: the real tool refuses them, its manual and the program drop them"
-        if {"-n", "--no-mask", "--mask"} & set(flags) and any(it.split(":")[-2 if it[-1] == ":" else -1][:1] == "m" for it in removed):
-            return "a mask removed under -n or --mask: the program refuses the list exactly where a mask was removed and is needed"
+        no_mask = any(it.split(":")[-2 if it[-1] == ":" else -1][:1] == "m" for it in removed)
+        if no_mask and (given or {"-n", "--no-mask", "--mask"} & set(flags)):
+            return "a mask removed beside -m, -n or --mask: the program refuses exactly where one was there and is still needed"
         perms = [it.rsplit(":", 1)[-1] for it in given]
         others = removed or {"-b", "--remove-all"} & set(flags) or any(it[-1:] in ("x", "1", "3", "5", "7") for it in perms)
         if any("X" in it for it in perms) and others:
