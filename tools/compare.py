@@ -7,7 +7,7 @@ Compared after each line, byte for byte: the listing of all files (`getfacl -R -
 attr print; and whether the line was accepted. The real tools are given the files of a line in path order, each once,
 as the program treats them; a directory that nothing else shows to be one is given with a final `/`.
 
-What is not compared, since docs/DECISIONS.md and docs/SPECIFICATION.md say otherwise for the program:
+What is not compared, since the program does otherwise (docs/DECISIONS.md has a table of lines):
 - which of several faults is reported, and in which words;
 - what a refused line changed: the real tools go file by file, and the program acts on all files or on none. The real
   tree is then made anew from the program's listing, which tests the way back;
