@@ -1,6 +1,5 @@
 //! The lines of gpasswd(1), usermod(8), useradd(8) and userdel(8).
-use crate::told::line_told;
-use std::test::Fail;
+use crate::told::expect_lines;
 
 static LINES: [(&str, &str); 49] = [
     // One user joins, or one leaves.
@@ -63,10 +62,6 @@ static LINES: [(&str, &str); 49] = [
 ];
 
 #[test]
-fn people_lines(rt: HostRuntime) -> Result<(), Fail> {
-    for (line, answer) in &LINES {
-        let told = line_told(rt.alloc(), line)?;
-        assert_eq!(rt; told.as_str(), *answer, "{line}");
-    }
-    Ok(())
+fn people_lines(rt: HostRuntime) {
+    expect_lines(&rt, rt.alloc(), &LINES);
 }

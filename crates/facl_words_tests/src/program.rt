@@ -2,7 +2,7 @@
 use crate::told::words_of;
 use facl_words::{Tool, WordsFault, read_args};
 use std::alloc::Global;
-use std::test::Fail;
+use std::process::Abort;
 
 static LINES: [(&str, &str); 13] = [
     ("--passwd p --group g --dump d", "p g d"),
@@ -20,50 +20,53 @@ static LINES: [(&str, &str); 13] = [
     ("''", "usage"),
 ];
 
-fn push_file(text: &mut String, file: Option<String>) -> Result<(), Fail> {
+fn file_text(file: &Option<String>) -> &str {
     match file {
-        Some(name) => text.push_str(name.as_str())?,
-        None => text.push_str("none")?,
+        Some(name) => name.as_str(),
+        None => "none",
     }
-    Ok(())
 }
 
-fn files_told(alloc: Global, words: &[String]) -> Result<String, Fail> {
-    let mut text = String::new(alloc);
+fn files_text(rt: &impl Abort, alloc: Global, files: &[Option<String>; 3]) -> String {
+    let [passwd, group, dump] = files;
+    let (passwd, group, dump) = (file_text(passwd), file_text(group), file_text(dump));
+    format!(in alloc; "{passwd} {group} {dump}").expect(rt, "memory")
+}
+
+fn read_text(rt: &impl Abort, alloc: Global, words: &[String]) -> String {
     match read_args(alloc, words) {
-        Ok([passwd, group, dump]) => {
-            push_file(&mut text, passwd)?;
-            text.push_str(" ")?;
-            push_file(&mut text, group)?;
-            text.push_str(" ")?;
-            push_file(&mut text, dump)?;
-        }
-        Err(WordsFault::Usage) => text.push_str("usage")?,
-        Err(WordsFault::NoMemory) => text.push_str("no memory")?,
+        Ok(files) => files_text(rt, alloc, &files),
+        Err(WordsFault::Usage) => String::from_str(alloc, "usage").expect(rt, "memory"),
+        Err(WordsFault::NoMemory) => String::from_str(alloc, "no memory").expect(rt, "memory"),
     }
-    Ok(text)
+}
+
+fn expect_files(rt: &impl Abort, alloc: Global, words: &[String], answer: &str) {
+    assert!(rt; read_text(rt, alloc, words).as_str() == answer, "{answer}");
 }
 
 #[test]
-fn program_words(rt: HostRuntime) -> Result<(), Fail> {
+fn program_words(rt: HostRuntime) {
+    let alloc = rt.alloc();
     for (line, answer) in &LINES {
-        let words = words_of(rt.alloc(), line)?;
-        let told = files_told(rt.alloc(), words.as_slice())?;
-        assert_eq!(rt; told.as_str(), *answer, "{line}");
+        expect_files(&rt, alloc, &words_of(&rt, alloc, line), answer);
     }
-    let none = files_told(rt.alloc(), &[])?;
-    assert_eq!(rt; none.as_str(), "none none none");
-    Ok(())
+    expect_files(&rt, alloc, &[], "none none none");
 }
 
+static TOOLS: [(&str, Option<Tool>); 6] = [
+    ("setfacl", Some(Tool::Setfacl)),
+    ("userdel", Some(Tool::Userdel)),
+    ("frob", None),
+    ("Setfacl", None),
+    ("loads", None),
+    ("", None),
+];
+
 #[test]
-fn tools_have_names(rt: HostRuntime) -> Result<(), Fail> {
-    assert_eq!(rt; Tool::named("setfacl"), Some(Tool::Setfacl));
-    assert_eq!(rt; Tool::named("userdel"), Some(Tool::Userdel));
-    assert_eq!(rt; Tool::named("frob"), None);
-    assert_eq!(rt; Tool::named("Setfacl"), None);
-    assert_eq!(rt; Tool::named("loads"), None);
-    assert_eq!(rt; Tool::named(""), None);
-    assert_eq!(rt; Tool::Getfacl.name(), "getfacl");
-    Ok(())
+fn tools_have_names(rt: HostRuntime) {
+    for (name, tool) in &TOOLS {
+        assert!(rt; Tool::named(name) == *tool, "{name}");
+    }
+    assert!(rt; Tool::Getfacl.name() == "getfacl");
 }

@@ -1,6 +1,5 @@
 //! The lines of `attr`, `setattr`, `can`, `who`, `may` and `index`.
-use crate::told::line_told;
-use std::test::Fail;
+use crate::told::expect_lines;
 
 static LINES: [(&str, &str); 52] = [
     ("attr f", ": f"),
@@ -75,10 +74,6 @@ static LINES: [(&str, &str); 52] = [
 ];
 
 #[test]
-fn query_lines(rt: HostRuntime) -> Result<(), Fail> {
-    for (line, answer) in &LINES {
-        let told = line_told(rt.alloc(), line)?;
-        assert_eq!(rt; told.as_str(), *answer, "{line}");
-    }
-    Ok(())
+fn query_lines(rt: HostRuntime) {
+    expect_lines(&rt, rt.alloc(), &LINES);
 }

@@ -1,6 +1,5 @@
 //! How words are cut into flags, options and operands: getfacl(1)'s lines.
-use crate::told::line_told;
-use std::test::Fail;
+use crate::told::expect_lines;
 
 static LINES: [(&str, &str); 38] = [
     ("getfacl f", ": f"),
@@ -51,10 +50,6 @@ static LINES: [(&str, &str); 38] = [
 ];
 
 #[test]
-fn words_are_cut(rt: HostRuntime) -> Result<(), Fail> {
-    for (line, answer) in &LINES {
-        let told = line_told(rt.alloc(), line)?;
-        assert_eq!(rt; told.as_str(), *answer, "{line}");
-    }
-    Ok(())
+fn words_are_cut(rt: HostRuntime) {
+    expect_lines(&rt, rt.alloc(), &LINES);
 }

@@ -1,6 +1,5 @@
 //! setfacl(1)'s lines.
-use crate::told::line_told;
-use std::test::Fail;
+use crate::told::expect_lines;
 
 static LINES: [(&str, &str); 94] = [
     // An option's value, attached and apart.
@@ -118,10 +117,6 @@ static LINES: [(&str, &str); 94] = [
 ];
 
 #[test]
-fn setfacl_lines(rt: HostRuntime) -> Result<(), Fail> {
-    for (line, answer) in &LINES {
-        let told = line_told(rt.alloc(), line)?;
-        assert_eq!(rt; told.as_str(), *answer, "{line}");
-    }
-    Ok(())
+fn setfacl_lines(rt: HostRuntime) {
+    expect_lines(&rt, rt.alloc(), &LINES);
 }

@@ -1,9 +1,9 @@
 //! What is read of a line, told as text: the flags and options that were given, in the order of the
 //! table, a colon, and the operands. An empty operand is `''`, and a refused line is `usage`.
 use facl_words::places::{chacl, chmod, creat, getfacl, gpasswd, rm, setfacl, useradd, usermod};
-use facl_words::{FlagPlace, Tool, ValuePlace, Words, WordsFault, read_words};
+use facl_words::{FlagPlace, Tool, ValuePlace, Word, Words, WordsFault, read_words};
 use std::alloc::Global;
-use std::test::Fail;
+use std::process::Abort;
 
 static GETFACL_FLAGS: [(FlagPlace, &str); 7] = [
     (getfacl::ACCESS, "-a"),
@@ -86,56 +86,93 @@ fn options_of(tool: Tool) -> &'static [(ValuePlace, &'static str)] {
     }
 }
 
-fn words_told(alloc: Global, tool: Tool, words: &Words) -> Result<String, Fail> {
-    let mut text = String::new(alloc);
+fn push(rt: &impl Abort, text: &mut String, part: &str) {
+    text.push_str(part).expect(rt, "memory");
+}
+
+fn push_flags(rt: &impl Abort, text: &mut String, tool: Tool, words: &Words) {
     for (place, label) in flags_of(tool) {
         if words.flags.has(*place) {
-            text.push_str(label)?;
-            text.push_str(" ")?;
+            push(rt, text, label);
+            push(rt, text, " ");
         }
     }
+}
+
+fn push_option(rt: &impl Abort, text: &mut String, label: &str, value: &str) {
+    push(rt, text, label);
+    push(rt, text, "=");
+    push(rt, text, value);
+    push(rt, text, " ");
+}
+
+fn push_options(rt: &impl Abort, text: &mut String, tool: Tool, words: &Words) {
     for (place, label) in options_of(tool) {
         if let Some(value) = words.values.get(*place) {
-            text.push_str(label)?;
-            text.push_str("=")?;
-            text.push_str(value)?;
-            text.push_str(" ")?;
+            push_option(rt, text, label, value);
         }
     }
-    text.push_str(":")?;
-    for operand in words.operands.as_slice() {
-        text.push_str(" ")?;
-        if operand.as_str().is_empty() {
-            text.push_str("''")?;
-        } else {
-            text.push_str(operand.as_str())?;
-        }
+}
+
+fn operand_text(operand: &str) -> &str {
+    if operand.is_empty() { "''" } else { operand }
+}
+
+fn push_operands(rt: &impl Abort, text: &mut String, operands: &[Word]) {
+    for operand in operands {
+        push(rt, text, " ");
+        push(rt, text, operand_text(operand.as_str()));
     }
-    Ok(text)
+}
+
+fn push_words(rt: &impl Abort, text: &mut String, tool: Tool, words: &Words) {
+    push_flags(rt, text, tool, words);
+    push_options(rt, text, tool, words);
+    push(rt, text, ":");
+    push_operands(rt, text, words.operands.as_slice());
 }
 
 /// The words of a line, between single spaces; `''` is an empty one.
-pub(crate) fn words_of(alloc: Global, line: &str) -> Result<Vec<String>, Fail> {
+pub(crate) fn words_of(rt: &impl Abort, alloc: Global, line: &str) -> Vec<String> {
     let mut words = Vec::new(alloc);
     for word in line.split(' ') {
         let text = if word == "''" { "" } else { word };
-        words.push(String::from_str(alloc, text)?)?;
+        words
+            .push(String::from_str(alloc, text).expect(rt, "memory"))
+            .expect(rt, "memory");
     }
-    Ok(words)
+    words
 }
 
-/// What is read of a line whose first word is its tool.
-pub(crate) fn line_told(alloc: Global, line: &str) -> Result<String, Fail> {
-    let words = words_of(alloc, line)?;
-    let Some((first, rest)) = words.as_slice().split_first() else {
-        return Ok(String::from_str(alloc, "no words")?);
-    };
-    let Some(tool) = Tool::named(first.as_str()) else {
-        return Ok(String::from_str(alloc, "no tool")?);
-    };
+fn push_read(rt: &impl Abort, alloc: Global, text: &mut String, tool: Tool, rest: &[String]) {
     match read_words(alloc, tool, rest) {
-        Ok(words) => words_told(alloc, tool, &words),
-        Err(WordsFault::Usage) => Ok(String::from_str(alloc, "usage")?),
-        Err(WordsFault::NoMemory) => Ok(String::from_str(alloc, "no memory")?),
+        Ok(words) => push_words(rt, text, tool, &words),
+        Err(WordsFault::Usage) => push(rt, text, "usage"),
+        Err(WordsFault::NoMemory) => push(rt, text, "no memory"),
+    }
+}
+
+fn tool_of(words: &[String]) -> Option<Tool> {
+    Tool::named(words.first()?.as_str())
+}
+
+fn push_line(rt: &impl Abort, alloc: Global, text: &mut String, words: &[String]) {
+    let tool = tool_of(words).expect(rt, "a tool");
+    let (_, rest) = words.split_first().expect(rt, "a word");
+    push_read(rt, alloc, text, tool, rest);
+}
+
+/// What is read of a line, whose first word is its tool.
+fn expect_line(rt: &impl Abort, alloc: Global, line: &str, answer: &str) {
+    let words = words_of(rt, alloc, line);
+    let mut text = String::new(alloc);
+    push_line(rt, alloc, &mut text, &words);
+    assert!(rt; text.as_str() == answer, "{line}");
+}
+
+/// Each line is read as its answer.
+pub(crate) fn expect_lines(rt: &impl Abort, alloc: Global, lines: &[(&str, &str)]) {
+    for (line, answer) in lines {
+        expect_line(rt, alloc, line, answer);
     }
 }

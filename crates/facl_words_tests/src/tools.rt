@@ -1,6 +1,5 @@
 //! The lines of `load`, chacl(1), chmod(1), `creat` and rm(1).
-use crate::told::line_told;
-use std::test::Fail;
+use crate::told::expect_lines;
 
 static LINES: [(&str, &str); 77] = [
     // The three texts.
@@ -101,10 +100,6 @@ static LINES: [(&str, &str); 77] = [
 ];
 
 #[test]
-fn tool_lines(rt: HostRuntime) -> Result<(), Fail> {
-    for (line, answer) in &LINES {
-        let told = line_told(rt.alloc(), line)?;
-        assert_eq!(rt; told.as_str(), *answer, "{line}");
-    }
-    Ok(())
+fn tool_lines(rt: HostRuntime) {
+    expect_lines(&rt, rt.alloc(), &LINES);
 }
