@@ -5,7 +5,8 @@ usage: tools/prove.py [--jobs N] [CRATE]
 
 CRATE is facl_cli unless it is given. A crate is started once those that it stands on are built, the one with the
 longest way to CRATE first. N crates run at a time: as many as there are processors, and as memory has room for, unless
-N is given. What is proved already, and has not changed since, is not proved again.
+N is given. A crate that runs alone checks N of its functions at a time; otherwise rt decides. What is proved already,
+and has not changed since, is not proved again.
 
 After each crate it prints to standard error how many of all are done, and the minutes so far. What rt prints of a crate
 goes to a log in the folder out/ of CRATE. The exit status is 0 where all crates are proved, else 1.
@@ -79,12 +80,12 @@ def ways_up(uses, crates):
     return ways
 
 
-def start(crate, log):
+def start(crate, flags, log):
     """Starts the proof and build of one crate."""
     is_program = os.path.exists(folder_of(crate, "src", "main.rt"))
     with open(log, "wb") as out:
         return subprocess.Popen(
-            ["rt", "run" if is_program else "lib"],
+            ["rt", "run" if is_program else "lib", *flags],
             cwd=folder_of(crate),
             stdin=subprocess.DEVNULL,
             stdout=out,
@@ -100,9 +101,11 @@ def prove_all(uses, crates, jobs, log_of):
     try:
         while len(done) < len(crates):
             ready = [crate for crate in waiting if all(use in done for use in uses[crate])]
+            is_alone = not running and len(ready) == 1
+            flags = ["--jobs", str(jobs)] if is_alone else []
             for crate in sorted(ready, key=ways.get, reverse=True)[: jobs - len(running)]:
                 waiting.remove(crate)
-                running[crate] = start(crate, log_of(crate))
+                running[crate] = start(crate, flags, log_of(crate))
             time.sleep(0.2)
             for crate in [crate for crate, run in running.items() if run.poll() is not None]:
                 if running.pop(crate).returncode != 0:
