@@ -5,6 +5,10 @@
 #![tactic(auto)]
 
 #[cfg(test)]
+mod attributes;
+#[cfg(test)]
+mod creations;
+#[cfg(test)]
 mod devices;
 #[cfg(test)]
 mod edits;
@@ -17,6 +21,8 @@ mod listings;
 #[cfg(test)]
 mod loads;
 #[cfg(test)]
+mod members;
+#[cfg(test)]
 mod modes;
 #[cfg(test)]
 mod restores;
@@ -26,3 +32,5 @@ mod rows;
 mod setups;
 #[cfg(test)]
 mod texts;
+#[cfg(test)]
+mod whole_lists;
