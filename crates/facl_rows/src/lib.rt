@@ -23,6 +23,8 @@ mod loads;
 #[cfg(test)]
 mod members;
 #[cfg(test)]
+mod mixed_rows;
+#[cfg(test)]
 mod modes;
 #[cfg(test)]
 mod restores;
