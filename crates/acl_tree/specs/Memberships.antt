@@ -27,10 +27,10 @@ change_of user (Ok people) = Ok (record { user = user; people = people })
 change_of user (Err fault) = Err fault
 
 -- a change of a user and a group, which are looked up in this order
-abbrev pub change_at : Result ℕ TreeFault → Result ℕ TreeFault → (ℕ → ℕ → Result Register TreeFault) → Result UserChange TreeFault
-change_at (Err fault) group change = Err fault
-change_at (Ok user) (Err fault) change = Err fault
-change_at (Ok user) (Ok group) change = change_of user (change user group)
+abbrev pub change_found : Result ℕ TreeFault → Result ℕ TreeFault → (ℕ → ℕ → Result Register TreeFault) → Result UserChange TreeFault
+change_found (Err fault) group change = Err fault
+change_found (Ok user) (Err fault) change = Err fault
+change_found (Ok user) (Ok group) change = change_of user (change user group)
 
 -- the people with a user added to the row of a group, or removed from it
 abbrev pub membership_changed : ℕ → ℕ → Membership → Register → Result Register TreeFault
@@ -39,8 +39,8 @@ membership_changed user group Remove known = if is_member user group known then 
 
 -- gpasswd -a, -d
 abbrev pub gpasswd : List ℕ → List ℕ → Membership → Register → Result UserChange TreeFault
-gpasswd user group change known = change_at (user_at known user) (group_at known group) (λ u g. membership_changed u g change known)
+gpasswd user group change known = change_found (user_at known user) (group_at known group) (λ u g. membership_changed u g change known)
 
 -- usermod -g
 abbrev pub usermod : List ℕ → List ℕ → Register → Result UserChange TreeFault
-usermod user group known = change_at (user_at known user) (group_at known group) (λ u g. Ok (with_primary_group u g known))
+usermod user group known = change_found (user_at known user) (group_at known group) (λ u g. Ok (with_primary_group u g known))

@@ -16,7 +16,6 @@ use crate::dump::MAX_FILES;
 use crate::moved::UsersMove;
 use crate::staged::Staged;
 use crate::tree::{Record, Tree};
-use crate::walks::components_of;
 use acl_edit::{Kind, Node, create};
 use acl_names::{Name, Path};
 use acl_people::People;
@@ -52,7 +51,11 @@ fn exists(tree: &Tree, path: &Path) -> bool
 fn parent_of(alloc: Global, path: &Path) -> Result<Path, AllocError>
     ensures { IfOk result (λ p. p ≡ parent path.now) }
 {
-    let mut above = components_of(alloc, path)?;
+    let mut above = Vec::new(alloc);
+    let mut rest = path.components();
+    while let Some(component) = rest.next() {
+        above.push(Vec::from_slice(alloc, component)?)?;
+    }
     above.pop();
     Ok(Path::new(above).unwrap())
 }

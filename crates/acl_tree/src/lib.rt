@@ -1,4 +1,4 @@
-//! The files of a tree, and whole commands on them: each acts on all its files or on none.
+//! The files of a tree, the users and groups, and whole commands on them: each acts whole, or changes nothing.
 #![tactic(auto)]
 
 mod chmod;

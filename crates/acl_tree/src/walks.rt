@@ -10,7 +10,7 @@ use acl_names::Path;
 use std::alloc::{AllocError, Global};
 
 /// The components of a path, each copied. Fails only if memory runs out.
-pub(crate) fn components_of(alloc: Global, path: &Path) -> Result<Vec<Vec<u8>>, AllocError>
+fn components_of(alloc: Global, path: &Path) -> Result<Vec<Vec<u8>>, AllocError>
     ensures { IfOk result (λ parts. map (λ v. v.items) parts.items ≡ path.now) }
 {
     let mut parts = Vec::new(alloc);
