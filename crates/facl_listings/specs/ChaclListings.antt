@@ -2,15 +2,9 @@
 use Rattle.std.specs.Prelude.{ℕ, List, [], ◌∷◌, ◌++◌, Option, Some, None, codes}
 use Rattle.std.specs.List.{flat_map}
 use Rattle.acl_entry.specs.Lists.{KeyMap, entries}
-use Rattle.acl_names.specs.Paths.{path_text}
 use Rattle.acl_text.specs.Writing.{short}
-use Rattle.acl_dump.specs.Writing.{slash_text}
 use Rattle.acl_tree.specs.Found.{FoundFile}
-use Rattle.facl_listings.specs.Listings.{has_slash}
-
--- the path of a file; a directory's ends in `/` where nothing else shows that it is one
-abbrev pub path_shown : FoundFile → List ℕ
-path_shown file = path_text file.path ++ slash_text (has_slash file)
+use Rattle.facl_listings.specs.Listings.{path_shown}
 
 module _ (user_name group_name : ℕ → Option (List ℕ)) where
   -- a default list comes after a `/`

@@ -6,7 +6,8 @@ use Rattle.acl_edit.specs.Nodes.{is_directory}
 use Rattle.acl_edit.specs.declared.node.Node.{Node}
 use Rattle.acl_text.specs.declared.fault.Which.TheVariants.{Access}
 use Rattle.acl_dump.specs.declared.effective.Effective.TheVariants.{WhereMasked}
-use Rattle.acl_dump.specs.Writing.{header_text, list_text, default_text}
+use Rattle.acl_names.specs.Paths.{path_text}
+use Rattle.acl_dump.specs.Writing.{header_text, list_text, default_text, slash_text}
 use Rattle.acl_tree.specs.Found.{FoundFile}
 use Rattle.facl_listings.specs.declared.options.Options.{Options}
 
@@ -21,6 +22,10 @@ is_listed options file = not (options.skip_base && has_base_alone file.node)
 -- it.
 abbrev pub has_slash : FoundFile → Bool
 has_slash file = is_directory file.node.kind && not ((length file.path == 0) || (is_some file.node.dacl || file.has_below))
+
+-- the path of a file, with a final `/` where nothing else shows that it is a directory
+abbrev pub path_shown : FoundFile → List ℕ
+path_shown file = path_text file.path ++ slash_text (has_slash file)
 
 -- the flags are told where one of them is set
 abbrev pub flags_told : List Bool → Option (List Bool)

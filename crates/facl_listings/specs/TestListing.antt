@@ -4,16 +4,10 @@ use Rattle.std.specs.List.{flat_map}
 use Rattle.acl_entry.specs.declared.entry.Entry.{Entry}
 use Rattle.acl_entry.specs.Lists.{KeyMap, entries}
 use Rattle.acl_edit.specs.declared.node.Node.{Node}
-use Rattle.acl_names.specs.Paths.{path_text}
-use Rattle.acl_dump.specs.Writing.{slash_text}
 use Rattle.acl_text.specs.declared.form.Form.TheVariants.{Short}
 use Rattle.acl_text.specs.Writing.{entry_text, short}
 use Rattle.acl_tree.specs.Found.{FoundFile}
-use Rattle.facl_listings.specs.Listings.{has_slash}
-
--- the path of a file, with a final `/` where nothing else says that it is a directory
-abbrev pub path_shown : FoundFile → List ℕ
-path_shown file = path_text file.path ++ slash_text (has_slash file)
+use Rattle.facl_listings.specs.Listings.{path_shown}
 
 module _ (user_name group_name : ℕ → Option (List ℕ)) where
   -- a default entry after the access list

@@ -1,24 +1,13 @@
 //! The listing of chacl(1) `-l`.
 
 ghost use Rattle.std.specs.Prelude.{◌≡◌, ◌++◌, IfOk, OnOk};
-ghost use Rattle.facl_listings.specs.ChaclListings.{path_shown, default_part, chacl_line, chacl_listing};
+ghost use Rattle.facl_listings.specs.ChaclListings.{default_part, chacl_line, chacl_listing};
 
-use crate::listing::has_slash;
+use crate::listing::push_path_shown;
 use acl_entry::Acl;
-use acl_names::append_path;
 use acl_text::{Names, append_short};
 use acl_tree::Found;
 use std::alloc::{AllocError, Global};
-
-fn push_path(text: &mut Vec<u8>, file: &Found) -> Result<(), AllocError>
-    ensures { OnOk result (text.new.items ≡ text.old.items ++ path_shown file.now) }
-{
-    append_path(text, file.path())?;
-    if has_slash(file) {
-        text.extend_from_slice(b"/")?;
-    }
-    Ok(())
-}
 
 fn push_default<N: Names>(
     text: &mut Vec<u8>,
@@ -37,7 +26,7 @@ fn push_default<N: Names>(
 fn push_line<N: Names>(text: &mut Vec<u8>, names: &N, file: &Found) -> Result<(), AllocError>
     ensures { OnOk result (text.new.items ≡ text.old.items ++ chacl_line (N.user_name names.now) (N.group_name names.now) file.now) }
 {
-    push_path(text, file)?;
+    push_path_shown(text, file)?;
     text.extend_from_slice(b" [")?;
     let node = file.node();
     append_short(text, &node.label.acl, names)?;

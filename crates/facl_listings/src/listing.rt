@@ -2,11 +2,12 @@
 
 ghost use Rattle.std.specs.Prelude.{◌≡◌, ◌++◌, OnOk, OnErr};
 ghost use Rattle.std.specs.Io.{StartsWith};
-ghost use Rattle.facl_listings.specs.Listings.{has_base_alone, is_listed, has_slash, flags_told, headers, default_entries, file_text, files_text, listing};
+ghost use Rattle.facl_listings.specs.Listings.{has_base_alone, is_listed, has_slash, path_shown, flags_told, headers, default_entries, file_text, files_text, listing};
 
 use crate::options::Options;
 use acl_dump::{append_header, append_list};
 use acl_edit::{Kind, Node};
+use acl_names::append_path;
 use acl_text::{Names, NoNames, Which};
 use acl_tree::Found;
 use std::alloc::AllocError;
@@ -31,6 +32,18 @@ pub(crate) fn has_slash(file: &Found) -> bool
         || file.node().dacl.is_some()
         || file.has_below();
     file.node().kind == Kind::Directory && !is_told
+}
+
+/// Adds the path of a file, with the final `/` of a directory that nothing else shows as one.
+pub(crate) fn push_path_shown(text: &mut Vec<u8>, file: &Found) -> Result<(), AllocError>
+    ensures ok { OnOk result (text.new.items ≡ text.old.items ++ path_shown file.now) }
+    ensures err { OnErr result (StartsWith text.new.items text.old.items) }
+{
+    append_path(text, file.path())?;
+    if has_slash(file) {
+        text.push(b'/')?;
+    }
+    Ok(())
 }
 
 fn flags_told(flags: [bool; 3]) -> Option<[bool; 3]>

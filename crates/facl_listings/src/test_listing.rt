@@ -3,26 +3,14 @@
 ghost use Rattle.std.specs.Prelude.{◌≡◌, ◌++◌, ◌∷◌, [], OnOk, OnErr, codes};
 ghost use Rattle.std.specs.Io.{StartsWith};
 ghost use Rattle.std.specs.List.{flat_map};
-ghost use Rattle.facl_listings.specs.TestListing.{path_shown, default_entry, default_entries, lists_text, file_line, test_listing};
+ghost use Rattle.facl_listings.specs.TestListing.{default_entry, default_entries, lists_text, file_line, test_listing};
 
-use crate::listing::has_slash;
+use crate::listing::push_path_shown;
 use acl_edit::Node;
 use acl_entry::{Acl, Entry};
-use acl_names::append_path;
 use acl_text::{Form, Names, append_entry, append_short};
 use acl_tree::Found;
 use std::alloc::AllocError;
-
-fn push_path(text: &mut Vec<u8>, file: &Found) -> Result<(), AllocError>
-    ensures ok { OnOk result (text.new.items ≡ text.old.items ++ path_shown file.now) }
-    ensures err { OnErr result (StartsWith text.new.items text.old.items) }
-{
-    append_path(text, file.path())?;
-    if has_slash(file) {
-        text.push(b'/')?;
-    }
-    Ok(())
-}
 
 fn push_default_entry<N: Names>(
     text: &mut Vec<u8>,
@@ -87,7 +75,7 @@ fn push_file<N: Names>(text: &mut Vec<u8>, names: &N, file: &Found) -> Result<()
     ensures ok { OnOk result (text.new.items ≡ text.old.items ++ file_line (N.user_name names.now) (N.group_name names.now) file.now) }
     ensures err { OnErr result (StartsWith text.new.items text.old.items) }
 {
-    push_path(text, file)?;
+    push_path_shown(text, file)?;
     push_lists_of(text, names, file.node())
 }
 
