@@ -1,0 +1,306 @@
+//! What lines cost.
+use crate::lines::Line;
+use crate::world::{Row, Verdict, first_wrong, nothing};
+use acl_tree::Table;
+
+const PASSWD: &[u8] = b"lisa:x:1001:50:Lisa:/home/lisa:/bin/sh\n\
+joe:x:1000:100:Joe:/home/joe:/bin/sh\nann:x:1002:100:Ann:/home/ann:/bin/sh\n";
+
+const GROUP: &[u8] = b"staff:x:50:\nusers:x:100:\ncool:x:60:lisa\nadm:x:70:\n";
+
+const FILES: &[u8] =
+    b"# file: .\n# owner: lisa\n# group: staff\nuser::rwx\ngroup::r-x\nother::r-x\n\n\
+# file: f\n# owner: lisa\n# group: staff\nuser::rw-\ngroup::r--\nother::---\n\n\
+# file: run\n# owner: lisa\n# group: staff\nuser::rwx\ngroup::r-x\nother::r-x\n\n\
+# file: pub/\n# owner: ann\n# group: users\nuser::rwx\ngroup::r-x\ngroup:adm:rwx\nmask::rwx\nother::r-x\n\n\
+# file: log\n# owner: lisa\n# group: adm\nuser::rw-\ngroup::r--\nother::---\n\n";
+
+const LISA: usize = 0;
+
+const JOE: usize = 1;
+
+const ANN: usize = 2;
+
+static SETUP: [Row; 3] = [
+    Row {
+        line: Line::Load(Table::Passwd, PASSWD),
+        asked: (0, 0),
+        looked: 0,
+        refreshed: 0,
+        verdicts: &[],
+        reach: &[],
+    },
+    Row {
+        line: Line::Load(Table::Group, GROUP),
+        asked: (0, 0),
+        looked: 0,
+        refreshed: 0,
+        verdicts: &[],
+        reach: &[],
+    },
+    Row {
+        line: Line::Load(Table::Dump, FILES),
+        asked: (0, 15),
+        looked: 0,
+        refreshed: 15,
+        verdicts: &[],
+        reach: &[],
+    },
+];
+
+/// Adm is mentioned by log and pub, users is joe's primary group.
+static MEMBERSHIPS: [Row; 5] = [
+    Row {
+        line: Line::Join(b"joe", b"users"),
+        asked: (0, 0),
+        looked: 0,
+        refreshed: 0,
+        verdicts: &[],
+        reach: &[],
+    },
+    Row {
+        line: Line::Join(b"joe", b"adm"),
+        asked: (2, 2),
+        looked: 2,
+        refreshed: 2,
+        verdicts: &[
+            Verdict {
+                user: JOE,
+                path: b"log",
+                byte: 0x11,
+            },
+            Verdict {
+                user: JOE,
+                path: b"pub",
+                byte: 0xff,
+            },
+        ],
+        reach: &[],
+    },
+    Row {
+        line: Line::Leave(b"joe", b"adm"),
+        asked: (2, 2),
+        looked: 2,
+        refreshed: 2,
+        verdicts: &[Verdict {
+            user: JOE,
+            path: b"log",
+            byte: 0x01,
+        }],
+        reach: &[],
+    },
+    Row {
+        line: Line::Chmod(0o770, b"pub"),
+        asked: (3, 3),
+        looked: 0,
+        refreshed: 3,
+        verdicts: &[],
+        reach: &[],
+    },
+    Row {
+        line: Line::Leave(b"joe", b"users"),
+        asked: (0, 0),
+        looked: 0,
+        refreshed: 0,
+        verdicts: &[Verdict {
+            user: JOE,
+            path: b"pub",
+            byte: 0x33,
+        }],
+        reach: &[],
+    },
+];
+
+static FILES_ALONE: [Row; 4] = [
+    Row {
+        line: Line::Setfacl(b"d:u:joe:rx", true, b"pub"),
+        asked: (0, 0),
+        looked: 0,
+        refreshed: 0,
+        verdicts: &[],
+        reach: &[],
+    },
+    Row {
+        line: Line::Setfacl(b"u:joe:r", false, b"f"),
+        asked: (0, 3),
+        looked: 0,
+        refreshed: 3,
+        verdicts: &[],
+        reach: &[],
+    },
+    Row {
+        line: Line::Chmod(0o4640, b"f"),
+        asked: (0, 0),
+        looked: 0,
+        refreshed: 0,
+        verdicts: &[],
+        reach: &[],
+    },
+    Row {
+        line: Line::Rm(b"f"),
+        asked: (0, 0),
+        looked: 0,
+        refreshed: 0,
+        verdicts: &[],
+        reach: &[],
+    },
+];
+
+/// Users is left and staff joined.
+static PRIMARY: [Row; 1] = [Row {
+    line: Line::Usermod(b"joe", b"staff"),
+    asked: (0, 4),
+    looked: 4,
+    refreshed: 5,
+    verdicts: &[Verdict {
+        user: JOE,
+        path: b"f",
+        byte: 0x11,
+    }],
+    reach: &[],
+}];
+
+static NAMED: [Row; 2] = [
+    Row {
+        line: Line::Setfacl(b"g:users:r", false, b"f"),
+        asked: (0, 3),
+        looked: 0,
+        refreshed: 3,
+        verdicts: &[],
+        reach: &[],
+    },
+    Row {
+        line: Line::Usermod(b"joe", b"staff"),
+        asked: (0, 4),
+        looked: 5,
+        refreshed: 5,
+        verdicts: &[],
+        reach: &[],
+    },
+];
+
+static COMES_AND_GOES: [Row; 4] = [
+    Row {
+        line: Line::Useradd(b"bob", 1003, b"staff"),
+        asked: (0, 5),
+        looked: 0,
+        refreshed: 5,
+        verdicts: &[Verdict {
+            user: 3,
+            path: b"f",
+            byte: 0x11,
+        }],
+        reach: &[],
+    },
+    Row {
+        line: Line::Setfacl(b"u:joe:rw", false, b"f"),
+        asked: (0, 4),
+        looked: 0,
+        refreshed: 4,
+        verdicts: &[],
+        reach: &[],
+    },
+    Row {
+        line: Line::Userdel(b"joe"),
+        asked: (0, 0),
+        looked: 0,
+        refreshed: 0,
+        verdicts: &[],
+        reach: &[],
+    },
+    Row {
+        line: Line::Useradd(b"zoe", 1000, b"cool"),
+        asked: (0, 5),
+        looked: 0,
+        refreshed: 5,
+        verdicts: &[
+            Verdict {
+                user: 3,
+                path: b"f",
+                byte: 0x55,
+            },
+            Verdict {
+                user: 2,
+                path: b"f",
+                byte: 0x11,
+            },
+        ],
+        reach: &[],
+    },
+];
+
+static SEARCH: [Row; 1] = [Row {
+    line: Line::Chmod(0o754, b"."),
+    asked: (0, 3),
+    looked: 0,
+    refreshed: 15,
+    verdicts: &[Verdict {
+        user: JOE,
+        path: b"pub",
+        byte: 0x33,
+    }],
+    reach: &[
+        Verdict {
+            user: JOE,
+            path: b"pub",
+            byte: 0,
+        },
+        Verdict {
+            user: JOE,
+            path: b".",
+            byte: 0x11,
+        },
+        Verdict {
+            user: LISA,
+            path: b"run",
+            byte: 0xff,
+        },
+        Verdict {
+            user: ANN,
+            path: b"run",
+            byte: 0,
+        },
+    ],
+}];
+
+#[test]
+fn lines_cost_what_they_change(rt: HostRuntime) {
+    let alloc = rt.alloc();
+    let mut first = nothing(alloc).expect(&rt, "memory");
+    assert_eq!(rt; first_wrong(alloc, &mut first, &SETUP), None);
+    assert_eq!(rt;
+        first_wrong(alloc, &mut first, &MEMBERSHIPS),
+        None,
+        "memberships"
+    );
+    let mut second = nothing(alloc).expect(&rt, "memory");
+    assert_eq!(rt; first_wrong(alloc, &mut second, &SETUP), None);
+    assert_eq!(rt;
+        first_wrong(alloc, &mut second, &PRIMARY),
+        None,
+        "a primary group"
+    );
+    let mut third = nothing(alloc).expect(&rt, "memory");
+    assert_eq!(rt; first_wrong(alloc, &mut third, &SETUP), None);
+    assert_eq!(rt;
+        first_wrong(alloc, &mut third, &NAMED),
+        None,
+        "a named group"
+    );
+    assert_eq!(rt; first_wrong(alloc, &mut third, &FILES_ALONE), None, "files");
+}
+
+#[test]
+fn users_come_and_go_and_search(rt: HostRuntime) {
+    let alloc = rt.alloc();
+    let mut first = nothing(alloc).expect(&rt, "memory");
+    assert_eq!(rt; first_wrong(alloc, &mut first, &SETUP), None);
+    assert_eq!(rt;
+        first_wrong(alloc, &mut first, &COMES_AND_GOES),
+        None,
+        "users"
+    );
+    let mut second = nothing(alloc).expect(&rt, "memory");
+    assert_eq!(rt; first_wrong(alloc, &mut second, &SETUP), None);
+    assert_eq!(rt; first_wrong(alloc, &mut second, &SEARCH), None, "search");
+}

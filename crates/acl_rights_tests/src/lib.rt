@@ -1,0 +1,12 @@
+//! Worked lines on a state and its index, and what each of them asks for, fetches and refreshes.
+//!
+//! They are apart from `acl_rights`, since a crate with tests is proved twice.
+#![tactic(auto)]
+
+#[cfg(test)]
+mod costs;
+mod lines;
+mod world;
+
+pub use lines::{Line, command};
+pub use world::{Costs, Row, Verdict, World, first_wrong, nothing, play};
