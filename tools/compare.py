@@ -34,7 +34,8 @@ import sys
 import tempfile
 import tty
 
-from compare_lines import START, TOOLS, Line, Lines, Records, components
+sys.dont_write_bytecode = True
+from compare_lines import START, TOOLS, Line, Lines, Records, components  # noqa: E402
 
 # What the program always refuses, and the real tool takes where it can.
 REFUSED_BY_THE_PROGRAM = {

@@ -22,6 +22,6 @@ case " $* " in
 esac
 if [ -z "$given" ]; then
     "$top/tools/prove.py"
-    exec python3 -B "$top/tools/compare.py" --program "$program" "$@"
+    exec python3 "$top/tools/compare.py" --program "$program" "$@"
 fi
-exec python3 -B "$top/tools/compare.py" "$@"
+exec python3 "$top/tools/compare.py" "$@"
