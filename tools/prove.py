@@ -115,7 +115,8 @@ def prove_all(uses, crates, jobs, log_of):
         return None
     finally:
         for run in running.values():
-            os.killpg(run.pid, signal.SIGTERM)
+            if run.poll() is None:
+                os.killpg(run.pid, signal.SIGTERM)
 
 
 def free_jobs():
