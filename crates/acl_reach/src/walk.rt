@@ -9,8 +9,8 @@ ghost use Rattle.acl_reach.specs.Walks.{nearest, last_of, AllBefore};
 
 use crate::cut::reached_row;
 use acl_entry::Requests;
-use acl_names::Path;
 use acl_load::is_below;
+use acl_names::Path;
 use acl_verdicts::Cells;
 use path_map::{Entry, PathMap};
 use std::alloc::{AllocError, Global};
