@@ -8,7 +8,7 @@
 #   --runs N          the best of N runs is taken (3)
 #   --users N         users of passwd, and a tenth as many groups (1000)
 #   --real FOLDER     also loads what getfacl(1) `-R` prints of this folder, lists it, and compares the records
-#   FILES             sizes of trees, from 102 to 1048576 (10000 100000 1000000)
+#   FILES             sizes of trees, from 102 to 1047576 (10000 100000 1000000)
 set -eu
 here=$(cd "$(dirname "$0")" && pwd)
 program= runs=3 users=1000 real= sizes=()
@@ -68,5 +68,13 @@ echo "| \`setfacl -R -m u:1001:rX .\` | $(seconds setfacl -R -m u:1001:rX .) |"
 each_file() {
     find . -type f | head -n "$files" | xargs -n 1 setfacl -m u:1001:rwx
 }
+new_files() {
+    seq -f "new%g" "$files" | xargs -n 1 touch
+}
+gone_files() {
+    seq -f "new%g" "$files" | xargs -n 1 rm
+}
 files=1000
 echo "| \`setfacl -m\` of one file a call, $files calls | $(seconds each_file) |"
+echo "| \`touch\` of a new file a call, $files calls | $(seconds new_files) |"
+echo "| \`rm\` of one file a call, $files calls | $(seconds gone_files) |"

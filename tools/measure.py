@@ -83,6 +83,11 @@ def run_once(program, folder, count, users):
     times["edit one"] = session.answer([f"setfacl -m u:u{k % users}:rwx {file}" for k, file in enumerate(files)])
     times["edit all"] = session.answer(["setfacl -R -m u:u1:rX ."])
     times["restore"] = session.answer(["setfacl --restore=-", *first_records(folder, MAX_RESTORED), "."])
+    new = [f"{file}.new" for file in files]
+    times["creat"] = session.answer([f"creat --user=u1 --mode=640 {file}" for file in new])
+    times["rm"] = session.answer([f"rm {file}" for file in new])
+    groups = max(1, users // 10)
+    times["member"] = session.answer([f"gpasswd -a u{k * 7 % users} g{k % groups}" for k in range(LINES)])
     session.end()
     return times
 
@@ -100,7 +105,8 @@ def row(count, best):
     ratio = best["all"] / (best["one"] / LINES)
     cells = [f"{count:,}", a_file("load"), a_file("list"), a_file("all"), a_line("one"), f"1/{ratio:,.0f}"]
     cells += [a_line("can"), a_line("get"), a_file("edit all"), a_line("edit one")]
-    return cells + [f"{best['restore'] / min(count, MAX_RESTORED) * 1e6:.2f} us"]
+    cells += [f"{best['restore'] / min(count, MAX_RESTORED) * 1e6:.2f} us"]
+    return cells + [a_line("creat"), a_line("rm"), a_line("member")]
 
 
 def main():
@@ -110,6 +116,7 @@ def main():
     head = ["Files", "load, a file", "`getfacl -R .`, a file", "`chmod -R`, a file", "`chmod` of one file"]
     head += ["of that `chmod -R`", "`can`, a line", "`getfacl` of one file"]
     head += ["`setfacl -R -m`, a file", "`setfacl -m` of one file", "`setfacl --restore`, a record"]
+    head += ["`creat`", "`rm` of one file", "`gpasswd -a`"]
     print("| " + " | ".join(head) + " |\n|" + "---|" * len(head), flush=True)
     for count in counts:
         best = measured(program, runs, users, count)
