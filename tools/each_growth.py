@@ -20,6 +20,7 @@ users:x:100:
 cool:x:60:lisa
 adm:x:70:
 """
+# The list of `log` has nine entries, one more than a list holds without memory of its own.
 DUMP = """# file: .
 # owner: lisa
 # group: staff
@@ -62,8 +63,6 @@ default:group::r-x
 default:mask::r-x
 default:other::---
 """
-
-# The list of `log` has nine entries, one more than a list holds without memory of its own.
 
 # Files whose lists are short.
 SHORT_DUMP = """# file: .
