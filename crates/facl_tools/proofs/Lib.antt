@@ -1,5 +1,2 @@
-pub mod Steps
-pub mod Listed
-pub mod Modes
 pub mod StillThere
 pub mod SameEntries

@@ -5,15 +5,15 @@ use Rattle.acl_people.specs.UserNames.{is_user_name}
 use Rattle.acl_text.specs.Ids.{id_of}
 use Rattle.acl_tree.specs.declared.command.Command.TheVariants as commands
 use Rattle.acl_tree.specs.declared.command.NewUser.{NewUser}
-use Rattle.acl_tree.specs.Step.{State, step}
+use Rattle.acl_tree.specs.Step.{State}
 use Rattle.facl_usage.specs.Forms.{Text}
 use Rattle.facl_usage.specs.Places.{value, operand}
 use Rattle.facl_usage.specs.declared.tool.Tool.TheVariants as tools
 use Rattle.facl_usage.specs.declared.words.Words.{Words}
 use Rattle.facl_messages.specs.declared.fault.LineFault.{LineFault}
 use Rattle.facl_messages.specs.declared.fault.LineFault.TheVariants.{Usage}
-use Rattle.facl_tools.specs.Replies.{Reply, after, or_fault, changed}
-use Rattle.facl_tools.specs.Operands.{name_meant}
+use Rattle.facl_replies.specs.Replies.{Reply, after, or_fault, done}
+use Rattle.facl_replies.specs.Operands.{name_meant}
 
 -- digits alone
 abbrev pub uid_of : Words → Option ℕ
@@ -38,7 +38,7 @@ new_user w =
     (λ name. Ok (record { name = name; uid = uid; group = group }))))
 
 abbrev pub useradd_line : State → Words → Result Reply LineFault
-useradd_line s w = after (new_user w) (λ new. changed (step s (commands.Useradd new)))
+useradd_line s w = after (new_user w) (λ new. done s (commands.Useradd new))
 
 abbrev pub userdel_line : State → Words → Result Reply LineFault
-userdel_line s w = changed (step s (commands.Userdel (name_meant (operand tools.Userdel w (codes "user")))))
+userdel_line s w = done s (commands.Userdel (name_meant (operand tools.Userdel w (codes "user"))))

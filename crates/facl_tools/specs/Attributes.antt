@@ -21,8 +21,8 @@ use Rattle.facl_messages.specs.declared.fault.LineFault.{LineFault}
 use Rattle.facl_messages.specs.declared.fault.LineFault.TheVariants as faults
 use Rattle.facl_messages.specs.declared.fault.Source.TheVariants.{AttributeEntry}
 use Rattle.facl_listings.specs.AttrListings.{attr_listing}
-use Rattle.facl_tools.specs.Replies.{Reply, after, or_fault, printed}
-use Rattle.facl_tools.specs.Operands.{paths_from, recorded_or_fault}
+use Rattle.facl_replies.specs.Replies.{Reply, after, or_fault, printed}
+use Rattle.facl_replies.specs.Operands.{paths_from, recorded_or_fault}
 use Rattle.facl_tools.specs.Edits.{edited}
 use Rattle.facl_tools.specs.Lists.{text_or_fault}
 

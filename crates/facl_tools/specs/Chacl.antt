@@ -15,8 +15,8 @@ use Rattle.facl_messages.specs.declared.fault.LineFault.{LineFault}
 use Rattle.facl_messages.specs.declared.fault.LineFault.TheVariants.{Usage}
 use Rattle.facl_messages.specs.declared.fault.Source.TheVariants.{Entry, DefaultEntry}
 use Rattle.facl_listings.specs.ChaclListings.{chacl_listing}
-use Rattle.facl_tools.specs.Replies.{Reply, after, printed}
-use Rattle.facl_tools.specs.Operands.{paths_from, recorded_or_fault}
+use Rattle.facl_replies.specs.Replies.{Reply, after, printed}
+use Rattle.facl_replies.specs.Operands.{paths_from, recorded_or_fault}
 use Rattle.facl_tools.specs.Edits.{edited}
 use Rattle.facl_tools.specs.Lists.{list_of}
 use Rattle.facl_tools.specs.declared.chacl.ChaclLine.{ChaclLine}

@@ -4,16 +4,16 @@ use Rattle.acl_edit.specs.declared.node.Kind.{Kind}
 use Rattle.acl_edit.specs.declared.node.Kind.TheVariants.{Plain, Directory}
 use Rattle.acl_tree.specs.declared.command.Command.TheVariants as commands
 use Rattle.acl_tree.specs.declared.command.NewFile.{NewFile}
-use Rattle.acl_tree.specs.Step.{State, step}
+use Rattle.acl_tree.specs.Step.{State}
 use Rattle.facl_usage.specs.Forms.{Text}
 use Rattle.facl_usage.specs.Places.{has, value, operand}
 use Rattle.facl_usage.specs.declared.tool.Tool.TheVariants as tools
 use Rattle.facl_usage.specs.declared.words.Words.{Words}
 use Rattle.facl_messages.specs.declared.fault.LineFault.{LineFault}
 use Rattle.facl_messages.specs.declared.fault.LineFault.TheVariants.{Usage}
-use Rattle.facl_tools.specs.Replies.{Reply, after, or_fault, changed}
-use Rattle.facl_tools.specs.Modes.{permission_mode_of}
-use Rattle.facl_tools.specs.Operands.{path_at, name_meant}
+use Rattle.facl_replies.specs.Replies.{Reply, after, or_fault, done}
+use Rattle.facl_replies.specs.Modes.{permission_mode_of}
+use Rattle.facl_replies.specs.Operands.{path_at, name_meant}
 use Rattle.facl_tools.specs.declared.creat.Modes.{Modes}
 
 -- the permissions that a line asks for, and those that it withholds
@@ -38,4 +38,4 @@ new_file w =
     (λ path. Ok (record { path = path; kind = kind_of w; user = user; mode = modes.mode; umask = modes.umask }))))
 
 abbrev pub creat_line : State → Words → Result Reply LineFault
-creat_line s w = after (new_file w) (λ new. changed (step s (commands.Creat new)))
+creat_line s w = after (new_file w) (λ new. done s (commands.Creat new))

@@ -1,6 +1,3 @@
-pub mod Replies
-pub mod Operands
-pub mod Modes
 pub mod SetfaclLine
 pub mod Setfacl
 pub mod Edits

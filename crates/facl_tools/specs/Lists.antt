@@ -17,7 +17,7 @@ use Rattle.facl_usage.specs.Forms.{Text}
 use Rattle.facl_messages.specs.Faults.{line_fault_of_text}
 use Rattle.facl_messages.specs.declared.fault.LineFault.{LineFault}
 use Rattle.facl_messages.specs.declared.fault.Source.{Source}
-use Rattle.facl_tools.specs.Replies.{after}
+use Rattle.facl_replies.specs.Replies.{after}
 
 -- what a text contains, or its fault as one of the line
 abbrev pub text_or_fault : Source → {A : Type 0} → Result A TextFault → Result A LineFault

@@ -3,15 +3,15 @@ use Rattle.std.specs.Prelude.{codes, Option, Some, None, Result}
 use Rattle.acl_tree.specs.declared.command.Command.TheVariants as commands
 use Rattle.acl_tree.specs.declared.command.Membership.{Membership}
 use Rattle.acl_tree.specs.declared.command.Membership.TheVariants.{Add, Remove}
-use Rattle.acl_tree.specs.Step.{State, step}
+use Rattle.acl_tree.specs.Step.{State}
 use Rattle.facl_usage.specs.Forms.{Text}
 use Rattle.facl_usage.specs.Places.{value, operand}
 use Rattle.facl_usage.specs.declared.tool.Tool.TheVariants as tools
 use Rattle.facl_usage.specs.declared.words.Words.{Words}
 use Rattle.facl_messages.specs.declared.fault.LineFault.{LineFault}
 use Rattle.facl_messages.specs.declared.fault.LineFault.TheVariants.{Usage}
-use Rattle.facl_tools.specs.Replies.{Reply, after, or_fault, changed}
-use Rattle.facl_tools.specs.Operands.{name_meant}
+use Rattle.facl_replies.specs.Replies.{Reply, after, or_fault, done}
+use Rattle.facl_replies.specs.Operands.{name_meant}
 
 -- the user who is added or removed, where the line gives one alone
 abbrev pub member_of : Option Text → Option Text → Option (Membership × Text)
@@ -23,7 +23,7 @@ member_of None None = None
 -- a user is added to the group of a line, or removed from it
 abbrev pub gpasswd_user : State → Words → Membership → Text → Result Reply LineFault
 gpasswd_user s w change user =
-    changed (step s (commands.Gpasswd (name_meant user) (name_meant (operand tools.Gpasswd w (codes "group"))) change))
+    done s (commands.Gpasswd (name_meant user) (name_meant (operand tools.Gpasswd w (codes "group"))) change)
 
 abbrev pub gpasswd_line : State → Words → Result Reply LineFault
 gpasswd_line s w =
@@ -33,7 +33,7 @@ gpasswd_line s w =
 -- a group becomes the primary group of the user of a line
 abbrev pub usermod_group : State → Words → Text → Result Reply LineFault
 usermod_group s w group =
-    changed (step s (commands.Usermod (name_meant (operand tools.Usermod w (codes "user"))) (name_meant group)))
+    done s (commands.Usermod (name_meant (operand tools.Usermod w (codes "user"))) (name_meant group))
 
 abbrev pub usermod_line : State → Words → Result Reply LineFault
 usermod_line s w = after (or_fault Usage (value tools.Usermod w (codes "g"))) (usermod_group s w)

@@ -29,8 +29,8 @@ use Rattle.facl_messages.specs.declared.fault.LineFault.TheVariants as faults
 use Rattle.facl_messages.specs.declared.fault.Source.{Source}
 use Rattle.facl_messages.specs.declared.fault.Source.TheVariants.{Entry, TextLine}
 use Rattle.facl_listings.specs.TestListing.{test_listing}
-use Rattle.facl_tools.specs.Replies.{Reply, after, changed, printed}
-use Rattle.facl_tools.specs.Operands.{paths_from}
+use Rattle.facl_replies.specs.Replies.{Reply, after, done, printed}
+use Rattle.facl_replies.specs.Operands.{paths_from}
 use Rattle.facl_tools.specs.SetfaclLine.{Asked, EntryText, asked}
 use Rattle.facl_tools.specs.declared.setfacl_entries.Given.{Given}
 
@@ -96,8 +96,9 @@ abbrev pub tested_or_fault : State → Command → Result State TreeFault → Re
 tested_or_fault s command (Ok new) = Ok (printed s (tested command new))
 tested_or_fault s command (Err fault) = Err (line_fault_of_tree fault)
 
-abbrev pub done : Bool → State → Command → Result Reply LineFault
-done test s command = if test then tested_or_fault s command (step s command) else changed (step s command)
+-- a command is done, or tried out
+abbrev pub done_or_tested : Bool → State → Command → Result Reply LineFault
+done_or_tested test s command = if test then tested_or_fault s command (step s command) else done s command
 
 -- the same, with a warning
 abbrev pub warning_if : Bool → Result Reply LineFault → Result Reply LineFault
@@ -121,7 +122,7 @@ change_of line entries = record {
 abbrev pub change_files : State → Asked → Given → Result Reply LineFault
 change_files s line entries =
     after (paths_from 1 line.files)
-    (λ paths. warning_if (drops line.as_default entries) (done line.test s (Edit paths (edits.Change (change_of line entries)) line.recursive)))
+    (λ paths. warning_if (drops line.as_default entries) (done_or_tested line.test s (Edit paths (edits.Change (change_of line entries)) line.recursive)))
 
 abbrev pub change_line : State → Asked → Result Reply LineFault
 change_line s line =
@@ -134,7 +135,7 @@ unfoldable pub records_or_fault : Register → List ℕ → Result (List DumpRec
 records_or_fault known text = said_in TextLine (dump_of (λ name. id_named name (users_of known)) (λ name. id_named name (groups_of known)) uses.Restore text)
 
 abbrev pub restore_line : State → Bool → List ℕ → Result Reply LineFault
-restore_line s test text = after (records_or_fault s.people text) (λ records. done test s (Restore records))
+restore_line s test text = after (records_or_fault s.people text) (λ records. done_or_tested test s (Restore records))
 
 -- ---- the line
 

@@ -13,7 +13,8 @@ use Rattle.acl_tree.specs.Operands.{first_missing}
 use Rattle.acl_people.specs.Registers.{Register, users_of, groups_of}
 use Rattle.acl_people.specs.Rolls.{name_shown}
 use Rattle.acl_tree.specs.Found.{FoundFile, files_found}
-use Rattle.acl_tree.specs.Step.{State, load, step}
+use Rattle.acl_tree.specs.Step.{State, load}
+use Rattle.acl_tree.specs.Tells.{load_moves}
 use Rattle.facl_usage.specs.Forms.{Text}
 use Rattle.facl_usage.specs.Places.{has, operand, operands_from}
 use Rattle.facl_usage.specs.declared.tool.Tool.{Tool}
@@ -24,8 +25,8 @@ use Rattle.facl_messages.specs.declared.fault.LineFault.TheVariants.{UnknownTool
 use Rattle.facl_listings.specs.declared.options.Options.{Options}
 use Rattle.facl_listings.specs.Listings.{listing}
 use Rattle.facl_listings.specs.Requests.{requests_line}
-use Rattle.facl_tools.specs.Replies.{Reply, after, or_fault, changed, printed}
-use Rattle.facl_tools.specs.Modes.{mode_of}
+use Rattle.facl_replies.specs.Replies.{Reply, after, or_fault, done, printed, replied}
+use Rattle.facl_replies.specs.Modes.{mode_of}
 use Rattle.facl_tools.specs.Setfacl.{setfacl_line}
 use Rattle.facl_tools.specs.Chacl.{chacl_line}
 use Rattle.facl_tools.specs.Creation.{creat_line}
@@ -33,7 +34,7 @@ use Rattle.facl_tools.specs.Removal.{rm_line}
 use Rattle.facl_tools.specs.Attributes.{attr_line, setattr_line}
 use Rattle.facl_tools.specs.Memberships.{gpasswd_line, usermod_line}
 use Rattle.facl_tools.specs.Accounts.{useradd_line, userdel_line}
-use Rattle.facl_tools.specs.Operands.{path_at, paths_from, name_meant, user_or_fault, file_or_fault, recorded_or_fault}
+use Rattle.facl_replies.specs.Operands.{path_at, paths_from, name_meant, user_or_fault, file_or_fault, recorded_or_fault}
 
 -- who may do what with which files: what an access check grants
 abbrev pub Verdict : Type 0
@@ -44,8 +45,12 @@ Verdict = Person → Label → ℕ
 abbrev pub table_named : Text → Table
 table_named name = if bytes_eq name (codes "passwd") then Passwd else if bytes_eq name (codes "group") then Group else Dump
 
+-- a text is read as this
+abbrev pub load_table : State → Table → List ℕ → Result Reply LineFault
+load_table s which text = replied (load_moves which) (load s which text)
+
 abbrev pub load_line : State → Words → List ℕ → Result Reply LineFault
-load_line s w text = changed (load s (table_named (operand tools.Load w (codes "table"))) text)
+load_line s w text = load_table s (table_named (operand tools.Load w (codes "table"))) text
 
 -- ---- chmod(1)
 
@@ -53,7 +58,7 @@ load_line s w text = changed (load s (table_named (operand tools.Load w (codes "
 abbrev pub chmod_files : State → Words → ℕ → Result Reply LineFault
 chmod_files s w mode =
     after (paths_from 1 (operands_from tools.Chmod w (codes "file")))
-    (λ paths. changed (step s (Chmod paths mode (has tools.Chmod w (codes "R")))))
+    (λ paths. done s (Chmod paths mode (has tools.Chmod w (codes "R"))))
 
 abbrev pub chmod_line : State → Words → Result Reply LineFault
 chmod_line s w = after (or_fault Usage (mode_of (operand tools.Chmod w (codes "mode")))) (chmod_files s w)

@@ -1,20 +1,19 @@
 //! The tool `attr`: the lists of a file as extended attributes.
 
-ghost use Rattle.facl_tools.specs.Replies.{Gives, left};
+ghost use Rattle.facl_replies.specs.Replies.{Replies};
 ghost use Rattle.facl_tools.specs.Attributes.{attr_line};
 
-use crate::effect::Effect;
-use crate::operands::paths_of;
 use acl_tree::State;
 use facl_listings::write_attributes;
 use facl_messages::LineFault;
+use facl_replies::{Effect, paths_of};
 use facl_usage::Words;
 use facl_usage::places::attr::FILE;
 use std::alloc::Global;
 
 /// Prints the attributes of a file.
 pub(crate) fn attr(alloc: Global, state: &State, words: &Words) -> Result<Effect, LineFault>
-    ensures { Gives (left state.now) result (attr_line state.now words.now) }
+    ensures { Replies state.now result (attr_line state.now words.now) }
 {
     let paths = paths_of(alloc, words.operands.starting_at(FILE))?;
     let files = state.tree().files(alloc, &paths, false)?;

@@ -1,18 +1,17 @@
 //! The tool chacl(1).
 
 ghost use Rattle.std.specs.Prelude.{◌≡◌};
-ghost use Rattle.facl_tools.specs.Replies.{Gives, left};
+ghost use Rattle.facl_replies.specs.Replies.{Replies};
 ghost use Rattle.facl_tools.specs.Chacl.{line_of, put_access, put_default, put_both, list_files, line_at, chacl_line};
 
 use crate::edits::edit_files;
-use crate::effect::Effect;
 use crate::lists::list_of;
-use crate::operands::paths_of;
 use acl_edit::Edit;
 use acl_text::Which;
 use acl_tree::State;
 use facl_listings::write_chacl_listing;
 use facl_messages::{LineFault, Source};
+use facl_replies::{Effect, paths_of};
 use facl_usage::places::chacl::{
     LIST, PUT_BOTH, PUT_DEFAULT, RECURSIVE, REMOVE_ACCESS, REMOVE_BOTH, REMOVE_DEFAULT, WORDS,
 };
@@ -76,7 +75,7 @@ fn put_access(
     recursive: bool,
     words: &[Word],
 ) -> Result<Effect, LineFault>
-    ensures { Gives (left state.now) result (put_access state.now recursive words.now) }
+    ensures { Replies state.now result (put_access state.now recursive words.now) }
 {
     let [text, files @ ..] = words else {
         return Err(LineFault::Usage);
@@ -96,7 +95,7 @@ fn put_default(
     recursive: bool,
     words: &[Word],
 ) -> Result<Effect, LineFault>
-    ensures { Gives (left state.now) result (put_default state.now recursive words.now) }
+    ensures { Replies state.now result (put_default state.now recursive words.now) }
 {
     let [text, files @ ..] = words else {
         return Err(LineFault::Usage);
@@ -122,7 +121,7 @@ fn put_both(
     recursive: bool,
     words: &[Word],
 ) -> Result<Effect, LineFault>
-    ensures { Gives (left state.now) result (put_both state.now recursive words.now) }
+    ensures { Replies state.now result (put_both state.now recursive words.now) }
 {
     let [access, dacl, files @ ..] = words else {
         return Err(LineFault::Usage);
@@ -150,7 +149,7 @@ fn list_files(
     recursive: bool,
     words: &[Word],
 ) -> Result<Effect, LineFault>
-    ensures { Gives (left state.now) result (list_files state.now recursive words.now) }
+    ensures { Replies state.now result (list_files state.now recursive words.now) }
 {
     let paths = paths_of(alloc, words)?;
     let files = state.tree().files(alloc, &paths, recursive)?;
@@ -164,7 +163,7 @@ fn line_at(
     line: ChaclLine,
     words: &[Word],
 ) -> Result<Effect, LineFault>
-    ensures { Gives (left state.now) result (line_at state.now line.recursive line.task words.now) }
+    ensures { Replies state.now result (line_at state.now line.recursive line.task words.now) }
 {
     let recursive = line.recursive;
     let (access, dacl) = match line.task {
@@ -187,7 +186,7 @@ fn line_at(
 
 /// Puts or removes lists of files, or prints them.
 pub(crate) fn chacl(alloc: Global, state: &State, words: &Words) -> Result<Effect, LineFault>
-    ensures { Gives (left state.now) result (chacl_line state.now words.now) }
+    ensures { Replies state.now result (chacl_line state.now words.now) }
 {
     let line = line_of(words);
     line_at(alloc, state, line, words.operands.starting_at(WORDS))

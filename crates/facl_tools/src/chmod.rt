@@ -3,22 +3,19 @@
 ghost use Rattle.std.specs.Prelude.{◌≡◌, codes};
 ghost use Rattle.facl_usage.specs.Places.{operand};
 ghost use Rattle.facl_usage.specs.declared.tool.Tool.TheVariants as tools;
-ghost use Rattle.facl_tools.specs.Replies.{Gives, left};
+ghost use Rattle.facl_replies.specs.Replies.{Replies};
 ghost use Rattle.facl_tools.specs.Tools.{chmod_files, chmod_line};
 
-use crate::change::prepare;
-use crate::effect::Effect;
-use crate::mode::mode_of;
-use crate::operands::paths_of;
 use acl_tree::{Command, State};
 use facl_messages::LineFault;
+use facl_replies::{Effect, mode_of, paths_of, prepare};
 use facl_usage::Words;
 use facl_usage::places::chmod::{FILES, MODE, RECURSIVE};
 use std::alloc::Global;
 
 /// Puts a mode into the files of a line.
 fn chmod_files(alloc: Global, state: &State, words: &Words, mode: u16) -> Result<Effect, LineFault>
-    ensures { Gives (left state.now) result (chmod_files state.now words.now mode) }
+    ensures { Replies state.now result (chmod_files state.now words.now mode) }
 {
     let paths = paths_of(alloc, words.operands.starting_at(FILES))?;
     let command = Command::Chmod {
@@ -31,7 +28,7 @@ fn chmod_files(alloc: Global, state: &State, words: &Words, mode: u16) -> Result
 
 /// Puts a mode into files.
 pub(crate) fn chmod(alloc: Global, state: &State, words: &Words) -> Result<Effect, LineFault>
-    ensures { Gives (left state.now) result (chmod_line state.now words.now) }
+    ensures { Replies state.now result (chmod_line state.now words.now) }
 {
     match mode_of(words.operands.get(MODE)) {
         Some(mode) => chmod_files(alloc, state, words, mode),

@@ -1,17 +1,14 @@
 //! The tool `creat`: a new file, with what it inherits from its directory.
 
 ghost use Rattle.std.specs.Prelude.{◌≡◌};
-ghost use Rattle.facl_tools.specs.Replies.{Gives, left};
+ghost use Rattle.facl_replies.specs.Replies.{Replies, Gives};
 ghost use Rattle.facl_tools.specs.Creation.{modes_of, kind_of, user_of, new_file, creat_line};
 
-use crate::change::prepare;
-use crate::effect::Effect;
-use crate::mode::permission_mode_of;
-use crate::operands::{name_meant, path_at};
 use acl_edit::Kind;
 use acl_names::Name;
 use acl_tree::{Command, NewFile, State};
 use facl_messages::LineFault;
+use facl_replies::{Effect, name_meant, path_at, permission_mode_of, prepare};
 use facl_usage::Words;
 use facl_usage::places::creat::{DIRECTORY, FILE, MODE, UMASK, USER};
 use std::alloc::Global;
@@ -71,7 +68,7 @@ fn new_file(alloc: Global, words: &Words) -> Result<NewFile, LineFault>
 
 /// Makes a plain file or a directory.
 pub(crate) fn creat(alloc: Global, state: &State, words: &Words) -> Result<Effect, LineFault>
-    ensures { Gives (left state.now) result (creat_line state.now words.now) }
+    ensures { Replies state.now result (creat_line state.now words.now) }
 {
     let new = new_file(alloc, words)?;
     prepare(alloc, state, &Command::Creat(new))

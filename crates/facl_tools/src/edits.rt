@@ -1,14 +1,12 @@
 //! Edits of the files that a line names.
 
-ghost use Rattle.facl_tools.specs.Replies.{Gives, left};
+ghost use Rattle.facl_replies.specs.Replies.{Replies};
 ghost use Rattle.facl_tools.specs.Edits.{edited};
 
-use crate::change::prepare;
-use crate::effect::Effect;
-use crate::operands::paths_of;
 use acl_edit::Edit;
 use acl_tree::{Command, State};
 use facl_messages::LineFault;
+use facl_replies::{Effect, paths_of, prepare};
 use facl_usage::Word;
 use std::alloc::Global;
 
@@ -20,7 +18,7 @@ pub(crate) fn edit_files(
     edit: Edit,
     files: &[Word],
 ) -> Result<Effect, LineFault>
-    ensures { Gives (left state.now) result (edited state.now recursive edit files.now) }
+    ensures { Replies state.now result (edited state.now recursive edit files.now) }
 {
     let paths = paths_of(alloc, files)?;
     let command = Command::Edit {

@@ -1,15 +1,14 @@
 //! The tool getfacl(1).
 
 ghost use Rattle.std.specs.Prelude.{◌≡◌};
-ghost use Rattle.facl_tools.specs.Replies.{Gives, left};
+ghost use Rattle.facl_replies.specs.Replies.{Replies};
 ghost use Rattle.facl_tools.specs.Tools.{effective_for, options_of, getfacl_line};
 
-use crate::effect::Effect;
-use crate::operands::paths_of;
 use acl_dump::Effective;
 use acl_tree::State;
 use facl_listings::{Options, append_listing};
 use facl_messages::LineFault;
+use facl_replies::{Effect, paths_of};
 use facl_usage::Words;
 use facl_usage::places::getfacl::{
     ACCESS, ALL_EFFECTIVE, FILES, NO_EFFECTIVE, NUMERIC, OMIT_HEADER, RECURSIVE, SKIP_BASE,
@@ -43,7 +42,7 @@ fn options_of(words: &Words) -> Options
 
 /// Lists files.
 pub(crate) fn getfacl(alloc: Global, state: &State, words: &Words) -> Result<Effect, LineFault>
-    ensures { Gives (left state.now) result (getfacl_line state.now words.now) }
+    ensures { Replies state.now result (getfacl_line state.now words.now) }
 {
     let paths = paths_of(alloc, words.operands.starting_at(FILES))?;
     let files = state

@@ -3,14 +3,12 @@
 ghost use Rattle.std.specs.Prelude.{◌≡◌, codes, option_map};
 ghost use Rattle.facl_usage.specs.Places.{value};
 ghost use Rattle.facl_usage.specs.declared.tool.Tool.TheVariants.{Gpasswd};
-ghost use Rattle.facl_tools.specs.Replies.{Gives, left};
+ghost use Rattle.facl_replies.specs.Replies.{Replies};
 ghost use Rattle.facl_tools.specs.Memberships.{member_of, gpasswd_user, gpasswd_line};
 
-use crate::change::prepare;
-use crate::effect::Effect;
-use crate::operands::{name_at, name_meant};
 use acl_tree::{Command, Membership, State};
 use facl_messages::LineFault;
+use facl_replies::{Effect, name_at, name_meant, prepare};
 use facl_usage::Words;
 use facl_usage::places::gpasswd::{ADD, DELETE, GROUP};
 use std::alloc::Global;
@@ -35,7 +33,7 @@ fn gpasswd_user(
     change: Membership,
     user: &str,
 ) -> Result<Effect, LineFault>
-    ensures { Gives (left state.now) result (gpasswd_user state.now words.now change user.now) }
+    ensures { Replies state.now result (gpasswd_user state.now words.now change user.now) }
 {
     let user = name_meant(alloc, user)?;
     let group = name_at(alloc, words, GROUP)?;
@@ -49,7 +47,7 @@ fn gpasswd_user(
 
 /// Changes the members of a group.
 pub(crate) fn gpasswd(alloc: Global, state: &State, words: &Words) -> Result<Effect, LineFault>
-    ensures { Gives (left state.now) result (gpasswd_line state.now words.now) }
+    ensures { Replies state.now result (gpasswd_line state.now words.now) }
 {
     match member_of(words) {
         Some((change, user)) => gpasswd_user(alloc, state, words, change, user),

@@ -7,17 +7,13 @@
 mod attr;
 mod can;
 mod chacl;
-mod change;
 mod chmod;
 mod creat;
 mod edits;
-mod effect;
 mod getfacl;
 mod gpasswd;
 mod lists;
 mod load;
-mod mode;
-mod operands;
 mod removed_keys;
 mod rm;
 mod setattr;
@@ -30,5 +26,4 @@ mod useradd;
 mod userdel;
 mod usermod;
 
-pub use effect::Effect;
 pub use tools::{is_served, tool_line};

@@ -3,13 +3,12 @@
 ghost use Rattle.std.specs.Prelude.{◌≡◌, codes};
 ghost use Rattle.facl_usage.specs.Places.{operand};
 ghost use Rattle.facl_usage.specs.declared.tool.Tool.TheVariants as tools;
-ghost use Rattle.facl_tools.specs.Replies.{Gives, left};
+ghost use Rattle.facl_replies.specs.Replies.{Replies};
 ghost use Rattle.facl_tools.specs.Tools.{table_named, load_line};
 
-use crate::change::prepare;
-use crate::effect::Effect;
 use acl_tree::{Command, State, Table};
 use facl_messages::LineFault;
+use facl_replies::{Effect, prepare};
 use facl_usage::Words;
 use facl_usage::places::load::TABLE;
 use std::alloc::Global;
@@ -31,7 +30,7 @@ pub(crate) fn load(
     words: &Words,
     text: &[u8],
 ) -> Result<Effect, LineFault>
-    ensures { Gives (left state.now) result (load_line state.now words.now text.now) }
+    ensures { Replies state.now result (load_line state.now words.now text.now) }
 {
     let command = Command::Load {
         which: table_named(words.operands.get(TABLE)),

@@ -1,20 +1,18 @@
 //! The tool rm(1).
 
-ghost use Rattle.facl_tools.specs.Replies.{Gives, left};
+ghost use Rattle.facl_replies.specs.Replies.{Replies};
 ghost use Rattle.facl_tools.specs.Removal.{rm_line};
 
-use crate::change::prepare;
-use crate::effect::Effect;
-use crate::operands::paths_of;
 use acl_tree::{Command, State};
 use facl_messages::LineFault;
+use facl_replies::{Effect, paths_of, prepare};
 use facl_usage::Words;
 use facl_usage::places::rm::{FILES, RECURSIVE};
 use std::alloc::Global;
 
 /// Removes files.
 pub(crate) fn rm(alloc: Global, state: &State, words: &Words) -> Result<Effect, LineFault>
-    ensures { Gives (left state.now) result (rm_line state.now words.now) }
+    ensures { Replies state.now result (rm_line state.now words.now) }
 {
     let paths = paths_of(alloc, words.operands.starting_at(FILES))?;
     let command = Command::Rm {

@@ -1,17 +1,17 @@
 //! The tool `setattr`: an extended attribute is put into a file as a list.
 
 ghost use Rattle.std.specs.Prelude.{◌≡◌, option_map};
-ghost use Rattle.facl_tools.specs.Replies.{Gives, left};
+ghost use Rattle.facl_replies.specs.Replies.{Replies, Gives};
 ghost use Rattle.facl_tools.specs.Attributes.{rest_of, digits_of, attribute_of, bytes_of, list_of, put_of, set_files, setattr_line};
 
 use crate::edits::edit_files;
-use crate::effect::Effect;
 use acl_attr::decode_attr;
 use acl_edit::Edit;
 use acl_entry::Acl;
 use acl_text::{FaultKind, TextFault, Which};
 use acl_tree::State;
 use facl_messages::{LineFault, Source};
+use facl_replies::Effect;
 use facl_usage::Words;
 use facl_usage::places::setattr::{ATTRIBUTE, FILE};
 use hex::FromHexError;
@@ -122,7 +122,7 @@ fn set_files(
     which: Which,
     digits: &[u8],
 ) -> Result<Effect, LineFault>
-    ensures { Gives (left state.now) result (set_files state.now words.now which digits.now) }
+    ensures { Replies state.now result (set_files state.now words.now which digits.now) }
 {
     let acl = list_of(alloc, digits)?;
     let edit = put_of(which, acl);
@@ -131,7 +131,7 @@ fn set_files(
 
 /// Puts an attribute into a file.
 pub(crate) fn setattr(alloc: Global, state: &State, words: &Words) -> Result<Effect, LineFault>
-    ensures { Gives (left state.now) result (setattr_line state.now words.now) }
+    ensures { Replies state.now result (setattr_line state.now words.now) }
 {
     match attribute_of(words.operands.get(ATTRIBUTE)) {
         Some(attribute) => set_files(alloc, state, words, attribute.which, attribute.digits),

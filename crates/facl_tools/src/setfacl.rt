@@ -2,11 +2,9 @@
 
 ghost use Rattle.std.specs.Prelude.{◌≡◌};
 ghost use Rattle.acl_tree.specs.declared.command.Command.TheVariants.{Restore};
-ghost use Rattle.facl_tools.specs.Replies.{Gives, left};
-ghost use Rattle.facl_tools.specs.Setfacl.{change_files, change_line, done, records_or_fault, restore_line, setfacl_line};
+ghost use Rattle.facl_replies.specs.Replies.{Replies, Gives};
+ghost use Rattle.facl_tools.specs.Setfacl.{change_files, change_line, done_or_tested, records_or_fault, restore_line, setfacl_line};
 
-use crate::effect::Effect;
-use crate::operands::paths_of;
 use crate::setfacl_entries::Given;
 use crate::setfacl_line::SetfaclLine;
 use crate::tested::do_or_test;
@@ -15,6 +13,7 @@ use acl_edit::Edit;
 use acl_people::People;
 use acl_tree::{Command, DumpRecords, State};
 use facl_messages::{LineFault, Source};
+use facl_replies::{Effect, paths_of};
 use facl_usage::Words;
 use std::alloc::Global;
 
@@ -25,7 +24,7 @@ fn change_files(
     line: &SetfaclLine<'_>,
     entries: Given,
 ) -> Result<Effect, LineFault>
-    ensures { Gives (left state.now) result (change_files state.now line.now entries) }
+    ensures { Replies state.now result (change_files state.now line.now entries) }
 {
     let paths = paths_of(alloc, line.files)?;
     let warns = entries.drops(line.as_default);
@@ -40,7 +39,7 @@ fn change_files(
 
 /// Changes the lists of files.
 fn change(alloc: Global, state: &State, line: &SetfaclLine<'_>) -> Result<Effect, LineFault>
-    ensures { Gives (left state.now) result (change_line state.now line.now) }
+    ensures { Replies state.now result (change_line state.now line.now) }
 {
     let entries = Given::of(alloc, state.people(), line)?;
     match entries.both_at(alloc, line.as_default)? {
@@ -67,7 +66,7 @@ fn restore_records(
     records: DumpRecords,
     is_test: bool,
 ) -> Result<Effect, LineFault>
-    ensures { Gives (left state.now) result (done is_test state.now (Restore records)) }
+    ensures { Replies state.now result (done_or_tested is_test state.now (Restore records)) }
 {
     let command = Command::Restore { records };
     do_or_test(alloc, state, &command, is_test)
@@ -75,7 +74,7 @@ fn restore_records(
 
 /// Restores the files of a dump.
 fn restore(alloc: Global, state: &State, dump: &[u8], is_test: bool) -> Result<Effect, LineFault>
-    ensures { Gives (left state.now) result (restore_line state.now is_test dump.now) }
+    ensures { Replies state.now result (restore_line state.now is_test dump.now) }
 {
     let records = records_of(alloc, state.people(), dump)?;
     restore_records(alloc, state, records, is_test)
@@ -88,7 +87,7 @@ pub(crate) fn setfacl(
     words: &Words,
     text: &[u8],
 ) -> Result<Effect, LineFault>
-    ensures { Gives (left state.now) result (setfacl_line state.now words.now text.now) }
+    ensures { Replies state.now result (setfacl_line state.now words.now text.now) }
 {
     let line = SetfaclLine::of(words, text);
     match line.restored {

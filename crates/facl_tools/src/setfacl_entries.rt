@@ -3,7 +3,7 @@
 ghost use Rattle.std.specs.Prelude.{◌≡◌, option_map, IfOk};
 ghost use Rattle.std.specs.List.{find};
 ghost use Rattle.facl_tools.specs.RemovedKeys.{removes};
-ghost use Rattle.facl_tools.specs.Replies.{Gives};
+ghost use Rattle.facl_replies.specs.Replies.{Gives};
 ghost use Rattle.facl_tools.specs.Setfacl.{both_at, change_of, drops, entries_given, given, has_default};
 
 use crate::removed_keys::RemovedKeys;

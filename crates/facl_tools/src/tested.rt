@@ -1,20 +1,19 @@
 //! Commands that are tried out: setfacl(1) `--test`.
 
 ghost use Rattle.std.specs.Prelude.{◌≡◌, false, None, Ok, IfOk};
-ghost use Rattle.facl_tools.specs.Replies.{Gives, left};
-ghost use Rattle.facl_tools.specs.Setfacl.{command_files, done, tested, tested_or_fault};
+ghost use Rattle.facl_replies.specs.Replies.{Replies, Gives};
+ghost use Rattle.facl_tools.specs.Setfacl.{command_files, done_or_tested, tested, tested_or_fault};
 ghost use Rattle.acl_tree.specs.Found.{files_found};
 ghost use Rattle.acl_tree.specs.Operands.{first_missing};
 ghost use Rattle.acl_tree.specs.Restoring.{paths_of};
 ghost use Rattle.acl_tree.specs.Step.{step};
 
-use crate::change::prepare;
-use crate::effect::Effect;
 use acl_dump::DumpRecord;
 use acl_names::Path;
 use acl_tree::{Command, DumpRecords, Found, Paths, Staged, State, Tree, each_file_is_edited};
 use facl_listings::append_test_listing;
 use facl_messages::LineFault;
+use facl_replies::{Effect, prepare};
 use std::alloc::{AllocError, Global};
 
 /// The paths of records.
@@ -95,7 +94,7 @@ fn listed(
 
 /// What a command would leave of its files. The state stays.
 fn test(alloc: Global, state: &State, command: &Command<'_>) -> Result<Effect, LineFault>
-    ensures { Gives (left state.now) result (tested_or_fault state.now command.now (step state.now command.now)) }
+    ensures { Replies state.now result (tested_or_fault state.now command.now (step state.now command.now)) }
 {
     let staged = state.prepare(alloc, command)?;
     let listed = listed(alloc, state, command, &staged);
@@ -110,7 +109,7 @@ pub(crate) fn do_or_test(
     command: &Command<'_>,
     is_test: bool,
 ) -> Result<Effect, LineFault>
-    ensures { Gives (left state.now) result (done is_test state.now command.now) }
+    ensures { Replies state.now result (done_or_tested is_test state.now command.now) }
 {
     if is_test {
         test(alloc, state, command)

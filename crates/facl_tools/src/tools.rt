@@ -2,7 +2,7 @@
 
 ghost use Rattle.std.specs.Prelude.{◌≡◌};
 ghost use Rattle.acl_entry.specs.Check.{rights};
-ghost use Rattle.facl_tools.specs.Replies.{Gives, left};
+ghost use Rattle.facl_replies.specs.Replies.{Replies};
 ghost use Rattle.facl_tools.specs.Tools.{is_served, tool_line};
 
 use crate::attr::attr;
@@ -10,7 +10,6 @@ use crate::can::can;
 use crate::chacl::chacl;
 use crate::chmod::chmod;
 use crate::creat::creat;
-use crate::effect::Effect;
 use crate::getfacl::getfacl;
 use crate::gpasswd::gpasswd;
 use crate::load::load;
@@ -22,6 +21,7 @@ use crate::userdel::userdel;
 use crate::usermod::usermod;
 use acl_tree::State;
 use facl_messages::LineFault;
+use facl_replies::Effect;
 use facl_usage::{Tool, Words};
 use std::alloc::Global;
 
@@ -56,7 +56,7 @@ pub fn tool_line(
     words: &Words,
     text: &[u8],
 ) -> Result<Effect, LineFault>
-    ensures { Gives (left state.now) result (tool_line rights state.now tool words.now text.now) }
+    ensures { Replies state.now result (tool_line rights state.now tool words.now text.now) }
 {
     match tool {
         Tool::Load => load(alloc, state, words, text),

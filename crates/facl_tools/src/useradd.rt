@@ -1,18 +1,16 @@
 //! The tool useradd(8): a new user.
 
 ghost use Rattle.std.specs.Prelude.{◌≡◌};
-ghost use Rattle.facl_tools.specs.Replies.{Gives, left};
+ghost use Rattle.facl_replies.specs.Replies.{Replies, Gives};
 ghost use Rattle.facl_tools.specs.Accounts.{uid_of, name_of, group_of, new_user, useradd_line};
 
-use crate::change::prepare;
-use crate::effect::Effect;
-use crate::operands::name_meant;
 use acl_entry::Id;
 use acl_names::{Name, read_name};
 use acl_people::UserName;
 use acl_text::read_id;
 use acl_tree::{Command, NewUser, State};
 use facl_messages::LineFault;
+use facl_replies::{Effect, name_meant, prepare};
 use facl_usage::Words;
 use facl_usage::places::useradd::{GROUP, NAME, UID};
 use std::alloc::Global;
@@ -59,7 +57,7 @@ fn new_user(alloc: Global, words: &Words) -> Result<NewUser, LineFault>
 
 /// Adds a user.
 pub(crate) fn useradd(alloc: Global, state: &State, words: &Words) -> Result<Effect, LineFault>
-    ensures { Gives (left state.now) result (useradd_line state.now words.now) }
+    ensures { Replies state.now result (useradd_line state.now words.now) }
 {
     let new = new_user(alloc, words)?;
     prepare(alloc, state, &Command::Useradd(new))

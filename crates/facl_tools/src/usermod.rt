@@ -1,13 +1,11 @@
 //! The tool usermod(8): a user gets another primary group.
 
-ghost use Rattle.facl_tools.specs.Replies.{Gives, left};
+ghost use Rattle.facl_replies.specs.Replies.{Replies};
 ghost use Rattle.facl_tools.specs.Memberships.{usermod_group, usermod_line};
 
-use crate::change::prepare;
-use crate::effect::Effect;
-use crate::operands::{name_at, name_meant};
 use acl_tree::{Command, State};
 use facl_messages::LineFault;
+use facl_replies::{Effect, name_at, name_meant, prepare};
 use facl_usage::Words;
 use facl_usage::places::usermod::{GROUP, USER};
 use std::alloc::Global;
@@ -19,7 +17,7 @@ fn usermod_group(
     words: &Words,
     group: &str,
 ) -> Result<Effect, LineFault>
-    ensures { Gives (left state.now) result (usermod_group state.now words.now group.now) }
+    ensures { Replies state.now result (usermod_group state.now words.now group.now) }
 {
     let user = name_at(alloc, words, USER)?;
     let group = name_meant(alloc, group)?;
@@ -28,7 +26,7 @@ fn usermod_group(
 
 /// Changes the primary group of a user.
 pub(crate) fn usermod(alloc: Global, state: &State, words: &Words) -> Result<Effect, LineFault>
-    ensures { Gives (left state.now) result (usermod_line state.now words.now) }
+    ensures { Replies state.now result (usermod_line state.now words.now) }
 {
     match words.values.get(GROUP) {
         Some(group) => usermod_group(alloc, state, words, group),

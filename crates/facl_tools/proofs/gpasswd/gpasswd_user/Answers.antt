@@ -1,14 +1,13 @@
 use Rattle.std.proofs.Common.{ℕ, List, [], subst}
 use Rattle.std.specs.List.{slice_index_or}
-use Rattle.acl_tree.specs.Step.{step}
 use Rattle.acl_tree.specs.declared.command.Command.TheVariants.{Gpasswd}
-use Rattle.facl_tools.specs.Operands.{name_meant}
-use Rattle.facl_tools.specs.Replies.{Gives, left, changed}
+use Rattle.facl_replies.specs.Operands.{name_meant}
+use Rattle.facl_replies.specs.Replies.{Replies, done}
 use Rattle.facl_tools.proofs.gpasswd.gpasswd_user.Goals as goal
 
 pub returns : goal.returns
 returns c =
     let s = c.args.state.now in
-    let gives = λ (user group : List ℕ). Gives (left s) c.prepare.result (changed (step s (Gpasswd user group c.args.change))) in
+    let gives = λ (user group : List ℕ). Replies s c.prepare.result (done s (Gpasswd user group c.args.change)) in
     let by_group = subst (gives c.in_ok-user.user) c.in_ok-group.ensures c.prepare.ensures in
     subst (λ (user : List ℕ). gives user (name_meant (slice_index_or c.args.words.now.operands 0 []))) c.in_ok-user.ensures by_group

@@ -1,9 +1,9 @@
 use Rattle.std.proofs.Common.{◌≡◌, ◌<◌, ℕ, List, true, length}
 use Rattle.std.specs.List.{list_all}
 use Rattle.facl_usage.specs.Forms.{is_octal_digit}
-use Rattle.facl_tools.specs.Modes.{octal_after, octal_number}
-use Rattle.facl_tools.proofs.Modes.{room}
-use Rattle.facl_tools.proofs.mode.octal_number.Given as goal
+use Rattle.facl_replies.specs.Modes.{octal_after, octal_number}
+use Rattle.facl_replies.proofs.Modes.{room}
+use Rattle.facl_replies.proofs.mode.octal_number.Given as goal
 
 pub record Reading (mode : ℕ) (rest all : List ℕ) : Type 0 where
   pub same : octal_after mode rest ≡ octal_number all

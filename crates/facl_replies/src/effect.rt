@@ -1,8 +1,8 @@
 //! What an accepted line does.
 
-ghost use Rattle.std.specs.Prelude.{◌≡◌, [], false};
+ghost use Rattle.std.specs.Prelude.{◌≡◌, [], false, Some, None};
 ghost use Rattle.acl_tree.specs.Step.{State};
-ghost use Rattle.facl_tools.specs.Replies.{left, printed};
+ghost use Rattle.facl_replies.specs.Replies.{left, printed};
 
 use acl_tree::Staged;
 use std::alloc::Global;
@@ -20,7 +20,8 @@ pub struct Effect {
 impl Effect {
     /// The state stays, and this is printed.
     pub fn prints(out: Vec<u8>) -> Effect
-        ensures { (s : State) → left s result ≡ printed s out.items }
+        ensures left { (s : State) → left s result ≡ printed s out.items }
+        ensures staged { result.staged ≡ None }
     {
         Effect {
             out,
@@ -31,7 +32,8 @@ impl Effect {
 
     /// The state becomes this one, and nothing is printed.
     pub fn changes(alloc: Global, staged: Staged) -> Effect
-        ensures { (s : State) → left s result ≡ record { state = staged.state; out = []; warns = false } }
+        ensures left { (s : State) → left s result ≡ record { state = staged.state; moved = staged.moved; out = []; warns = false } }
+        ensures staged { result.staged ≡ Some staged }
     {
         Effect {
             out: Vec::new(alloc),
@@ -42,7 +44,8 @@ impl Effect {
 
     /// The same, with a warning or without one.
     pub fn warning(mut self, warns: bool) -> Effect
-        ensures { (s : State) → left s result ≡ record (left s self) { warns = warns } }
+        ensures left { (s : State) → left s result ≡ record (left s self) { warns = warns } }
+        ensures staged { result.staged ≡ self.staged }
     {
         self.warns = warns;
         self

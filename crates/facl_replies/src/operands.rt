@@ -2,8 +2,8 @@
 
 ghost use Rattle.std.specs.Prelude.{◌≡◌, [], IfOk, option_map};
 ghost use Rattle.std.specs.List.{slice_index_or};
-ghost use Rattle.facl_tools.specs.Replies.{Gives};
-ghost use Rattle.facl_tools.specs.Operands.{path_at, paths_from, name_meant, user_of, user_or_fault, file_or_fault};
+ghost use Rattle.facl_replies.specs.Replies.{Gives};
+ghost use Rattle.facl_replies.specs.Operands.{path_at, paths_from, name_meant, user_of, user_or_fault, file_or_fault};
 
 use acl_edit::Node;
 use acl_entry::Subject;
@@ -16,7 +16,7 @@ use facl_usage::{OperandPlace, Word, Words};
 use std::alloc::{AllocError, Global};
 
 /// The path of the operand at a place, counted from 1.
-pub(crate) fn path_at(alloc: Global, at: usize, word: &str) -> Result<Path, LineFault>
+pub fn path_at(alloc: Global, at: usize, word: &str) -> Result<Path, LineFault>
     ensures { Gives (λ path. path) result (path_at at word.now) }
 {
     match read_path(alloc, word.as_bytes())? {
@@ -32,7 +32,7 @@ pub(crate) fn path_at(alloc: Global, at: usize, word: &str) -> Result<Path, Line
 }
 
 /// The paths of the FILE operands of a line.
-pub(crate) fn paths_of(alloc: Global, words: &[Word]) -> Result<Paths, LineFault>
+pub fn paths_of(alloc: Global, words: &[Word]) -> Result<Paths, LineFault>
     ensures { Gives (λ paths. paths) result (paths_from 1 words.now) }
 {
     let mut paths = Vec::new(alloc);
@@ -51,25 +51,21 @@ fn user_of<'a>(people: &'a People, name: &[u8]) -> Option<&'a Subject>
 }
 
 /// The name that a word for a user or a group means.
-pub(crate) fn name_meant(alloc: Global, word: &str) -> Result<Name, AllocError>
+pub fn name_meant(alloc: Global, word: &str) -> Result<Name, AllocError>
     ensures { IfOk result (λ name. name ≡ name_meant word.now) }
 {
     read_name(alloc, trim(word.as_bytes()))
 }
 
 /// The name that an operand for a user or a group means.
-pub(crate) fn name_at(
-    alloc: Global,
-    words: &Words,
-    operand: OperandPlace,
-) -> Result<Name, AllocError>
+pub fn name_at(alloc: Global, words: &Words, operand: OperandPlace) -> Result<Name, AllocError>
     ensures { IfOk result (λ name. name ≡ name_meant (slice_index_or words.now.operands operand.0 [])) }
 {
     name_meant(alloc, words.operands.get(operand))
 }
 
 /// The user that a word means.
-pub(crate) fn user_meant<'a>(
+pub fn user_meant<'a>(
     alloc: Global,
     people: &'a People,
     word: &str,
@@ -84,7 +80,7 @@ pub(crate) fn user_meant<'a>(
 }
 
 /// The recorded file of a path.
-pub(crate) fn file_at(tree: &Tree, path: Path) -> Result<&Node, LineFault>
+pub fn file_at(tree: &Tree, path: Path) -> Result<&Node, LineFault>
     ensures { Gives (λ node. node.now) result (file_or_fault tree.now.files path) }
 {
     match tree.get(&path) {

@@ -1,7 +1,7 @@
 use Rattle.std.proofs.Common.{◌≡◌, ◌+◌, length}
-use Rattle.facl_tools.specs.Operands.{paths_from}
-use Rattle.facl_tools.proofs.Listed.{behind}
-use Rattle.facl_tools.proofs.operands.paths_of.Given as goal
+use Rattle.facl_replies.specs.Operands.{paths_from}
+use Rattle.facl_replies.proofs.Listed.{behind}
+use Rattle.facl_replies.proofs.operands.paths_of.Given as goal
 
 abbrev pub invariant-loop-rest : goal.invariant-loop-rest
 invariant-loop-rest l = behind l.paths.items (paths_from (length l.paths.items + 1) l.rest) ≡ paths_from 1 l.fn.words

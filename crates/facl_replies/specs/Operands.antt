@@ -15,7 +15,7 @@ use Rattle.facl_usage.specs.Forms.{Text}
 use Rattle.facl_messages.specs.declared.fault.LineFault.{LineFault}
 use Rattle.facl_messages.specs.declared.fault.LineFault.TheVariants as faults
 use Rattle.facl_messages.specs.declared.fault.Source.TheVariants.{Operand}
-use Rattle.facl_tools.specs.Replies.{after, or_fault}
+use Rattle.facl_replies.specs.Replies.{after, or_fault}
 
 -- the operand at this place, counted from 1, is no path
 abbrev pub bad_operand : ℕ → LineFault

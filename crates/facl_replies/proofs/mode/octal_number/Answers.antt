@@ -1,6 +1,6 @@
 use Rattle.std.proofs.Common.{arith, refl}
-use Rattle.facl_tools.proofs.Modes.{room_of_four, room_of_one, mode_digits, mode_short, first_digit}
-use Rattle.facl_tools.proofs.mode.octal_number.Goals as goal
+use Rattle.facl_replies.proofs.Modes.{room_of_four, room_of_one, mode_digits, mode_short, first_digit}
+use Rattle.facl_replies.proofs.mode.octal_number.Goals as goal
 
 pub loop-rest-init : goal.loop-rest-init
 loop-rest-init c = record {

@@ -2,7 +2,7 @@
 use Rattle.std.proofs.Common.{List, ◌++◌, Result, Ok}
 use Rattle.acl_tree.specs.Files.{PathOf}
 use Rattle.facl_messages.specs.declared.fault.LineFault.{LineFault}
-use Rattle.facl_tools.specs.Replies.{after}
+use Rattle.facl_replies.specs.Replies.{after}
 
 -- these paths, and those that come after them
 abbrev pub behind : List PathOf → Result (List PathOf) LineFault → Result (List PathOf) LineFault

@@ -2,7 +2,7 @@
 
 ghost use Rattle.std.specs.Prelude.{◌≡◌, IsTrue};
 ghost use Rattle.facl_usage.specs.Forms.{is_mode};
-ghost use Rattle.facl_tools.specs.Modes.{mode_of, octal_number, permission_mode_of};
+ghost use Rattle.facl_replies.specs.Modes.{mode_of, octal_number, permission_mode_of};
 
 use facl_usage::forms::{is_mode, is_permission_mode};
 
@@ -21,7 +21,7 @@ fn octal_number(digits: &[u8]) -> u16
 }
 
 /// The number that one to four octal digits write. `None` for any other text.
-pub(crate) fn mode_of(text: &str) -> Option<u16>
+pub fn mode_of(text: &str) -> Option<u16>
     ensures { result ≡ mode_of text.now }
 {
     if is_mode(text) {
@@ -32,7 +32,7 @@ pub(crate) fn mode_of(text: &str) -> Option<u16>
 }
 
 /// The number that one to four octal digits write, where it is at most 0777. `None` for any other text.
-pub(crate) fn permission_mode_of(text: &str) -> Option<u16>
+pub fn permission_mode_of(text: &str) -> Option<u16>
     ensures { result ≡ permission_mode_of text.now }
 {
     if is_permission_mode(text) {

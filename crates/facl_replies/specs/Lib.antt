@@ -1,0 +1,3 @@
+pub mod Replies
+pub mod Operands
+pub mod Modes
