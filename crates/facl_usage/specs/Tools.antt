@@ -112,17 +112,17 @@ line_for Setattr = record {
   operands = one (codes "attribute") ∷ one (codes "file") ∷ [];
 }
 line_for Can = record {
-  flags = [];
+  flags = by_name (codes "reach") ∷ [];
   options = [];
   operands = one (codes "user") ∷ one (codes "file") ∷ [];
 }
 line_for Who = record {
-  flags = [];
+  flags = by_name (codes "reach") ∷ [];
   options = [];
   operands = one (codes "perms") ∷ one (codes "file") ∷ [];
 }
 line_for May = record {
-  flags = [];
+  flags = by_name (codes "reach") ∷ [];
   options = [];
   operands = one (codes "user") ∷ one (codes "perms") ∷ [];
 }

@@ -293,7 +293,10 @@ pub mod setattr {
 
 /// The words of `can`.
 pub mod can {
-    use super::OperandPlace;
+    use super::{FlagPlace, OperandPlace};
+
+    /// `--reach`: search on the directories above is asked too.
+    pub const REACH: FlagPlace = FlagPlace(0);
 
     /// The user's name or id.
     pub const USER: OperandPlace = OperandPlace(0);
@@ -302,6 +305,7 @@ pub mod can {
 
     /// Proof only: each is the place where the table has its name.
     pub fn are_named()
+        ensures reach { REACH.0 ≡ flag_place Can (codes "reach") }
         ensures user { USER.0 ≡ operand_place Can (codes "user") }
         ensures file { FILE.0 ≡ operand_place Can (codes "file") }
     {}
@@ -309,7 +313,10 @@ pub mod can {
 
 /// The words of `who`.
 pub mod who {
-    use super::OperandPlace;
+    use super::{FlagPlace, OperandPlace};
+
+    /// `--reach`: search on the directories above is asked too.
+    pub const REACH: FlagPlace = FlagPlace(0);
 
     /// The permissions that are asked about.
     pub const PERMISSIONS: OperandPlace = OperandPlace(0);
@@ -318,6 +325,7 @@ pub mod who {
 
     /// Proof only: each is the place where the table has its name.
     pub fn are_named()
+        ensures reach { REACH.0 ≡ flag_place Who (codes "reach") }
         ensures permissions { PERMISSIONS.0 ≡ operand_place Who (codes "perms") }
         ensures file { FILE.0 ≡ operand_place Who (codes "file") }
     {}
@@ -325,7 +333,10 @@ pub mod who {
 
 /// The words of `may`.
 pub mod may {
-    use super::OperandPlace;
+    use super::{FlagPlace, OperandPlace};
+
+    /// `--reach`: search on the directories above is asked too.
+    pub const REACH: FlagPlace = FlagPlace(0);
 
     /// The user's name or id.
     pub const USER: OperandPlace = OperandPlace(0);
@@ -334,6 +345,7 @@ pub mod may {
 
     /// Proof only: each is the place where the table has its name.
     pub fn are_named()
+        ensures reach { REACH.0 ≡ flag_place May (codes "reach") }
         ensures user { USER.0 ≡ operand_place May (codes "user") }
         ensures permissions { PERMISSIONS.0 ≡ operand_place May (codes "perms") }
     {}

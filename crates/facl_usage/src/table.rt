@@ -84,9 +84,15 @@ static ATTR_OPERANDS: [OperandRow; 1] = [one!("file")];
 
 static SETATTR_OPERANDS: [OperandRow; 2] = [one!("attribute"), one!("file")];
 
+static CAN_FLAGS: [SwitchRow; 1] = [by_name!("reach")];
+
 static CAN_OPERANDS: [OperandRow; 2] = [one!("user"), one!("file")];
 
+static WHO_FLAGS: [SwitchRow; 1] = [by_name!("reach")];
+
 static WHO_OPERANDS: [OperandRow; 2] = [one!("perms"), one!("file")];
+
+static MAY_FLAGS: [SwitchRow; 1] = [by_name!("reach")];
 
 static MAY_OPERANDS: [OperandRow; 2] = [one!("user"), one!("perms")];
 
@@ -132,9 +138,9 @@ pub fn rows_for(tool: Tool) -> LineRows
         Tool::Usermod => row(&[], &USERMOD_OPTIONS, &USERMOD_OPERANDS),
         Tool::Attr => row(&[], &[], &ATTR_OPERANDS),
         Tool::Setattr => row(&[], &[], &SETATTR_OPERANDS),
-        Tool::Can => row(&[], &[], &CAN_OPERANDS),
-        Tool::Who => row(&[], &[], &WHO_OPERANDS),
-        Tool::May => row(&[], &[], &MAY_OPERANDS),
+        Tool::Can => row(&CAN_FLAGS, &[], &CAN_OPERANDS),
+        Tool::Who => row(&WHO_FLAGS, &[], &WHO_OPERANDS),
+        Tool::May => row(&MAY_FLAGS, &[], &MAY_OPERANDS),
         Tool::Index => row(&[], &[], &[]),
         Tool::Useradd => row(&[], &USERADD_OPTIONS, &USERADD_OPERANDS),
         Tool::Userdel => row(&[], &[], &USERDEL_OPERANDS),

@@ -1,7 +1,7 @@
 //! The lines of `attr`, `setattr`, `can`, `who`, `may` and `index`.
 use crate::told::expect_lines;
 
-static LINES: [(&str, &str); 52] = [
+static LINES: [(&str, &str); 69] = [
     ("attr f", ": f"),
     ("attr", "usage"),
     ("attr f g", "usage"),
@@ -56,6 +56,14 @@ static LINES: [(&str, &str); 52] = [
     ("who -w f", "usage"),
     ("who w", "usage"),
     ("who w -", "usage"),
+    ("who", "usage"),
+    ("who w f g", "usage"),
+    ("who X f", "usage"),
+    ("who - f", "usage"),
+    ("who -- - f", "usage"),
+    ("who rwxrwx f", ": rwxrwx f"),
+    ("who w, f", "usage"),
+    ("who u:w f", "usage"),
     ("may joe rx", ": joe rx"),
     ("may joe 2", ": joe 2"),
     ("may joe ''", ": joe ''"),
@@ -66,14 +74,80 @@ static LINES: [(&str, &str); 52] = [
     ("may joe -r", "usage"),
     ("may joe", "usage"),
     ("may joe r f", "usage"),
+    ("may", "usage"),
+    ("may -joe r", "usage"),
+    ("may -- -joe r", ": -joe r"),
+    ("may joe rwX", "usage"),
+    ("may joe 10", "usage"),
+    ("may joe -", "usage"),
+    ("may '' r", ": '' r"),
     ("index", ":"),
     ("index --", ":"),
     ("index f", "usage"),
     ("index ''", "usage"),
     ("index -a", "usage"),
+    ("index .", "usage"),
+    ("index -", "usage"),
+];
+
+/// `--reach` of `can`, `who` and `may`, which has no letter.
+static REACH_LINES: [(&str, &str); 45] = [
+    ("can --reach joe f", "--reach : joe f"),
+    ("can joe --reach f", "--reach : joe f"),
+    ("can joe f --reach", "--reach : joe f"),
+    ("can --reach -- joe f", "--reach : joe f"),
+    ("can --reach -- -joe f", "--reach : -joe f"),
+    // After `--` it is an operand.
+    ("can -- --reach f", ": --reach f"),
+    ("can joe f -- --reach", "usage"),
+    ("can --reach -- --reach f", "--reach : --reach f"),
+    ("can --reach", "usage"),
+    ("can --reach joe", "usage"),
+    ("can --reach joe f g", "usage"),
+    ("can --reach joe -", "usage"),
+    ("can --reach --reach joe f", "usage"),
+    ("can --reach joe f --reach", "usage"),
+    // It takes no value, and has no abbreviation and no letter.
+    ("can --reach= joe f", "usage"),
+    ("can --reach=yes joe f", "usage"),
+    ("can --rea joe f", "usage"),
+    ("can --Reach joe f", "usage"),
+    ("can -reach joe f", "usage"),
+    ("can -r joe f", "usage"),
+    ("can reach f", ": reach f"),
+    ("who --reach w f", "--reach : w f"),
+    ("who w --reach f", "--reach : w f"),
+    ("who w f --reach", "--reach : w f"),
+    ("who --reach 0 f", "--reach : 0 f"),
+    ("who --reach '' f", "--reach : '' f"),
+    ("who --reach -- -w f", "--reach : -w f"),
+    ("who --reach -w f", "usage"),
+    ("who --reach X f", "usage"),
+    ("who --reach f", "usage"),
+    ("who -r w f", "usage"),
+    ("who --reach --reach w f", "usage"),
+    ("may --reach joe rx", "--reach : joe rx"),
+    ("may joe --reach rx", "--reach : joe rx"),
+    ("may joe rx --reach", "--reach : joe rx"),
+    ("may --reach -- joe -r", "--reach : joe -r"),
+    ("may --reach joe -r", "usage"),
+    ("may --reach joe X", "usage"),
+    ("may --reach joe", "usage"),
+    ("may -r joe rx", "usage"),
+    ("may joe rx --reach=1", "usage"),
+    // No other tool has it.
+    ("index --reach", "usage"),
+    ("getfacl --reach f", "usage"),
+    ("chacl -l --reach f", "usage"),
+    ("userdel --reach joe", "usage"),
 ];
 
 #[test]
 fn query_lines(rt: HostRuntime) {
     expect_lines(&rt, rt.alloc(), &LINES);
+}
+
+#[test]
+fn reach_lines(rt: HostRuntime) {
+    expect_lines(&rt, rt.alloc(), &REACH_LINES);
 }

@@ -1,6 +1,8 @@
 //! What is read of a line, told as text: the flags and options that were given, in the order of the
 //! table, a colon, and the operands. An empty operand is `''`, and a refused line is `usage`.
-use facl_words::places::{chacl, chmod, creat, getfacl, gpasswd, rm, setfacl, useradd, usermod};
+use facl_words::places::{
+    can, chacl, chmod, creat, getfacl, gpasswd, may, rm, setfacl, useradd, usermod, who,
+};
 use facl_words::{FlagPlace, Tool, ValuePlace, Word, Words, WordsFault, read_words};
 use std::alloc::Global;
 use std::process::Abort;
@@ -57,6 +59,12 @@ static CREAT_OPTIONS: [(ValuePlace, &str); 3] = [
 
 static RM_FLAGS: [(FlagPlace, &str); 1] = [(rm::RECURSIVE, "-r")];
 
+static CAN_FLAGS: [(FlagPlace, &str); 1] = [(can::REACH, "--reach")];
+
+static WHO_FLAGS: [(FlagPlace, &str); 1] = [(who::REACH, "--reach")];
+
+static MAY_FLAGS: [(FlagPlace, &str); 1] = [(may::REACH, "--reach")];
+
 static GPASSWD_OPTIONS: [(ValuePlace, &str); 2] = [(gpasswd::ADD, "-a"), (gpasswd::DELETE, "-d")];
 
 static USERMOD_OPTIONS: [(ValuePlace, &str); 1] = [(usermod::GROUP, "-g")];
@@ -71,6 +79,9 @@ fn flags_of(tool: Tool) -> &'static [(FlagPlace, &'static str)] {
         Tool::Chmod => &CHMOD_FLAGS,
         Tool::Creat => &CREAT_FLAGS,
         Tool::Rm => &RM_FLAGS,
+        Tool::Can => &CAN_FLAGS,
+        Tool::Who => &WHO_FLAGS,
+        Tool::May => &MAY_FLAGS,
         _ => &[],
     }
 }
