@@ -14,7 +14,7 @@ mod test_listing;
 pub use attr_listing::write_attributes;
 pub use chacl_listing::write_chacl_listing;
 pub use laws::{listing_is_loaded_again, listing_is_restored_as_it_is};
-pub use listing::append_listing;
+pub use listing::{append_listing, push_path_shown};
 pub use options::Options;
 pub use requests::append_requests;
 pub use test_listing::append_test_listing;

@@ -34,8 +34,9 @@ pub(crate) fn has_slash(file: &Found) -> bool
     file.node().kind == Kind::Directory && !is_told
 }
 
-/// Adds the path of a file, with the final `/` of a directory that nothing else shows as one.
-pub(crate) fn push_path_shown(text: &mut Vec<u8>, file: &Found) -> Result<(), AllocError>
+/// Adds the path of a file, with the final `/` of a directory that nothing else shows as one. Fails only if memory
+/// runs out.
+pub fn push_path_shown(text: &mut Vec<u8>, file: &Found) -> Result<(), AllocError>
     ensures ok { OnOk result (text.new.items ≡ text.old.items ++ path_shown file.now) }
     ensures err { OnErr result (StartsWith text.new.items text.old.items) }
 {
