@@ -45,7 +45,7 @@ in_step (p ∷ paths) (file ∷ files) = if eq_by_cmp path_cmp p file.path then 
 
 -- the lines of a file, by the verdicts on the users of these names
 abbrev pub row_lines : List ℕ → List (List ℕ) → List ℕ → List ℕ
-row_lines path names cells = flat_map (λ x. verdict_line x.0 x.1 path) (zip cells names)
+row_lines path names cells = flat_map (λ x. verdict_line x.1 x.0 path) (zip names cells)
 
 -- the lines of a file whose row is one of these
 abbrev pub lines_in : Rows → List (List ℕ) → FoundFile → List ℕ

@@ -66,6 +66,7 @@ pub fn write_may<J: Judge>(
     let Some(paths) = paths_granted(alloc, index, user, request, along)? else {
         return Ok(None);
     };
+    state.tree().is_sound();
     let files = all_files(alloc, state.tree())?;
     let mut text = Vec::new(alloc);
     push_files(&mut text, &files, &paths)?;

@@ -54,8 +54,13 @@ fn push_row(
 ) -> Result<(), AllocError>
     ensures { OnOk result (text.new.items ≡ text.old.items ++ row_lines path.now (map (λ n. n.items) names.now) row.now) }
 {
-    for (granted, name) in row.iter().zip(names) {
+    let mut rest = row;
+    for name in names {
+        let [granted, more @ ..] = rest else {
+            return Ok(());
+        };
         push_line(text, *granted, name, path)?;
+        rest = more;
     }
     Ok(())
 }
@@ -124,6 +129,7 @@ pub fn write_index<J: Judge>(
     ensures { IfOk result (λ text. text.items ≡ index_text J.verdict_of state.now) }
 {
     let names = written_names(alloc, state.people())?;
+    state.tree().is_sound();
     let files = all_files(alloc, state.tree())?;
     let mut text = Vec::new(alloc);
     push_files(alloc, &mut text, index, &names, &files)?;

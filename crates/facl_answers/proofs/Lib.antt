@@ -1,0 +1,5 @@
+pub mod Asked
+pub mod UserLines
+pub mod FileLines
+pub mod IndexLines
+pub mod Walk
