@@ -9,7 +9,7 @@ use Rattle.acl_names.specs.Paths.{path_cmp}
 use Rattle.acl_text.specs.declared.rows.PasswdRow.{PasswdRow}
 use Rattle.acl_edit.specs.declared.node.Node.{Node}
 use Rattle.acl_people.specs.Registers.{person, persons}
-use Rattle.acl_tree.specs.Files.{PathOf, Files}
+use Rattle.acl_tree.specs.Files.{PathOf}
 use Rattle.acl_tree.specs.Step.{State}
 use Rattle.acl_rights.specs.Tables.{Verdict, places_from, verdict_at}
 use Rattle.acl_rights.specs.Tables as tables

@@ -1,5 +1,5 @@
 -- A walk over all files, each with whether another one is below it.
-use Rattle.std.proofs.Common.{◌≡◌, ◌++◌, append_assoc, append-nil, List, [], ◌∷◌, refl, sym, ap, subst, ◌∙◌}
+use Rattle.std.proofs.Common.{◌≡◌, ◌++◌, append_assoc, append-nil, List, [], ◌∷◌, sym, ap, subst, ◌∙◌}
 use Rattle.std.proofs.lemmas.List.{map-append}
 use Rattle.acl_edit.specs.declared.node.Node.{Node}
 use Rattle.acl_load.specs.Inner.{next_file_below}

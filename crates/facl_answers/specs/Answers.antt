@@ -4,7 +4,6 @@ use Rattle.std.specs.List.{flat_map}
 use Rattle.std.specs.FinMap.{find}
 use Rattle.acl_entry.specs.Check.{has}
 use Rattle.acl_entry.specs.Perms.{Perms}
-use Rattle.acl_entry.specs.Person.{Person}
 use Rattle.acl_names.specs.Names.{escaped}
 use Rattle.acl_names.specs.Paths.{path_cmp}
 use Rattle.acl_text.specs.declared.rows.PasswdRow.{PasswdRow}

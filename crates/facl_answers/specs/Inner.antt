@@ -7,14 +7,13 @@ use Rattle.std.specs.FinMap.{find}
 use Rattle.acl_entry.specs.Check.{has}
 use Rattle.acl_entry.specs.Perms.{Perms}
 use Rattle.acl_names.specs.Paths.{path_cmp}
-use Rattle.acl_names.specs.Names.{escaped}
 use Rattle.acl_people.specs.Registers.{Register}
 use Rattle.acl_tree.specs.Files.{PathOf}
 use Rattle.acl_tree.specs.Found.{FoundFile}
 use Rattle.acl_tree.specs.Step.{State}
 use Rattle.acl_verdicts.specs.Rows.{Verdict, Rows, places_from}
 use Rattle.facl_listings.specs.Listings.{path_shown}
-use Rattle.facl_answers.specs.Answers.{line, user_line, verdict_line, granted}
+use Rattle.facl_answers.specs.Answers.{user_line, verdict_line, granted}
 
 -- ---- what is asked of the index
 

@@ -1,4 +1,4 @@
-use Rattle.std.proofs.Common.{◌≡◌, ◌++◌, [], drop, map, append-nil, sym, ap, ◌∙◌, arith}
+use Rattle.std.proofs.Common.{◌++◌, map, append-nil, sym, ap, ◌∙◌, arith}
 use Rattle.std.specs.List.{flat_map}
 use Rattle.std.proofs.lemmas.List.{drop_all}
 use Rattle.facl_answers.specs.Answers.{file_line}
