@@ -1,16 +1,13 @@
 -- The operands of a line: files and users.
-use Rattle.std.specs.Prelude.{ℕ, ◌+◌, List, [], ◌∷◌, Option, Some, None, Result, Ok, Err, option_and_then}
-use Rattle.std.specs.FinMap.{find}
-use Rattle.acl_entry.specs.Person.{Person}
+use Rattle.std.specs.Prelude.{ℕ, ◌+◌, List, [], ◌∷◌, Option, Some, None, Result, Ok, Err}
 use Rattle.acl_names.specs.Names.{decoded}
-use Rattle.acl_names.specs.Paths.{path_cmp, path_of}
+use Rattle.acl_names.specs.Paths.{path_of}
 use Rattle.acl_text.specs.Blanks.{trimmed}
 use Rattle.acl_text.specs.declared.fault.FaultKind.TheVariants.{BadPath}
-use Rattle.acl_edit.specs.declared.node.Node.{Node}
-use Rattle.acl_people.specs.Registers.{Register, users_of, subject}
+use Rattle.acl_people.specs.Registers.{Register, users_of}
 use Rattle.acl_people.specs.Rolls.{place_of_word}
 use Rattle.acl_tree.specs.declared.command.TreeFault.TheVariants.{NoSuchFile, NoSuchUser}
-use Rattle.acl_tree.specs.Files.{PathOf, Files}
+use Rattle.acl_tree.specs.Files.{PathOf}
 use Rattle.facl_usage.specs.Forms.{Text}
 use Rattle.facl_messages.specs.declared.fault.LineFault.{LineFault}
 use Rattle.facl_messages.specs.declared.fault.LineFault.TheVariants as faults
@@ -34,15 +31,9 @@ paths_from at (word ∷ words) = after (path_at at word) (λ path. after (paths_
 abbrev pub name_meant : Text → Text
 name_meant word = decoded (trimmed word)
 
--- the user of a name; digits alone are always an id
-abbrev pub user_of : Register → Text → Option Person
-user_of known name = option_and_then (subject known) (place_of_word name (users_of known))
-
-abbrev pub user_or_fault : Register → Text → Result Person LineFault
-user_or_fault known name = or_fault (faults.Tree (NoSuchUser name)) (user_of known name)
-
-abbrev pub file_or_fault : Files → PathOf → Result Node LineFault
-file_or_fault files path = or_fault (faults.Tree (NoSuchFile path)) (find path_cmp path files)
+-- the place of the user of a name; digits alone are always an id
+abbrev pub user_or_fault : Register → Text → Result ℕ LineFault
+user_or_fault known name = or_fault (faults.Tree (NoSuchUser name)) (place_of_word name (users_of known))
 
 -- this, where no path is missing; else the fault of the first that is
 abbrev pub recorded_or_fault : Option PathOf → {A : Type 0} → A → Result A LineFault

@@ -10,4 +10,4 @@ mod operands;
 pub use change::prepare;
 pub use effect::Effect;
 pub use mode::{mode_of, permission_mode_of};
-pub use operands::{file_at, name_at, name_meant, path_at, paths_of, user_meant};
+pub use operands::{name_at, name_meant, path_at, paths_of, user_at};

@@ -1,16 +1,14 @@
 //! The operands of a line: files and users.
 
-ghost use Rattle.std.specs.Prelude.{◌≡◌, [], IfOk, option_map};
+ghost use Rattle.std.specs.Prelude.{◌≡◌, [], IfOk};
 ghost use Rattle.std.specs.List.{slice_index_or};
 ghost use Rattle.facl_replies.specs.Replies.{Gives};
-ghost use Rattle.facl_replies.specs.Operands.{path_at, paths_from, name_meant, user_of, user_or_fault, file_or_fault};
+ghost use Rattle.facl_replies.specs.Operands.{path_at, paths_from, name_meant, user_or_fault};
 
-use acl_edit::Node;
-use acl_entry::Subject;
 use acl_names::{Name, Path, read_name, read_path};
 use acl_people::People;
 use acl_text::{FaultKind, TextFault, trim};
-use acl_tree::{Paths, Tree, TreeFault};
+use acl_tree::{Paths, TreeFault};
 use facl_messages::{LineFault, Source};
 use facl_usage::{OperandPlace, Word, Words};
 use std::alloc::{AllocError, Global};
@@ -44,12 +42,6 @@ pub fn paths_of(alloc: Global, words: &[Word]) -> Result<Paths, LineFault>
     Ok(Paths::new(paths))
 }
 
-fn user_of<'a>(people: &'a People, name: &[u8]) -> Option<&'a Subject>
-    ensures { option_map (λ user. user.now) result ≡ user_of people.now name.now }
-{
-    people.subject(people.find_user(name)?)
-}
-
 /// The name that a word for a user or a group means.
 pub fn name_meant(alloc: Global, word: &str) -> Result<Name, AllocError>
     ensures { IfOk result (λ name. name ≡ name_meant word.now) }
@@ -64,27 +56,13 @@ pub fn name_at(alloc: Global, words: &Words, operand: OperandPlace) -> Result<Na
     name_meant(alloc, words.operands.get(operand))
 }
 
-/// The user that a word means.
-pub fn user_meant<'a>(
-    alloc: Global,
-    people: &'a People,
-    word: &str,
-) -> Result<&'a Subject, LineFault>
-    ensures { Gives (λ user. user.now) result (user_or_fault people.now (name_meant word.now)) }
+/// The place of the user that a word means.
+pub fn user_at(alloc: Global, people: &People, word: &str) -> Result<usize, LineFault>
+    ensures { Gives (λ user. user) result (user_or_fault people.now (name_meant word.now)) }
 {
     let name = name_meant(alloc, word)?;
-    match user_of(people, name.as_bytes()) {
+    match people.find_user(name.as_bytes()) {
         Some(user) => Ok(user),
         None => Err(LineFault::Tree(TreeFault::NoSuchUser { name })),
-    }
-}
-
-/// The recorded file of a path.
-pub fn file_at(tree: &Tree, path: Path) -> Result<&Node, LineFault>
-    ensures { Gives (λ node. node.now) result (file_or_fault tree.now.files path) }
-{
-    match tree.get(&path) {
-        Some(node) => Ok(node),
-        None => Err(LineFault::Tree(TreeFault::NoSuchFile { path })),
     }
 }

@@ -9,4 +9,5 @@ pub mod Attributes
 pub mod Memberships
 pub mod Accounts
 pub mod RemovedKeys
+pub mod Queries
 pub mod Tools

@@ -1,41 +1,68 @@
 //! The tool `can`: what a user may do with a file.
 
-ghost use Rattle.acl_entry.specs.Check.{rights};
-ghost use Rattle.facl_replies.specs.Replies.{Replies};
-ghost use Rattle.facl_tools.specs.Tools.{can_at, can_line, can_user};
+ghost use Rattle.acl_rights.specs.Tables.{IsWhole};
+ghost use Rattle.acl_tree.specs.Step as step;
+ghost use Rattle.facl_replies.specs.Replies.{Gives, Replies};
+ghost use Rattle.facl_tools.specs.Queries.{can_line, can_of, requests_at};
 
-use acl_entry::{Subject, granted};
 use acl_names::Path;
-use acl_tree::State;
+use acl_rights::{Index, Judge};
+use acl_tree::{State, TreeFault};
+use facl_answers::can_requests;
 use facl_listings::append_requests;
 use facl_messages::LineFault;
-use facl_replies::{Effect, file_at, path_at, user_meant};
+use facl_replies::{Effect, path_at, user_at};
 use facl_usage::Words;
-use facl_usage::places::can::{FILE, USER};
+use facl_usage::places::can::{FILE, REACH, USER};
 use std::alloc::Global;
 
-/// What a user may do with the file of a path.
-fn can_user(alloc: Global, state: &State, path: Path, user: &Subject) -> Result<Effect, LineFault>
-    ensures { Replies state.now result (can_user rights state.now path user.now) }
+/// The line of what the user at a place may do with the file of a path.
+fn requests_at<J: Judge>(
+    alloc: Global,
+    index: &Index<J>,
+    along: bool,
+    path: Path,
+    user: usize,
+) -> Result<Vec<u8>, LineFault>
+    ensures { (s : step.State) → IsWhole J.verdict_of s index.now
+        → Gives (λ out. out.items) result (requests_at J.verdict_of along s path user) }
 {
-    let node = file_at(state.tree(), path)?;
+    let Some(granted) = can_requests(index, user, &path, along) else {
+        return Err(LineFault::Tree(TreeFault::NoSuchFile { path }));
+    };
     let mut out = Vec::new(alloc);
-    append_requests(&mut out, granted(user, &node.label))?;
-    Ok(Effect::prints(out))
+    append_requests(&mut out, granted)?;
+    Ok(out)
 }
 
-/// What the user that a word means may do with the file of a path.
-fn can_at(alloc: Global, state: &State, word: &str, path: Path) -> Result<Effect, LineFault>
-    ensures { Replies state.now result (can_at rights state.now word.now path) }
+/// The line of what the user that a word means may do with the file of a path.
+fn can_of<J: Judge>(
+    alloc: Global,
+    state: &State,
+    index: &Index<J>,
+    along: bool,
+    word: &str,
+    path: Path,
+) -> Result<Vec<u8>, LineFault>
+    requires { IsWhole J.verdict_of state.now index.now }
+    ensures { Gives (λ out. out.items) result (can_of J.verdict_of along state.now word.now path) }
 {
-    let user = user_meant(alloc, state.people(), word)?;
-    can_user(alloc, state, path, user)
+    let user = user_at(alloc, state.people(), word)?;
+    requests_at(alloc, index, along, path, user)
 }
 
-/// What a user may do with a file, as acl(5) checks access.
-pub(crate) fn can(alloc: Global, state: &State, words: &Words) -> Result<Effect, LineFault>
-    ensures { Replies state.now result (can_line rights state.now words.now) }
+/// What a user may do with a file; with `--reach` only where the user can search each recorded directory above it.
+pub(crate) fn can<J: Judge>(
+    alloc: Global,
+    state: &State,
+    index: &Index<J>,
+    words: &Words,
+) -> Result<Effect, LineFault>
+    requires { IsWhole J.verdict_of state.now index.now }
+    ensures { Replies state.now result (can_line J.verdict_of state.now words.now) }
 {
     let path = path_at(alloc, 1, words.operands.get(FILE))?;
-    can_at(alloc, state, words.operands.get(USER), path)
+    let along = words.flags.has(REACH);
+    let out = can_of(alloc, state, index, along, words.operands.get(USER), path)?;
+    Ok(Effect::prints(out))
 }

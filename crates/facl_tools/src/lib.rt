@@ -12,8 +12,10 @@ mod creat;
 mod edits;
 mod getfacl;
 mod gpasswd;
+mod index;
 mod lists;
 mod load;
+mod may;
 mod removed_keys;
 mod rm;
 mod setattr;
@@ -25,5 +27,6 @@ mod tools;
 mod useradd;
 mod userdel;
 mod usermod;
+mod who;
 
-pub use tools::{is_served, tool_line};
+pub use tools::tool_line;

@@ -1,9 +1,8 @@
 //! What the tools do, by the words that they were given.
 
-ghost use Rattle.std.specs.Prelude.{◌≡◌};
-ghost use Rattle.acl_entry.specs.Check.{rights};
+ghost use Rattle.acl_rights.specs.Tables.{IsWhole};
 ghost use Rattle.facl_replies.specs.Replies.{Replies};
-ghost use Rattle.facl_tools.specs.Tools.{is_served, tool_line};
+ghost use Rattle.facl_tools.specs.Tools.{tool_line};
 
 use crate::attr::attr;
 use crate::can::can;
@@ -12,51 +11,34 @@ use crate::chmod::chmod;
 use crate::creat::creat;
 use crate::getfacl::getfacl;
 use crate::gpasswd::gpasswd;
+use crate::index::print_index;
 use crate::load::load;
+use crate::may::may;
 use crate::rm::rm;
 use crate::setattr::setattr;
 use crate::setfacl::setfacl;
 use crate::useradd::useradd;
 use crate::userdel::userdel;
 use crate::usermod::usermod;
+use crate::who::who;
+use acl_rights::{Index, Judge};
 use acl_tree::State;
 use facl_messages::LineFault;
 use facl_replies::Effect;
 use facl_usage::{Tool, Words};
 use std::alloc::Global;
 
-/// Whether a script may use the tool.
-pub fn is_served(tool: Tool) -> bool
-    ensures { result ≡ is_served tool }
-{
-    matches!(
-        tool,
-        Tool::Load
-            | Tool::Getfacl
-            | Tool::Setfacl
-            | Tool::Chacl
-            | Tool::Chmod
-            | Tool::Creat
-            | Tool::Rm
-            | Tool::Gpasswd
-            | Tool::Usermod
-            | Tool::Attr
-            | Tool::Setattr
-            | Tool::Can
-            | Tool::Useradd
-            | Tool::Userdel
-    )
-}
-
-/// What a tool does at a state.
-pub fn tool_line(
+/// What a tool does at a state. Questions of who may do what are answered from the index of the state.
+pub fn tool_line<J: Judge>(
     alloc: Global,
     state: &State,
+    index: &Index<J>,
     tool: Tool,
     words: &Words,
     text: &[u8],
 ) -> Result<Effect, LineFault>
-    ensures { Replies state.now result (tool_line rights state.now tool words.now text.now) }
+    requires { IsWhole J.verdict_of state.now index.now }
+    ensures { Replies state.now result (tool_line J.verdict_of state.now tool words.now text.now) }
 {
     match tool {
         Tool::Load => load(alloc, state, words, text),
@@ -70,9 +52,11 @@ pub fn tool_line(
         Tool::Usermod => usermod(alloc, state, words),
         Tool::Attr => attr(alloc, state, words),
         Tool::Setattr => setattr(alloc, state, words),
-        Tool::Can => can(alloc, state, words),
+        Tool::Can => can(alloc, state, index, words),
+        Tool::Who => who(alloc, state, index, words),
+        Tool::May => may(alloc, state, index, words),
+        Tool::Index => print_index(alloc, state, index),
         Tool::Useradd => useradd(alloc, state, words),
         Tool::Userdel => userdel(alloc, state, words),
-        _ => Err(LineFault::UnknownTool),
     }
 }
