@@ -1,5 +1,5 @@
 -- How a run ends that stops in its script.
-use Rattle.std.proofs.Common.{◌≡◌, ℕ, Bool, List, Option, Some, None, Result, Ok, inr, ◌∙◌}
+use Rattle.std.proofs.Common.{◌≡◌, ◌+◌, ◌≤◌, ℕ, Bool, List, Option, Some, None, Result, Ok, inr, ◌∙◌, subst, arith}
 use Rattle.std.specs.Prelude.{IfSome}
 use Rattle.acl_tree.specs.Step.{State}
 use Rattle.facl_script.specs.Run.{StopsWith, Ends}
@@ -8,25 +8,34 @@ use Rattle.facl_script.specs.declared.fault.ScriptFault.TheVariants.{Read, Write
 use Rattle.facl_messages.specs.Faults.{run_fault_of_script}
 use Rattle.facl_messages.specs.declared.fault.RunFault.{RunFault}
 use Rattle.facl_tools.specs.Tools.{Verdict}
+use Rattle.facl.specs.Costs.{all_pairs}
 use Rattle.facl.specs.Units.{answered}
 use Rattle.facl.specs.declared.status.Status.{Status}
 use Rattle.facl.specs.Runs.{EndsBy, RunsTo, has_refused}
 
-pub ends_by : (fault : ScriptFault) (verdict : Verdict) (begun : Result State RunFault) (start state : State) (remaining remaining' out out' err err' : Option (List ℕ))
-    → begun ≡ Ok start → IfSome remaining (λ script. StopsWith fault (answered verdict) start script state 0 0 remaining' out out' err err')
-    → EndsBy (run_fault_of_script fault) verdict begun remaining remaining' out out' err err'
-ends_by Read verdict begun start state remaining remaining' out out' err err' e h = record { start = start; starts = e; state = state; stops = h }
-ends_by Write verdict begun start state remaining remaining' out out' err err' e h = record { start = start; starts = e; state = state; stops = h }
-ends_by TooLong verdict begun start state remaining remaining' out out' err err' e h = record { start = start; starts = e; state = state; stops = h }
-ends_by NoMemory verdict begun start state remaining remaining' out out' err err' e h = inr (record { start = start; starts = e; state = state; stops = h })
+ended : (fault : ScriptFault) (verdict : Verdict) (begun : Result State RunFault) (start state : State) (asked : ℕ) (remaining remaining' out out' err err' : Option (List ℕ))
+    → begun ≡ Ok start → IfSome remaining (λ script. StopsWith fault (answered verdict) start script state (all_pairs start) asked remaining' out out' err err')
+    → EndsBy (run_fault_of_script fault) verdict begun asked remaining remaining' out out' err err'
+ended Read verdict begun start state asked remaining remaining' out out' err err' e h = record { start = start; starts = e; state = state; stops = h }
+ended Write verdict begun start state asked remaining remaining' out out' err err' e h = record { start = start; starts = e; state = state; stops = h }
+ended TooLong verdict begun start state asked remaining remaining' out out' err err' e h = record { start = start; starts = e; state = state; stops = h }
+ended NoMemory verdict begun start state asked remaining remaining' out out' err err' e h = inr (record { start = start; starts = e; state = state; stops = h })
+
+-- a script that stopped, of which all pairs were asked for by its start
+pub ends_by : (fault : ScriptFault) (verdict : Verdict) (begun : Result State RunFault) (start state : State) (asked asked' : ℕ) (remaining remaining' out out' err err' : Option (List ℕ))
+    → begun ≡ Ok start → asked ≡ all_pairs start → IfSome remaining (λ script. StopsWith fault (answered verdict) start script state asked asked' remaining' out out' err err')
+    → EndsBy (run_fault_of_script fault) verdict begun asked' remaining remaining' out out' err err'
+ends_by fault verdict begun start state asked asked' remaining remaining' out out' err err' e pairs h =
+    ended fault verdict begun start state asked' remaining remaining' out out' err err' e
+    (subst (λ n. IfSome remaining (λ script. StopsWith fault (answered verdict) start script state n asked' remaining' out out' err err')) pairs h)
 
 -- a script that was answered to its end
-pub runs_to : (verdict : Verdict) (begun : Result State RunFault) (start state : State) (refused : Bool) (status : Status) (remaining out out' err err' : Option (List ℕ))
-    → begun ≡ Ok start → has_refused status ≡ refused → IfSome remaining (λ script. Ends (answered verdict) start script refused state 0 0 out out' err err')
-    → IfSome remaining (λ script. RunsTo verdict begun script status out out' err err')
-runs_to verdict begun start state refused status None out out' err err' e is h = h
-runs_to verdict begun start state refused status (Some script) out out' err err' e is h = record {
+pub runs_to : (verdict : Verdict) (begun : Result State RunFault) (start state : State) (refused : Bool) (status : Status) (asked asked' : ℕ) (remaining out out' err err' : Option (List ℕ))
+    → begun ≡ Ok start → asked ≡ all_pairs start → has_refused status ≡ refused → IfSome remaining (λ script. Ends (answered verdict) start script refused state asked asked' out out' err err')
+    → IfSome remaining (λ script. RunsTo verdict begun script status asked' out out' err err')
+runs_to verdict begun start state refused status asked asked' None out out' err err' e pairs is h = h
+runs_to verdict begun start state refused status asked asked' (Some script) out out' err err' e pairs is h = record {
   start = start;
   starts = e;
-  answers = record { m = h.m; within = h.within; writes = h.gives.writes; status_is = is ∙ h.refused_is };
+  answers = record { m = h.m; within = h.within; writes = h.gives.writes; status_is = is ∙ h.refused_is; asks = omega (arith, h.gives.spends, pairs) };
 }

@@ -1,2 +1,3 @@
 pub mod Refusing
 pub mod Ending
+pub mod Ready

@@ -1,3 +1,4 @@
+pub mod Costs
 pub mod Units
 pub mod Sessions
 pub mod Setups

@@ -1,5 +1,5 @@
 -- What a run writes.
-use Rattle.std.specs.Prelude.{◌≡◌, ◌≤◌, ℕ, Bool, true, false, List, Option, Result, Ok, Err, ◌⊎◌, length, IfSome}
+use Rattle.std.specs.Prelude.{◌≡◌, ◌+◌, ◌≤◌, ℕ, Bool, true, false, List, Option, Result, Ok, Err, ◌⊎◌, length, IfSome}
 use Rattle.acl_tree.specs.Step.{State}
 use Rattle.facl_script.specs.Limits.{script_limit}
 use Rattle.facl_script.specs.Play.{session}
@@ -12,6 +12,7 @@ use Rattle.facl_messages.specs.declared.fault.RunFault.TheVariants.{Read, Write,
 use Rattle.facl.specs.declared.status.Status.{Status}
 use Rattle.facl.specs.declared.status.Status.TheVariants.{Accepted, Refused}
 use Rattle.facl_tools.specs.Tools.{Verdict}
+use Rattle.facl.specs.Costs.{all_pairs}
 use Rattle.facl.specs.Units.{answered}
 
 -- a line was refused
@@ -19,18 +20,20 @@ abbrev pub has_refused : Status → Bool
 has_refused Accepted = false
 has_refused Refused = true
 
--- The whole script was answered, for some units that wanted memory: out and err grew by what they do in turn.
-pub record Answers (verdict : Verdict) (start : State) (script : List ℕ) (status : Status) (out out' err err' : Option (List ℕ)) : Type 0 where
+-- The whole script was answered, for some units for which memory ran out: out and err grew by what they do in turn. No
+-- more verdicts were asked for than on every user and every file at the start, and what each unit costs.
+pub record Answers (verdict : Verdict) (start : State) (script : List ℕ) (status : Status) (asked : ℕ) (out out' err err' : Option (List ℕ)) : Type 0 where
   pub m : ℕ → Bool
   pub within : length script ≤ script_limit
   pub writes : Writes out out' err err' (session (answered verdict) m script start).out (session (answered verdict) m script start).err
   pub status_is : has_refused status ≡ (session (answered verdict) m script start).refused
+  pub asks : asked ≤ all_pairs start + (session (answered verdict) m script start).cost
 
--- The run began at this state, and answered the whole script.
-pub record RunsTo (verdict : Verdict) (begun : Result State RunFault) (script : List ℕ) (status : Status) (out out' err err' : Option (List ℕ)) : Type 0 where
+-- The run started at this state, and answered the whole script.
+pub record RunsTo (verdict : Verdict) (begun : Result State RunFault) (script : List ℕ) (status : Status) (asked : ℕ) (out out' err err' : Option (List ℕ)) : Type 0 where
   pub start : State
   pub starts : begun ≡ Ok start
-  pub answers : Answers verdict start script status out out' err err'
+  pub answers : Answers verdict start script status asked out out' err err'
 
 -- nothing was read and nothing written
 pub record IsUntouched (remaining remaining' out out' err err' : Option (List ℕ)) : Type 0 where
@@ -38,19 +41,20 @@ pub record IsUntouched (remaining remaining' out out' err err' : Option (List �
   pub writes_out : out' ≡ out
   pub writes_err : err' ≡ err
 
--- The run began at this state, and its script stopped so.
-pub record Stops (fault : ScriptFault) (verdict : Verdict) (begun : Result State RunFault) (remaining remaining' out out' err err' : Option (List ℕ)) : Type 0 where
+-- The run started at this state, and its script stopped so: no more verdicts were asked for than on every user and every
+-- file at the start, and what each unit costs that was read.
+pub record Stops (fault : ScriptFault) (verdict : Verdict) (begun : Result State RunFault) (asked : ℕ) (remaining remaining' out out' err err' : Option (List ℕ)) : Type 0 where
   pub start : State
   pub starts : begun ≡ Ok start
   pub state : State
-  pub stops : IfSome remaining (λ script. StopsWith fault (answered verdict) start script state 0 0 remaining' out out' err err')
+  pub stops : IfSome remaining (λ script. StopsWith fault (answered verdict) start script state (all_pairs start) asked remaining' out out' err err')
 
--- How a run that answers a fault has ended. Before the script nothing is read or written.
-abbrev pub EndsBy : RunFault → Verdict → Result State RunFault → (remaining remaining' out out' err err' : Option (List ℕ)) → Type 0
-EndsBy (Setup which fault) verdict begun remaining remaining' out out' err err' =
-    (begun ≡ Err (Setup which fault)) × IsUntouched remaining remaining' out out' err err'
-EndsBy NoMemory verdict begun remaining remaining' out out' err err' =
-    IsUntouched remaining remaining' out out' err err' ⊎ Stops scripts.NoMemory verdict begun remaining remaining' out out' err err'
-EndsBy Read verdict begun remaining remaining' out out' err err' = Stops scripts.Read verdict begun remaining remaining' out out' err err'
-EndsBy Write verdict begun remaining remaining' out out' err err' = Stops scripts.Write verdict begun remaining remaining' out out' err err'
-EndsBy ScriptTooLong verdict begun remaining remaining' out out' err err' = Stops scripts.TooLong verdict begun remaining remaining' out out' err err'
+-- How a run that returns a fault has ended. Before the script nothing is read or written.
+abbrev pub EndsBy : RunFault → Verdict → Result State RunFault → (asked : ℕ) (remaining remaining' out out' err err' : Option (List ℕ)) → Type 0
+EndsBy (Setup which fault) verdict begun asked remaining remaining' out out' err err' =
+    (begun ≡ Err (Setup which fault)) × (asked ≡ 0) × IsUntouched remaining remaining' out out' err err'
+EndsBy NoMemory verdict begun asked remaining remaining' out out' err err' =
+    IsUntouched remaining remaining' out out' err err' ⊎ Stops scripts.NoMemory verdict begun asked remaining remaining' out out' err err'
+EndsBy Read verdict begun asked remaining remaining' out out' err err' = Stops scripts.Read verdict begun asked remaining remaining' out out' err err'
+EndsBy Write verdict begun asked remaining remaining' out out' err err' = Stops scripts.Write verdict begun asked remaining remaining' out out' err err'
+EndsBy ScriptTooLong verdict begun asked remaining remaining' out out' err err' = Stops scripts.TooLong verdict begun asked remaining remaining' out out' err err'

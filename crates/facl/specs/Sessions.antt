@@ -1,30 +1,34 @@
--- What a contract sees of a session: its state, and what the last line says.
+-- What a contract sees of a session: its state, its index, and what the last line says.
 use Rattle.std.specs.Prelude.{◌≡◌, ℕ, Bool, false, if◌then◌else◌, List, []}
 use Rattle.acl_tree.specs.Step.{State}
+use Rattle.acl_rights.specs.Tables.{Table}
 use Rattle.facl_script.specs.Play.{Answer}
 use Rattle.facl.specs.declared.session.Facl.{Facl}
 
-abbrev pub state_of : Facl → State
-state_of f = f.state
+abbrev pub state_of : {J : Type 0} → Facl J → State
+state_of f = f.world.state
 
-abbrev pub out_of : Facl → List ℕ
+abbrev pub index_of : {J : Type 0} → Facl J → Table
+index_of f = f.world.index
+
+abbrev pub out_of : {J : Type 0} → Facl J → List ℕ
 out_of f = f.out.items
 
--- the last line found no memory
-abbrev pub wants_memory : Facl → Bool
+-- memory ran out for the last line
+abbrev pub wants_memory : {J : Type 0} → Facl J → Bool
 wants_memory f = f.lacks_memory
 
-abbrev pub err_of : Facl → List ℕ
+abbrev pub err_of : {J : Type 0} → Facl J → List ℕ
 err_of f = if f.lacks_memory then f.spare else f.err.items
 
 -- nothing is said yet
-pub record IsQuiet (f : Facl) : Type 0 where
+pub record IsQuiet {J : Type 0} (f : Facl J) : Type 0 where
   pub out : f.out.items ≡ []
   pub err : f.err.items ≡ []
   pub memory : f.lacks_memory ≡ false
 
 -- the session is at the state of the answer, and says what it says
-pub record Says (a : Answer State) (f : Facl) (is_refused : Bool) : Type 0 where
+pub record Says {J : Type 0} (a : Answer State) (f : Facl J) (is_refused : Bool) : Type 0 where
   pub state : state_of f ≡ a.state
   pub out : out_of f ≡ a.out
   pub err : err_of f ≡ a.err

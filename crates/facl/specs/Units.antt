@@ -1,5 +1,5 @@
 -- What a unit of a script does: a line, with its text if it takes one.
-use Rattle.std.specs.Prelude.{ℕ, Bool, true, false, if◌then◌else◌, List, [], ◌∷◌, Option, None, Some, Result, Ok, Err, option_and_then}
+use Rattle.std.specs.Prelude.{ℕ, Bool, true, false, if◌then◌else◌, List, [], ◌∷◌, Option, None, Some, Result, Ok, Err}
 use Rattle.facl_script.specs.Play.{Answer, quiet}
 use Rattle.facl_script.specs.Units.{ScriptUnit, UnitText, none, whole, too_long, unended}
 use Rattle.facl_script.specs.Words.{says_nothing, line_words}
@@ -14,8 +14,9 @@ use Rattle.facl_messages.specs.Faults.{line_fault_of_split}
 use Rattle.facl_messages.specs.Messages.{message, warning}
 use Rattle.facl_messages.specs.declared.fault.LineFault.{LineFault}
 use Rattle.facl_messages.specs.declared.fault.LineFault.TheVariants.{LineTooLong, UnknownTool, UnendedText, TextLineTooLong, Usage, NoMemory}
-use Rattle.facl_tools.specs.Replies.{Reply, after, or_fault, printed}
-use Rattle.facl_tools.specs.Tools.{Verdict, is_served, tool_line}
+use Rattle.facl_replies.specs.Replies.{Reply, after, or_fault, printed}
+use Rattle.facl_tools.specs.Tools.{Verdict, tool_line}
+use Rattle.facl.specs.Costs.{most_between}
 
 -- a line that is blank or a comment, as far as it is within the limit
 abbrev pub is_silent : Option (List ℕ) → Bool
@@ -32,12 +33,9 @@ split (Err fault) = Err (line_fault_of_split fault)
 abbrev pub words_said : Option (List ℕ) → Result (List Text) LineFault
 words_said line = after (or_fault LineTooLong line) (λ text. split (line_words text))
 
-abbrev pub if_served : Tool → Option Tool
-if_served tool = if is_served tool then Some tool else None
-
 -- the tool of a name
 abbrev pub tool_or_fault : Text → Result Tool LineFault
-tool_or_fault name = or_fault UnknownTool (option_and_then if_served (tool_named name))
+tool_or_fault name = or_fault UnknownTool (tool_named name)
 
 -- the text of a line, which is empty where it takes none
 abbrev pub text_or_fault : UnitText → Result (List ℕ) LineFault
@@ -61,7 +59,7 @@ abbrev pub reply : Verdict → State → UnitText → List Text → Result Reply
 reply verdict s text [] = Ok (printed s [])
 reply verdict s text (name ∷ words) = after (tool_or_fault name) (tool_reply verdict s text words)
 
--- a refused line leaves the state, and its message names its number, its tool and the fault
+-- a refused line leaves the state and costs nothing, and its message names its number, its tool and the fault
 abbrev pub refused : ℕ → Text → LineFault → State → Answer State
 refused number tool fault s = record { out = []; err = message number tool fault; state = s; refused = true; cost = 0 }
 
@@ -69,29 +67,30 @@ refused number tool fault s = record { out = []; err = message number tool fault
 abbrev pub warning_if : Bool → ℕ → List ℕ
 warning_if warns number = if warns then warning number else []
 
-abbrev pub accepted : ℕ → Reply → Answer State
-accepted number r = record { out = r.out; err = warning_if r.warns number; state = r.state; refused = false; cost = 0 }
+-- an accepted line costs the verdicts that its change can have changed
+abbrev pub accepted : ℕ → State → Reply → Answer State
+accepted number s r = record { out = r.out; err = warning_if r.warns number; state = r.state; refused = false; cost = most_between s r.state r.moved }
 
-abbrev pub told : ℕ → Text → State → Result Reply LineFault → Answer State
-told number tool s (Ok r) = accepted number r
-told number tool s (Err fault) = refused number tool fault s
+abbrev pub answer_of : ℕ → Text → State → Result Reply LineFault → Answer State
+answer_of number tool s (Ok r) = accepted number s r
+answer_of number tool s (Err fault) = refused number tool fault s
 
 -- the first word, which names the tool
 abbrev pub tool_word : List Text → Text
 tool_word [] = []
 tool_word (name ∷ words) = name
 
-abbrev pub told_of_words : Verdict → ScriptUnit → State → Result (List Text) LineFault → Answer State
-told_of_words verdict u s (Ok words) = told u.number (tool_word words) s (reply verdict s u.text words)
-told_of_words verdict u s (Err fault) = refused u.number [] fault s
+abbrev pub answer_of_words : Verdict → ScriptUnit → State → Result (List Text) LineFault → Answer State
+answer_of_words verdict u s (Ok words) = answer_of u.number (tool_word words) s (reply verdict s u.text words)
+answer_of_words verdict u s (Err fault) = refused u.number [] fault s
 
--- a line that wants memory is refused with that message
+-- a line that runs out of memory is refused with that message; the verdicts for its change may have been asked for by then
 abbrev pub unless_wanting : Bool → ℕ → State → Answer State → Answer State
-unless_wanting wants number s a = if wants then refused number [] NoMemory s else a
+unless_wanting wants number s a = if wants then record (refused number [] NoMemory s) { cost = a.cost } else a
 
 -- a line that says something is refused with its first fault, or does what it asks for
 abbrev pub answered_line : Verdict → Bool → ScriptUnit → State → Answer State
-answered_line verdict wants u s = unless_wanting wants u.number s (told_of_words verdict u s (words_said u.line))
+answered_line verdict wants u s = unless_wanting wants u.number s (answer_of_words verdict u s (words_said u.line))
 
 -- what a unit does at a state: nothing where it says nothing
 abbrev pub answered : Verdict → Bool → ScriptUnit → State → Answer State

@@ -1,39 +1,64 @@
 //! Lines are answered one by one.
 
 ghost use Rattle.std.specs.Prelude.{◌≡◌};
-ghost use Rattle.acl_entry.specs.Check.{rights};
+ghost use Rattle.facl.specs.Costs.{IsReady};
 ghost use Rattle.facl.specs.Units.{answered};
-ghost use Rattle.facl.specs.Sessions.{state_of, out_of, err_of};
+ghost use Rattle.facl.specs.Sessions.{state_of, index_of, out_of, err_of};
 
 use crate::line::is_silent;
 use crate::session::Facl;
+use acl_rights::Judge;
 use acl_tree::State;
 use facl_script::{Session, UnitFound};
 
-impl Session for Facl {
+/// A session with the judge that it asks, who is borrowed for the whole script. The session is a type parameter so that
+/// whoever lent the judge learns what became of it.
+pub(crate) struct Judged<'a, J, S> {
+    pub judge: &'a mut J,
+    pub session: S,
+}
+
+impl<'a, J, S: Drop> Drop for Judged<'a, J, S> {
+    fn drop(self)
+        ensures { self.exit.0.now ≡ self.entry.judge.now }
+    {
+        let Judged {
+            judge: _judge,
+            session: _session,
+        } = self;
+    }
+}
+
+impl<'a, J: Judge> Session for Judged<'a, J, Facl<J>> {
     type State = State;
 
-    ghost state = { state_of };
+    ghost state = { λ f. state_of f.session };
 
-    ghost answered = { answered rights };
+    ghost answered = { answered J.verdict_of };
 
-    ghost to_out = { out_of };
+    ghost spent = { λ f. J.asked_of f.judge.now };
 
-    ghost to_err = { err_of };
+    ghost is_ready = { λ n f. IsReady J.verdict_of (J.asked_of f.judge.now) n (state_of f.session) (index_of f.session) };
+
+    ghost held = { λ f. f.judge.ghost_name };
+
+    ghost to_out = { λ f. out_of f.session };
+
+    ghost to_err = { λ f. err_of f.session };
 
     fn answer(&mut self, unit: &UnitFound, line: &[u8], text: &[u8]) -> bool {
-        self.fall_silent();
+        self.session.fall_silent();
         if is_silent(unit.is_too_long, line) {
             return false;
         }
-        self.answer_line(unit, line, text)
+        self.session.answer_line(self.judge, unit, line, text)
     }
 
     fn out(&self) -> &[u8] {
-        self.printed()
+        self.session.printed()
     }
 
     fn err(&self) -> &[u8] {
-        self.message()
+        self.session.message()
     }
 }

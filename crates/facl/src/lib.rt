@@ -11,12 +11,14 @@ mod program;
 mod session;
 mod setup;
 mod status;
+mod world;
 
+pub use acl_rights::{Judge, Posix};
 pub use facl_messages::{LineFault, RunFault, Source, append_message, append_run_fault};
 pub use facl_script::{Feed, Sink, StdFeed, StdSink};
 pub use facl_words::{
     Flags, Operands, Tool, Values, Word, Words, WordsFault, places, read_args, read_words,
 };
-pub use program::run;
+pub use program::{run, run_judged};
 pub use setup::Setup;
 pub use status::Status;

@@ -1,17 +1,19 @@
 //! A line of a script: its words, its tool, its text, and what they do.
 
-ghost use Rattle.std.specs.Prelude.{◌≡◌, ℕ, List, Option, map, string_bytes};
-ghost use Rattle.acl_entry.specs.Check.{rights};
+ghost use Rattle.std.specs.Prelude.{◌≡◌, ℕ, List, Option, IfOk, map, string_bytes};
 ghost use Rattle.facl_script.specs.Units.{UnitText};
 ghost use Rattle.facl_script.specs.ReadText.{IsTextFound};
 ghost use Rattle.facl_script.specs.ReadUnit.{IsLineFound};
-ghost use Rattle.facl_tools.specs.Replies.{Gives, left};
+ghost use Rattle.acl_rights.specs.Tables.{IsWhole};
+ghost use Rattle.facl_replies.specs.Replies.{Gives, IsPrepared, Replies};
 ghost use Rattle.facl.specs.Units.{is_silent, words_said, tool_or_fault, text_or_fault, words_or_fault, tool_reply, reply, tool_word};
 
-use acl_tree::State;
+use crate::world::World;
+use acl_rights::Judge;
 use facl_messages::LineFault;
 use facl_script::{TextFound, says_nothing, split_words};
-use facl_tools::{Effect, is_served, tool_line};
+use facl_replies::Effect;
+use facl_tools::tool_line;
 use facl_words::{Tool, Words, read_words};
 use std::alloc::Global;
 
@@ -41,8 +43,8 @@ fn tool_meant(name: &str) -> Result<Tool, LineFault>
     ensures { result ≡ tool_or_fault name.now }
 {
     match Tool::named(name) {
-        Some(tool) if is_served(tool) => Ok(tool),
-        _ => Err(LineFault::UnknownTool),
+        Some(tool) => Ok(tool),
+        None => Err(LineFault::UnknownTool),
     }
 }
 
@@ -77,36 +79,40 @@ fn words_meant(alloc: Global, tool: Tool, words: &[String]) -> Result<Words, Lin
 }
 
 /// What a tool does at a state with the text of a line and the words after its name.
-fn tool_reply(
+fn tool_reply<J: Judge>(
     alloc: Global,
-    state: &State,
+    world: &World<J>,
     found: TextFound,
     text: &[u8],
     words: &[String],
     tool: Tool,
 ) -> Result<Effect, LineFault>
-    ensures { (said : UnitText) → IsTextFound found text.now said
-        → Gives (left state.now) result (tool_reply rights state.now said (map string_bytes words.now) tool) }
+    requires { IsWhole J.verdict_of world.now.state world.now.index }
+    ensures replies { (said : UnitText) → IsTextFound found text.now said
+        → Replies world.now.state result (tool_reply J.verdict_of world.now.state said (map string_bytes words.now) tool) }
+    ensures prepared { IfOk result (λ effect. IsPrepared world.now.state effect.staged) }
 {
     let text = text_said(found, text)?;
     let words = words_meant(alloc, tool, words)?;
-    tool_line(alloc, state, tool, &words, text)
+    tool_line(alloc, &world.state, &world.index, tool, &words, text)
 }
 
 /// What the words of a line do at a state.
-pub(crate) fn reply(
+pub(crate) fn reply<J: Judge>(
     alloc: Global,
-    state: &State,
+    world: &World<J>,
     found: TextFound,
     text: &[u8],
     words: &[String],
 ) -> Result<Effect, LineFault>
-    ensures { (said : UnitText) → IsTextFound found text.now said
-        → Gives (left state.now) result (reply rights state.now said (map string_bytes words.now)) }
+    requires { IsWhole J.verdict_of world.now.state world.now.index }
+    ensures replies { (said : UnitText) → IsTextFound found text.now said
+        → Replies world.now.state result (reply J.verdict_of world.now.state said (map string_bytes words.now)) }
+    ensures prepared { IfOk result (λ effect. IsPrepared world.now.state effect.staged) }
 {
     let [name, words @ ..] = words else {
         return Ok(Effect::prints(Vec::new(alloc)));
     };
     let tool = tool_meant(name)?;
-    tool_reply(alloc, state, found, text, words, tool)
+    tool_reply(alloc, world, found, text, words, tool)
 }

@@ -1,32 +1,77 @@
 //! A run over a script.
 
-ghost use Rattle.std.specs.Prelude.{◌≡◌, ◌⊎◌, true, false, IfOk, IfErr, IfSome, OnOk, Err};
+ghost use Rattle.std.specs.Prelude.{◌≡◌, ◌⊎◌, ℕ, true, false, IfOk, IfErr, IfSome, OnOk, Err};
 ghost use Rattle.std.specs.Io.KnownBytes.{IsAtEnd};
 ghost use Rattle.acl_entry.specs.Check.{rights};
 ghost use Rattle.facl.specs.Setups.{begun};
 ghost use Rattle.facl.specs.Runs.{RunsTo, EndsBy};
 
+use crate::answer::Judged;
 use crate::session::Facl;
 use crate::setup::{Setup, start};
 use crate::status::Status;
+use acl_rights::{Judge, Posix};
 use facl_messages::RunFault;
 use facl_script::{Feed, Sink, run_session};
 use std::alloc::Global;
+
+/// [`run`] with a judge of who may do what in the place of acl(5)'s check. The index asks the judge about every user and
+/// every file once, then for each line that changes the state at most for the verdicts that the change can have changed;
+/// a question, a `--test` and a refused line ask for none.
+///
+/// # Errors
+///
+/// Those of [`run`].
+pub fn run_judged<J: Judge, R: Feed, O: Sink, E: Sink>(
+    alloc: Global,
+    setup: &Setup<'_>,
+    judge: &mut J,
+    reader: &mut R,
+    out: &mut O,
+    err: &mut E,
+) -> Result<Status, RunFault>
+    requires asked { J.asked_of judge.old ≡ 0 }
+    requires reader { R.has_failed reader.old ≡ false }
+    requires out { O.has_failed out.old ≡ false }
+    requires err { E.has_failed err.old ≡ false }
+
+    ensures ok { IfOk result (λ status. IfSome (R.remaining reader.old) (λ script.
+        RunsTo J.verdict_of (begun setup.now) script status (J.asked_of judge.new)
+        (O.contents out.old) (O.contents out.new) (E.contents err.old) (E.contents err.new))) }
+    ensures fault { IfErr result (λ fault.
+        EndsBy fault J.verdict_of (begun setup.now) (J.asked_of judge.new) (R.remaining reader.old) (R.remaining reader.new)
+        (O.contents out.old) (O.contents out.new) (E.contents err.old) (E.contents err.new)) }
+
+    // A status comes only once the reader is at its end, and where no device has failed.
+    ensures end { OnOk result (IsAtEnd (R.remaining reader.new)) }
+    ensures works { OnOk result ((R.has_failed reader.new ≡ false)
+        × (O.has_failed out.new ≡ false) × (E.has_failed err.new ≡ false)) }
+
+    // A fault of a device is returned only where that device has failed.
+    ensures read { result ≡ Err RunFault.Read → R.has_failed reader.new ≡ true }
+    ensures write { result ≡ Err RunFault.Write → (O.has_failed out.new ≡ true) ⊎ (E.has_failed err.new ≡ true) }
+{
+    let state = start(alloc, setup)?;
+    let session = Facl::new(alloc, judge, state)?;
+    let mut judged = Judged { judge, session };
+    let is_refused = run_session(alloc, &mut judged, reader, out, err)?;
+    Ok(Status::of(is_refused))
+}
 
 /// Loads the setup's texts, then answers a script: reads it line by line, and writes what each line prints to `out`, and
 /// the message of each refused line to `err`, before the next line is read.
 ///
 /// What is written are the bytes of the session made from scratch: the definition of each accepted line replayed on the
 /// loaded texts, every question judged by acl(5)'s check. A refused line changes nothing, and its message names its
-/// first fault. This is said of a reader and of writers that tell their bytes, as those over memory do; of the streams
+/// first fault. This is proved for a reader and writers that tell their bytes, as those over memory do; of the streams
 /// of a system no contract can say what they give or take.
 ///
 /// # Errors
 ///
-/// `Setup` tells the first text that is refused: nothing is read or written then. `Read`, `Write` and `ScriptTooLong`
-/// tell why the script was not answered to its end, `NoMemory` that no memory was there for the setup, for the room of
-/// the `no memory` message, or for a line while it was read (a line whose answer finds none is refused alone). What was
-/// written by then is the beginning of the session.
+/// `Setup` is the first text that is refused: nothing is read or written then. `Read`, `Write` and `ScriptTooLong`
+/// are why the script was not answered to its end. `NoMemory`: memory ran out for the setup, for the room of the
+/// `no memory` message, or for a line while it was read (a line whose answer finds none is refused alone). What was
+/// written by then is the start of the session.
 pub fn run<R: Feed, O: Sink, E: Sink>(
     alloc: Global,
     setup: &Setup<'_>,
@@ -38,11 +83,11 @@ pub fn run<R: Feed, O: Sink, E: Sink>(
     requires out { O.has_failed out.old ≡ false }
     requires err { E.has_failed err.old ≡ false }
 
-    ensures ok { IfOk result (λ status. IfSome (R.remaining reader.old) (λ script.
-        RunsTo rights (begun setup.now) script status
+    ensures ok { IfOk result (λ status. IfSome (R.remaining reader.old) (λ script. (asked : ℕ)
+        × RunsTo rights (begun setup.now) script status asked
         (O.contents out.old) (O.contents out.new) (E.contents err.old) (E.contents err.new))) }
-    ensures fault { IfErr result (λ fault.
-        EndsBy fault rights (begun setup.now) (R.remaining reader.old) (R.remaining reader.new)
+    ensures fault { IfErr result (λ fault. (asked : ℕ)
+        × EndsBy fault rights (begun setup.now) asked (R.remaining reader.old) (R.remaining reader.new)
         (O.contents out.old) (O.contents out.new) (E.contents err.old) (E.contents err.new)) }
 
     // A status comes only once the reader is at its end, and where no device has failed.
@@ -50,12 +95,10 @@ pub fn run<R: Feed, O: Sink, E: Sink>(
     ensures works { OnOk result ((R.has_failed reader.new ≡ false)
         × (O.has_failed out.new ≡ false) × (E.has_failed err.new ≡ false)) }
 
-    // A fault of a device is told only where that device has failed.
+    // A fault of a device is returned only where that device has failed.
     ensures read { result ≡ Err RunFault.Read → R.has_failed reader.new ≡ true }
     ensures write { result ≡ Err RunFault.Write → (O.has_failed out.new ≡ true) ⊎ (E.has_failed err.new ≡ true) }
 {
-    let state = start(alloc, setup)?;
-    let mut session = Facl::new(alloc, state)?;
-    let is_refused = run_session(alloc, &mut session, reader, out, err)?;
-    Ok(Status::of(is_refused))
+    let mut judge = Posix::new();
+    run_judged(alloc, setup, &mut judge, reader, out, err)
 }

@@ -1,27 +1,29 @@
-//! The session of a script: the state, and what the last line says.
+//! The session of a script: the state with its index, and what the last line says.
 
-ghost use Rattle.std.specs.Prelude.{◌≡◌, ℕ, [], true, false, map, string_bytes, IfOk};
-ghost use Rattle.acl_entry.specs.Check.{rights};
+ghost use Rattle.std.specs.Prelude.{◌≡◌, ◌+◌, ◌≤◌, ℕ, [], true, false, map, string_bytes, IfOk, OnOk, OnErr};
 ghost use Rattle.facl_script.specs.Units.{ScriptUnit, UnitText};
 ghost use Rattle.facl_script.specs.ReadText.{IsTextFound};
 ghost use Rattle.facl_script.specs.ReadUnit.{IsUnitFound};
 ghost use Rattle.facl_messages.specs.declared.fault.LineFault.TheVariants.{NoMemory};
-ghost use Rattle.facl_tools.specs.Replies.{left};
-ghost use Rattle.facl.specs.Units.{accepted, refused, told, reply, tool_word, unless_wanting, warning_if, answered_line};
-ghost use Rattle.facl.specs.Sessions.{state_of, out_of, err_of, wants_memory, IsQuiet, Says};
+ghost use Rattle.facl_replies.specs.Replies.{left, IsPrepared};
+ghost use Rattle.facl.specs.Costs.{IsReady, IsReadyAfter, all_pairs};
+ghost use Rattle.facl.specs.Units.{accepted, refused, answer_of, reply, tool_word, unless_wanting, warning_if, answered_line};
+ghost use Rattle.facl.specs.Sessions.{state_of, index_of, out_of, err_of, wants_memory, IsQuiet, Says};
 
 use crate::line::{reply, tool_word, words_said};
+use crate::world::World;
+use acl_rights::Judge;
 use acl_tree::State;
 use facl_messages::{LineFault, Spare, append_message, append_warning};
 use facl_script::{TextFound, UnitFound};
-use facl_tools::Effect;
+use facl_replies::Effect;
 use std::alloc::{AllocError, Global};
 
-/// The state of a script, and what its last line says.
+/// The state of a script with its index, and what its last line says.
 #[derive(Drop)]
-pub(crate) struct Facl {
+pub(crate) struct Facl<J> {
     alloc: Global,
-    state: State,
+    world: World<J>,
     out: Vec<u8>,
     err: Vec<u8>,
     spare: Spare,
@@ -39,17 +41,22 @@ fn warning_if(alloc: Global, warns: bool, number: u64) -> Result<Vec<u8>, AllocE
     Ok(text)
 }
 
-impl Facl {
-    /// A session that begins at a state.
-    pub fn new(alloc: Global, state: State) -> Result<Facl, AllocError>
-        ensures { IfOk result (λ facl. state_of facl ≡ state) }
+impl<J: Judge> Facl<J> {
+    /// A session that starts at a state: the judge is asked about every user and every file.
+    pub fn new(alloc: Global, judge: &mut J, state: State) -> Result<Facl<J>, AllocError>
+        requires { J.asked_of judge.old ≡ 0 }
+        ensures state { IfOk result (λ facl. state_of facl ≡ state) }
+        ensures ready { IfOk result (λ facl. IsReady J.verdict_of (J.asked_of judge.new) 1 (state_of facl) (index_of facl)) }
+        ensures asked { OnOk result (J.asked_of judge.new ≡ all_pairs state) }
     {
+        let spare = Spare::new(alloc)?;
+        let world = World::new(alloc, judge, state)?;
         Ok(Facl {
             alloc,
-            state,
+            world,
             out: Vec::new(alloc),
             err: Vec::new(alloc),
-            spare: Spare::new(alloc)?,
+            spare,
             lacks_memory: false,
         })
     }
@@ -57,76 +64,99 @@ impl Facl {
     /// Forgets what the last line said.
     pub fn fall_silent(&mut self)
         ensures quiet { IsQuiet self.new }
-        ensures state { state_of self.new ≡ state_of self.old }
+        ensures world { self.new.world ≡ self.old.world }
     {
         self.out.clear();
         self.err.clear();
         self.lacks_memory = false;
     }
 
-    /// Refuses a line. The message of a line that wants memory takes none.
+    /// Refuses a line. The message of a line for which memory ran out takes none.
     fn refuse(&mut self, number: u64, tool: &[u8], fault: &LineFault)
         requires { IsQuiet self.old }
         ensures says { Says (unless_wanting (wants_memory self.new) number (state_of self.old)
             (refused number tool.now fault.now (state_of self.old))) self.new true }
         ensures memory { fault.now ≡ NoMemory → wants_memory self.new ≡ true }
+        ensures world { self.new.world ≡ self.old.world }
     {
-        let is_told = !matches!(fault, LineFault::NoMemory)
+        let has_message = !matches!(fault, LineFault::NoMemory)
             && append_message(&mut self.err, number, tool, fault).is_ok();
-        if !is_told {
+        if !has_message {
             self.lacks_memory = true;
             self.spare.put_no_memory(number);
         }
     }
 
-    /// Does what an accepted line does, which warns of this. It takes no memory.
-    fn do_line(&mut self, effect: Effect, warning: Vec<u8>)
-        requires { IsQuiet self.old }
-        ensures says { (number : ℕ) → warning.items ≡ warning_if effect.warns number
-            → Says (accepted number (left (state_of self.old) effect)) self.new false }
+    /// Does what an accepted line does, and says it. Fails only if memory runs out; then nothing is done.
+    fn do_line(&mut self, judge: &mut J, number: u64, effect: Effect) -> Result<(), AllocError>
+        requires quiet { IsQuiet self.old }
+        requires ready { IsReady J.verdict_of (J.asked_of judge.old) number (state_of self.old) (index_of self.old) }
+        requires prepared { IsPrepared (state_of self.old) effect.staged }
+        ensures says { OnOk result (Says (accepted number (state_of self.old) (left (state_of self.old) effect)) self.new false) }
         ensures memory { wants_memory self.new ≡ false }
+        ensures quiet { OnErr result (IsQuiet self.new) }
+        ensures unchanged { OnErr result (state_of self.new ≡ state_of self.old) }
+        ensures asked { J.asked_of judge.new ≤ J.asked_of judge.old + (accepted number (state_of self.old) (left (state_of self.old) effect)).cost }
+        ensures ready { IsReadyAfter J.verdict_of (J.asked_of judge.new) number (state_of self.new) (index_of self.new) }
     {
+        let warning = match warning_if(self.alloc, effect.warns, number) {
+            Ok(warning) => warning,
+            Err(refused) => {
+                effect.discard();
+                return Err(refused);
+            }
+        };
         let Effect {
             out,
             staged,
             warns: _,
         } = effect;
+        self.world.accept_if(self.alloc, judge, staged)?;
         self.out = out;
         self.err = warning;
-        if let Some(staged) = staged {
-            self.state.commit(staged);
-        }
+        Ok(())
     }
 
-    /// Does what an accepted line does, and says whether it is refused, for there is no memory for its warning.
-    fn accept(&mut self, number: u64, effect: Effect) -> bool
-        requires { IsQuiet self.old }
-        ensures { Says (unless_wanting (wants_memory self.new) number (state_of self.old)
-            (accepted number (left (state_of self.old) effect))) self.new result }
+    /// Does what an accepted line does, or refuses it if memory runs out. Returns whether it is refused.
+    fn accept(&mut self, judge: &mut J, number: u64, effect: Effect) -> bool
+        requires quiet { IsQuiet self.old }
+        requires ready { IsReady J.verdict_of (J.asked_of judge.old) number (state_of self.old) (index_of self.old) }
+        requires prepared { IsPrepared (state_of self.old) effect.staged }
+        ensures says { Says (unless_wanting (wants_memory self.new) number (state_of self.old)
+            (accepted number (state_of self.old) (left (state_of self.old) effect))) self.new result }
+        ensures asked { J.asked_of judge.new ≤ J.asked_of judge.old + (accepted number (state_of self.old) (left (state_of self.old) effect)).cost }
+        ensures ready { IsReadyAfter J.verdict_of (J.asked_of judge.new) number (state_of self.new) (index_of self.new) }
     {
-        match warning_if(self.alloc, effect.warns, number) {
-            Ok(warning) => {
-                self.do_line(effect, warning);
-                false
-            }
-            Err(_) => {
-                effect.discard();
-                self.refuse(number, b"", &LineFault::NoMemory);
-                true
-            }
+        let is_refused = self.do_line(judge, number, effect).is_err();
+        if is_refused {
+            self.refuse(number, b"", &LineFault::NoMemory);
         }
+        is_refused
     }
 
-    /// Answers a line by its words, and tells whether it is refused.
-    fn answer_words(&mut self, number: u64, found: TextFound, text: &[u8], words: &[String]) -> bool
-        requires { IsQuiet self.old }
-        ensures { (said : UnitText) → IsTextFound found text.now said
+    /// Answers a line by its words, and returns whether it is refused.
+    fn answer_words(
+        &mut self,
+        judge: &mut J,
+        number: u64,
+        found: TextFound,
+        text: &[u8],
+        words: &[String],
+    ) -> bool
+        requires quiet { IsQuiet self.old }
+        requires ready { IsReady J.verdict_of (J.asked_of judge.old) number (state_of self.old) (index_of self.old) }
+        ensures says { (said : UnitText) → IsTextFound found text.now said
             → Says (unless_wanting (wants_memory self.new) number (state_of self.old)
-            (told number (tool_word (map string_bytes words.now)) (state_of self.old)
-            (reply rights (state_of self.old) said (map string_bytes words.now)))) self.new result }
+            (answer_of number (tool_word (map string_bytes words.now)) (state_of self.old)
+            (reply J.verdict_of (state_of self.old) said (map string_bytes words.now)))) self.new result }
+        ensures asked { (said : UnitText) → IsTextFound found text.now said
+            → J.asked_of judge.new ≤ J.asked_of judge.old
+            + (answer_of number (tool_word (map string_bytes words.now)) (state_of self.old)
+            (reply J.verdict_of (state_of self.old) said (map string_bytes words.now))).cost }
+        ensures ready { IsReadyAfter J.verdict_of (J.asked_of judge.new) number (state_of self.new) (index_of self.new) }
     {
-        match reply(self.alloc, &self.state, found, text, words) {
-            Ok(effect) => self.accept(number, effect),
+        match reply(self.alloc, &self.world, found, text, words) {
+            Ok(effect) => self.accept(judge, number, effect),
             Err(fault) => {
                 self.refuse(number, tool_word(words), &fault);
                 true
@@ -134,14 +164,24 @@ impl Facl {
         }
     }
 
-    /// Answers a line that is neither blank nor a comment, and tells whether it is refused.
-    pub fn answer_line(&mut self, unit: &UnitFound, line: &[u8], text: &[u8]) -> bool
-        requires { IsQuiet self.old }
-        ensures { (u : ScriptUnit) → IsUnitFound unit.now line.now text.now u
-            → Says (answered_line rights (wants_memory self.new) u (state_of self.old)) self.new result }
+    /// Answers a line that is neither blank nor a comment, and returns whether it is refused.
+    pub fn answer_line(
+        &mut self,
+        judge: &mut J,
+        unit: &UnitFound,
+        line: &[u8],
+        text: &[u8],
+    ) -> bool
+        requires quiet { IsQuiet self.old }
+        requires ready { IsReady J.verdict_of (J.asked_of judge.old) unit.now.number (state_of self.old) (index_of self.old) }
+        ensures says { (u : ScriptUnit) → IsUnitFound unit.now line.now text.now u
+            → Says (answered_line J.verdict_of (wants_memory self.new) u (state_of self.old)) self.new result }
+        ensures asked { (u : ScriptUnit) → IsUnitFound unit.now line.now text.now u
+            → J.asked_of judge.new ≤ J.asked_of judge.old + (answered_line J.verdict_of (wants_memory self.new) u (state_of self.old)).cost }
+        ensures ready { IsReadyAfter J.verdict_of (J.asked_of judge.new) unit.now.number (state_of self.new) (index_of self.new) }
     {
         match words_said(self.alloc, unit.is_too_long, line) {
-            Ok(words) => self.answer_words(unit.number, unit.text, text, &words),
+            Ok(words) => self.answer_words(judge, unit.number, unit.text, text, &words),
             Err(fault) => {
                 self.refuse(unit.number, b"", &fault);
                 true

@@ -35,13 +35,15 @@ IsUnloaded bytes_of words NoMemory = ⊤
 pub record Ran (bytes_of : List ℕ → Bytes) (words : List (List ℕ)) (script : List ℕ) (status : Status) (out out' err err' : Option (List ℕ)) : Type 0 where
   pub setup : Setup
   pub texts : HaveTexts bytes_of words (setup_texts setup)
-  pub runs : RunsTo rights (begun setup) script status out out' err err'
+  pub asked : ℕ
+  pub runs : RunsTo rights (begun setup) script status asked out out' err err'
 
 -- The texts of the files that the words name were there, and then the run ended by a fault.
 pub record Stopped (fault : RunFault) (bytes_of : List ℕ → Bytes) (words : List (List ℕ)) (remaining remaining' out out' err err' : Option (List ℕ)) : Type 0 where
   pub setup : Setup
   pub texts : HaveTexts bytes_of words (setup_texts setup)
-  pub ends : EndsBy fault rights (begun setup) remaining remaining' out out' err err'
+  pub asked : ℕ
+  pub ends : EndsBy fault rights (begun setup) asked remaining remaining' out out' err err'
 
 -- how the program ends by a fault: before the run nothing is read of the script and nothing written
 abbrev pub FailsBy : ProgramFault → (List ℕ → Bytes) → List (List ℕ) → (remaining remaining' out out' err err' : Option (List ℕ)) → Type 0

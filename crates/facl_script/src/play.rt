@@ -31,6 +31,10 @@ pub trait Session {
     /// What a session needs to hold before the line with a number is answered, so that its counts fit.
     ghost is_ready: { ℕ → Self → Type 0 } = { λ _ _. Unit {0} };
 
+    /// The name of the reference that a session holds to what it spends from, if it holds one: whoever lent it knows it
+    /// again by that name.
+    ghost held: { Self → ℕ } = { λ _. 0 };
+
     /// What the last unit writes to the output.
     ghost to_out: { Self → List ℕ };
 
@@ -45,7 +49,8 @@ pub trait Session {
             → (wants : Bool)
             × IsAnswer (answered wants u (state self.old)) (state self.new) (spent self.old) (spent self.new)
             (to_out self.new) (to_err self.new) result }
-        ensures ready { (n : ℕ) → unit.now.number < n → n ≤ script_limit + 1 → is_ready n self.new };
+        ensures ready { (n : ℕ) → unit.now.number < n → n ≤ script_limit + 1 → is_ready n self.new }
+        ensures held { held self.new ≡ held self.old };
 
     /// What the last unit writes to the output.
     fn out(&self) -> &[u8]
@@ -84,6 +89,7 @@ fn answer_unit<S: Session, O: Sink, E: Sink>(
     ensures failed { OnErr result ((O.has_failed out.new ≡ true) ⊎ (E.has_failed err.new ≡ true)) }
     ensures which { IfErr result (λ e. e ≡ ScriptFault.Write) }
     ensures ready { (n : ℕ) → unit.now.number < n → n ≤ script_limit + 1 → S.is_ready n session.new }
+    ensures held { S.held session.new ≡ S.held session.old }
 {
     let is_refused = session.answer(unit, script.line(), script.text());
     say(out, err, session.out(), session.err())?;
@@ -124,6 +130,9 @@ pub fn run_session<S: Session, R: Feed, O: Sink, E: Sink>(
         × (O.has_failed out.new ≡ false) × (E.has_failed err.new ≡ false)) }
     ensures read { result ≡ Err ScriptFault.Read → R.has_failed reader.new ≡ true }
     ensures write { result ≡ Err ScriptFault.Write → (O.has_failed out.new ≡ true) ⊎ (E.has_failed err.new ≡ true) }
+
+    // What the session holds is what it was given.
+    ensures held { S.held session.new ≡ S.held session.old }
 {
     let mut script = Script::new(alloc);
     let mut is_refused = false;

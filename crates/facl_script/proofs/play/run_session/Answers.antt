@@ -23,6 +23,7 @@ loop-script-init g c = record {
   gives = record { writes = record { out_grows = Appends-nil _; err_grows = Appends-nil _ }; state_is = refl; spends = omega arith };
   refused = refl;
   count = c.new-script.ensures.taken;
+  held = refl;
 }
 
 pub returns-clause-ok : goal.returns-clause-ok
@@ -130,4 +131,5 @@ loop-script-preserved g c =
           (g.E.Sink.contents c.args.err.now) (g.E.Sink.contents c.loop-script.err) (g.E.Sink.contents c.answer_unit.new.err) inv.gives h.1;
       refused = rw (inv.refused, h.2) refl;
       count = omega (arith, next.count, inv.count, length-append inv.taken piece);
+      held = c.answer_unit.ensures.held ∙ inv.held;
     }

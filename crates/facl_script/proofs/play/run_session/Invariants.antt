@@ -21,6 +21,7 @@ invariant-loop-script g l = record {
   gives : Gives told (g.S.Session.state l.session) (g.S.Session.spent l.fn.session) (g.S.Session.spent l.session) (g.O.Sink.contents l.fn.out) (g.O.Sink.contents l.out) (g.E.Sink.contents l.fn.err) (g.E.Sink.contents l.err);
   refused : l.is_refused ≡ told.refused;
   count : script_taken l.script ≡ length taken;
+  held : g.S.Session.held l.session ≡ g.S.Session.held l.fn.session;
 }
 
 abbrev pub decreases-loop-script : goal.decreases-loop-script

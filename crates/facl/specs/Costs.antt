@@ -1,0 +1,31 @@
+-- How many verdicts a line asks of the judge.
+use Rattle.std.specs.Prelude.{ℕ, ◌+◌, ◌*◌, ◌^◌, ◌<◌, ◌≤◌, length}
+use Rattle.acl_tree.specs.Changed.{changed_between}
+use Rattle.acl_tree.specs.Step.{State}
+use Rattle.acl_tree.specs.declared.moved.UsersMove.{UsersMove}
+use Rattle.facl_script.specs.Limits.{script_limit}
+use Rattle.acl_rights.specs.Tables.{Verdict, Table, IsWhole}
+use Rattle.acl_rights.specs.Stages.{moves_asked}
+
+-- every user on every file
+abbrev pub all_pairs : State → ℕ
+all_pairs s = length s.tree.files * length s.people.users
+
+-- the most verdicts that a line costs, by the states before and after it and by how it moves the users: all users on
+-- each file that it changed, and those that the move can have changed
+abbrev pub most_between : State → State → UsersMove → ℕ
+most_between old new move = length (changed_between old.tree.files new.tree.files) * length new.people.users + moves_asked move new.tree.files
+
+-- 65,536 users on 1,048,576 files
+abbrev pub most_pairs : ℕ
+most_pairs = 2 ^ 36
+
+-- the index is the whole table of the state, and the count leaves room for the line with this number and those after it
+pub record IsReady (V : Verdict) (asked number : ℕ) (s : State) (index : Table) : Type 0 where
+  pub whole : IsWhole V s index
+  pub few : asked ≤ number * most_pairs
+  pub within : number ≤ script_limit + 1
+
+-- it is so for every line after the one with this number
+abbrev pub IsReadyAfter : Verdict → (asked number : ℕ) → State → Table → Type 0
+IsReadyAfter V asked number s index = (n : ℕ) → number < n → n ≤ script_limit + 1 → IsReady V asked n s index
