@@ -27,12 +27,18 @@ mod mixed_rows;
 #[cfg(test)]
 mod modes;
 #[cfg(test)]
+mod questions;
+#[cfg(test)]
 mod restores;
 #[cfg(test)]
 mod rows;
 #[cfg(test)]
+mod searches;
+#[cfg(test)]
 mod setups;
 #[cfg(test)]
 mod texts;
+#[cfg(test)]
+mod verdicts;
 #[cfg(test)]
 mod whole_lists;

@@ -103,6 +103,91 @@ user::rwx\n\
 group::r-x\n\
 other::r-x\n";
 
+/// Two names of one id, a name of digits alone, a name with a space, and a row of a name that came before.
+const NAMES_PASSWD: &[u8] = b"root:x:0:0:root:/root:/bin/sh\n\
+toor:x:0:0:root:/root:/bin/sh\n\
+12:x:500:50:Twelve:/:/bin/sh\n\
+al b:x:2000:50:Al:/:/bin/sh\n\
+root:x:7:7:another:/:/bin/sh\n";
+
+const NAMES_DUMP: &[u8] = b"# file: b\n\
+# owner: 0\n\
+# group: staff\n\
+user::rw-\n\
+group::r--\n\
+other::---\n";
+
+const JOE: &[u8] = b"joe:x:1000:100:Joe:/home/joe:/bin/sh\n";
+
+/// Directories that are empty, have a file below, or have a default list.
+const FOLDERS_DUMP: &[u8] = b"# file: x\\012y\n\
+# owner: joe\n\
+# group: users\n\
+user::rwx\n\
+group::---\n\
+other::---\n\
+\n\
+# file: e/\n\
+# owner: joe\n\
+# group: users\n\
+user::rwx\n\
+group::---\n\
+other::---\n\
+\n\
+# file: a.b\n\
+# owner: joe\n\
+# group: users\n\
+user::rwx\n\
+group::---\n\
+other::---\n\
+\n\
+# file: a/b\n\
+# owner: joe\n\
+# group: users\n\
+user::rwx\n\
+group::---\n\
+other::---\n\
+\n\
+# file: c\n\
+# owner: joe\n\
+# group: users\n\
+user::rwx\n\
+group::---\n\
+other::---\n\
+default:user::rwx\n\
+default:group::---\n\
+default:other::---\n\
+\n\
+# file: a\n\
+# owner: joe\n\
+# group: users\n\
+user::rwx\n\
+group::---\n\
+other::---\n";
+
+/// A file without its directory.
+const ALONE_DUMP: &[u8] = b"# file: a/b\n\
+# owner: lisa\n\
+# group: staff\n\
+user::rw-\n\
+group::r--\n\
+other::---\n";
+
+/// A directory, and a file below one that is not recorded.
+const GAP_DUMP: &[u8] = b"# file: srv/\n\
+# owner: lisa\n\
+# group: staff\n\
+user::rwx\n\
+group::r-x\n\
+other::---\n\
+\n\
+# file: srv/project/f\n\
+# owner: lisa\n\
+# group: staff\n\
+user::rw-\n\
+group::r--\n\
+other::r--\n";
+
 pub const NOTHING: Setup<'static> = Setup {
     passwd: None,
     group: None,
@@ -156,4 +241,32 @@ pub const GREATEST: Setup<'static> = Setup {
     passwd: Some(PASSWD),
     group: Some(GROUP),
     dump: Some(GREATEST_DUMP),
+};
+
+/// Users whose names are told apart with care, and a file.
+pub const NAMES: Setup<'static> = Setup {
+    passwd: Some(NAMES_PASSWD),
+    group: Some(GROUP),
+    dump: Some(NAMES_DUMP),
+};
+
+/// A user, and directories of all kinds.
+pub const FOLDERS: Setup<'static> = Setup {
+    passwd: Some(JOE),
+    group: Some(GROUP),
+    dump: Some(FOLDERS_DUMP),
+};
+
+/// A file alone.
+pub const ALONE: Setup<'static> = Setup {
+    passwd: Some(PASSWD),
+    group: Some(GROUP),
+    dump: Some(ALONE_DUMP),
+};
+
+/// A directory, and a file below one that is not recorded.
+pub const GAP: Setup<'static> = Setup {
+    passwd: Some(PASSWD),
+    group: Some(GROUP),
+    dump: Some(GAP_DUMP),
 };

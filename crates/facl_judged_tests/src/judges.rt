@@ -1,0 +1,103 @@
+//! Judges whose verdicts are not those of acl(5)'s check.
+
+ghost use Rattle.std.specs.Prelude.{◌≡◌, ◌^◌};
+ghost use Rattle.acl_entry.specs.Lists.{perm_at};
+ghost use Rattle.acl_entry.specs.Perms.{number};
+ghost use Rattle.facl_judged_tests.specs.Verdicts.{class_set, owner_alone, owner_alone_local, whole_class, whole_class_local};
+
+use acl_entry::{Key, Label, Perm, Requests, Subject};
+use acl_rights::Judge;
+
+fn set_of(label: &Label, key: Key) -> Perm
+    ensures { result ≡ perm_at label.now.acl key }
+{
+    label.acl.get(key).unwrap_or(Perm::none())
+}
+
+/// Grants the owner what the owner's entry contains, and nobody else anything.
+#[derive(Drop)]
+pub struct OwnerAlone {
+    asked: u64,
+}
+
+impl OwnerAlone {
+    /// No verdict was asked for yet.
+    pub fn new() -> OwnerAlone
+        ensures { result.asked ≡ 0 }
+    {
+        OwnerAlone { asked: 0 }
+    }
+}
+
+impl Judge for OwnerAlone {
+    ghost verdict_of = { owner_alone };
+
+    ghost asked_of = { λ judge. judge.asked };
+
+    fn verdict(&mut self, subject: &Subject, label: &Label) -> Requests {
+        self.asked += 1;
+        if subject.uid() == label.owner {
+            Requests::within(set_of(label, Key::Owner))
+        } else {
+            Requests::none()
+        }
+    }
+
+    fn asked(&self) -> u64 {
+        self.asked
+    }
+
+    ghost local = { owner_alone_local };
+}
+
+/// The permission set of the user's class: of the owner, of the owning group, or of the others.
+fn class_set(subject: &Subject, label: &Label) -> Perm
+    ensures { result ≡ class_set subject.now label.now }
+{
+    if subject.uid() == label.owner {
+        set_of(label, Key::Owner)
+    } else if subject.is_of(label.group) {
+        set_of(label, Key::OwningGroup)
+    } else {
+        set_of(label, Key::Other)
+    }
+}
+
+/// Grants one request, the whole permission set of the user's class, and no smaller one.
+#[derive(Drop)]
+pub struct WholeClass {
+    asked: u64,
+}
+
+impl WholeClass {
+    /// No verdict was asked for yet.
+    pub fn new() -> WholeClass
+        ensures { result.asked ≡ 0 }
+    {
+        WholeClass { asked: 0 }
+    }
+}
+
+impl Judge for WholeClass {
+    ghost verdict_of = { whole_class };
+
+    ghost asked_of = { λ judge. judge.asked };
+
+    fn verdict(&mut self, subject: &Subject, label: &Label) -> Requests {
+        self.asked += 1;
+        one_request(class_set(subject, label))
+    }
+
+    fn asked(&self) -> u64 {
+        self.asked
+    }
+
+    ghost local = { whole_class_local };
+}
+
+/// A request alone.
+fn one_request(request: Perm) -> Requests
+    ensures { result ≡ 2 ^ number request }
+{
+    Requests::from_byte(1 << request.number())
+}
