@@ -1,0 +1,17 @@
+//! Scripts under a judge: how many verdicts each line asks for, and what lines answer where the verdicts are not those
+//! of acl(5)'s check.
+//!
+//! They are apart from `facl`, since a crate with tests is proved twice.
+#![tactic(auto)]
+
+#[cfg(test)]
+mod answers;
+#[cfg(test)]
+mod costs;
+mod judges;
+mod played;
+#[cfg(test)]
+mod texts;
+
+pub use judges::{OwnerAlone, WholeClass};
+pub use played::{Played, play};
