@@ -160,6 +160,56 @@ ATTRIBUTES = [
     ["chacl -R f"],
     ["gpasswd -d joe adm"],
 ]
+# Each option of each tool once, and each question.
+EVERY = [
+    ["getfacl -a -c -e -n -s -R ."],
+    ["getfacl -E f pub"],
+    ["setfacl -m u:joe:rw f"],
+    ["setfacl -M - f", "g:adm:r", "u:ann:r", "."],
+    ["setfacl -x g:adm f"],
+    ["setfacl -X - f", "u:joe", "."],
+    ["setfacl --set u::rw-,u:joe:r,g::r,m::r,o::- f"],
+    ["setfacl --set-file=- f", "u::rw-", "g::r--", "o::---", "."],
+    ["setfacl -d -m u:joe:rx,d:g:adm:r pub"],
+    ["setfacl -k pub"],
+    ["setfacl -n -m u:ann:r log"],
+    ["setfacl --mask -m u:joe:r,m::r log"],
+    ["setfacl -b log"],
+    ["setfacl -R --test -m u:joe:rX,d:u:ann:r ."],
+    ["setfacl --restore=- --test", "# file: f", "user::rwx", "group::r-x", "other::---", "."],
+    ["setfacl --restore=-", "# file: f", "# owner: ann", "# flags: s--", "user::rwx", "group::r-x", "other::---", "."],
+    ["chacl u::rw-,u:joe:r,g::r--,m::r,o::--- f"],
+    ["chacl -r -d u::rwx,u:joe:r,g::r-x,m::rx,o::--- pub"],
+    ["chacl -b u::rwx,g::r-x,o::--- u::rwx,g::r-x,o::--- pub"],
+    ["chacl -D pub"],
+    ["chacl -R f"],
+    ["chacl -B pub"],
+    ["chacl -r -l ."],
+    ["chmod -R 4750 pub run"],
+    ["creat -d --user=ann --mode=750 --umask=027 pub/s"],
+    ["creat --user=joe --mode=640 pub/s/n"],
+    ["rm pub/s/n"],
+    ["rm -r pub/s"],
+    ["attr f"],
+    ["setattr system.posix_acl_default=0x0200000001000700ffffffff04000500ffffffff20000000ffffffff pub"],
+    ["gpasswd -a joe adm"],
+    ["gpasswd -d joe adm"],
+    ["usermod -g cool joe"],
+    ["useradd -u 7 -g adm kim"],
+    ["userdel kim"],
+    ["can joe run"],
+    ["can --reach joe run"],
+    ["who rx run"],
+    ["who --reach 0 run"],
+    ["may joe rx"],
+    ["may --reach ann 0"],
+    ["chmod 700 ."],
+    ["may --reach lisa x"],
+    ["who --reach r run"],
+    ["who w nosuch"],
+    ["may nosuch w"],
+    ["index"],
+]
 LOADS = [
     ["load passwd"] + PASSWD.splitlines() + ["."],
     ["load group"] + GROUP.splitlines() + ["."],
@@ -270,6 +320,7 @@ def main():
         files = options_of(folder, SHORT_DUMP)
         sweep("changes", Program(program, preloaded, files), CHANGES)
         sweep("attributes and lists", Program(program, preloaded, files), ATTRIBUTES)
+        sweep("each tool and option", Program(program, preloaded, files), EVERY)
 
 
 if __name__ == "__main__":

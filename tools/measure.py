@@ -15,6 +15,8 @@ import time
 
 HERE = os.path.dirname(os.path.realpath(__file__))
 LINES = 1000
+# Lines that look at each file.
+FEW_LINES = 10
 PER_DIRECTORY = 100
 # At most so many records of the dump are restored, since the bytes of a script are limited.
 MAX_RESTORED = 100_000
@@ -78,6 +80,11 @@ def run_once(program, folder, count, users):
     times["list"] = session.answer(["getfacl -R ."])
     times["get"] = session.answer([f"getfacl {file}" for file in files])
     times["can"] = session.answer([f"can u{k % users} {file}" for k, file in enumerate(files)])
+    times["can reach"] = session.answer([f"can --reach u{k % users} {file}" for k, file in enumerate(files)])
+    times["who"] = session.answer([f"who {k % 8} {file}" for k, file in enumerate(files)])
+    times["who reach"] = session.answer([f"who --reach {k % 8} {file}" for k, file in enumerate(files)])
+    times["may"] = session.answer([f"may u{k * 37 % users} w" for k in range(FEW_LINES)])
+    times["may reach"] = session.answer([f"may --reach u{k * 37 % users} w" for k in range(FEW_LINES)])
     times["one"] = session.answer([f"chmod 640 {file}" for file in files])
     times["all"] = session.answer(["chmod -R 750 ."])
     times["edit one"] = session.answer([f"setfacl -m u:u{k % users}:rwx {file}" for k, file in enumerate(files)])
@@ -106,7 +113,9 @@ def row(count, best):
     cells = [f"{count:,}", a_file("load"), a_file("list"), a_file("all"), a_line("one"), f"1/{ratio:,.0f}"]
     cells += [a_line("can"), a_line("get"), a_file("edit all"), a_line("edit one")]
     cells += [f"{best['restore'] / min(count, MAX_RESTORED) * 1e6:.2f} us"]
-    return cells + [a_line("creat"), a_line("rm"), a_line("member")]
+    cells += [a_line("creat"), a_line("rm"), a_line("member")]
+    cells += [a_line("can reach"), a_line("who"), a_line("who reach")]
+    return cells + [f"{best[name] / FEW_LINES / count * 1e9:.0f} ns" for name in ("may", "may reach")]
 
 
 def main():
@@ -117,6 +126,7 @@ def main():
     head += ["of that `chmod -R`", "`can`, a line", "`getfacl` of one file"]
     head += ["`setfacl -R -m`, a file", "`setfacl -m` of one file", "`setfacl --restore`, a record"]
     head += ["`creat`", "`rm` of one file", "`gpasswd -a`"]
+    head += ["`can --reach`, a line", "`who`, a line", "`who --reach`, a line", "`may`, a file", "`may --reach`, a file"]
     print("| " + " | ".join(head) + " |\n|" + "---|" * len(head), flush=True)
     for count in counts:
         best = measured(program, runs, users, count)

@@ -44,6 +44,10 @@ class Grammar:
             return self.one("8", "-1", "rwz", "R", "07", "r w", "77")
         return self.one("r", "rw", "rwx", "-", "", "x", "X", "rX", "7", "0", "r--", "-w-", "rrr", "5")
 
+    def asked_perms(self):
+        perms = self.perms()
+        return perms if perms and " " not in perms else "''"
+
     def key(self):
         if self.chance(0.03):
             return self.one("z:", ":", "u:joe:r", "mask:x", "o:joe", "user", "d", "::::")
@@ -103,14 +107,20 @@ class Grammar:
         mode = self.one("8", "00000", "-1", "''", "u+x", "") if self.chance(0.05) else "%o" % self.random.randrange(0o10000)
         return self.some(0.3, "-R") + [mode] + self.paths(top), []
 
+    def reaching(self, words):
+        """The words of a question, perhaps with `--reach` anywhere."""
+        if self.chance(0.5):
+            words.insert(self.random.randrange(len(words) + 1), "--reach")
+        return words
+
     def can(self, top):
-        return [self.user(), self.path(top)], []
+        return self.reaching([self.user(), self.path(top)]), []
 
     def who(self, top):
-        return [self.perms(), self.path(top)], []
+        return self.reaching([self.asked_perms(), self.path(top)]), []
 
     def may(self, top):
-        return [self.user(), self.perms()], []
+        return self.reaching([self.user(), self.asked_perms()]), []
 
     def index(self, top):
         return [], []
@@ -201,6 +211,8 @@ class Grammar:
         tool = self.random.choice(TOOLS if self.chance(0.1) else self.served)
         if tool == "load" and self.chance(0.8):
             tool = "getfacl"
+        if tool in ("index", "may") and self.chance(0.9):
+            tool = "can"  # Those print something for each file of all sessions.
         words, text = getattr(self, tool)(top)
         words = [tool] + words
         if self.chance(0.1):

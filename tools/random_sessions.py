@@ -5,13 +5,15 @@ usage: random_sessions.py PROGRAM [--count N] [--seed N] [--batch N] [--verbose]
 
 A session is a small tree of its own and some ten lines over it, more than a third of them faulty. A process for each
 would take most of the time, so N sessions of a batch (100) are one run: the dump has a folder for each, and the script
-their lines in turn. Of each batch, without a second implementation:
+their lines in turn. Of each batch, with no second implementation but of the check:
 
 - the run ends with 0 or 1, and with 1 exactly where there is a message that is no warning; each message names a line
   that has a tool, and no line has two;
 - the accepted lines alone print the same, with the same warnings and no message;
 - the listing of all files (`getfacl -R .`), loaded by the same users, gives the same listing; restored there it changes
-  nothing.
+  nothing;
+- `index` and random questions of can, who and may, half of them with `--reach`, are answered as acl(5)'s check has it,
+  made anew from that listing and the users (answers.py).
 
 A batch that breaks one is cut down to as few lines as break it, which are printed. The exit status is then 1. The same
 seed gives the same sessions.
@@ -19,6 +21,7 @@ seed gives the same sessions.
 import argparse
 import collections
 import os
+import random
 import re
 import subprocess
 import sys
@@ -26,6 +29,7 @@ import tempfile
 import time
 
 sys.dont_write_bytecode = True
+from answers import People, Table  # noqa: E402
 from random_lines import TOOLS, Grammar, Unit  # noqa: E402
 
 PASSWD = b"""root:x:0:0:root:/root:/bin/sh
@@ -44,6 +48,7 @@ adm:x:70:
 a#b,c:x:71:joe
 """
 PEOPLE = (b"gpasswd", b"usermod", b"useradd", b"userdel")
+QUESTIONS = 40
 MESSAGE = re.compile(rb"line ([0-9]+): ([^ ]+): (.+)")
 Run = collections.namedtuple("Run", "out err status")
 
@@ -57,6 +62,8 @@ def script_of(units):
 
 LAST = Unit(b"getfacl -R .", None)
 MARK = Unit(b"# the listing of all files", None)
+NUMBERS = Unit(b"getfacl -R -n .", None)
+INDEX = Unit(b"index", None)
 
 
 class Program:
@@ -134,12 +141,35 @@ def fault_of(program, units, dump):
         return None  # The root was removed, so there is no listing of all files.
     before = program.run([units[k] for k in kept[:-1]], dump)
     listing = run.out[len(before.out) :]
-    return reload_fault(program, [units[k] for k in kept], listing)
-
-
-def reload_fault(program, kept, listing):
-    """What is wrong where the listing of all files is loaded and restored."""
+    kept = [units[k] for k in kept]
     people = [unit for unit in kept if unit.line.split(maxsplit=1)[:1] and unit.line.split(maxsplit=1)[0] in PEOPLE]
+    return reload_fault(program, people, listing) or answers_fault(program, kept[:-1], people, dump, before.out)
+
+
+def answers_fault(program, kept, people, dump, printed):
+    """What is wrong with the answers to random questions after the accepted lines."""
+    if not {b"who", b"may", b"index"} <= set(program.tools):
+        return None
+    listed = program.run(kept + [NUMBERS], dump).out
+    after = People(PASSWD, GROUP)
+    for unit in people:
+        after.do(unit.line)
+    table = Table(after, listed[len(printed) :])
+    choice = random.Random(len(listed))
+    questions = [table.question(choice) for _ in range(QUESTIONS)] if after.users else []
+    run = program.run(kept + [NUMBERS] + [Unit(line, None) for line, _ in questions] + [INDEX], dump)
+    at = len(listed)
+    for line, answer in questions + [(b"index", table.index())]:
+        if run.out[at : at + len(answer)] != answer:
+            return f"{line!r} is not answered {answer[:300]!r} but {run.out[at : at + len(answer) + 100][:300]!r}"
+        at += len(answer)
+    if run.out[at:] or run.err.count(b"\n") != program.run(kept + [NUMBERS], dump).err.count(b"\n"):
+        return f"the questions print more than their answers: {run.out[at:][:300]!r} {run.err[-300:]!r}"
+    return None
+
+
+def reload_fault(program, people, listing):
+    """What is wrong where the listing of all files is loaded and restored."""
     text = listing.split(b"\n")[:-1]
     units = people + [Unit(b"load dump", text), LAST]
     run = program.run(units, None)

@@ -1,0 +1,182 @@
+"""Answers of can, who, may and index by acl(5)'s check, from a listing of all files and the users (random_sessions.py).
+
+It is written from acl(5), getfacl(1), passwd(5) and group(5), and shares nothing with the program.
+"""
+import re
+
+TEXTS = [b"---", b"--x", b"-w-", b"-wx", b"r--", b"r-x", b"rw-", b"rwx"]
+EXECUTE = 1
+
+
+def words_of(line):
+    """The words of a line whose quotes are closed."""
+    return [word.replace(b"'", b"") for word in re.findall(rb"(?:[^ \t']|'[^']*')+", line)]
+
+
+def decoded(word):
+    return re.sub(rb"\\([0-3][0-7][0-7]|\\)", lambda it: b"\\" if it[1] == b"\\" else bytes([int(it[1], 8)]), word)
+
+
+def shown_name(name):
+    return b"".join(b"\\%03o" % byte if byte in b"\\\n\r \t:,#" else bytes([byte]) for byte in name)
+
+
+def components(path):
+    return tuple(part for part in decoded(path).split(b"/") if part not in (b"", b"."))
+
+
+class User:
+    def __init__(self, name, uid, gid):
+        self.name, self.uid, self.gid = name, uid, gid
+
+
+class Group:
+    def __init__(self, name, gid, names):
+        self.name, self.gid, self.names = name, gid, names
+
+
+def rows_of(text):
+    """The fields of the rows whose name comes for the first time."""
+    seen = {}
+    for line in text.splitlines():
+        if line and not line.startswith(b"#"):
+            fields = line.split(b":")
+            seen.setdefault(fields[0], fields)
+    return list(seen.values())
+
+
+class People:
+    """Users and groups, and what lines make of them."""
+
+    def __init__(self, passwd, group):
+        self.users = [User(it[0], int(it[2]), int(it[3])) for it in rows_of(passwd)]
+        self.rows = [Group(it[0], int(it[2]), [name for name in it[3].split(b",") if name]) for it in rows_of(group)]
+
+    @staticmethod
+    def find(things, word, number):
+        """The first of this name; digits alone are a number."""
+        word = decoded(word.strip(b" \t"))
+        if word.isdigit():
+            return next((it for it in things if number(it) == int(word)), None)
+        return next((it for it in things if it.name == word), None)
+
+    def user(self, word):
+        return self.find(self.users, word, lambda it: it.uid)
+
+    def group(self, word):
+        return self.find(self.rows, word, lambda it: it.gid)
+
+    def groups_of(self, user):
+        return {user.gid} | {row.gid for row in self.rows if user.name in row.names}
+
+    def do(self, line):
+        """What an accepted line of gpasswd, usermod, useradd or userdel does."""
+        tool, *words = words_of(line)
+        given, operands = {}, []
+        while words:
+            word = words.pop(0)
+            if word == b"--":
+                operands, words = operands + words, []
+            elif word[:1] == b"-":
+                given[word[1:2]] = word[2:] or words.pop(0)
+            else:
+                operands.append(word)
+        if tool == b"gpasswd":
+            row = self.group(operands[0])
+            name = self.user(given.get(b"a", given.get(b"d"))).name
+            row.names = [it for it in row.names if it != name] + [name] * (b"a" in given)
+        elif tool == b"usermod":
+            self.user(operands[0]).gid = self.group(given[b"g"]).gid
+        elif tool == b"useradd":
+            self.users.append(User(decoded(operands[0]), int(given[b"u"]), self.group(given[b"g"]).gid))
+        elif tool == b"userdel":
+            gone = self.user(operands[0])
+            self.users.remove(gone)
+            for row in self.rows:
+                row.names = [it for it in row.names if it != gone.name]
+
+
+class File:
+    """A record of `getfacl -n`."""
+
+    def __init__(self, record):
+        self.entries = {}
+        for line in record.split(b"\n"):
+            if line.startswith(b"# file: "):
+                self.shown = line[8:]
+            elif line.startswith(b"# owner: "):
+                self.owner = int(line[9:])
+            elif line.startswith(b"# group: "):
+                self.group = int(line[9:])
+            elif line and not line.startswith((b"#", b"default:")):
+                tag, qualifier, perms = line.split(b"\t")[0].split(b":")
+                self.entries[tag, int(qualifier) if qualifier else None] = TEXTS.index(perms)
+
+    def requests(self, uid, groups):
+        """The requests that acl(5)'s check grants."""
+        mask = self.entries.get((b"mask", None), 7)
+        if uid == self.owner:
+            sets = [self.entries[b"user", None]]
+        elif (b"user", uid) in self.entries:
+            sets = [self.entries[b"user", uid] & mask]
+        else:
+            named = [(it if it is not None else self.group, perms) for (tag, it), perms in self.entries.items() if tag == b"group"]
+            sets = [perms & mask for gid, perms in named if gid in groups] or [self.entries[b"other", None]]
+        return {request for request in range(8) if any(perms & request == request for perms in sets)}
+
+
+class Table:
+    """The requests of all users on all files."""
+
+    def __init__(self, people, listing):
+        self.people = people
+        files = [File(record) for record in listing.split(b"\n\n") if record]
+        self.files = {components(it.shown): it for it in files}
+        self.order = sorted(self.files)
+        self.granted = {}
+        for user in people.users:
+            groups = people.groups_of(user)
+            self.granted[user.name] = {path: it.requests(user.uid, groups) for path, it in self.files.items()}
+
+    def is_granted(self, user, path, request, reach):
+        mine = self.granted[user.name]
+        above = (path[:k] for k in range(len(path))) if reach else ()
+        return request in mine[path] and all(EXECUTE in mine[it] for it in above if it in mine)
+
+    def can(self, user, path, reach):
+        texts = [TEXTS[request] for request in range(1, 8) if self.is_granted(user, path, request, reach)]
+        return (b" ".join(texts) or b"none") + b"\n"
+
+    def who(self, request, path, reach):
+        users = [user for user in self.people.users if self.is_granted(user, path, request, reach)]
+        return b"".join(shown_name(user.name) + b"\n" for user in users)
+
+    def may(self, user, request, reach):
+        paths = [path for path in self.order if self.is_granted(user, path, request, reach)]
+        return b"".join(self.files[path].shown + b"\n" for path in paths)
+
+    def index(self):
+        lines = []
+        for path in self.order:
+            for user in self.people.users:
+                byte = sum(1 << request for request in self.granted[user.name][path])
+                lines.append(b"%02x %s %s\n" % (byte, shown_name(user.name), self.files[path].shown))
+        return b"".join(lines)
+
+    def question(self, random):
+        """A random question with its answer."""
+        reach = random.random() < 0.5
+        option = b"--reach " if reach else b""
+        user = random.choice(self.people.users)
+        word = b"%d" % user.uid if user.name.isdigit() or random.random() < 0.2 else b"'" + shown_name(user.name) + b"'"
+        user = self.people.user(word.strip(b"'"))
+        path = random.choice(self.order)
+        file = b"'" + self.files[path].shown + b"'"
+        request = random.randrange(8)
+        perms = random.choice([b"%d" % request, TEXTS[request].replace(b"-", b"") or b"''"])
+        kind = random.choice(["can", "can", "who", "who", "may"])
+        if kind == "can":
+            return b"can %s%s %s" % (option, word, file), self.can(user, path, reach)
+        if kind == "who":
+            return b"who %s%s %s" % (option, perms, file), self.who(request, path, reach)
+        return b"may %s%s %s" % (option, word, perms), self.may(user, request, reach)
