@@ -90,7 +90,7 @@ def run_once(program, folder, count, users):
     times["edit one"] = session.answer([f"setfacl -m u:u{k % users}:rwx {file}" for k, file in enumerate(files)])
     times["edit all"] = session.answer(["setfacl -R -m u:u1:rX ."])
     times["restore"] = session.answer(["setfacl --restore=-", *first_records(folder, MAX_RESTORED), "."])
-    new = [f"{file}.new" for file in files]
+    new = [f"{file}.{k}" for k, file in enumerate(files)]
     times["creat"] = session.answer([f"creat --user=u1 --mode=640 {file}" for file in new])
     times["rm"] = session.answer([f"rm {file}" for file in new])
     groups = max(1, users // 10)
