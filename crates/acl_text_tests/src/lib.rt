@@ -1,8 +1,10 @@
-//! Worked examples of texts, their limits, and a second reader of passwd(5) and group(5) to compare with.
+//! Worked examples of texts, their limits, and second readers of passwd(5), group(5) and entry texts to compare with.
 //!
 //! They stand apart from `acl_text`, since a crate with tests is proved twice.
 #![tactic(auto)]
 
+#[cfg(test)]
+mod cut_entries;
 #[cfg(test)]
 mod entries;
 #[cfg(test)]
@@ -17,5 +19,7 @@ mod names;
 mod rows;
 #[cfg(test)]
 mod second_reader;
+#[cfg(test)]
+mod slow_entries;
 #[cfg(test)]
 mod writing;
