@@ -286,23 +286,41 @@ fn agrees(rt: &impl Abort, alloc: Global, bytes: &[u8], dump_use: DumpUse) {
 
 static CHANGES: [u8; 6] = [0, b'#', b':', b'\\', b'/', 255];
 
-fn changes_agree(rt: &impl Abort, alloc: Global, place: usize) {
+// The same of each change of a byte.
+fn changes_agree(rt: &impl Abort, alloc: Global, text: &[u8], dump_use: DumpUse, place: usize) {
     for byte in &CHANGES {
-        let mut bytes = Vec::from_slice(alloc, LISTED).expect(rt, "memory");
+        let mut bytes = Vec::from_slice(alloc, text).expect(rt, "memory");
         if let Some(changed) = bytes.get_mut(place) {
             *changed = *byte;
         }
-        agrees(rt, alloc, &bytes, DumpUse::Load);
+        agrees(rt, alloc, &bytes, dump_use);
+    }
+}
+
+// The same of each cut of a text, and of each byte changed.
+fn cuts_and_changes_agree(rt: &impl Abort, alloc: Global, text: &[u8], dump_use: DumpUse) {
+    for place in 0..text.len() {
+        agrees(rt, alloc, &text[..place], dump_use);
+        changes_agree(rt, alloc, text, dump_use, place);
     }
 }
 
 #[test]
 fn every_cut_and_change(rt: HostRuntime) {
-    for place in 0..LISTED.len() {
-        agrees(&rt, rt.alloc(), &LISTED[..place], DumpUse::Load);
-        agrees(&rt, rt.alloc(), &LISTED[..place], DumpUse::Restore);
-        changes_agree(&rt, rt.alloc(), place);
-    }
+    cuts_and_changes_agree(&rt, rt.alloc(), SOMEDIR, DumpUse::Load);
+    cuts_and_changes_agree(&rt, rt.alloc(), LISTED, DumpUse::Load);
+}
+
+/// Two records to be restored, whose paths are apart, and what may stand beside.
+const RESTORED: &[u8] =
+    b"# a comment\n# file: a/b\n# owner: joe\nu::rw\ngroup::r--\nother:-\n\n#file:c/\n #flags: s-t\n u : : x # x\ng::\nm:rw\nlisa:r\no::\nd:u::\nd:g::w\nd:o:\n";
+
+#[test]
+fn every_cut_and_change_of_a_restore(rt: HostRuntime) {
+    let whole = read_dump(rt.alloc(), RESTORED, DumpUse::Restore, &People);
+    assert!(rt; whole.is_ok());
+    cuts_and_changes_agree(&rt, rt.alloc(), RESTORED, DumpUse::Restore);
+    cuts_and_changes_agree(&rt, rt.alloc(), LISTED, DumpUse::Restore);
 }
 
 /// A record of the base entries, a mask and so many named users.
