@@ -11,6 +11,8 @@ mod creations;
 #[cfg(test)]
 mod devices;
 #[cfg(test)]
+mod each_byte;
+#[cfg(test)]
 mod edits;
 #[cfg(test)]
 mod entry_texts;
