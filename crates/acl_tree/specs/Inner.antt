@@ -1,20 +1,24 @@
 -- For inner functions: no public contract names these definitions.
-use Rattle.std.specs.Prelude.{◌≡◌, ◌≢◌, ◌<◌, ⊤, List, length, Some, [], ◌∷◌, ◌++◌, map, Bool, false, ◌&&◌, not, if◌then◌else◌, Result, Ok, Err, IfOk}
+use Rattle.std.specs.Prelude.{◌≡◌, ◌≢◌, ◌<◌, ⊤, List, length, Some, [], ◌∷◌, ◌++◌, map, Bool, true, false, ◌&&◌, not, if◌then◌else◌, Result, Ok, Err, IfOk}
+use Rattle.std.specs.Coded.{Coded, coded×, coded_ℕ, coded_list}
 use Rattle.std.specs.FinMap.{find}
 use Rattle.std.specs.declared.cmp.Ordering.TheVariants.{Greater}
 use Rattle.acl_names.specs.Paths.{path_cmp}
 use Rattle.acl_dump.specs.declared.record.DumpRecord.{DumpRecord}
-use Rattle.acl_edit.specs.declared.edit.Edit.{Edit}
+use Rattle.acl_dump.specs.contracts.record.DumpRecord as record_contracts
+use Rattle.acl_edit.specs.Edits.{edit}
 use Rattle.acl_edit.specs.declared.edit.EditFault.{EditFault}
 use Rattle.acl_edit.specs.Nodes as nodes
 use Rattle.acl_edit.specs.declared.node.Node.{Node}
+use Rattle.acl_edit.specs.contracts.node.Node as node_contracts
 use Rattle.acl_edit.specs.declared.node.Kind.TheVariants.{Directory}
 use Rattle.acl_tree.specs.declared.edit.FileFault.{FileFault}
 use Rattle.acl_tree.specs.Files.{PathOf, Files, max_files}
 use Rattle.acl_tree.specs.Creat.{exists, parent}
+use Rattle.acl_tree.specs.Edits.{and_others}
 use Rattle.acl_tree.specs.Found.{FoundFile}
 use Rattle.acl_tree.specs.Changed.{same_label}
-use Rattle.acl_tree.specs.Restoring.{edit_of, edit_if_some}
+use Rattle.acl_tree.specs.Restoring.{edit_of}
 use Rattle.acl_tree.specs.Sound.{IsSoundTree}
 use Rattle.acl_tree.specs.Step.{State, Stages}
 use Rattle.acl_tree.specs.Tells.{StagedState, Tells}
@@ -73,13 +77,34 @@ changed_by test edit (e ∷ es) = changed_one (test e.0) edit e ++ changed_by te
 
 -- ---- restored files
 
--- the edits of records, by their paths
-abbrev pub edits_by_path : List DumpRecord → List (PathOf × Edit)
-edits_by_path records = map (λ r. (r.path, edit_of r)) records
+-- a file, and the record that it is restored from
+abbrev pub RestoredFile : Type 0
+RestoredFile = (PathOf × Node) × DumpRecord
 
--- a file edited by what is found for its path
-abbrev pub edit_by_path : List (PathOf × Edit) → PathOf → Node → Result Node EditFault
-edit_by_path edits p n = edit_if_some (find path_cmp p edits) n
+abbrev pub coded_restored : Coded RestoredFile
+coded_restored = coded× (coded× (coded_list (coded_list coded_ℕ)) node_contracts.the_row.coded) record_contracts.the_row.coded
+
+-- it is the file of the record's path
+abbrev pub IsFileOf : Files → RestoredFile → Type 0
+IsFileOf t x = (x.0.0 ≡ x.1.path) × (find path_cmp x.1.path t ≡ Some x.0.1)
+
+-- a node restored from a record: this is not a recursion
+abbrev pub restored_by : DumpRecord → Node → Result Node EditFault
+restored_by r n = edit n (edit_of r) false
+
+-- the file's node after the restore
+abbrev pub restored : RestoredFile → Result Node EditFault
+restored x = restored_by x.1 x.0.1
+
+-- each file restored, or the first fault with its path
+abbrev pub restore_each : List RestoredFile → Result Files FileFault
+restore_each [] = Ok []
+restore_each (x ∷ xs) = and_others x.0.0 (restored x) (restore_each xs)
+
+-- the files whose label that changes
+abbrev pub changed_by_records : List RestoredFile → Files
+changed_by_records [] = []
+changed_by_records (x ∷ xs) = changed_one true (λ _ n. ok_or n (restored x)) x.0 ++ changed_by_records xs
 
 -- ---- a new file
 

@@ -87,7 +87,7 @@ fn is_same_label(old: &Node, new: &Node) -> bool
 }
 
 /// Adds a file with its edited node, and notes it where its label is another than before.
-fn push_edited(
+pub(crate) fn push_edited(
     alloc: Global,
     edits: &mut Vec<Rc<Record>>,
     changed: &mut Vec<Rc<Record>>,
@@ -107,7 +107,11 @@ fn push_edited(
 }
 
 /// A file's node edited, or the fault with its path.
-fn edit_one<E: NodeEdit>(alloc: Global, edit: &E, file: &Record) -> Result<Node, FileFault>
+pub(crate) fn edit_one<E: NodeEdit>(
+    alloc: Global,
+    edit: &E,
+    file: &Record,
+) -> Result<Node, FileFault>
     ensures made { IfOk result (λ n. E.edited edit.now file.now.0 file.now.1 ≡ Ok n) }
     ensures fault { IfErr result (λ fault. fault ≢ NoMemory → edit_each (E.edited edit.now) (file.now ∷ []) ≡ Err fault) }
 {

@@ -1,25 +1,35 @@
 //! setfacl(1) --restore: files get back what their records say.
 
-ghost use Rattle.std.specs.Prelude.{◌≡◌, true, map, IfOk};
+ghost use Rattle.std.specs.Prelude.{◌≡◌, ◌≢◌, ◌++◌, [], true, map, None, Some, Ok, Err, false, MatchOption, IfOk, IfErr, OnOk};
+ghost use Rattle.std.specs.FinMap.{find};
+ghost use Rattle.std.specs.List.{All};
+ghost use Rattle.std.specs.List.Sorted.{IsPermutation};
+ghost use Rattle.acl_names.specs.Paths.{path_cmp};
 ghost use Rattle.acl_dump.specs.OwnPaths.{have_own_paths};
-ghost use Rattle.acl_tree.specs.Inner.{Prepares, edits_by_path, edit_by_path};
-ghost use Rattle.acl_tree.specs.Restoring.{edit_of, paths_of, restore_one, restored_tree};
+ghost use Rattle.acl_edit.specs.Edits.{allowed};
+ghost use Rattle.acl_edit.specs.declared.edit.EditFault.TheVariants as no_edit;
+ghost use Rattle.acl_load.specs.Loading.{in_path_order};
+ghost use Rattle.acl_tree.specs.Changed.{changed_between, gone_between};
+ghost use Rattle.acl_tree.specs.Inner.{Prepares, IsFileOf, restore_each, changed_by_records};
+ghost use Rattle.acl_tree.specs.Operands.{first_missing, IsMissing};
+ghost use Rattle.acl_tree.specs.Restoring.{paths_of, restored_tree};
 ghost use Rattle.acl_tree.specs.Step.{with_tree, state_from};
+ghost use Rattle.acl_tree.specs.declared.command.TreeFault.TheVariants.{NoMemory};
+ghost use Rattle.acl_tree.specs.declared.edit.FileFault.TheVariants as of_files;
 ghost use Rattle.acl_tree.specs.declared.moved.UsersMove.TheVariants.{Same};
 
 use crate::command::TreeFault;
-use crate::edit::{NodeEdit, stage_edits};
-use crate::selection::look_up;
+use crate::edit::{FileFault, NodeEdit, edit_one, push_edited};
+use crate::moved::UsersMove;
 use crate::staged::Staged;
-use crate::tree::Tree;
+use crate::tree::{Record, Tree};
 use acl_dump::DumpRecord;
-use acl_edit::{Edit, EditFault, Node, apply};
-use acl_load::in_path_order;
+use acl_edit::{EditFault, Kind, Node};
+use acl_entry::{Acl, Label};
 use acl_names::Path;
 use acl_people::People;
-use path_map::{Entry, PathMap};
-use std::alloc::{AllocError, Global};
-use std::collections::VecDeque;
+use std::alloc::Global;
+use std::cmp::Ordering;
 use std::marker::Model;
 use std::rc::Rc;
 
@@ -63,113 +73,156 @@ impl DumpRecords {
     }
 }
 
-/// A copy of a record.
-fn copy_of(alloc: Global, entry: &DumpRecord) -> Result<DumpRecord, AllocError>
-    ensures { IfOk result (λ copy. copy ≡ entry.now) }
-{
-    let path = entry.path.try_clone(alloc)?;
-    let access = entry.access.try_clone(alloc)?;
-    let dacl = match &entry.dacl {
-        Some(dacl) => Some(dacl.try_clone(alloc)?),
-        None => None,
-    };
-    Ok(DumpRecord {
-        at: entry.at,
-        path,
-        slash: entry.slash,
-        owner: entry.owner,
-        group: entry.group,
-        flags: entry.flags,
-        access,
-        dacl,
-    })
-}
-
-/// Copies of records, in their order.
-fn copies(alloc: Global, records: &[DumpRecord]) -> Result<Vec<DumpRecord>, AllocError>
-    ensures { IfOk result (λ copies. copies.items ≡ records.now) }
-{
-    let mut copies = Vec::with_capacity(alloc, records.len())?;
-    for record in records {
-        copies.push(copy_of(alloc, record)?)?;
-    }
-    Ok(copies)
-}
-
-/// The edit of a record, with its path. Its path and its lists are moved out of it.
-fn edit_of(alloc: Global, entry: DumpRecord) -> Result<Rc<Entry<Edit>>, AllocError>
-    ensures { IfOk result (λ edit. edit.value ≡ (entry.path, edit_of entry)) }
-{
-    let edit = Edit::Restore {
-        access: entry.access,
-        dacl: entry.dacl,
-        owner: entry.owner,
-        group: entry.group,
-        flags: entry.flags,
-    };
-    Ok(Rc::new(alloc, Entry::new(Rc::new(alloc, entry.path)?, edit))?)
-}
-
-/// The edits of records, with their paths.
-fn edits_by_path(
-    alloc: Global,
-    records: Vec<DumpRecord>,
-) -> Result<Vec<Rc<Entry<Edit>>>, AllocError>
-    ensures { IfOk result (λ edits. map (λ e. e.value) edits.items ≡ edits_by_path records.items) }
-{
-    let mut edits = Vec::with_capacity(alloc, records.len())?;
-    let mut rest = VecDeque::from(records);
-    while let Some(record) = rest.pop_front() {
-        edits.push(edit_of(alloc, record)?)?;
-    }
-    Ok(edits)
-}
-
-/// The edits of the files of records.
+/// A recorded file, and the record that it is restored from.
 #[derive(Drop)]
-struct Restoration {
-    edits: PathMap<Edit>,
+struct Restored<'a> {
+    file: &'a Rc<Record>,
+    entry: &'a DumpRecord,
 }
 
-impl Restoration {
-    fn of(alloc: Global, records: &DumpRecords) -> Result<Restoration, AllocError>
-        ensures { IfOk result (λ restoration. edit_by_path restoration.edits ≡ restore_one records.now) }
-    {
-        let sorted = in_path_order(copies(alloc, records.as_slice())?);
-        let edits = edits_by_path(alloc, sorted)?;
-        Ok(Restoration {
-            edits: PathMap::from_sorted(alloc, &edits)?,
-        })
+impl<'a> Model for Restored<'a> {
+    ghost use Rattle.acl_tree.specs.Inner.{RestoredFile, coded_restored};
+
+    ghost Value = { RestoredFile };
+
+    ghost coded = { coded_restored };
+
+    ghost view = { λ r. (r.file.now.value, r.entry.now) };
+}
+
+/// The default list of a record, where its file may have one.
+fn default_of(alloc: Global, kind: Kind, entry: &DumpRecord) -> Result<Option<Acl>, EditFault>
+    ensures made { IfOk result (λ dacl. allowed kind false entry.now.dacl ≡ Ok dacl) }
+    ensures fault { IfErr result (λ fault. fault ≢ no_edit.NoMemory → allowed kind false entry.now.dacl ≡ Err fault) }
+{
+    match kind {
+        Kind::Directory => match &entry.dacl {
+            Some(dacl) => Ok(Some(dacl.try_clone(alloc)?)),
+            None => Ok(None),
+        },
+        Kind::Plain if entry.dacl.is_none() => Ok(None),
+        Kind::Plain => Err(EditFault::DefaultOnFile),
     }
 }
 
-impl NodeEdit for Restoration {
-    ghost use Rattle.acl_tree.specs.Inner.{edit_by_path};
+/// The record is for its file alone.
+impl NodeEdit for Restored<'_> {
+    ghost use Rattle.acl_tree.specs.Inner.{restored_by};
 
-    ghost edited = { λ restoration. edit_by_path restoration.edits };
+    ghost edited = { λ restored _ n. restored_by restored.1 n };
 
-    fn edited(&self, alloc: Global, path: &Path, node: &Node) -> Result<Node, EditFault> {
-        match self.edits.get(path) {
-            Some(edit) => apply(alloc, node, edit, false),
-            None => Ok(node.try_clone(alloc)?),
-        }
+    #[tactic(auto, unfolding(acl_edit::specs::Edits::restore))]
+    fn edited(&self, alloc: Global, _path: &Path, node: &Node) -> Result<Node, EditFault> {
+        let entry = self.entry;
+        let acl = entry.access.try_clone(alloc)?;
+        let dacl = default_of(alloc, node.kind, entry)?;
+        Ok(Node {
+            kind: node.kind,
+            label: Label {
+                owner: entry.owner.unwrap_or(node.label.owner),
+                group: entry.group.unwrap_or(node.label.group),
+                acl,
+            },
+            flags: entry.flags.unwrap_or([false; 3]),
+            dacl,
+        })
     }
 
     fn keeps_place(&self) {}
 }
 
-/// The paths of records.
-fn paths_of(alloc: Global, records: &[DumpRecord]) -> Result<Vec<Path>, AllocError>
-    ensures { IfOk result (λ paths. paths.items ≡ paths_of records.now) }
+/// The file of a path.
+fn file_at<'a>(tree: &'a Tree, path: &Path) -> Option<&'a Rc<Record>>
+    ensures { MatchOption result (find path_cmp path.now tree.now.files ≡ None) (λ file. (file.now.value.0 ≡ path.now) × (find path_cmp path.now tree.now.files ≡ Some file.now.value.1)) }
 {
-    let mut paths = Vec::with_capacity(alloc, records.len())?;
-    for record in records {
-        paths.push(record.path.try_clone(alloc)?)?;
+    tree.is_sound();
+    let Some(file) = tree.files_by_path().from(path).next() else {
+        return None;
+    };
+    match path.order(file.path()) {
+        Ordering::Equal => Some(file),
+        Ordering::Less => None,
+        Ordering::Greater => None,
     }
-    Ok(paths)
+}
+
+/// The files of records, in the order of the records; or the first path that is not recorded.
+fn files_of<'a>(
+    tree: &'a Tree,
+    alloc: Global,
+    records: &'a [DumpRecord],
+) -> Result<Vec<Restored<'a>>, TreeFault>
+    ensures records { IfOk result (λ found. map (λ x. x.1) found.items ≡ records.now) }
+    ensures files { IfOk result (λ found. All (IsFileOf tree.now.files) found.items) }
+    ensures there { OnOk result (first_missing (paths_of records.now) tree.now.files ≡ None) }
+    ensures told { IfErr result (λ fault. fault ≢ NoMemory → IsMissing fault (first_missing (paths_of records.now) tree.now.files)) }
+{
+    let mut found = Vec::with_capacity(alloc, records.len())?;
+    let mut rest = records;
+    while let [entry, more @ ..] = rest {
+        let Some(file) = file_at(tree, &entry.path) else {
+            return Err(TreeFault::NoSuchFile {
+                path: entry.path.try_clone(alloc)?,
+            });
+        };
+        found.push(Restored { file, entry })?;
+        rest = more;
+    }
+    Ok(found)
+}
+
+/// The files in path order.
+fn in_path_order(found: Vec<Restored<'_>>) -> Vec<Restored<'_>>
+    requires { have_own_paths (map (λ x. x.1) found.items) ≡ true }
+    ensures order { map (λ x. x.1) result.items ≡ in_path_order (map (λ x. x.1) found.entry.items) }
+    ensures same { IsPermutation found.entry.items result.items }
+{
+    let mut sorted = found;
+    sorted.sort_unstable_by(|a, b| a.entry.path.order(&b.entry.path));
+    sorted
+}
+
+/// The files as their records have them, and those whose label that changes.
+fn restore_each(
+    alloc: Global,
+    changed: &mut Vec<Rc<Record>>,
+    found: &[Restored<'_>],
+) -> Result<Vec<Rc<Record>>, FileFault>
+    ensures made { IfOk result (λ edits. restore_each found.now ≡ Ok (map (λ r. r.value) edits.items)) }
+    ensures fault { IfErr result (λ fault. fault ≢ of_files.NoMemory → restore_each found.now ≡ Err fault) }
+    ensures told { OnOk result (map (λ r. r.value) changed.new.items ≡ map (λ r. r.value) changed.old.items ++ changed_by_records found.now) }
+{
+    let mut edits = Vec::with_capacity(alloc, found.len())?;
+    let mut rest = found;
+    while let [restored, more @ ..] = rest {
+        let node = edit_one(alloc, restored, restored.file)?;
+        push_edited(alloc, &mut edits, changed, restored.file, node)?;
+        rest = more;
+    }
+    Ok(edits)
 }
 
 impl Tree {
+    /// The tree with the files of records restored, and the files whose label that changes. None is gone.
+    fn restored(
+        &self,
+        alloc: Global,
+        changed: &mut Vec<Rc<Record>>,
+        records: &DumpRecords,
+    ) -> Result<Tree, TreeFault>
+        ensures made { IfOk result (λ new. restored_tree records.now self.now ≡ Ok new) }
+        ensures fault { IfErr result (λ fault. fault ≢ NoMemory → restored_tree records.now self.now ≡ Err fault) }
+        ensures told { IfOk result (λ new. map (λ r. r.value) changed.new.items ≡ map (λ r. r.value) changed.old.items ++ changed_between self.now.files new.files) }
+        ensures gone { IfOk result (λ new. gone_between self.now.files new.files ≡ []) }
+    {
+        self.is_sound();
+        let found = files_of(self, alloc, records.as_slice())?;
+        let sorted = in_path_order(found);
+        let edits = restore_each(alloc, changed, &sorted)?;
+        let by_path = self.files_by_path().put_all(alloc, &edits)?;
+        Ok(Tree::of(by_path, self.is_loaded()))
+    }
+
     pub(crate) fn restore(
         &self,
         alloc: Global,
@@ -178,9 +231,14 @@ impl Tree {
     ) -> Result<Staged, TreeFault>
         ensures { Prepares (state_from self.now people.now) (with_tree (state_from self.now people.now) (restored_tree records.now self.now)) Same result }
     {
-        let paths = paths_of(alloc, records.as_slice())?;
-        look_up(self, alloc, &paths)?;
-        let restoration = Restoration::of(alloc, records)?;
-        Ok(stage_edits(self, alloc, people, &paths, false, &restoration)?)
+        let mut changed = Vec::new(alloc);
+        let tree = self.restored(alloc, &mut changed, records)?;
+        Ok(Staged::of(
+            tree,
+            people.share()?,
+            changed,
+            Vec::new(alloc),
+            UsersMove::Same,
+        ))
     }
 }
