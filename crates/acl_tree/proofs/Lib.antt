@@ -11,6 +11,7 @@ pub mod Removals
 pub mod Ancestors
 pub mod Unnamed
 pub mod Undone
+pub mod NewUsers
 pub mod AsItIs
 pub mod MasksEach
 pub mod Told

@@ -61,6 +61,12 @@ names (Userdel user) p = false
 abbrev pub LeavesUnnamed : Command → State → State → Type 0
 LeavesUnnamed command old new = (p : PathOf) → names command p ≡ false → find path_cmp p new.tree.files ≡ find path_cmp p old.tree.files
 
+-- ---- a user who comes and goes
+
+-- the state in which users count as loaded, as they do once one was added
+abbrev pub with_users_loaded : State → State
+with_users_loaded s = record s { people = record s.people { passwd_loaded = true } }
+
 -- ---- a restore of what is
 
 -- the record says what the file is: its lists and its flags, and its owner and group where it names them

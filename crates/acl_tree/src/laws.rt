@@ -1,17 +1,19 @@
 //! Laws of the definitions, each proved as the contract of a function that does nothing.
 
-ghost use Rattle.std.specs.Prelude.{◌≡◌, List, [], ◌∷◌, Bool, Ok, false, not, ◌&&◌};
+ghost use Rattle.std.specs.Prelude.{◌≡◌, List, [], ◌∷◌, Bool, Ok, true, false, not, ◌&&◌};
 ghost use Rattle.std.specs.FinMap.{find};
-ghost use Rattle.std.specs.List.{AllByRecursion};
+ghost use Rattle.std.specs.List.{AllByRecursion, list_any};
 ghost use Rattle.acl_names.specs.Paths.{path_cmp};
 ghost use Rattle.acl_dump.specs.declared.record.DumpRecord.{DumpRecord};
 ghost use Rattle.acl_edit.specs.Nodes.{is_directory};
 ghost use Rattle.acl_edit.specs.declared.edit.Change.{Change};
 ghost use Rattle.acl_edit.specs.declared.edit.Edit.{Edit};
 ghost use Rattle.acl_edit.specs.declared.edit.Edit.TheVariants as edits;
+ghost use Rattle.acl_people.specs.Registers.{names_user};
+ghost use Rattle.acl_people.specs.UserNames.{is_user_name};
 ghost use Rattle.acl_tree.specs.EditCommand.{edit_one, edited_tree};
 ghost use Rattle.acl_tree.specs.Files.{PathOf, Recorded, IsInOrder};
-ghost use Rattle.acl_tree.specs.Laws.{EditsEach, MasksEach, LeavesUnnamed, IsAsRecorded};
+ghost use Rattle.acl_tree.specs.Laws.{EditsEach, MasksEach, LeavesUnnamed, IsAsRecorded, with_users_loaded};
 ghost use Rattle.acl_tree.specs.Restoring.{restore_one, paths_of, restored_tree};
 ghost use Rattle.acl_load.specs.Loading.{files_of, loaded_at};
 ghost use Rattle.acl_tree.specs.Sound.{IsSoundTree};
@@ -19,6 +21,7 @@ ghost use Rattle.acl_tree.specs.Step.{State, step};
 ghost use Rattle.acl_tree.specs.declared.command.Command.{Command};
 ghost use Rattle.acl_tree.specs.declared.command.Command.TheVariants as commands;
 ghost use Rattle.acl_tree.specs.declared.command.NewFile.{NewFile};
+ghost use Rattle.acl_tree.specs.declared.command.NewUser.{NewUser};
 
 /// Proof only. An edit and a restore make each of their files what the edit of that one file makes of it, and leave
 /// every other file as it was. So the rules on the masks that a line leaves hold at each file of a recursion.
@@ -38,6 +41,14 @@ pub fn unnamed_files_stay()
 /// a directory.
 pub fn new_file_is_removed()
     ensures { (new : NewFile) (recursive : Bool) (old made : State) → (is_directory new.kind && not recursive) ≡ false → step old (commands.Creat new) ≡ Ok made → step made (commands.Rm (new.path ∷ []) recursive) ≡ Ok old }
+{}
+
+/// Proof only. A user that is added and removed again, under a name that no group's row has, leaves the files and
+/// the rows of users and groups as they were, and the groups loaded or not. But users count as loaded from then on, so
+/// only a state in which they were loaded is the same again.
+pub fn new_user_is_removed()
+    ensures rows { (new : NewUser) (old made : State) → is_user_name new.name ≡ true → list_any (names_user new.name) old.people.groups ≡ false → step old (commands.Useradd new) ≡ Ok made → step made (commands.Userdel new.name) ≡ Ok (with_users_loaded old) }
+    ensures whole { (new : NewUser) (old made : State) → is_user_name new.name ≡ true → list_any (names_user new.name) old.people.groups ≡ false → old.people.passwd_loaded ≡ true → step old (commands.Useradd new) ≡ Ok made → step made (commands.Userdel new.name) ≡ Ok old }
 {}
 
 /// Proof only. A restore of records that say what their files are changes nothing.

@@ -31,8 +31,8 @@ pub use acl_people::{People, UserName};
 pub use command::{Command, Membership, NewFile, NewUser, Paths, Table, TreeFault};
 pub use found::Found;
 pub use laws::{
-    each_file_is_edited, new_file_is_removed, restore_of_what_is_changes_nothing,
-    unnamed_files_stay,
+    each_file_is_edited, new_file_is_removed, new_user_is_removed,
+    restore_of_what_is_changes_nothing, unnamed_files_stay,
 };
 pub use moved::{GroupIds, UsersMove};
 pub use restore::DumpRecords;
