@@ -7,7 +7,7 @@ use Rattle.std.proofs.lemmas.List.{map-append, length-map}
 use Rattle.std.proofs.lemmas.Slice.Eq.{bytes_eq-Decides}
 use Rattle.acl_text.specs.Ids.{is_number, id_of}
 use Rattle.acl_text.specs.declared.rows.PasswdRow.{PasswdRow}
-use Rattle.acl_people.specs.Changes.{gid_of, with_user, without_user}
+use Rattle.acl_people.specs.Changes.{gid_of, with_user}
 use Rattle.acl_people.specs.Entries.{user_entry}
 use Rattle.acl_people.specs.Registers.{Register, users_of, names_user}
 use Rattle.acl_people.specs.Rolls.{Named, is_name, is_id, has_name, has_id}
@@ -20,7 +20,7 @@ use Rattle.acl_tree.specs.declared.command.TreeFault.{TreeFault}
 use Rattle.acl_tree.specs.declared.command.TreeFault.TheVariants.{UserExists, UidExists, TooManyUsers, NoSuchUser}
 use Rattle.acl_tree.specs.Accounts.{add_to, remove_at}
 use Rattle.acl_tree.specs.Laws.{with_users_loaded}
-use Rattle.acl_tree.specs.Memberships.{UserChange, user_at, group_at}
+use Rattle.acl_tree.specs.Memberships.{user_at, group_at}
 use Rattle.acl_tree.specs.Step.{State, step, with_change}
 
 err_is_not_ok : {A B : Type 0} (a : A) (b : B) → Err b ≡ Ok a → ⊥

@@ -1,10 +1,10 @@
 -- Files restored from records: each record's file, found by search and sorted by path, is a file of the command.
-use Rattle.std.proofs.Common.{◌≡◌, ◌≢◌, ℕ, zero, suc, ◌+◌, ◌<◌, arith, length, get_or, Bool, true, false, cond, not, ◌&&◌, ◌||◌, T, IsTrue, List, [], ◌∷◌, ◌++◌, map, filter, Option, Some, None, Result, Ok, Err, is_some, if◌then◌else◌, Ordering, Less, Equal, Greater, refl, sym, ap, subst, ◌∙◌, true≢false}
+use Rattle.std.proofs.Common.{◌≡◌, ◌≢◌, ℕ, zero, suc, ◌+◌, ◌<◌, arith, length, get_or, Bool, true, false, cond, not, ◌&&◌, ◌||◌, T, IsTrue, List, [], ◌∷◌, ◌++◌, map, Option, Some, None, Result, Err, is_some, if◌then◌else◌, Ordering, Less, Equal, Greater, refl, sym, ap, subst, ◌∙◌, true≢false}
 use Rattle.std.specs.Prelude.{option_map}
 use Rattle.std.specs.Option.{option_or}
 use Rattle.std.specs.Ordering.{is_eq, is_gt, is_lt, eq_by_cmp}
-use Rattle.std.specs.List.{All, AllByRecursion, list_any}
-use Rattle.std.specs.List.Sorted.{IsSortedBy, IsPermutation}
+use Rattle.std.specs.List.{All, AllByRecursion}
+use Rattle.std.specs.List.Sorted.{IsSortedBy}
 use Rattle.std.specs.FinMap.{find, is_sorted}
 use Rattle.std.specs.FinMap.Entries.{below_all, find-where_key, same_entries}
 use Rattle.std.proofs.lemmas.Bool.{and_parts}
@@ -23,7 +23,6 @@ use Rattle.path_map.proofs.Rows.{in_order-filter}
 use Rattle.acl_load.specs.Loading.{in_path_order, record_at}
 use Rattle.acl_load.proofs.Loaded.{seen, in_order-records}
 use Rattle.acl_load.proofs.Mapped.{found}
-use Rattle.acl_load.proofs.SortedRecords.{is_before, sorted_are}
 use Rattle.acl_tree.specs.declared.command.TreeFault.TheVariants as faults
 use Rattle.acl_tree.specs.declared.edit.FileFault.{FileFault}
 use Rattle.acl_tree.specs.declared.edit.FileFault.TheVariants as of_files
@@ -32,7 +31,7 @@ use Rattle.acl_tree.specs.Operands.{is_file, files_meant, first_missing}
 use Rattle.acl_tree.specs.Edits.{and_others, edit_each, edit_all}
 use Rattle.acl_tree.specs.EditCommand.{file_fault, unless_missing}
 use Rattle.acl_tree.specs.Restoring.{edit_of, edit_if_some, restore_one, paths_of, restored_tree}
-use Rattle.acl_tree.specs.Inner.{RestoredFile, IsFileOf, restored, restore_each, changed_by_records, node_after, changed_one, changed_by, ok_or, after_edits}
+use Rattle.acl_tree.specs.Inner.{RestoredFile, IsFileOf, restored, restore_each, changed_by_records, node_after, changed_one, changed_by, ok_or}
 
 -- ---- the file of a path, by a cursor
 

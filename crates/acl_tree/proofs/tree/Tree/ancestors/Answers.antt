@@ -1,4 +1,4 @@
-use Rattle.std.proofs.Common.{◌≡◌, ◌++◌, ◌∷◌, [], true, false, Bool, List, Some, append-nil, cond, sym, ap, subst, ◌∙◌, is_some, IsTrue}
+use Rattle.std.proofs.Common.{◌≡◌, ◌++◌, ◌∷◌, [], true, false, Bool, append-nil, sym, ap, subst, ◌∙◌, is_some, IsTrue}
 use Rattle.std.specs.FinMap.{find}
 use Rattle.std.specs.List.{list_all}
 use Rattle.acl_names.specs.Paths.{path_cmp, is_component}

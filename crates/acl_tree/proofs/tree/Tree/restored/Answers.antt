@@ -13,7 +13,7 @@ use Rattle.acl_tree.specs.Sound.{IsSoundTree}
 use Rattle.acl_tree.specs.Changed.{changed_between, gone_between}
 use Rattle.acl_tree.specs.EditCommand.{unless_missing}
 use Rattle.acl_tree.specs.Edits.{KeepsPlace, edit_each, edit_all, with_edits}
-use Rattle.acl_tree.specs.Inner.{RestoredFile, IsFileOf, restore_each, changed_by_records, node_after, changed_by}
+use Rattle.acl_tree.specs.Inner.{RestoredFile, IsFileOf, restore_each, node_after, changed_by}
 use Rattle.acl_tree.specs.Operands.{is_file, edit_files, files_meant, first_missing}
 use Rattle.acl_tree.specs.Restoring.{edit_of, restore_one, paths_of}
 use Rattle.acl_tree.proofs.Kept.{edited_sound}
