@@ -1,4 +1,4 @@
--- Components in one list of bytes, each with a NUL byte behind it.
+-- Components in one list of bytes, each with a NUL byte after it.
 use Rattle.std.proofs.Common.{◌≡◌, ◌<◌, map, length, ℕ, zero, suc, Bool, true, false, cond, ltb, arith, List, [], ◌∷◌, ◌++◌, Ordering, Less, Equal, Greater, refl, sym, ap, ◌∙◌, append_assoc, inl, inr}
 use Rattle.std.specs.Prelude.{◌==◌}
 use Rattle.std.specs.Ordering.{nat_cmp, ordering_then}

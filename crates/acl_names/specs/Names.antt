@@ -1,4 +1,4 @@
--- How a name's bytes stand in a text: which escapes are read, and which bytes are written as one.
+-- How a name's bytes are written in a text: which escapes are read, and which bytes are written as one.
 use Rattle.std.specs.Prelude.{ℕ, zero, suc, ◌+◌, ◌-◌, ◌*◌, ◌/◌, ◌%◌, List, [], ◌∷◌, Bool, ◌&&◌, ◌||◌, ◌==◌, nat_le, if◌then◌else◌, slice_index}
 use Rattle.std.specs.List.{flat_map}
 

@@ -1,4 +1,4 @@
--- How a path's components lie in one list of bytes: each with a NUL byte behind it, which none of them contains.
+-- How a path's components are kept in one list of bytes: each with a NUL byte after it, which no component contains.
 use Rattle.std.specs.Prelude.{◌≡◌, true, ℕ, List, [], ◌∷◌, ◌++◌, map, IsTrue}
 use Rattle.std.specs.List.{list_all}
 use Rattle.acl_names.specs.Pieces.{pieces}
@@ -19,7 +19,7 @@ without_last (x ∷ y ∷ more) = x ∷ without_last (y ∷ more)
 abbrev pub unpacked : List ℕ → List (List ℕ)
 unpacked bytes = without_last (pieces 0 bytes)
 
--- bytes that are components, each with a NUL byte behind it
+-- bytes that are components, each with a NUL byte after it
 pub record IsPacked (bytes : List ℕ) : Type 0 where
   pub whole : packed (unpacked bytes) ≡ bytes
   pub valid : list_all is_component (unpacked bytes) ≡ true

@@ -53,8 +53,8 @@ impl<'a> Components<'a> {
         }
     }
 
-    #[tactic(auto, unfolding(crate::specs::Paths::path_cmp))]
     /// Path order of two lists of components.
+    #[tactic(auto, unfolding(crate::specs::Paths::path_cmp))]
     pub(crate) fn order(self, other: Components<'_>) -> Ordering
         ensures { result ≡ path_cmp self.entry other.entry }
     {
@@ -77,7 +77,7 @@ impl<'a> Components<'a> {
     }
 }
 
-/// Adds a component to bytes that are components, each with a NUL byte behind it.
+/// Adds a component to bytes that are components, each with a NUL byte after it.
 pub(crate) fn pack(packed: &mut Vec<u8>, name: &[u8]) -> Result<(), AllocError>
     requires packed { IsPacked packed.old.items }
     requires name { IsTrue (is_component name.now) }

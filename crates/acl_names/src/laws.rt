@@ -3,9 +3,9 @@
 ghost use Rattle.std.specs.Prelude.{◌≡◌, ◌≢◌, ℕ, ◌<◌, List, [], ◌∷◌, ◌++◌};
 ghost use Rattle.acl_names.specs.Names.{decoded, escape};
 
-/// What the text of a name stands for, by its front: a backslash and the three octal digits of a byte stand
+/// Proof only: what the text of a name stands for, by its front: a backslash and the three octal digits of a byte stand
 /// for that byte, two backslashes for one, a backslash before anything else for itself, and every other
-/// byte for itself; then what is behind is decoded in the same way.
+/// byte for itself; then the bytes after it are decoded in the same way.
 pub fn names_are_decoded_from_the_front()
     ensures nothing { decoded [] ≡ [] }
     ensures octal { (b : ℕ) (rest : List ℕ) → b < 256 → decoded (escape b ++ rest) ≡ b ∷ decoded rest }

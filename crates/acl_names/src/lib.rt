@@ -1,4 +1,4 @@
-//! Names and paths as they stand in texts: how they are read, written and cut.
+//! Names and paths in texts: how they are read, written and cut.
 #![tactic(auto)]
 
 mod components;

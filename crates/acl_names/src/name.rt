@@ -8,7 +8,7 @@ use crate::escape::{is_escaped_in_names, push_byte, unit};
 use std::alloc::{AllocError, Global};
 use std::marker::Model;
 
-/// The bytes of a user's or a group's name, as they stand in passwd(5) and group(5): without escapes.
+/// The bytes of a user's or a group's name, as in passwd(5) and group(5): without escapes.
 #[derive(Debug, Drop)]
 pub struct Name {
     bytes: Vec<u8>,
@@ -28,7 +28,7 @@ impl Name {
         Name { bytes }
     }
 
-    /// A name of its own with these bytes. Refused for want of memory only.
+    /// A name of its own with these bytes. Fails only if memory runs out.
     pub fn from_bytes(alloc: Global, bytes: &[u8]) -> Result<Name, AllocError>
         ensures { IfOk result (λ name. name ≡ bytes.now) }
     {
@@ -44,7 +44,7 @@ impl Name {
         &self.bytes
     }
 
-    /// The same name once more. Refused for want of memory only.
+    /// The same name once more. Fails only if memory runs out.
     pub fn try_clone(&self, alloc: Global) -> Result<Name, AllocError>
         ensures { IfOk result (λ name. name ≡ self.now) }
     {
@@ -53,8 +53,8 @@ impl Name {
 }
 
 /// The name that a text stands for: a backslash and three octal digits, 000 to 377, stand for that byte,
-/// two backslashes for one, and every other byte for itself. Every text is a name: refused for want of
-/// memory only.
+/// two backslashes for one, and every other byte for itself. Every text is a name: the call
+/// fails only if memory runs out.
 pub fn read_name(alloc: Global, text: &[u8]) -> Result<Name, AllocError>
     ensures { IfOk result (λ name. name ≡ decoded text.now) }
 {
@@ -69,8 +69,8 @@ pub fn read_name(alloc: Global, text: &[u8]) -> Result<Name, AllocError>
 }
 
 /// The text of a user's or a group's name, with backslash, line feed, carriage return, space, tab, colon,
-/// comma and `#` as escapes of three octal digits. It is read as that name. Refused for want of memory
-/// only.
+/// comma and `#` as escapes of three octal digits. It is read as that name. Fails only if memory
+/// runs out.
 pub fn write_name(alloc: Global, name: &[u8]) -> Result<Vec<u8>, AllocError>
     ensures text { IfOk result (λ text. text.items ≡ escaped name.now) }
     ensures read_again { IfOk result (λ text. decoded text.items ≡ name.now) }
@@ -80,7 +80,7 @@ pub fn write_name(alloc: Global, name: &[u8]) -> Result<Vec<u8>, AllocError>
     Ok(text)
 }
 
-/// Adds the text of a user's or a group's name. Refused for want of memory only, and then nothing is
+/// Adds the text of a user's or a group's name. Fails only if memory runs out, and then nothing is
 /// added.
 pub fn append_name(text: &mut Vec<u8>, name: &[u8]) -> Result<(), AllocError>
     ensures ok { OnOk result (text.new.items ≡ text.old.items ++ escaped name.now) }
@@ -94,6 +94,7 @@ pub fn append_name(text: &mut Vec<u8>, name: &[u8]) -> Result<(), AllocError>
     Ok(())
 }
 
+/// Adds the text of a name. A part of it is left where memory runs out.
 fn push_name(text: &mut Vec<u8>, name: &[u8]) -> Result<(), AllocError>
     ensures ok { OnOk result (text.new.items ≡ text.old.items ++ escaped name.now) }
     ensures err { OnErr result (StartsWith text.new.items text.old.items) }

@@ -14,7 +14,7 @@ use std::alloc::{AllocError, Global};
 use std::cmp::Ordering;
 use std::marker::Model;
 
-/// A path from the root, as its components: none of them is empty, `.` or `..`, or holds `/` or NUL.
+/// A path from the root, as its components: no component is empty, `.` or `..`, or contains `/` or NUL.
 #[derive(Debug, Drop)]
 pub struct Path {
     form: Form,
@@ -25,7 +25,7 @@ pub struct Path {
 pub(crate) enum Form {
     /// Each in an allocation of its own, as a caller has them.
     Parts(Vec<Vec<u8>>),
-    /// In one allocation, each with a NUL byte behind it: so path order is the order of the bytes.
+    /// In one allocation, each with a NUL byte after it: so path order is the order of the bytes.
     Packed(Vec<u8>),
 }
 
@@ -41,9 +41,9 @@ impl Model for Path {
 }
 
 impl Path {
-    #[tactic(auto, using(crate::proofs::Cuts::list_all_map))]
-    /// The path of these components; none where one of them is empty, `.` or `..`, or holds `/` or NUL.
+    /// The path of these components; `None` where one is empty, `.` or `..`, or contains `/` or NUL.
     /// No components are the root.
+    #[tactic(auto, using(crate::proofs::Cuts::list_all_map))]
     pub fn new(components: Vec<Vec<u8>>) -> Option<Path>
         ensures { result ≡ path_from (map (λ v. v.items) components.items) }
     {
@@ -67,7 +67,7 @@ impl Path {
         }
     }
 
-    /// The same path once more. Refused for want of memory only.
+    /// The same path once more. Fails only if memory runs out.
     pub fn try_clone(&self, alloc: Global) -> Result<Path, AllocError>
         ensures { IfOk result (λ path. path ≡ self.now) }
     {
@@ -98,13 +98,14 @@ impl Path {
     }
 }
 
-/// That a component is made of bytes, which its definition asks too, is known of a slice of them.
+/// Whether a piece is a component. That it is made of bytes, which the definition asks too, is known of a slice.
 fn is_component(part: &[u8]) -> bool
     ensures { result ≡ is_component part.now }
 {
     is_allowed(part)
 }
 
+/// Whether a piece of bytes is a component.
 fn is_allowed(part: &[u8]) -> bool
     ensures { result ≡ is_allowed part.now }
 {
@@ -117,6 +118,7 @@ fn are_components(parts: &[Vec<u8>]) -> bool
     parts.iter().all(|part| is_component(part))
 }
 
+/// Whether a piece is no component: empty, or `.`.
 fn is_nothing(part: &[u8]) -> bool
     ensures { result ≡ is_nothing part.now }
 {
@@ -136,6 +138,7 @@ fn is_dot_dot(part: &[u8]) -> bool
     }
 }
 
+/// Whether a piece makes the text no path: `..`, or one with a NUL byte.
 fn is_refused(part: &[u8]) -> bool
     ensures { result ≡ is_refused part.now }
 {
@@ -143,7 +146,7 @@ fn is_refused(part: &[u8]) -> bool
 }
 
 /// The path that a text stands for: decoded as a name, then cut at `/`, without empty components and
-/// `.`. None where a component is `..` or holds a NUL byte. Refused for want of memory only.
+/// `.`. `None` where a component is `..` or contains a NUL byte. Fails only if memory runs out.
 pub fn read_path(alloc: Global, text: &[u8]) -> Result<Option<Path>, AllocError>
     ensures { IfOk result (λ path. path ≡ path_of text.now) }
 {
@@ -166,8 +169,8 @@ pub fn read_path(alloc: Global, text: &[u8]) -> Result<Option<Path>, AllocError>
 }
 
 /// The text of a path: `.` for the root, else its components joined by `/`, with backslash, line feed and
-/// carriage return as escapes of three octal digits. It is read as that path. Refused for want of memory
-/// only.
+/// carriage return as escapes of three octal digits. It is read as that path. Fails only if memory
+/// runs out.
 pub fn write_path(alloc: Global, path: &Path) -> Result<Vec<u8>, AllocError>
     ensures text { IfOk result (λ text. text.items ≡ path_text path.now) }
     ensures read_again { IfOk result (λ text. path_of text.items ≡ Some path.now) }
@@ -177,7 +180,7 @@ pub fn write_path(alloc: Global, path: &Path) -> Result<Vec<u8>, AllocError>
     Ok(text)
 }
 
-/// Adds the text of a path. Refused for want of memory only, and then nothing is added.
+/// Adds the text of a path. Fails only if memory runs out, and then nothing is added.
 pub fn append_path(text: &mut Vec<u8>, path: &Path) -> Result<(), AllocError>
     ensures ok { OnOk result (text.new.items ≡ text.old.items ++ path_text path.now) }
     ensures err { OnErr result (text.new.items ≡ text.old.items) }
@@ -190,6 +193,7 @@ pub fn append_path(text: &mut Vec<u8>, path: &Path) -> Result<(), AllocError>
     Ok(())
 }
 
+/// Adds the text of a path. A part of it is left where memory runs out.
 fn push_path(text: &mut Vec<u8>, components: Components<'_>) -> Result<(), AllocError>
     ensures ok { OnOk result (text.new.items ≡ text.old.items ++ path_text components.entry) }
     ensures err { OnErr result (StartsWith text.new.items text.old.items) }
@@ -203,6 +207,7 @@ fn push_path(text: &mut Vec<u8>, components: Components<'_>) -> Result<(), Alloc
     push_others(text, others)
 }
 
+/// Adds components, each after a `/`.
 fn push_others(text: &mut Vec<u8>, components: Components<'_>) -> Result<(), AllocError>
     ensures ok { OnOk result (text.new.items ≡ text.old.items ++ escaped_where is_escaped_in_paths (flat_map after_slash components.entry)) }
     ensures err { OnErr result (StartsWith text.new.items text.old.items) }
@@ -215,6 +220,7 @@ fn push_others(text: &mut Vec<u8>, components: Components<'_>) -> Result<(), All
     Ok(())
 }
 
+/// Adds the text of a component.
 fn push_component(text: &mut Vec<u8>, component: &[u8]) -> Result<(), AllocError>
     ensures ok { OnOk result (text.new.items ≡ text.old.items ++ escaped_where is_escaped_in_paths component.now) }
     ensures err { OnErr result (StartsWith text.new.items text.old.items) }
