@@ -44,7 +44,7 @@ module _ (xs : List ℕ) (rising : IsStrictlyIncreasing xs) (q : ℕ) where
   never_falls : (i j : ℕ) → i ≤ j → j < length xs → get_or xs i 0 ≤ get_or xs j 0
   never_falls i j le lt = elim (eq-or-lt_of_le le) [ inl same ↦ omega (arith, ap (λ k. get_or xs k 0) same) | inr below ↦ omega (arith, AllPairs-from_increasing xs rising i j 0 below lt) ]
 
-  -- what a binary search tells of a group
+  -- what a binary search finds of a group
   pub is_ok-searched : (r : Result ℕ ℕ) → IsBinarySearchResult (λ y. nat_cmp y q) xs r → is_ok r ≡ list_any (λ y. nat_eq y q) xs
   is_ok-searched (Ok i) result =
       let found = searched xs q (Ok i) result never_falls in

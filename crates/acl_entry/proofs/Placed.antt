@@ -1,4 +1,4 @@
--- Entries in list order: where a key stands, or where it would.
+-- Entries in list order: where a key is, or would be.
 use Rattle.std.proofs.Common.{◌≡◌, ℕ, zero, suc, ◌+◌, ◌<◌, true, false, cond, IsTrue, List, [], ◌∷◌, length, get_or, set, Some, None, Result, Ok, Err, IfOk, IfErr, Ordering, Less, Equal, Greater, refl, sym, ap, subst, ◌∙◌, arith}
 use Rattle.std.specs.List.{insert}
 use Rattle.std.specs.Ordering.{is_lt, is_eq}

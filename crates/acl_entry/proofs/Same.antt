@@ -1,4 +1,4 @@
--- What the derived `==` of entries tells.
+-- What the derived `==` of entries decides.
 use Rattle.std.proofs.Common.{◌≡◌, Bool, true, false, ◌&&◌, refl, sym, ap, subst, ◌∙◌}
 use Rattle.std.specs.Bool.{Decides}
 use Rattle.std.proofs.lemmas.Bool.{and_parts, eqb-true, eq-eqb}
@@ -61,7 +61,7 @@ same_entry a b k p = λ i. record { key = k i; perm = p i }
 entry_itself : (a : Entry) → entry_equality.eq a a ≡ true
 entry_itself a = both _ _ (key_itself a.key) (perm_itself a.perm)
 
--- two entries are equal where `==` says so
+-- two entries are equal where `==` returns true
 pub entry_decided : (a b : Entry) → Decides (entry_equality.eq a b) (a ≡ b)
 entry_decided a b = (
   λ h. same_entry a b (key_told a.key b.key (and_parts _ _ h).0) (perm_told a.perm b.perm (and_parts _ _ h).1),

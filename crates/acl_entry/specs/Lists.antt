@@ -112,11 +112,11 @@ perm_of_entry e = e.perm
 abbrev pub class_union : KeyMap → Perms
 class_union m = union_all (map perm_of_entry (filter in_class (entries m)))
 
--- whether the base entries stand alone
+-- whether there are only base entries
 abbrev pub is_minimal : KeyMap → Bool
 is_minimal m = list_all (λ e. is_base e.key) (entries m)
 
--- where the mode's group digit stands
+-- the key whose entry has the mode's group digit
 abbrev pub group_digit_key : KeyMap → Key
 group_digit_key m = if maps.contains_key m Mask then Mask else OwningGroup
 

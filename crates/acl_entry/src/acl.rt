@@ -27,8 +27,7 @@ pub const MOST_ENTRIES: usize = 4096;
 /// The most entries that a list keeps with no allocation.
 pub const INLINE_ENTRIES: usize = 8;
 
-/// Nothing is done: these are the most entries of a list, and how many of them it keeps with no
-/// allocation.
+/// Proof only: the most entries of a list, and how many of them it keeps with no allocation.
 pub fn limits_are_as_told()
     ensures most { MOST_ENTRIES ≡ lists.most_entries }
     ensures inline { INLINE_ENTRIES ≡ lists.inline_entries }
@@ -63,7 +62,7 @@ impl Acl {
     ///
     /// # Errors
     ///
-    /// None: the entries are kept in the value.
+    /// Never: the entries are kept in the value.
     pub fn minimal(alloc: Global, mode: u16) -> Result<Acl, AllocError>
         ensures ok { IfOk result (λ acl. acl ≡ lists.minimal mode) }
         ensures base_alone { IfOk result (λ acl. IsTrue (lists.is_minimal acl)) }
@@ -93,7 +92,7 @@ impl Acl {
     ///
     /// # Errors
     ///
-    /// The first fault of the sequence, or want of memory, never for at most [`INLINE_ENTRIES`]
+    /// The first fault of the sequence, or that memory ran out, never for at most [`INLINE_ENTRIES`]
     /// entries.
     pub fn from_entries(alloc: Global, entries: &[Entry]) -> Result<Acl, ListFault>
         ensures ok { IfOk result (λ acl. acl ≡ lists.map_of entries.now) }
@@ -118,7 +117,7 @@ impl Acl {
     ///
     /// # Errors
     ///
-    /// Want of memory, never for at most [`INLINE_ENTRIES`] entries.
+    /// If memory runs out, never for at most [`INLINE_ENTRIES`] entries.
     pub fn try_clone(&self, alloc: Global) -> Result<Acl, AllocError>
         ensures ok { IfOk result (λ acl. acl ≡ self.now) }
         ensures inline { length (lists.entries self.now) ≤ INLINE_ENTRIES → IsOk result }
@@ -215,7 +214,7 @@ impl Acl {
         self.set_mode_entries(owner_perm, group_perm, other_perm);
     }
 
-    // Puts other sets at the mode entries.
+    /// Puts other sets at the mode entries.
     fn set_mode_entries(&mut self, owner: Perm, group: Perm, other: Perm)
         ensures { self.new ≡ lists.with_mode self.old owner group other }
     {
@@ -223,7 +222,7 @@ impl Acl {
         set_mode(&mut self.entries, &group_key, owner, group, other);
     }
 
-    // The list of these entries.
+    /// The list of these entries.
     pub(crate) fn of_list(entries: SmallVec<Entry, INLINE_ENTRIES>) -> Acl
         requires { IsList entries.items }
         ensures { result ≡ lists.map_of entries.items }
@@ -231,6 +230,7 @@ impl Acl {
         Acl { entries }
     }
 
+    /// The key whose entry has the group digit of the mode.
     fn group_digit_key(&self) -> Key
         ensures { result ≡ lists.group_digit_key self.now }
     {
@@ -240,13 +240,14 @@ impl Acl {
         }
     }
 
-    // What the entry has, or nothing.
+    /// What the entry has, or nothing.
     pub(crate) fn perm_or_none(&self, key: &Key) -> Perm
         ensures { result ≡ lists.perm_at self.now key.now }
     {
         self.get(*key).unwrap_or(Perm::none())
     }
 
+    /// The entry's digit of the mode.
     fn digit(&self, key: &Key) -> u16
         ensures is { result ≡ number (lists.perm_at self.now key.now) }
         ensures small { result < 8 }

@@ -31,7 +31,7 @@ impl Model for Requests {
     ghost inverse = { λ n. record { bits = n } };
 }
 
-// For each permission set, the byte whose bit i is set if request i is a subset.
+/// For each permission set, the byte whose bit i is set if request i is a subset.
 const SUBSETS: [u8; 8] = [0x01, 0x03, 0x05, 0x0f, 0x11, 0x33, 0x55, 0xff];
 
 impl Requests {
@@ -96,6 +96,7 @@ pub fn granted(subject: &Subject, label: &Label) -> Requests
     all_granted(subject, label)
 }
 
+/// The requests that are granted, by the first case that applies.
 fn all_granted(subject: &Subject, label: &Label) -> Requests
     ensures { result ≡ rights subject.now label.now }
 {
@@ -112,6 +113,7 @@ fn all_granted(subject: &Subject, label: &Label) -> Requests
     }
 }
 
+/// The permissions, met with the mask, if there is one.
 fn under(mask: &Option<Perm>, perm: Perm) -> Perm
     ensures { result ≡ masked_by mask.now perm }
 {
@@ -121,7 +123,7 @@ fn under(mask: &Option<Perm>, perm: Perm) -> Perm
     }
 }
 
-// What the entries for the user's groups grant, each alone, if there is one.
+/// What the entries for the user's groups grant, each alone, if there is one.
 fn by_groups(
     subject: &Subject,
     owning: Id,
@@ -142,7 +144,7 @@ fn by_groups(
     if is_matched { Some(all) } else { None }
 }
 
-// Whether an entry of the key speaks of one of the user's groups.
+/// Whether an entry of the key speaks of one of the user's groups.
 fn is_for(subject: &Subject, owning: Id, key: &Key) -> bool
     ensures { result ≡ option_map_or (sets.contains subject.now.groups) (group_of owning key.now) false }
 {

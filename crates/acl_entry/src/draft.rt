@@ -1,4 +1,4 @@
-//! A list in the making.
+//! A list that is not valid yet.
 ghost use Rattle.std.specs.Prelude.{◌≡◌, ◌<◌, ◌≤◌, true, None, Some, IfOk, IfErr, IsOk, OnOk, OnErr, length};
 ghost use Rattle.std.specs.FinMap as maps;
 ghost use Rattle.acl_entry.specs.Lists as lists;
@@ -12,7 +12,7 @@ use std::alloc::{AllocError, Global};
 use std::marker::Model;
 
 /// A map from keys to permission sets that need not be a valid list yet: what edits and readers of
-/// text work on, so that none of them touches sorted entries.
+/// text work on, so that they do not touch sorted entries.
 #[derive(Debug, Drop)]
 pub struct Draft {
     entries: SmallVec<Entry, INLINE_ENTRIES>,
@@ -47,7 +47,7 @@ impl Draft {
     ///
     /// # Errors
     ///
-    /// Want of memory, never for a list of at most [`INLINE_ENTRIES`] entries.
+    /// If memory runs out, never for a list of at most [`INLINE_ENTRIES`] entries.
     pub fn of(alloc: Global, acl: &Acl) -> Result<Draft, AllocError>
         ensures ok { IfOk result (λ draft. draft ≡ acl.now) }
         ensures inline { length (lists.entries acl.now) ≤ INLINE_ENTRIES → IsOk result }
@@ -68,7 +68,7 @@ impl Draft {
     ///
     /// # Errors
     ///
-    /// Want of memory; the draft is then as it was. Never where the key stands, or where there are fewer
+    /// If memory runs out; the draft is then as it was. Never where the key is present, or where there are fewer
     /// than [`INLINE_ENTRIES`] entries.
     pub fn insert(&mut self, key: Key, perm: Perm) -> Result<(), AllocError>
         ensures ok { OnOk result (self.new ≡ maps.insert self.old key perm) }
@@ -106,7 +106,7 @@ impl Draft {
     ///
     /// # Errors
     ///
-    /// What is wrong with the entries in list order; never want of memory.
+    /// What is wrong with the entries in list order; never that memory ran out.
     pub fn finish(self) -> Result<Acl, ListFault>
         ensures ok { IfOk result (λ acl. acl ≡ self) }
         ensures valid { OnOk result (IsValid self) }

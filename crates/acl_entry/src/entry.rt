@@ -11,7 +11,7 @@ pub struct Entry {
     pub perm: Perm,
 }
 
-// What an unused place of a list holds. No list shows it.
+// What an unused place of a list contains. No list shows it.
 impl Default for Entry {
     ghost use Rattle.acl_entry.specs.Perms.{none};
     ghost use Rattle.acl_entry.specs.declared.key.Key.TheVariants.{Owner};
@@ -26,10 +26,10 @@ impl Default for Entry {
     }
 }
 
-/// Why a sequence of entries is no list: acl(5), "VALID ACLs". Places count from 1.
+/// Why a sequence of entries is not a valid list: acl(5), "VALID ACLs". Places count from 1.
 ///
 /// Where several apply, a sequence is [`TooLong`](ListFault::TooLong) before all else, and then the
-/// variant that stands first here is told.
+/// first variant of this enum is returned.
 #[derive(Clone, Copy, PartialEq, Eq, Debug)]
 pub enum ListFault {
     /// The key of the entry at this place came before; the least such place.
@@ -40,7 +40,7 @@ pub enum ListFault {
     MissingMask { at: usize },
     /// There are more than [`MOST_ENTRIES`](crate::MOST_ENTRIES) entries.
     TooLong,
-    /// Memory for the list could not be had.
+    /// Memory ran out.
     NoMemory,
 }
 

@@ -45,7 +45,7 @@ impl Id {
     }
 }
 
-/// An entry's tag type with its qualifier: acl(5), "ACL ENTRIES". The variants stand in the order
+/// An entry's tag type with its qualifier: acl(5), "ACL ENTRIES". The variants have the order
 /// of a list, so `cmp` is list order.
 #[derive(Clone, Copy, PartialEq, Eq, PartialOrd, Ord, Debug)]
 pub enum Key {

@@ -49,7 +49,7 @@ impl Subject {
     ///
     /// # Errors
     ///
-    /// Want of memory.
+    /// If memory runs out.
     pub fn from_groups(alloc: Global, uid: Id, groups: &[Id]) -> Result<Subject, AllocError>
         ensures { IfOk result (λ subject. subject ≡ record { uid = uid; groups = sets.from_list groups.now }) }
     {

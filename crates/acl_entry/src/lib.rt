@@ -2,7 +2,7 @@
 //! their correspondence with a file's mode, and the check of a request.
 //!
 //! A list is seen by contracts as a finite map from [`Key`] to [`Perm`], and is always valid. Text,
-//! edits of whole files and trees stand in the crates above.
+//! edits of whole files and trees are in the crates above.
 #![tactic(auto)]
 
 mod acl;

@@ -12,7 +12,7 @@ impl Label {
     ///
     /// # Errors
     ///
-    /// Want of memory.
+    /// If memory runs out.
     pub fn mentions(&self, alloc: Global) -> Result<Vec<Id>, AllocError>
         ensures { IfOk result (λ ids. ids.items ≡ mentions self.now) }
     {

@@ -5,7 +5,7 @@ ghost use Rattle.acl_entry.specs.Perms as perms;
 use bitflags::{Flag, Flags, bitflag_items};
 use std::marker::Model;
 
-// Any byte, since `from_bits_retain` takes one: a `Perm` wraps one of at most 7.
+/// Any byte, since `from_bits_retain` takes one: a `Perm` wraps one of at most 7.
 #[derive(Clone, Copy, PartialEq, Eq, Debug)]
 struct PermBits(u8);
 
@@ -140,7 +140,7 @@ impl Perm {
         Perm { bits: PermBits(0) }
     }
 
-    // The set whose number is the last digit of n in base 8.
+    /// The set whose number is the last digit of n in base 8.
     pub(crate) fn last_digit(n: u16) -> Perm
         ensures { result ≡ perms.numbered n }
     {

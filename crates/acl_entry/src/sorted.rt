@@ -1,4 +1,4 @@
-//! Entries in list order: where a key stands, what is wrong with them, and other sets at their keys.
+//! Entries in list order: where a key is, what is wrong with them, and other sets at their keys.
 ghost use Rattle.std.specs.Prelude.{◌≡◌, ◌≢◌, ◌<◌, ◌≤◌, length, IfOk, IfErr, OnOk, Ok, Err, IsTrue, Some, option_map, map, filter};
 ghost use Rattle.acl_entry.specs.declared.key.Key.{Key};
 ghost use Rattle.acl_entry.specs.declared.entry.ListFault.TheVariants.{NoMemory, Repeated};
@@ -15,7 +15,7 @@ use crate::{Entry, Key, ListFault, Perm};
 use smallvec::SmallVec;
 use std::alloc::Global;
 
-// Where the key is, or where it would go.
+/// Where the key is, or where it would go.
 pub(crate) fn place(entries: &[Entry], key: &Key) -> Result<usize, usize>
     requires { IsInOrder entries.now }
     ensures found { IfOk result (IsAt entries.now key.now) }
@@ -26,6 +26,7 @@ pub(crate) fn place(entries: &[Entry], key: &Key) -> Result<usize, usize>
     entries.binary_search_by_key(key, |entry| entry.key)
 }
 
+/// The permissions of the key's entry, if there is one.
 pub(crate) fn perm_of(entries: &[Entry], key: &Key) -> Option<Perm>
     requires { IsInOrder entries.now }
     ensures { result ≡ maps.find key_cmp key.now (pairs entries.now) }
@@ -36,7 +37,7 @@ pub(crate) fn perm_of(entries: &[Entry], key: &Key) -> Option<Perm>
     }
 }
 
-// Puts another permission set at a key that stands.
+/// Puts another permission set at a key that is present.
 pub(crate) fn set_perm(entries: &mut [Entry], key: &Key, perm: Perm)
     requires in_order { IsInOrder entries.old }
     requires stands { IsTrue (lists.is_among key.now (keys entries.old)) }
@@ -48,7 +49,7 @@ pub(crate) fn set_perm(entries: &mut [Entry], key: &Key, perm: Perm)
     }
 }
 
-// The entries in list order, or the first key that comes twice.
+/// The entries in list order, or the first key that comes twice.
 pub(crate) fn in_order(
     alloc: Global,
     entries: &[Entry],
@@ -72,6 +73,7 @@ pub(crate) fn in_order(
     Ok(sorted)
 }
 
+/// Whether there is an entry of the key.
 pub(crate) fn stands(sorted: &[Entry], key: &Key) -> bool
     requires { IsInOrder sorted.now }
     ensures { result ≡ lists.is_among key.now (keys sorted.now) }
@@ -79,6 +81,7 @@ pub(crate) fn stands(sorted: &[Entry], key: &Key) -> bool
     perm_of(sorted, key).is_some()
 }
 
+/// The first base key without an entry.
 pub(crate) fn missing_base(sorted: &[Entry]) -> Option<Key>
     requires { IsInOrder sorted.now }
     ensures { result ≡ lists.missing_base (keys sorted.now) }
@@ -95,7 +98,7 @@ pub(crate) fn missing_base(sorted: &[Entry]) -> Option<Key>
     None
 }
 
-// The first named entry, as a place from 1.
+/// The first named entry, as a place from 1.
 fn first_named(entries: &[Entry]) -> Option<usize>
     requires { length entries.now ≤ MOST_ENTRIES }
     ensures { result ≡ position_from is_named 1 (keys entries.now) }
@@ -108,7 +111,7 @@ fn first_named(entries: &[Entry]) -> Option<usize>
     None
 }
 
-// What is wrong with entries that are in list order.
+/// What is wrong with entries that are in list order.
 pub(crate) fn fault_in_order(sorted: &[Entry]) -> Option<ListFault>
     requires { IsInOrder sorted.now }
     ensures { result ≡ lists.fault sorted.now }
@@ -125,7 +128,7 @@ pub(crate) fn fault_in_order(sorted: &[Entry]) -> Option<ListFault>
     }
 }
 
-// The first named entry where there is no mask.
+/// The first named entry where there is no mask.
 pub(crate) fn unmasked(entries: &[Entry], has_mask: bool) -> Option<usize>
     requires short { length entries.now ≤ MOST_ENTRIES }
     requires mask { has_mask ≡ lists.is_among Mask (keys entries.now) }
@@ -137,6 +140,7 @@ pub(crate) fn unmasked(entries: &[Entry], has_mask: bool) -> Option<usize>
     first_named(entries)
 }
 
+/// The union of what the entries of the group class have, the mask apart.
 pub(crate) fn class_union(entries: &[Entry]) -> Perm
     ensures { result ≡ lists.union_all (map perm_of_entry (filter in_class entries.now)) }
 {
@@ -149,13 +153,14 @@ pub(crate) fn class_union(entries: &[Entry]) -> Perm
     all
 }
 
+/// Whether there are only base entries.
 pub(crate) fn has_base_alone(entries: &[Entry]) -> bool
     ensures { result ≡ list_all (λ e. is_base e.key) entries.now }
 {
     entries.iter().all(|entry| entry.key.is_base())
 }
 
-// Puts other sets at the mode entries.
+/// Puts other sets at the mode entries.
 pub(crate) fn set_mode(
     entries: &mut [Entry],
     group: &Key,

@@ -5,8 +5,8 @@ use acl_entry::{Acl, Id, Label, Perm, Requests, Subject, granted};
 use std::alloc::Global;
 use std::process::Abort;
 
-// The list of a file of lisa and staff, modes that it is given in turn, a user and the user's groups, and the
-// requests granted, as a byte: bit i is request i.
+/// The list of a file of lisa and staff, modes that it is given in turn, a user and the user's groups, and the
+/// requests granted, as a byte: bit i is request i.
 struct Check {
     list: &'static [Row],
     modes: &'static [u16],
@@ -98,7 +98,7 @@ static CHECKS: [Check; 6] = [
     },
 ];
 
-// A file of lisa and staff with the list.
+/// A file of lisa and staff with the list.
 fn file(rt: &impl Abort, acl: Acl) -> Label {
     Label {
         owner: id(rt, LISA),
@@ -119,7 +119,7 @@ fn subject(rt: &impl Abort, alloc: Global, uid: u32, groups: &[u32]) -> Subject 
     Subject::from_groups(alloc, id(rt, uid), &ids(rt, alloc, groups)).expect(rt, "memory")
 }
 
-// The user is granted these requests, as a byte.
+/// The user is granted these requests, as a byte.
 fn expect_granted(
     rt: &impl Abort,
     alloc: Global,
@@ -150,14 +150,14 @@ fn requests_are_granted(rt: HostRuntime) {
     }
 }
 
-// A file of mode 0640, and the same after `chmod 604`.
+/// A file of mode 0640, and the same after `chmod 604`.
 #[test]
 fn minimal_lists(rt: HostRuntime) {
     let acl = Acl::minimal(rt.alloc(), 0o640).expect(&rt, "memory");
     let mut label = file(&rt, acl);
     // -w- r-- rw-
     expect_granted(&rt, rt.alloc(), &label, LISA, &[STAFF], 0b0101_0101);
-    // none but the empty request
+    // only the empty request
     expect_granted(&rt, rt.alloc(), &label, JOE, &[USERS], 0b0000_0001);
     label.acl.chmod(0o4604);
     // r--

@@ -1,6 +1,6 @@
 //! Worked examples of lists, modes and the check, and each public call of `acl_entry` once.
 //!
-//! They stand apart from `acl_entry`, since a crate with tests is proved twice.
+//! They are apart from `acl_entry`, since a crate with tests is proved twice.
 #![tactic(auto)]
 
 #[cfg(test)]

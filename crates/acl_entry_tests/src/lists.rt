@@ -9,7 +9,7 @@ use acl_entry::{
 use std::alloc::Global;
 use std::process::Abort;
 
-// Entries, and the fault of their list, where it has one.
+/// Entries, and the fault of their list, where it has one.
 static FAULTS: [(&[Row], &str); 8] = [
     // A base entry is missing.
     (&[], "Some(MissingBase { key: Owner })"),
@@ -54,7 +54,7 @@ static FAULTS: [(&[Row], &str); 8] = [
     ),
 ];
 
-// The fault of the entries' list reads like this.
+/// The fault of the entries' list reads like this.
 fn expect_fault(rt: &impl Abort, alloc: Global, entries: &[Entry], want: &str) {
     let fault = Acl::from_entries(alloc, entries).err();
     let found = format!(in alloc; "{fault:?}").expect(rt, "memory");
@@ -71,7 +71,7 @@ fn lists_are_refused(rt: HostRuntime) {
 
 static BASE_AND_MASK: [Row; 4] = [(Owner, 6), (OwningGroup, 4), (Mask, 7), (Other, 0)];
 
-// The named users 0, 1, .., so many, and after them the base entries and a mask.
+/// The named users 0, 1, .., so many, and after them the base entries and a mask.
 fn with_users(rt: &impl Abort, alloc: Global, named: u32) -> Vec<Entry> {
     let mut entries = Vec::new(alloc);
     for number in 0..named {
@@ -81,7 +81,7 @@ fn with_users(rt: &impl Abort, alloc: Global, named: u32) -> Vec<Entry> {
     entries
 }
 
-// A list of so many named users, the base entries and a mask has so many entries.
+/// A list of so many named users, the base entries and a mask has so many entries.
 fn expect_kept(rt: &impl Abort, alloc: Global, named: u32, want: usize) {
     let acl = Acl::from_entries(alloc, &with_users(rt, alloc, named)).expect(rt, "a valid list");
     assert!(rt; acl.entries().len() == want, "not {want} entries");
@@ -136,7 +136,7 @@ fn entries_are_in_list_order(rt: HostRuntime) {
     assert!(rt; !acl.is_minimal());
 }
 
-// The entry for joe that setfacl makes in a file of mode 0640.
+/// The entry for joe that setfacl makes in a file of mode 0640.
 static NAMED_USER: [Row; 5] = [
     (Owner, 6),
     (User(JOE), 7),
@@ -145,7 +145,7 @@ static NAMED_USER: [Row; 5] = [
     (Other, 0),
 ];
 
-// A key of that list, its permissions after `chmod 600`, and those of them that are in effect.
+/// A key of that list, its permissions after `chmod 600`, and those of them that are in effect.
 static MASKED: [(Who, u8, u8); 3] = [(User(JOE), 7, 0), (OwningGroup, 4, 0), (Owner, 6, 6)];
 
 #[test]
@@ -176,7 +176,7 @@ fn mode_of_a_minimal_list(rt: HostRuntime) {
     assert!(rt; acl.mode() == 0o604);
 }
 
-// Entries that a draft of the list of mode 0640 takes in turn, the mask twice.
+/// Entries that a draft of the list of mode 0640 takes in turn, the mask twice.
 static INSERTED: [Row; 3] = [(User(JOE), 7), (Mask, 5), (Mask, 7)];
 
 fn insert(rt: &impl Abort, draft: &mut Draft, who: &Who, number: u8) {
@@ -209,7 +209,7 @@ fn an_empty_draft_is_refused(rt: HostRuntime) {
     assert!(rt; fault == Some(ListFault::MissingBase { key: Key::Owner }));
 }
 
-// Permissions, and how they are written.
+/// Permissions, and how they are written.
 static TEXTS: [(u8, &[u8]); 2] = [(5, b"r-x"), (2, b"-w-")];
 
 #[test]

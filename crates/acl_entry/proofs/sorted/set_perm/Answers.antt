@@ -9,7 +9,7 @@ returns-in-Ok c = record {
   keys = keys-set c.args.perm c.index-entries-at.result c.args.entries.now c.in-Ok.at;
 }
 
--- the key stands
+-- the key is present
 pub returns-in_default : goal.returns-in_default
 returns-in_default c =
     let es = c.args.entries.now in

@@ -11,7 +11,7 @@ use Rattle.acl_entry.proofs.Maps.{in_order-insert, in_order-put, map_of-put, ref
 use Rattle.acl_entry.proofs.Faults.{among_at}
 use Rattle.acl_entry.proofs.draft.Draft.insert.Goals as goal
 
--- the key stands
+-- the key is present
 pub set_perm-requires-clause-stands : goal.set_perm-requires-clause-stands
 set_perm-requires-clause-stands c =
     let es = c.self.inside.entries.items in
@@ -59,7 +59,7 @@ returns-in_err-insert-in-Err-clause-inline c short =
     let same = ap length (sym (entries-map_of es c.self.invariant.in_order) ∙ ap entries c.self.view_is) in
     absurd (false≢true (c.in_err-insert-in-Err.ensures.succeeds (omega (arith, c.capacity-capacity.ensures.at_least_inline, c.capacity-capacity.ensures.value))))
 
--- the key does not stand
+-- the key is absent
 pub returns-in_err-insert-in-Err-clause-stands : goal.returns-in_err-insert-in-Err-clause-stands
 returns-in_err-insert-in-Err-clause-stands c stands =
     let es = c.self.inside.entries.items in
