@@ -87,7 +87,7 @@ module _ {V : Type 0} where
       by true h rest = (not_greater (path_cmp p e.0) h, rest)
       by false h rest = rest
 
-  -- what is within a path stands from it on
+  -- what is within a path comes from it on
   pub within_from : (p : PathOf) (es : List (PathOf × V)) → within p (from p es) ≡ within p es
   within_from p [] = refl
   within_from p (e ∷ es) = by (not (is_gt (path_cmp p e.0))) refl (within_from p es)
@@ -100,7 +100,7 @@ module _ {V : Type 0} where
       by true h rest = ap (λ l. cond (is_within p e.0) (e ∷ l) l) rest
       by false h rest = rest ∙ sym (ap (λ b. cond b (e ∷ within p es) (within p es)) (outside (is_within p e.0) (is_gt (path_cmp p e.0)) refl refl h))
 
-  -- after one that isn't within there is none
+  -- after one that isn't within, no other is
   pub none_within : (p : PathOf) (e : PathOf × V) (es : List (PathOf × V)) → path_cmp p e.0 ≢ Greater → After e.0 es → is_within p e.0 ≡ false → within p es ≡ []
   none_within p e [] le h out = refl
   none_within p e (x ∷ es) le h out = ap (λ b. cond b (x ∷ within p es) (within p es)) (by (is_within p x.0) refl) ∙ none_within p e es le h.1 out
@@ -121,7 +121,7 @@ module _ {A V : Type 0} (f : A → List (PathOf × V)) where
   from_each p [] h begins = tt
   from_each p (e ∷ es) h begins = each_from p (e ∷ es) (λ j d lt. below_later (e ∷ es) h p 0 j d ((begins (omega arith)).after d) (omega arith) lt)
 
-  -- where no part begins by the path, all stand after it
+  -- where no part begins by the path, all are after it
   pub from_whole : (parts : List A) (p : PathOf) → IsInOrder (flat_map f parts) → IsCountUpTo f parts p 0 → from p (flat_map f parts) ≡ flat_map f parts
   from_whole parts p h counted = from_all p (flat_map f parts) (from_each p (flat_map f parts) h (rest_after f parts p 0 counted))
 

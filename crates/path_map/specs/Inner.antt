@@ -31,7 +31,7 @@ abbrev pub Before : {V : Type 0} → PathOf → List (PathOf × V) → Type 0
 Before p [] = ⊤
 Before p (e ∷ es) = (path_cmp e.0 p ≡ Less) × Before p es
 
--- none of them is before a path
+-- no entry is before a path
 abbrev pub From : {V : Type 0} → PathOf → List (PathOf × V) → Type 0
 From p [] = ⊤
 From p (e ∷ es) = (path_cmp p e.0 ≢ Greater) × From p es

@@ -1,4 +1,4 @@
-//! A map with some entries put and others removed: only the chunks that hold them are copied.
+//! A map with some entries put and others removed: only the chunks that contain them are copied.
 
 ghost use Rattle.std.specs.Prelude.{◌≡◌, ◌++◌, map, IfOk, OnOk};
 ghost use Rattle.std.specs.List.{flat_map};
@@ -187,7 +187,7 @@ impl<V: Drop> PathMap<V> {
     }
 
     /// The map with some entries put, after the paths of others are removed: a path in both lists is put. Both
-    /// lists are in path order. This map stays as it is. Only the chunks that hold such a path are copied.
+    /// lists are in path order. This map stays as it is. Only the chunks that contain such a path are copied.
     /// Fails only if memory runs out.
     pub fn merged<W>(
         &self,
