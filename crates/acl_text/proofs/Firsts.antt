@@ -86,7 +86,7 @@ module _ {R : Type 0} (name_of : R → List ℕ) where
       out_is : out ≡ some ++ new_rows all rows
       few : length out ≤ 65536
 
-    -- a line that says something, where the other lines are known
+    -- a line that is not ignored, where the other lines are known
     module _ (at : ℕ) (some all : List R) (line : List ℕ) (lines : List (List ℕ)) (out : List R) (names : HaveSameNames some all) (says : says_nothing line ≡ false) where
       known_adds : (row : R) → rows_on (line ∷ lines) ≡ Some row ∷ rows_on lines → repeated all row ≡ true → Adds some (all ++ row ∷ []) lines out → Adds some all (line ∷ lines) out
       known_adds row on known more = record {

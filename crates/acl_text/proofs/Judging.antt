@@ -1,4 +1,4 @@
--- The fault that is told is the first, and the first is told.
+-- The fault that is returned is the first, and the first is returned.
 use Rattle.std.proofs.Common.{◌≡◌, ℕ, ◌+◌, List, [], ◌∷◌, ◌++◌, length, Result, Ok, Err, refl, sym, ap, ◌∙◌, subst, arith, inl, inr}
 use Rattle.std.specs.Prelude.{◌⊎◌}
 use Rattle.acl_text.specs.declared.fault.FaultKind.{FaultKind}

@@ -1,4 +1,4 @@
--- An entry is read as what it says by the table.
+-- An entry is read as what it means by the table.
 use Rattle.std.proofs.Common.{◌≡◌, ℕ, ◌+◌, ◌-◌, ◌<◌, ◌≤◌, Bool, true, false, leb, List, [], ◌∷◌, length, Option, Some, None, Result, Ok, Err, refl, sym, ap, ◌∙◌, inl, inr, arith}
 use Rattle.std.specs.Prelude.{◌⊎◌, ◌↔◌, ◌||◌, ◌&&◌, not, codes, if◌then◌else◌}
 use Rattle.std.specs.Str.{bytes_eq}

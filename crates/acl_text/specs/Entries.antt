@@ -73,7 +73,7 @@ module _ (user_id group_id : List ℕ → Option ℕ) where
   key_of tags.Mask word = Ok keys.Mask
   key_of tags.Other word = Ok keys.Other
 
-  -- what the fields of an entry say; its faults are looked for in the order of their kinds
+  -- what the fields of an entry mean; its faults are looked for in the order of their kinds
   abbrev pub entry_from : Rules → ℕ → List (List ℕ) → Result Spec FaultKind
   entry_from rules at fields = do
     row ← or_fault (tagged rules (default_of fields)) BadTag
@@ -85,7 +85,7 @@ module _ (user_id group_id : List ℕ → Option ℕ) where
   abbrev pub entry_of : Rules → ℕ → List ℕ → Result Spec FaultKind
   entry_of rules at entry = entry_from rules at (entry_fields entry)
 
-  -- the entries, once a piece is read too; one of white space says nothing
+  -- the entries, once a piece is read too; one of white space is ignored
   abbrev pub one_more : Sep → Rules → ℕ → List Spec → List ℕ → Result (List Spec) FaultKind
   one_more sep rules at specs piece =
       if length (trimmed (content sep piece)) == 0 then Ok specs else with_entry specs (entry_of rules at (content sep piece))

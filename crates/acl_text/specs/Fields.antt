@@ -7,7 +7,7 @@ use Rattle.acl_text.specs.declared.fields.Tag.TheVariants.{User, Group, Mask, Ot
 use Rattle.acl_text.specs.declared.fields.Row.{Row}
 use Rattle.acl_text.specs.Blanks.{trimmed}
 
--- what an entry says: its tag, the word that names a user or a group, and its permissions field
+-- what an entry contains: its tag, the word that names a user or a group, and its permissions field
 pub record EntryRow : Type 0 where
   pub tag : Tag
   pub word : List ℕ
@@ -61,7 +61,7 @@ row_of (first ∷ second ∷ third ∷ fourth ∷ more) = None
 abbrev pub is_default_word : List ℕ → Bool
 is_default_word w = bytes_eq w (codes "d") || bytes_eq w (codes "default")
 
--- whether an entry is a default one, and the fields without the one that says so
+-- whether an entry is a default one, and the fields without the one that marks it
 abbrev pub default_of : List (List ℕ) → Bool × List (List ℕ)
 default_of [] = (false, [])
 default_of (first ∷ []) = (false, first ∷ [])

@@ -1,10 +1,10 @@
--- The rows that count, said of a whole text.
+-- The rows that count, defined on a whole text.
 use Rattle.std.specs.Prelude.{◌≡◌, ℕ, ◌≤◌, List, take, map, filter, length, not, Option, Some}
 use Rattle.std.specs.List.{enumerate_from}
 use Rattle.acl_names.specs.Pieces.{pieces}
 use Rattle.acl_text.specs.Rows.{says_nothing, is_repeated}
 
--- the lines that say something
+-- the lines that are not ignored
 abbrev pub telling_lines : List ℕ → List (List ℕ)
 telling_lines bytes = filter (λ line. not (says_nothing line)) (pieces 10 bytes)
 
@@ -12,7 +12,7 @@ telling_lines bytes = filter (λ line. not (says_nothing line)) (pieces 10 bytes
 abbrev pub firsts : {R : Type 0} → (R → List ℕ) → List R → List R
 firsts name_of rows = map (λ p. p.1) (filter (λ p. not (is_repeated name_of (take p.0 rows) (name_of p.1))) (enumerate_from 0 rows))
 
--- each line that says something is a row, of each name the first row counts, and no more than 65,536 rows do
+-- each line that is not ignored is a row, of each name the first row counts, and no more than 65,536 rows do
 pub record AreCounted {R : Type 0} (name_of : R → List ℕ) (row_of : List (List ℕ) → Option R) (bytes : List ℕ) (counted : List R) : Type 0 where
   pub rows : List R
   pub well_formed : map (λ line. row_of (pieces 58 line)) (telling_lines bytes) ≡ map (λ row. Some row) rows

@@ -34,7 +34,7 @@ pub record IsLowest (has : FaultKind → Type 0) (kind : FaultKind) : Type 0 whe
   pub applies : has kind
   pub least : (other : FaultKind) → has other → number kind ≤ number other
 
--- a judgement tells the lowest kind of fault that a piece has, and gives a value only where it has none
+-- a judgement returns the lowest kind of fault that a piece has, and gives a value only where it has none
 pub record TellsLowest {A : Type 0} (has : FaultKind → Type 0) (judgement : Result A FaultKind) : Type 0 where
   pub no_fault : (value : A) → judgement ≡ Ok value → (kind : FaultKind) → has kind → ⊥
   pub lowest : (kind : FaultKind) → judgement ≡ Err kind → IsLowest has kind
@@ -42,7 +42,7 @@ pub record TellsLowest {A : Type 0} (has : FaultKind → Type 0) (judgement : Re
 -- ---- what an entry may have, by the rules of its use
 
 module _ (user_id group_id : List ℕ → Option ℕ) (rules : Rules) (fields : Bool × List (List ℕ)) where
-  -- its fields are none of those of an entry
+  -- its fields are not those of an entry
   pub record HasBadTag (kind : FaultKind) : Type 0 where
     pub is : kind ≡ kinds.BadTag
     pub no_row : tagged rules fields ≡ None
@@ -59,7 +59,7 @@ module _ (user_id group_id : List ℕ → Option ℕ) (rules : Rules) (fields : 
     pub is_row : tagged rules fields ≡ Some row
     pub unknown : key_of user_id group_id row.tag row.word ≡ Err kind
 
-  -- it is a base entry, where none may be
+  -- it is a base entry, which the use refuses
   pub record HasBaseKey (kind : FaultKind) : Type 0 where
     pub row : EntryRow
     pub key : Key
@@ -86,7 +86,7 @@ NextEntryHas user_id group_id rules specs entry kind = EntryHas user_id group_id
 -- ---- what a row of passwd(5) or group(5) may have
 
 module _ {R : Type 0} (name_of : R → List ℕ) (row_of : List (List ℕ) → Option R) (rows : List R) (line : List ℕ) where
-  -- its fields are none of those of a row
+  -- its fields are not those of a row
   pub record HasBadRow (kind : FaultKind) : Type 0 where
     pub is : kind ≡ kinds.BadRow
     pub no_row : row_of (pieces 58 line) ≡ None

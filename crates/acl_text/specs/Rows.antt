@@ -29,7 +29,7 @@ group_row (name ∷ password ∷ gid ∷ names ∷ []) =
     else option_map (λ g. record { name = name; gid = g; names = names_of names }) (id_of gid)
 group_row _ = None
 
--- an empty line and a line that begins with # say nothing
+-- an empty line and a line that begins with # are ignored
 abbrev pub says_nothing : List ℕ → Bool
 says_nothing [] = true
 says_nothing (b ∷ bs) = b == 35

@@ -1,4 +1,4 @@
--- What an entry says by the table of setfacl(1), "ACL entries": how each kind of entry is written.
+-- What an entry means by the table of setfacl(1), "ACL entries": how each kind of entry is written.
 use Rattle.std.specs.Prelude.{◌≡◌, ℕ, ◌+◌, ◌<◌, ◌≤◌, ◌⊎◌, List, [], ◌∷◌, Bool, true, false, not, length, map, filter, Option, Some, None, Ok, codes, ◌==◌}
 use Rattle.std.specs.List.{list_all, enumerate_from}
 use Rattle.acl_entry.specs.declared.key.Key.{Key}
@@ -42,7 +42,7 @@ module _ (fields : List (List ℕ)) (row : EntryRow) where
     pub for_tag : IsWordFor row.tag tag_word
     pub are : fields ≡ tag_word ∷ row.word ∷ last row.perms
 
-  -- `joe:rw`: a user's name alone, which is no word for a tag
+  -- `joe:rw`: a user's name alone, which is not a word for a tag
   pub record HasNameAlone : Type 0 where
     pub filled : 0 < length row.word
     pub for_none : (tag : Tag) → IsWordFor tag row.word → ⊥
@@ -134,7 +134,7 @@ HasPerms false takes_x field (Some perm) = ⊥
 
 -- ---- an entry
 
--- what an entry at a place says, by the rules of its use
+-- what an entry at a place means, by the rules of its use
 pub record Says (user_id group_id : List ℕ → Option ℕ) (rules : Rules) (at : ℕ) (entry : List ℕ) (spec : Spec) : Type 0 where
   pub place : spec.at ≡ at
   pub fields : List (List ℕ)
@@ -147,11 +147,11 @@ pub record Says (user_id group_id : List ℕ → Option ℕ) (rules : Rules) (at
 
 -- ---- the entries of a text
 
--- the pieces without their comments, each with its number; those of white space alone say nothing
+-- the pieces without their comments, each with its number; those of white space alone are ignored
 abbrev pub numbered_entries : Sep → List ℕ → List (ℕ × List ℕ)
 numbered_entries sep bytes = filter (λ e. not (length (trimmed e.1) == 0)) (enumerate_from 1 (map (content sep) (pieces (separator sep) bytes)))
 
--- each entry says one spec, in their order, and there are no more than 16,384
+-- each entry means one spec, in their order, and there are no more than 16,384
 pub record AreRead (user_id group_id : List ℕ → Option ℕ) (sep : Sep) (rules : Rules) (bytes : List ℕ) (specs : List Spec) : Type 0 where
   pub each : map (λ e. entry_of user_id group_id rules e.0 e.1) (numbered_entries sep bytes) ≡ map (λ spec. Ok spec) specs
   pub few : length specs ≤ 16384

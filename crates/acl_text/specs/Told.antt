@@ -1,4 +1,4 @@
--- What a text says, piece by piece, and which fault is told.
+-- What a text means, piece by piece, and which fault is returned.
 use Rattle.std.specs.Prelude.{◌≡◌, ◌≢◌, ℕ, ◌+◌, List, [], ◌∷◌, ◌++◌, length, Option, Some, None, Result, Ok, Err}
 use Rattle.acl_text.specs.declared.fault.FaultKind.{FaultKind}
 use Rattle.acl_text.specs.declared.fault.FaultKind.TheVariants.{NoMemory}
@@ -8,7 +8,7 @@ use Rattle.acl_entry.specs.declared.entry.ListFault.{ListFault}
 use Rattle.acl_entry.specs.declared.entry.ListFault.TheVariants as faults
 use Rattle.acl_text.specs.declared.fault.TextFault.{TextFault}
 
--- what is wrong with a text whose list has a fault; want of memory is none of the list's
+-- what is wrong with a text whose list has a fault; running out of memory is not the list's
 abbrev pub of_list : Which → ListFault → FaultKind
 of_list which faults.NoMemory = NoMemory
 of_list which (faults.Repeated at) = kinds.List which (faults.Repeated at)
@@ -16,28 +16,28 @@ of_list which (faults.MissingBase key) = kinds.List which (faults.MissingBase ke
 of_list which (faults.MissingMask at) = kinds.List which (faults.MissingMask at)
 of_list which faults.TooLong = kinds.List which faults.TooLong
 
--- a judgement of the piece at a place, and what is told of the pieces after it
+-- a judgement of the piece at a place, and the result for the pieces after it
 abbrev pub at_place : {S T : Type 0} → ℕ → Result S FaultKind → (S → Result T TextFault) → Result T TextFault
 at_place at (Ok said) more = more said
 at_place at (Err kind) more = Err (record { kind = kind; at = at })
 
--- A judge gives what is said once the piece at a place is read too, or the lowest kind of fault of that piece.
--- The value of all pieces is what is said in the end; else the first faulty piece is told.
+-- A judge gives the value once the piece at a place is read too, or the lowest kind of fault of that piece.
+-- The value of all pieces is the last one; else the fault of the first faulty piece is returned.
 abbrev pub told_from : {S P : Type 0} → (ℕ → S → P → Result S FaultKind) → ℕ → S → List P → Result S TextFault
 told_from judge at said [] = Ok said
 told_from judge at said (p ∷ ps) = at_place at (judge at said p) (λ more. told_from judge (at + 1) more ps)
 
--- what a text says, whose pieces count from 1
+-- what a text means, whose pieces count from 1
 abbrev pub told : {S P : Type 0} → (ℕ → S → P → Result S FaultKind) → S → List P → Result S TextFault
 told judge start ps = told_from judge 1 start ps
 
--- the kinds of fault of one piece are looked for in their order, so the lowest is told
+-- the kinds of fault of one piece are looked for in their order, so the lowest is returned
 infixl 10 ◌>>=◌
 abbrev pub ◌>>=◌ : {A B : Type 0} → Result A FaultKind → (A → Result B FaultKind) → Result B FaultKind
 (Ok x) >>= f = f x
 (Err kind) >>= f = Err kind
 
--- what is there, or a fault
+-- a value, or a fault
 abbrev pub or_fault : {A : Type 0} → Option A → FaultKind → Result A FaultKind
 or_fault None kind = Err kind
 or_fault (Some x) kind = Ok x
@@ -58,7 +58,7 @@ abbrev pub Gives : {X Y : Type 0} → (X → Y) → Result X TextFault → Resul
 Gives view (Ok x) is = is ≡ Ok (view x)
 Gives view (Err fault) is = fault.kind ≢ NoMemory → is ≡ Err fault
 
--- What a step with the piece at a place did: it said one piece more, or told the fault of this piece, unless memory ran out.
+-- What a step with the piece at a place did: it read one piece more, or returned the fault of this piece, unless memory ran out.
 abbrev pub JudgesAt : {S X : Type 0} → ℕ → Result X TextFault → S → Result S FaultKind → Type 0
 JudgesAt at (Ok x) new is = is ≡ Ok new
 JudgesAt at (Err fault) new is = fault.kind ≢ NoMemory → (is ≡ Err fault.kind) × (fault.at ≡ at)

@@ -5,7 +5,7 @@ ghost use Rattle.acl_text.specs.Entries.{rules_of, separator};
 
 use acl_entry::{Key, Perm};
 
-/// What stands between entries.
+/// What is between entries.
 #[derive(Clone, Copy, Debug, PartialEq, Eq)]
 pub enum Sep {
     /// Commas; `#` has no meaning.
@@ -30,7 +30,7 @@ pub enum Want {
 pub struct PermSpec {
     /// Those that are given in any case.
     pub fixed: Perm,
-    /// Whether `X` stands among them: execute where the file is a directory or someone may execute it.
+    /// Whether `X` is among them: execute where the file is a directory or someone may execute it.
     pub cond_x: bool,
 }
 
@@ -42,7 +42,7 @@ pub struct Spec {
     /// Whether it is an entry of the default list.
     pub dflt: bool,
     pub key: Key,
-    /// None where the entry has no permissions field, or an empty one among entries without permissions.
+    /// `None` where the entry has no permissions field, or an empty one among entries without permissions.
     pub perm: Option<PermSpec>,
 }
 
@@ -51,12 +51,13 @@ pub struct Spec {
 pub struct Rules {
     /// Default entries.
     pub takes_default: bool,
-    /// Permissions, which each entry then has; else none has them, and base entries are refused.
+    /// Permissions, which each entry then has; else no entry has them, and base entries are refused.
     pub takes_perms: bool,
     /// `X` among permissions.
     pub takes_x: bool,
 }
 
+/// The rules that a use has for its entries.
 pub(crate) fn rules_of(want: Want) -> Rules
     ensures { result ≡ rules_of want }
 {

@@ -19,6 +19,7 @@ use std::alloc::Global;
 /// The most entries of one text, empty ones not counted.
 const MOST_ENTRIES: usize = 16384;
 
+/// The permissions of a field that has to be there.
 fn given_perms(takes_x: bool, field: Option<&[u8]>) -> Result<Option<PermSpec>, FaultKind>
     ensures { result ≡ given_perms takes_x (option_copied field.entry) }
 {
@@ -31,6 +32,7 @@ fn given_perms(takes_x: bool, field: Option<&[u8]>) -> Result<Option<PermSpec>, 
     }
 }
 
+/// No permissions, of a field that is absent or empty.
 fn no_perms(field: Option<&[u8]>) -> Result<Option<PermSpec>, FaultKind>
     ensures { result ≡ no_perms (option_copied field.entry) }
 {
@@ -41,6 +43,7 @@ fn no_perms(field: Option<&[u8]>) -> Result<Option<PermSpec>, FaultKind>
     }
 }
 
+/// The permissions of a field by the rules of the use.
 fn wanted_perms(rules: Rules, field: Option<&[u8]>) -> Result<Option<PermSpec>, FaultKind>
     ensures { result ≡ wanted_perms rules (option_copied field.entry) }
 {
@@ -51,6 +54,7 @@ fn wanted_perms(rules: Rules, field: Option<&[u8]>) -> Result<Option<PermSpec>, 
     }
 }
 
+/// The key of a tag and a name.
 fn key_of<N: Names>(
     alloc: Global,
     names: &N,
@@ -84,7 +88,7 @@ fn key_of<N: Names>(
 
 /// The entry of a piece of text that is not empty and has no comment, by the rules of its use. Of several
 /// faults the first of `BadTag`, `MissingPerms`, `UnwantedPerms`, `BadPerms`, `UnknownUser`,
-/// `UnknownGroup` and `BaseEntry` is told, at this place.
+/// `UnknownGroup` and `BaseEntry` is returned, at this place.
 pub fn entry_of<N: Names>(
     alloc: Global,
     names: &N,
@@ -139,6 +143,7 @@ pub fn content(sep: Sep, piece: &[u8]) -> &[u8]
     }
 }
 
+/// Adds the spec of the piece at a place, unless the piece is white space alone.
 fn read_piece<N: Names>(
     alloc: Global,
     names: &N,
@@ -166,7 +171,7 @@ fn read_piece<N: Names>(
 }
 
 /// The entries of a text, without the empty ones. An entry is `[d[efault]:]TAG:WORD:PERMISSIONS` in the
-/// forms of setfacl(1); entries and lines count from 1, empty ones too. The first faulty entry is told, and
+/// forms of setfacl(1); entries and lines count from 1, empty ones too. The fault of the first faulty entry is returned, and
 /// of several faults in it the first of: `BadTag`, `MissingPerms`, `UnwantedPerms`, `BadPerms`,
 /// `UnknownUser`, `UnknownGroup`, `BaseEntry`, and `TooMany` beyond 16,384 entries.
 pub fn read_entries<N: Names>(

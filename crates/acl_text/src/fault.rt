@@ -13,8 +13,8 @@ pub enum Which {
     Default,
 }
 
-/// What is wrong with a piece of text. Of several faults in one piece the first of this list is told.
-/// A list's own want of memory is `NoMemory` and never stands in `List`.
+/// What is wrong with a piece of text. Of several faults in one piece the first of this enum is returned.
+/// A list that runs out of memory is `NoMemory`, never `List`.
 #[derive(Clone, Copy, Debug, PartialEq, Eq)]
 pub enum FaultKind {
     BadTag,

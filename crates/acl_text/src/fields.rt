@@ -16,7 +16,7 @@ pub(crate) enum Tag {
     Other,
 }
 
-/// What an entry says: whom it is for, the word that names a user or a group, and its permissions field.
+/// What an entry contains: whom it is for, the word that names a user or a group, and its permissions field.
 #[derive(Clone, Copy)]
 pub(crate) struct Row<'a> {
     pub tag: Tag,
@@ -24,6 +24,7 @@ pub(crate) struct Row<'a> {
     pub perms: Option<&'a [u8]>,
 }
 
+/// The tag that a word names.
 fn tag_named(word: &[u8]) -> Option<Tag>
     ensures { result ≡ tag_named word.now }
 {
@@ -40,6 +41,7 @@ fn tag_named(word: &[u8]) -> Option<Tag>
     }
 }
 
+/// Whether the word marks an entry of a default list.
 fn is_default_word(word: &[u8]) -> bool
     ensures { result ≡ is_default_word word.now }
 {
@@ -53,6 +55,7 @@ fn make_row<'a>(tag: Tag, word: &'a [u8], perms: Option<&'a [u8]>) -> Option<Row
     Some(Row { tag, word, perms })
 }
 
+/// The parts of an entry of one field.
 fn one_field<'a>(first: &'a [u8]) -> Option<Row<'a>>
     ensures { option_map row_view result ≡ one_field (tag_named first.now) first.now }
 {
@@ -66,6 +69,7 @@ fn one_field<'a>(first: &'a [u8]) -> Option<Row<'a>>
     }
 }
 
+/// The parts of an entry of two fields.
 fn two_fields<'a>(first: &'a [u8], second: &'a [u8]) -> Option<Row<'a>>
     ensures { option_map row_view result ≡ two_fields (tag_named first.now) first.now second.now }
 {
@@ -79,6 +83,7 @@ fn two_fields<'a>(first: &'a [u8], second: &'a [u8]) -> Option<Row<'a>>
     }
 }
 
+/// The parts of an entry of three fields.
 fn three_fields<'a>(first: &[u8], second: &'a [u8], third: &'a [u8]) -> Option<Row<'a>>
     ensures { option_map row_view result ≡ three_fields (tag_named first.now) second.now third.now }
 {

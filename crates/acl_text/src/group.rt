@@ -49,6 +49,7 @@ fn names_of(alloc: Global, field: &[u8]) -> Result<NameList, AllocError>
     Ok(NameList::new(names))
 }
 
+/// Adds the row of the line with a number, if it counts.
 fn read_line<'a>(
     alloc: Global,
     rows: &mut Vec<GroupRow>,
@@ -92,8 +93,8 @@ fn read_line<'a>(
 /// The counted rows of a group(5) text: the first row of each name, at most 65,536. Empty lines and lines
 /// that begin with `#` are ignored; a line is `name:password:gid:names`, with a name that is not empty, an
 /// id of digits alone, at most 4294967294, and names between commas, of which empty ones are ignored, else
-/// it is `BadRow`; a row whose name came before is not counted, but must be well formed. The first faulty
-/// line is told.
+/// it is `BadRow`; a row whose name came before is not counted, but must be well formed. The fault of the first
+/// faulty line is returned.
 pub fn read_group(alloc: Global, bytes: &[u8]) -> Result<Vec<GroupRow>, TextFault>
     ensures { Gives (λ rows. rows.items) result (group_of bytes.now) }
 {

@@ -22,7 +22,7 @@ fn are_digits(word: &[u8]) -> bool
     word.iter().all(|b| b.is_ascii_digit())
 }
 
-/// The id of digits alone; none for any other word, and none above 4294967294.
+/// The id of digits alone; `None` for any other word, and above 4294967294.
 pub fn read_id(word: &[u8]) -> Option<Id>
     ensures { result ≡ id_of word.now }
 {

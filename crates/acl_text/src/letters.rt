@@ -7,6 +7,7 @@ ghost use Rattle.acl_text.specs.Letters.{is_letter, holds, letter_set, letters_o
 use crate::entries::PermSpec;
 use acl_entry::Perm;
 
+/// Whether the byte is a letter of a permissions field.
 fn is_letter(takes_x: bool, b: u8) -> bool
     ensures { result ≡ is_letter takes_x b }
 {
@@ -19,19 +20,21 @@ fn are_letters(takes_x: bool, field: &[u8]) -> bool
     field.iter().all(|b| is_letter(takes_x, *b))
 }
 
+/// Whether the letter is in the field.
 fn holds(letter: u8, field: &[u8]) -> bool
     ensures { result ≡ holds letter field.now }
 {
     field.contains(&letter)
 }
 
-/// The number of a permission, if its letter stands in the field, and else 0.
+/// The number of a permission, if its letter is in the field, and else 0.
 fn value_of(value: u8, letter: u8, field: &[u8]) -> u8
     ensures { result ≡ (if holds letter field.now then value else 0) }
 {
     if holds(letter, field) { value } else { 0 }
 }
 
+/// The permissions whose letters are in the field.
 fn letter_set(field: &[u8]) -> Perm
     ensures { result ≡ letter_set field.now }
 {
@@ -42,6 +45,7 @@ fn letter_set(field: &[u8]) -> Perm
     }
 }
 
+/// The permissions of a field of letters.
 fn letters_of(takes_x: bool, field: &[u8]) -> Option<PermSpec>
     ensures { result ≡ letters_of takes_x field.now }
 {
@@ -54,6 +58,7 @@ fn letters_of(takes_x: bool, field: &[u8]) -> Option<PermSpec>
     })
 }
 
+/// Whether the byte is an octal digit.
 fn is_digit(b: u8) -> bool
     ensures { result ≡ is_digit b }
 {
@@ -78,7 +83,7 @@ pub(crate) fn perms_of(takes_x: bool, field: &[u8]) -> Option<PermSpec>
 }
 
 /// The permissions that a text gives, without `X`: one digit 0 to 7, or letters `r`, `w`, `x` and `-` in
-/// any order, or nothing. None for any other text.
+/// any order, or nothing. `None` for any other text.
 pub fn read_perms(text: &[u8]) -> Option<Perm>
     ensures { result ≡ option_map (λ spec. spec.fixed) (perms_of false text.now) }
 {

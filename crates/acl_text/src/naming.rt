@@ -68,7 +68,7 @@ impl Names for NoNames {
 }
 
 /// The user that a word stands for: the word is trimmed, then decoded as a name; digits alone are a number,
-/// at most 4294967294 and never looked up; any other name is looked up. Refused for want of memory only.
+/// at most 4294967294 and never looked up; any other name is looked up. Fails only if memory runs out.
 pub fn read_user_word<N: Names>(
     alloc: Global,
     word: &[u8],
@@ -85,7 +85,7 @@ pub fn read_user_word<N: Names>(
     }
 }
 
-/// The group that a word stands for, read as a user's word is. Refused for want of memory only.
+/// The group that a word stands for, read as a user's word is. Fails only if memory runs out.
 pub fn read_group_word<N: Names>(
     alloc: Global,
     word: &[u8],

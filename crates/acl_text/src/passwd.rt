@@ -37,6 +37,7 @@ fn fields(line: &[u8]) -> Option<(&[u8], Id, Id)>
     Some((name, uid, gid))
 }
 
+/// Adds the row of the line with a number, if it counts.
 fn read_line<'a>(
     alloc: Global,
     rows: &mut Vec<PasswdRow>,
@@ -79,7 +80,7 @@ fn read_line<'a>(
 /// The counted rows of a passwd(5) text: the first row of each name, at most 65,536. Empty lines and lines
 /// that begin with `#` are ignored; a line is `name:password:uid:gid:gecos:home:shell`, with a name that is
 /// not empty and ids of digits alone, at most 4294967294, else it is `BadRow`; a row whose name came before
-/// is not counted, but must be well formed. The first faulty line is told.
+/// is not counted, but must be well formed. The fault of the first faulty line is returned.
 pub fn read_passwd(alloc: Global, bytes: &[u8]) -> Result<Vec<PasswdRow>, TextFault>
     ensures { Gives (λ rows. rows.items) result (passwd_of bytes.now) }
 {

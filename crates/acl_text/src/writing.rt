@@ -37,8 +37,8 @@ fn tag(form: Form, key: &Key) -> &'static [u8]
     }
 }
 
-/// Adds the name of a user or a group with escapes, or the number of its id where it has no name. Refused
-/// for want of memory only, and then nothing is added.
+/// Adds the name of a user or a group with escapes, or the number of its id where it has no name. Fails
+/// only if memory runs out, and then nothing is added.
 pub fn append_id(text: &mut Vec<u8>, id: Id, name: Option<&[u8]>) -> Result<(), AllocError>
     ensures ok { OnOk result (text.new.items ≡ text.old.items ++ id_text id (option_copied name.entry)) }
     ensures err { OnErr result (text.new.items ≡ text.old.items) }
@@ -52,6 +52,7 @@ pub fn append_id(text: &mut Vec<u8>, id: Id, name: Option<&[u8]>) -> Result<(), 
     }
 }
 
+/// Adds the name of the key's user or group, if it names one.
 fn append_qualifier<N: Names>(text: &mut Vec<u8>, key: &Key, names: &N) -> Result<(), AllocError>
     ensures ok { OnOk result (text.new.items ≡ text.old.items ++ qualifier (N.user_name names.now) (N.group_name names.now) key.now) }
     ensures err { OnErr result (text.new.items ≡ text.old.items) }
@@ -63,6 +64,7 @@ fn append_qualifier<N: Names>(text: &mut Vec<u8>, key: &Key, names: &N) -> Resul
     }
 }
 
+/// Adds an entry. A part of it is left where memory runs out.
 fn push_entry<N: Names>(
     text: &mut Vec<u8>,
     entry: &Entry,
@@ -80,7 +82,7 @@ fn push_entry<N: Names>(
 }
 
 /// Adds an entry as it is written, `TAG:NAME:rwx`. An id is printed as its name, with escapes, and as a
-/// number where it has none. Refused for want of memory only, and then nothing is added.
+/// number where it has none. Fails only if memory runs out, and then nothing is added.
 pub fn append_entry<N: Names>(
     text: &mut Vec<u8>,
     entry: &Entry,
@@ -100,7 +102,7 @@ pub fn append_entry<N: Names>(
 
 /// The long form of a list: a line for each entry, in list order. It is read as that list, where each name
 /// that is printed is looked up as the id that it is printed for, is not empty and not digits alone.
-/// Refused for want of memory only.
+/// Fails only if memory runs out.
 pub fn write_long<N: Names>(alloc: Global, acl: &Acl, names: &N) -> Result<Vec<u8>, AllocError>
     ensures text { IfOk result (λ text. text.items ≡ long (N.user_name names.now) (N.group_name names.now) (lists.entries acl.now)) }
     ensures read_again { IfOk result (λ text.
@@ -113,6 +115,7 @@ pub fn write_long<N: Names>(alloc: Global, acl: &Acl, names: &N) -> Result<Vec<u
     Ok(text)
 }
 
+/// Adds entries, a line each.
 fn push_long<N: Names>(text: &mut Vec<u8>, entries: &[Entry], names: &N) -> Result<(), AllocError>
     ensures { OnOk result (text.new.items ≡ text.old.items ++ long (N.user_name names.now) (N.group_name names.now) entries.now) }
 {
@@ -123,6 +126,7 @@ fn push_long<N: Names>(text: &mut Vec<u8>, entries: &[Entry], names: &N) -> Resu
     Ok(())
 }
 
+/// Adds entries, each after a comma.
 fn push_others<N: Names>(text: &mut Vec<u8>, others: &[Entry], names: &N) -> Result<(), AllocError>
     ensures ok { OnOk result (text.new.items ≡ text.old.items ++ flat_map (after_comma (N.user_name names.now) (N.group_name names.now)) others.now) }
     ensures err { OnErr result (StartsWith text.new.items text.old.items) }
@@ -134,6 +138,7 @@ fn push_others<N: Names>(text: &mut Vec<u8>, others: &[Entry], names: &N) -> Res
     Ok(())
 }
 
+/// Adds entries, joined by commas. A part of them is left where memory runs out.
 fn push_short<N: Names>(text: &mut Vec<u8>, entries: &[Entry], names: &N) -> Result<(), AllocError>
     ensures ok { OnOk result (text.new.items ≡ text.old.items ++ short (N.user_name names.now) (N.group_name names.now) entries.now) }
     ensures err { OnErr result (StartsWith text.new.items text.old.items) }
@@ -145,8 +150,8 @@ fn push_short<N: Names>(text: &mut Vec<u8>, entries: &[Entry], names: &N) -> Res
     push_others(text, others, names)
 }
 
-/// Adds the short form of a list: its entries in list order, joined by commas. Refused for want of memory
-/// only, and then nothing is added.
+/// Adds the short form of a list: its entries in list order, joined by commas. Fails only if memory
+/// runs out, and then nothing is added.
 pub fn append_short<N: Names>(text: &mut Vec<u8>, acl: &Acl, names: &N) -> Result<(), AllocError>
     ensures ok { OnOk result (text.new.items ≡ text.old.items ++ short (N.user_name names.now) (N.group_name names.now) (lists.entries acl.now)) }
     ensures err { OnErr result (text.new.items ≡ text.old.items) }
@@ -161,7 +166,7 @@ pub fn append_short<N: Names>(text: &mut Vec<u8>, acl: &Acl, names: &N) -> Resul
 
 /// The short form of a list: its entries in list order, joined by commas. It is read as that list, where
 /// each name that is printed is looked up as the id that it is printed for, is not empty and not digits
-/// alone. Refused for want of memory only.
+/// alone. Fails only if memory runs out.
 pub fn write_short<N: Names>(alloc: Global, acl: &Acl, names: &N) -> Result<Vec<u8>, AllocError>
     ensures text { IfOk result (λ text. text.items ≡ short (N.user_name names.now) (N.group_name names.now) (lists.entries acl.now)) }
     ensures read_again { IfOk result (λ text.

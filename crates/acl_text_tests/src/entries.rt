@@ -7,7 +7,7 @@ use acl_text::{Names, NoNames, PermSpec, Sep, Spec, Want, read_entries, read_per
 use std::alloc::Global;
 use std::process::Abort;
 
-// A text of entries, what it is for, and its first fault, with the entry's number.
+/// A text of entries, what it is for, and its first fault, with the entry's number.
 static FIRST_FAULTS: [(&str, Want, &str); 12] = [
     (
         "u:ann:r,u:nosuch:q,u:none:r",
@@ -49,8 +49,8 @@ fn first_faults(rt: HostRuntime) {
     }
 }
 
-// What is read of an entry: its number, whether it is of the default list, its key, its permissions as a digit,
-// and whether `X` is among them.
+/// What is read of an entry: its number, whether it is of the default list, its key, its permissions as a digit,
+/// and whether `X` is among them.
 type Row = (usize, bool, Who, Option<(u8, bool)>);
 
 fn perm_spec(rt: &impl Abort, perms: &Option<(u8, bool)>) -> Option<PermSpec> {
@@ -118,7 +118,7 @@ fn removed_entries(rt: HostRuntime) {
 
 static GREATEST_IDS: [&str; 2] = ["u:4294967294:r", "g:0004294967294:r"];
 
-// An id, and one more.
+/// An id, and one more.
 #[test]
 fn greatest_ids(rt: HostRuntime) {
     let alloc = rt.alloc();
@@ -144,7 +144,7 @@ fn greatest_ids(rt: HostRuntime) {
     );
 }
 
-// A text, and the permissions that it is read as.
+/// A text, and the permissions that it is read as.
 static PERMISSIONS: [(&[u8], Option<u8>); 9] = [
     (b"", Some(0)),
     (b"-", Some(0)),

@@ -1,6 +1,6 @@
 //! Worked examples of texts, their limits, and second readers of passwd(5), group(5) and entry texts to compare with.
 //!
-//! They stand apart from `acl_text`, since a crate with tests is proved twice.
+//! They are apart from `acl_text`, since a crate with tests is proved twice.
 #![tactic(auto)]
 
 #[cfg(test)]

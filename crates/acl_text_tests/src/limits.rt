@@ -45,7 +45,7 @@ const TOO_MANY_ENTRIES: TextFault = TextFault {
     at: 16388,
 };
 
-// The text has so many entries, or this fault.
+/// The text has so many entries, or this fault.
 fn expect_entries(rt: &impl Abort, alloc: Global, text: &[u8], want: Result<usize, TextFault>) {
     let read = read_entries(alloc, text, Sep::Line, Want::WithPerms, &NoNames);
     let found = match &read {
@@ -63,7 +63,7 @@ fn entries(rt: HostRuntime) {
     expect_entries(&rt, rt.alloc(), &text, Err(TOO_MANY_ENTRIES));
 }
 
-// The text has so many rows of passwd(5), or this fault.
+/// The text has so many rows of passwd(5), or this fault.
 fn expect_users(rt: &impl Abort, alloc: Global, text: &[u8], want: Result<usize, TextFault>) {
     let read = read_passwd(alloc, text);
     let found = match &read {
@@ -85,7 +85,7 @@ fn passwd_rows(rt: HostRuntime) {
     expect_users(&rt, rt.alloc(), &text, Err(TOO_MANY_ROWS));
 }
 
-// The text has so many rows of group(5), or this fault.
+/// The text has so many rows of group(5), or this fault.
 fn expect_groups(rt: &impl Abort, alloc: Global, text: &[u8], want: Result<usize, TextFault>) {
     let read = read_group(alloc, text);
     let found = match &read {

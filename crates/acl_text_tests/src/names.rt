@@ -5,7 +5,7 @@ use std::alloc::Global;
 use std::cmp::Ordering;
 use std::process::Abort;
 
-// A text, and the name that it is read as.
+/// A text, and the name that it is read as.
 static ESCAPES: [(&[u8], &[u8]); 8] = [
     (b"al\\040b", b"al b"),
     (b"\\\\400", b"\\400"),
@@ -41,13 +41,13 @@ fn each_byte_is_read_as_it_was_written(rt: HostRuntime) {
     }
 }
 
-// The path of the text, which has one.
+/// The path of the text, which has one.
 fn path(rt: &impl Abort, alloc: Global, text: &[u8]) -> Path {
     let read = read_path(alloc, text).expect(rt, "memory");
     read.expect(rt, "a path")
 }
 
-// The path is written like this.
+/// The path is written like this.
 fn expect_text(rt: &impl Abort, alloc: Global, path: &Path, want: &[u8]) {
     let text = write_path(alloc, path).expect(rt, "memory");
     assert!(rt; text.as_slice() == want);

@@ -44,7 +44,7 @@ const BAD_SECOND: TextFault = TextFault {
     at: 2,
 };
 
-// Texts whose second line is the first bad row.
+/// Texts whose second line is the first bad row.
 static BAD_USERS: [&[u8]; 8] = [
     b"joe:x:1000:100:::\njoe:x:1:1::\n",
     b"#\n \n",
