@@ -86,7 +86,7 @@ key_is tag id k e =
 
 -- ---- an entry
 
--- the entry that eight bytes say, and what the reading is behind it
+-- the entry that eight bytes are, and the state of the reading after it
 pub record IsRead (at : ℕ) (reading new : Reading) (bytes : List ℕ) : Type 0 where
   pub entry : Entry
   pub said : Says bytes entry

@@ -1,4 +1,4 @@
--- An attribute is read as a list exactly where its entries say so.
+-- An attribute is read as a list exactly where its bytes are that list's entries.
 use Rattle.std.proofs.Common.{◌≡◌, ℕ, zero, suc, ◌+◌, ◌*◌, ◌/◌, ◌≤◌, true, false, cond, eqb, List, [], ◌∷◌, ◌++◌, length, take, drop, Option, Some, None, is_some, Result, Ok, Err, refl, sym, ap, subst, ◌∙◌, arith, inl, inr, append_assoc, length-append, length-drop}
 use Rattle.std.specs.Prelude.{◌⊎◌, ◌||◌, not, option_map, option_and_then}
 use Rattle.std.specs.List.{flat_map}
@@ -50,7 +50,7 @@ together ps = flat_map (λ p. p) ps
 
 -- ---- cuts
 
--- eights are cut out of the bytes as they stand there
+-- eights are cut out of the bytes in their order
 chunks_together : (n : ℕ) (bytes : List ℕ) → length bytes ≤ 8 * n → together (first_chunks 8 n bytes) ≡ bytes
 chunks_together zero [] few = refl
 chunks_together zero (b ∷ bs) few = absurd (omega arith)
@@ -70,7 +70,7 @@ pieces_again [] es said = refl
 pieces_again (p ∷ ps) [] said = absurd said
 pieces_again (p ∷ ps) (e ∷ es) said = one_piece p (together ps) said.0.eight ∙ ap (λ (qs : List (List ℕ)). p ∷ qs) (pieces_again ps es said.1)
 
--- ---- what is read is said
+-- ---- what is read is contained
 
 pub record AreRead (at tag : ℕ) (done : List Entry) (pieces : List (List ℕ)) (new : Reading) : Type 0 where
   pub es : List Entry
@@ -116,7 +116,7 @@ read_said at tag done (p ∷ ps) new fits e =
           }
     ]
 
--- ---- what is said is read
+-- ---- what is contained is read
 
 key_said : (k : Key) (n : ℕ) → IsIdOf (named_id k) n → key_of (tag_of k) n ≡ Some k
 key_said Owner n is = refl
@@ -247,7 +247,7 @@ same_length [] (f ∷ fs) said = absurd said
 same_length (p ∷ ps) [] said = absurd said
 same_length (p ∷ ps) (f ∷ fs) said = ap suc (same_length ps fs said.1)
 
--- an entry behind those that were read is read too
+-- an entry after those that were read is read too
 read_on : (before : List (List ℕ)) (piece : List ℕ) (es : List Entry) (e : Entry) → Read before es → Read (before ++ piece ∷ []) (es ++ e ∷ []) → one_entry (1 + length before) (reading_of (lasting 0 es) es) piece ≡ Ok (after (1 + length before) (reading_of (lasting 0 es) es) piece e)
 read_on before piece es e r all =
     let none : is_some (maps.find key_cmp e.key (pairs es)) ≡ false = sym (is_among-keys e.key es) ∙ last_apart 1 [] es e all.once in
@@ -284,7 +284,7 @@ no_list_of : (last : ℕ) (m : KeyMap) (told_fault : TextFault) (f : Option List
 no_list_of last m told_fault None is e = absurd cc
 no_list_of last m told_fault (Some x) is e = ((λ valid. cc (sym valid ∙ is)), cc)
 
--- what is told is where the attribute is faulty
+-- the place that is returned is where the attribute is faulty
 pub record IsToldAt (bytes : List ℕ) (told_fault : TextFault) : Type 0 where
   pub kind : told_fault.kind ≡ BadAttr
   pub place : IsFaultyAt bytes told_fault.at

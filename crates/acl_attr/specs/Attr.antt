@@ -29,7 +29,7 @@ tag_of (Group id) = 8
 tag_of Mask = 16
 tag_of Other = 32
 
--- the id that is named, and the greatest number of four bytes where none is
+-- the id that is named, and the greatest number of four bytes where nobody is
 abbrev pub written_id : Key → ℕ
 written_id key = unwrap_or (named_id key) 4294967295
 
@@ -64,7 +64,7 @@ start = record { entries = maps.empty; last_tag = 0 }
 abbrev pub perm_of : ℕ → Option Perms
 perm_of n = if nat_lt 7 n then None else Some (numbered n)
 
--- one entry more: no key stands twice
+-- one entry more: no key comes twice
 abbrev pub with_key : Reading → ℕ → Perms → Key → Option Reading
 with_key reading tag perm key =
     if maps.contains_key reading.entries key then None
@@ -95,7 +95,7 @@ bad_attr at = record { kind = BadAttr; at = at }
 abbrev pub has_head : List ℕ → Bool
 has_head bytes = nat_le 4 (length bytes) && (little_number 4 bytes == 2)
 
--- the entries have to be a valid list: what one lacks is told behind the last
+-- the entries have to be a valid list: the place of what one lacks is after the last
 abbrev pub list_from : ℕ → KeyMap → Option ListFault → Result KeyMap TextFault
 list_from last acl None = Ok acl
 list_from last acl (Some fault) = Err (bad_attr (last + 1))
@@ -104,10 +104,10 @@ abbrev pub list_of : ℕ → Result Reading TextFault → Result KeyMap TextFaul
 list_of last (Ok reading) = list_from last reading.entries (fault (entries reading.entries))
 list_of last (Err fault) = Err fault
 
--- the list of these bytes behind the head
+-- the list of these bytes after the head
 abbrev pub list_in : List ℕ → Result KeyMap TextFault
 list_in bytes = list_of (length (entries_in bytes)) (told one_entry start (entries_in bytes))
 
--- the list that an attribute says, or its fault: at 0 where the head is not the number 2
+-- the list that an attribute contains, or its fault: at 0 where the head is not the number 2
 abbrev pub attr_of : List ℕ → Result KeyMap TextFault
 attr_of bytes = if has_head bytes then list_in (drop 4 bytes) else Err (bad_attr 0)

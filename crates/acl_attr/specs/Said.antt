@@ -1,4 +1,4 @@
--- What an attribute says, entry by entry.
+-- What an attribute contains, entry by entry.
 use Rattle.std.specs.Prelude.{◌≡◌, ℕ, ◌+◌, ◌≤◌, ◌<◌, ◌⊎◌, List, [], ◌∷◌, ◌++◌, drop, length, true, false, Option, Some, None}
 use Rattle.std.specs.List.{flat_map}
 use Rattle.acl_entry.specs.declared.entry.Entry.{Entry}
@@ -8,7 +8,7 @@ use Rattle.acl_entry.specs.Perms.{number}
 use Rattle.byteorder.specs.Endian.{little_number}
 use Rattle.acl_attr.specs.Attr.{tag_of, has_head, entries_in}
 
--- an id is named where the entry names one, and may be any where it names none
+-- an id is named where the entry names one, and may be any number where it names nobody
 abbrev pub IsIdOf : Option ℕ → ℕ → Type 0
 IsIdOf None n = Unit {0}
 IsIdOf (Some id) n = (n ≡ id) × (id < 4294967295)
@@ -20,7 +20,7 @@ pub record Says (bytes : List ℕ) (e : Entry) : Type 0 where
   pub perm : little_number 2 (drop 2 bytes) ≡ number e.perm
   pub id : IsIdOf (named_id e.key) (little_number 4 (drop 4 bytes))
 
--- each piece says the entry at its place
+-- each piece is the entry at its place
 abbrev pub SayEach : List (List ℕ) → List Entry → Type 0
 SayEach [] [] = Unit {0}
 SayEach (piece ∷ pieces) (e ∷ es) = Says piece e × SayEach pieces es
@@ -32,14 +32,14 @@ abbrev pub TagsRise : ℕ → List Entry → Type 0
 TagsRise tag [] = Unit {0}
 TagsRise tag (e ∷ es) = (tag ≤ tag_of e.key) × TagsRise (tag_of e.key) es
 
--- Pieces in turn say entries: their tags never fall, and no key comes twice.
+-- Pieces in turn are entries: their tags never fall, and no key comes twice.
 pub record Read (pieces : List (List ℕ)) (entries : List Entry) : Type 0 where
   pub said : SayEach pieces entries
   pub few : length entries ≤ 4096
   pub tags : TagsRise 0 entries
   pub once : repeated (keys entries) ≡ None
 
--- An attribute of a list: behind the number 2 each eight bytes say an entry, and the entries are the list, which is
+-- An attribute of a list: after the number 2 each eight bytes are an entry, and the entries are the list, which is
 -- valid.
 pub record IsAttribute (bytes : List ℕ) (acl : KeyMap) : Type 0 where
   pub head : has_head bytes ≡ true
@@ -62,7 +62,7 @@ pub record IsOfAnEntry (bytes : List ℕ) (at : ℕ) : Type 0 where
   pub read : Read before entries
   pub faulty : (e : Entry) → Read (before ++ piece ∷ []) (entries ++ e ∷ []) → ⊥
 
--- All entries are read, and are no valid list, which is told behind the last.
+-- All entries are read, and are not a valid list: the fault's place is after the last.
 pub record IsOfTheList (bytes : List ℕ) (at : ℕ) : Type 0 where
   pub head : has_head bytes ≡ true
   pub entries : List Entry
@@ -70,6 +70,6 @@ pub record IsOfTheList (bytes : List ℕ) (at : ℕ) : Type 0 where
   pub no_list : IsValid (map_of entries) → ⊥
   pub place : at ≡ length entries + 1
 
--- where an attribute is faulty: at 0 in front, at its first faulty entry, or behind the last
+-- where an attribute is faulty: at 0 in front, at its first faulty entry, or after the last
 abbrev pub IsFaultyAt : List ℕ → ℕ → Type 0
 IsFaultyAt bytes at = ((has_head bytes ≡ false) × (at ≡ 0)) ⊎ (IsOfAnEntry bytes at ⊎ IsOfTheList bytes at)

@@ -19,13 +19,13 @@ struct Reading {
     last_tag: u16,
 }
 
-/// The list that an attribute says.
+/// The list that an attribute contains.
 ///
 /// # Errors
 ///
 /// `BadAttr` at 0 where it does not begin with the number 2 in four bytes; else at the number of the first
 /// faulty entry, counted from 1: one of fewer than eight bytes, one beyond the 4,096th, one whose tag is
-/// none or below the tag before it, whose permissions are above 7, which names the id 4294967295, or whose
+/// unknown or below the tag before it, whose permissions are above 7, which names the id 4294967295, or whose
 /// key came before; else, where a base entry or the mask is missing, at the number of entries plus one. Or
 /// `NoMemory`.
 pub fn decode_attr(alloc: Global, bytes: &[u8]) -> Result<Acl, TextFault>
@@ -37,6 +37,7 @@ pub fn decode_attr(alloc: Global, bytes: &[u8]) -> Result<Acl, TextFault>
     read_list(alloc, &bytes[HEAD_BYTES..])
 }
 
+/// Whether the bytes begin with the number 2.
 fn has_head(bytes: &[u8]) -> bool
     ensures { result ≡ has_head bytes.now }
 {
@@ -52,7 +53,7 @@ fn bad_attr(at: usize) -> TextFault
     }
 }
 
-/// The list of the entries behind the head.
+/// The list of the entries after the head.
 fn read_list(alloc: Global, bytes: &[u8]) -> Result<Acl, TextFault>
     ensures { Gives (λ acl. acl) result (list_in bytes.now) }
 {
@@ -63,6 +64,7 @@ fn read_list(alloc: Global, bytes: &[u8]) -> Result<Acl, TextFault>
     }
 }
 
+/// How many entries the bytes are, the last one perhaps cut short.
 fn entry_count(bytes: &[u8]) -> usize
     ensures count { result ≡ length (entries_in bytes.now) }
     ensures within { result ≤ length bytes.now }
@@ -70,6 +72,7 @@ fn entry_count(bytes: &[u8]) -> usize
     bytes.len().div_ceil(ENTRY_BYTES)
 }
 
+/// Reads the entries in turn.
 fn read_entries(alloc: Global, bytes: &[u8]) -> Result<Reading, TextFault>
     ensures { Gives (λ reading. reading) result (told one_entry start (entries_in bytes.now)) }
 {
@@ -100,6 +103,7 @@ fn first_entry(bytes: &[u8]) -> (&[u8], &[u8])
     (&bytes[..ENTRY_BYTES], &bytes[ENTRY_BYTES..])
 }
 
+/// Adds the entry at a place.
 fn read_entry(reading: &mut Reading, at: usize, bytes: &[u8]) -> Result<(), TextFault>
     ensures { JudgesAt at result reading.new (one_entry at reading.old bytes.now) }
 {
@@ -126,6 +130,7 @@ fn read_entry(reading: &mut Reading, at: usize, bytes: &[u8]) -> Result<(), Text
     Ok(())
 }
 
+/// The permission set of a number below 8.
 fn perm_of(number: u16) -> Option<Perm>
     ensures { result ≡ perm_of number }
 {
@@ -135,6 +140,7 @@ fn perm_of(number: u16) -> Option<Perm>
     Perm::from_number(number as u8)
 }
 
+/// Whether there is an entry of the key.
 fn stands(entries: &Draft, key: &Key) -> bool
     ensures { result ≡ maps.contains_key entries.now key.now }
 {

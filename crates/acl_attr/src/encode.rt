@@ -30,12 +30,12 @@ fn push_entries(bytes: &mut Vec<u8>, entries: &[Entry]) -> Result<(), AllocError
 }
 
 /// The attribute of a list: the number 2, and for each entry in list order its tag, its permissions and
-/// the id that it names, or 4294967295 where it names none; all numbers are little-endian. It is read as
+/// the id that it names, or 4294967295 where it names nobody; all numbers are little-endian. It is read as
 /// that list.
 ///
 /// # Errors
 ///
-/// Want of memory.
+/// If memory runs out.
 pub fn encode_attr(alloc: Global, acl: &Acl) -> Result<Vec<u8>, AllocError>
     ensures bytes { IfOk result (λ bytes. bytes.items ≡ attr_bytes acl.now) }
     ensures read_again { IfOk result (λ bytes. attr_of bytes.items ≡ Ok acl.now) }

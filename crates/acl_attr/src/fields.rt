@@ -43,7 +43,7 @@ pub(crate) fn tag_of(key: &Key) -> u16
     }
 }
 
-/// The key of a tag and an id: none where there is no such tag, or where a user or a group is to be named
+/// The key of a tag and an id: `None` where there is no such tag, or where a user or a group is to be named
 /// and the id is 4294967295. An entry that names nobody may have any id.
 pub(crate) fn key_of(tag: u16, id: u32) -> Option<Key>
     ensures { result ≡ key_of tag id }

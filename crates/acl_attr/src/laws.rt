@@ -7,16 +7,16 @@ ghost use Rattle.acl_text.specs.declared.fault.TextFault.{TextFault};
 ghost use Rattle.acl_attr.specs.Attr.{attr_of};
 ghost use Rattle.acl_attr.specs.Said.{IsAttribute, IsFaultyAt};
 
-/// An attribute is read as a list exactly where, behind the number 2, each eight bytes say an entry: a tag,
+/// Proof only: an attribute is read as a list exactly where, after the number 2, each eight bytes are an entry: a tag,
 /// permissions of three bits, and the id that the tag names, if it names one; where the tags never fall, no
 /// key comes twice, there are at most 4,096 entries, and the entries are the list, which is valid.
 pub fn attribute_says_its_entries()
     ensures { (bytes : List ℕ) (acl : KeyMap) → (attr_of bytes ≡ Ok acl) ↔ IsAttribute bytes acl }
 {}
 
-/// The fault of an attribute is told at 0 where it does not begin with the number 2; else at its first
-/// faulty entry, where those before it are read and no entry can be with it; else behind the last, where
-/// all entries are read and are no valid list.
+/// Proof only: the fault of an attribute is at 0 where it does not begin with the number 2; else at its first
+/// faulty entry, where those before it are read and no entry can be with it; else after the last, where
+/// all entries are read and are not a valid list.
 pub fn attribute_fault_is_first()
     ensures { (bytes : List ℕ) (fault : TextFault) → attr_of bytes ≡ Err fault → (fault.kind ≡ BadAttr) × IsFaultyAt bytes fault.at }
 {}

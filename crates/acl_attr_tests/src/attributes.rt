@@ -61,7 +61,7 @@ fn the_attribute_of_a_minimal_list(rt: HostRuntime) -> Result<(), Fail> {
     Ok(())
 }
 
-// Another number in front, permissions of 8, and a list that lacks the entry of the others.
+/// Another number in front, permissions of 8, and a list that lacks the entry of the others.
 #[test]
 fn the_places_of_refusals(rt: HostRuntime) -> Result<(), Fail> {
     let alloc = rt.alloc();

@@ -1,6 +1,6 @@
 //! A worked attribute, both ways; the same attribute cut and changed at every byte; and the most entries.
 //!
-//! They stand apart from `acl_attr`, since a crate with tests is proved twice.
+//! They are apart from `acl_attr`, since a crate with tests is proved twice.
 #![tactic(auto)]
 
 #[cfg(test)]
