@@ -1,4 +1,4 @@
--- The first fault of a dump is told, and what is told is the first fault.
+-- The first fault of a dump is returned, and what is returned is the first fault.
 use Rattle.std.proofs.Common.{◌≡◌, ℕ, Bool, true, false, List, [], ◌∷◌, ◌++◌, Option, Some, None, Result, Ok, Err, refl, sym, ap, subst, ◌∙◌, inl, inr}
 use Rattle.std.specs.Prelude.{◌⊎◌, if◌then◌else◌}
 use Rattle.acl_text.specs.declared.fault.FaultKind.{FaultKind}
@@ -22,7 +22,7 @@ module _ (user_id group_id : List ℕ → Option ℕ) where
   abbrev line : Option Draft → Numbered → Result (Option Draft) TextFault
   line draft l = line_in user_id group_id draft l
 
-  -- before the first record nothing is said
+  -- before the first record there is no content
   none_said : (at : ℕ) (r : Result (Option Said) FaultKind) (d : Option Draft) → at_place at (r >>= (λ said. add said None)) (λ new. Ok new) ≡ Ok d → d ≡ None
   none_said at (Err kind) d e = absurd cc
   none_said at (Ok None) d e = cc
@@ -38,7 +38,7 @@ module _ (user_id group_id : List ℕ → Option ℕ) where
         | inr bad ↦ absurd cc
       ]
 
-  -- a record that is begun stands at this place
+  -- the open record begins at this place
   abbrev StandsAt : ℕ → Option Draft → Type 0
   StandsAt at None = Unit {0}
   StandsAt at (Some d) = d.at ≡ at
@@ -93,7 +93,7 @@ module _ (user_id group_id : List ℕ → Option ℕ) where
     to_piece : (draft : Option Draft) (ls : List Numbered) (fault : TextFault) → IsOfALine user_id group_id draft ls fault → InPiece begins begin line (close dump_use) draft ls fault
     to_piece draft ls fault w = record { before = w.before; piece = w.line; after = w.after; parts = w.parts; same_group = w.same_record; begins_none = w.begins_none; so_far = w.so_far; no_fault_before = w.no_fault_before; faulty = w.faulty }
 
-    -- a record in the making keeps its place
+    -- an open record keeps its place
     begun_at : (records : List DumpRecord) (l : Numbered) (d : Option Draft) → begin records l ≡ Ok d → StandsAt l.0 d
     begun_at records l d e = from_value (content_of l.1).1 d e
       where

@@ -1,4 +1,4 @@
--- The first fault of pieces that stand in groups, and that each such fault is told.
+-- The first fault of pieces in groups, and that each such fault is returned.
 use Rattle.std.proofs.Common.{◌≡◌, List, [], ◌∷◌, ◌++◌, Bool, true, false, cond, Result, Ok, Err, refl, sym, ap, ◌∙◌, inl, inr}
 use Rattle.std.specs.Prelude.{◌⊎◌}
 use Rattle.std.specs.List.{AllByRecursion}
@@ -64,7 +64,7 @@ module _ {S D P : Type 0} (begins : P → Bool) (first : S → P → Result D Te
   abbrev pub Found : S → D → List P → TextFault → Type 0
   Found said draft ps fault = (InPiece draft ps fault ⊎ InWhole said draft ps fault) ⊎ InLater said draft ps fault
 
-  -- ---- what is told is found
+  -- ---- what is returned is the first fault
 
   abbrev with_draft : S → Result D TextFault → Result (S × D) TextFault
   with_draft said r = next r (λ new. Ok (said, new))
@@ -100,7 +100,7 @@ module _ {S D P : Type 0} (begins : P → Bool) (first : S → P → Result D Te
       ∙ (ap (λ r. goes_on ps (with_said p r)) fine
       ∙ next_assoc (first more p) (λ new. Ok (more, new)) (λ s. stream s.0 s.1 ps))
 
-  -- a fault behind a line that is not faulty
+  -- a fault after a line that is not faulty
   after_line : (said : S) (draft new : D) (p : P) (ps : List P) (fault : TextFault) → begins p ≡ false → line draft p ≡ Ok new → Found said new ps fault → Found said draft (p ∷ ps) fault
   after_line said draft new p ps fault plain fine found =
       elim found [
@@ -139,7 +139,7 @@ module _ {S D P : Type 0} (begins : P → Bool) (first : S → P → Result D Te
         })
       ]
 
-  -- a fault behind a piece that begins a group and is not faulty
+  -- a fault after a piece that begins a group and is not faulty
   after_head : (said more : S) (draft new : D) (p : P) (ps : List P) (fault : TextFault) → begins p ≡ true → close said draft ≡ Ok more → first more p ≡ Ok new → Found more new ps fault → Found said draft (p ∷ ps) fault
   after_head said more draft new p ps fault heads closed fine found =
       elim found [
@@ -193,9 +193,9 @@ module _ {S D P : Type 0} (begins : P → Bool) (first : S → P → Result D Te
         ]
       ]
 
-  -- ---- what is found is told
+  -- ---- the first fault is returned
 
-  -- pieces of one group, none of which is faulty
+  -- pieces of one group, without a fault
   along : (said : S) (draft new : D) (before ps : List P) → none_begins before → in_turn line draft before ≡ Ok new → stream said draft (before ++ ps) ≡ stream said new ps
   along said draft new [] ps none fine = let same : draft ≡ new = cc in ap (λ (d : D). stream said d ps) same
   along said draft new (p ∷ before) ps none fine =
@@ -206,7 +206,7 @@ module _ {S D P : Type 0} (begins : P → Bool) (first : S → P → Result D Te
         | inr bad ↦ absurd (cc (ap (λ r. next r (λ more. in_turn line more before)) bad.1))
       ]
 
-  -- whole groups, none of which is faulty
+  -- whole groups, without a fault
   past : (said more : S) (draft : D) (before : List P) (p : P) (ps : List P) → begins p ≡ true → stream said draft before ≡ Ok more → stream said draft (before ++ p ∷ ps) ≡ next (first more p) (λ new. stream more new ps)
   past said more draft [] p ps heads fine = on_head said more draft p ps heads fine
   past said more draft (q ∷ before) p ps heads fine =

@@ -144,7 +144,7 @@ module _ (records : List DumpRecord) (at : ℕ) where
 
 -- ---- any other line
 
--- what is said comes late
+-- content that comes late
 abbrev late : Option Said → Draft → Bool
 late None draft = false
 late (Some (said.Owner id)) draft = not (may_head draft.owner draft)
@@ -152,7 +152,7 @@ late (Some (said.OwningGroup id)) draft = not (may_head draft.group draft)
 late (Some (said.Flags flags)) draft = not (may_head draft.flags draft)
 late (Some (said.Entry dflt entry)) draft = false
 
--- what a line of a kind says
+-- the content of a line of a kind
 record IsOfKind (kind : LineKind) (s : Option Said) : Type 0 where
   lone : is_some s ≡ belongs kind
   late_is : (draft : Draft) → late s draft ≡ is_late kind draft

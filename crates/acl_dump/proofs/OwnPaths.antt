@@ -1,4 +1,4 @@
--- The records of a dump have different paths: a record is begun only where no earlier record has its path.
+-- The records of a dump have different paths: a record is opened only where no earlier record has its path.
 use Rattle.std.proofs.Common.{◌≡◌, ℕ, List, [], ◌∷◌, ◌++◌, Bool, true, false, cond, not, Option, Some, None, Result, Ok, Err, refl, sym, ap, subst, ◌∙◌}
 use Rattle.std.specs.Prelude.{IfOk, ◌||◌, ◌&&◌}
 use Rattle.std.proofs.lemmas.Cmp.{eq_by_cmp_equiv}
@@ -21,7 +21,7 @@ use Rattle.acl_dump.proofs.Streams.{streamed_by_groups}
 use Rattle.acl_dump.specs.Lines.{content_of}
 use Rattle.acl_dump.specs.Records.{Numbered, same_path, is_repeated, ends_in_slash, begun, begin, begins, close, list_of, default_list_of, whole, has_headers, record_of, with_said, may_head, add, said_by, judged, line_in, lines_of, dump_of, dump_stream}
 
--- ---- what holds of the values of steps that may fail
+-- ---- what is true of the values of steps that may fail
 
 pub bind_ok : {A B : Type 0} (m : Result A FaultKind) (f : A → Result B FaultKind) (Q : B → Type 0) → ((x : A) → IfOk (f x) Q) → IfOk (m >>= f) Q
 bind_ok (Ok x) f Q h = h x
@@ -79,7 +79,7 @@ one_more (s ∷ rs) r apart fresh =
     (ap (λ b. not b) (list_any-append (λ (x : DumpRecord). same_path s.path x.path) rs (r ∷ [])) ∙ neither (is_repeated rs s.path) (same_path s.path r.path) (left (is_repeated rs s.path) (have_own_paths rs) apart) (same_path-sym s.path r.path ∙ or_left (same_path r.path s.path) (is_repeated rs r.path) fresh))
     (one_more rs r (right (is_repeated rs s.path) (have_own_paths rs) apart) (or_right (same_path r.path s.path) (is_repeated rs r.path) fresh))
 
--- ---- the record that is begun
+-- ---- the open record
 
 abbrev pub Fresh : List DumpRecord → Option Draft → Type 0
 Fresh records None = Unit {0}

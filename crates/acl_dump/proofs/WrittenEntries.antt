@@ -33,7 +33,7 @@ use Rattle.acl_dump.specs.Lines.{content_of}
 use Rattle.acl_dump.specs.Records.{rules, entry_said, said_by}
 use Rattle.acl_dump.specs.Writing.{is_told, tab_count, tabs, comment, front, shown}
 
--- ---- blanks behind a field
+-- ---- blanks after a field
 
 front_trimmed : (t xs : List ℕ) → AllByRecursion (λ b. is_blank b ≡ true) t → trim_front (t ++ xs) ≡ trim_front xs
 front_trimmed [] xs blank = refl
@@ -46,7 +46,7 @@ all-reverse P (x ∷ xs) h = rw (reverse-append (x ∷ []) xs) (all-append P (re
 back_trimmed : (p t : List ℕ) → AllByRecursion (λ b. is_blank b ≡ true) t → trim_back (p ++ t) ≡ trim_back p
 back_trimmed p t blank = ap (λ xs. reverse (trim_front xs)) (reverse-append p t) ∙ ap reverse (front_trimmed (reverse t) (reverse p) (all-reverse (λ b. is_blank b ≡ true) t blank))
 
--- a field of bytes that are no blanks, with blanks behind it
+-- a field of bytes that are not blanks, with blanks after it
 trimmed_behind : (b : ℕ) (p t : List ℕ) → AllByRecursion (λ c. is_blank c ≡ false) (b ∷ p) → AllByRecursion (λ c. is_blank c ≡ true) t → trimmed (b ∷ p ++ t) ≡ b ∷ p
 trimmed_behind b p t none blank =
     ap (λ c. trim_back (cond c (trim_front (p ++ t)) (b ∷ p ++ t))) none.0
@@ -65,7 +65,7 @@ blank_front (suc (suc zero)) = (refl, (refl, tt))
 blank_front (suc (suc (suc zero))) = (refl, (refl, (refl, tt)))
 blank_front (suc (suc (suc (suc n)))) = (refl, (refl, (refl, (refl, nothing n))))
 
--- ---- what stands before a comment
+-- ---- what is before a comment
 
 one_and : (n : ℕ) → 1 + n ≡ suc n
 one_and n = omega arith
@@ -177,7 +177,7 @@ module _ (user_id group_id : List ℕ → Option ℕ) (user_name group_name : �
   abbrev word_of : Key → List ℕ
   word_of k = qualifier user_name group_name k
 
-  -- the fields of an entry with blanks behind it
+  -- the fields of an entry with blanks after it
   entry_fields_again : (e : Entry) (t : List ℕ) → id_of e.key < 4294967295 → IsNamedKey e.key → AllByRecursion (λ b. is_blank b ≡ true) t
       → entry_fields (written e ++ t) ≡ tag_text Long e.key ∷ word_of e.key ∷ perms.text e.perm ∷ []
   entry_fields_again e t lt named blank =
@@ -186,7 +186,7 @@ module _ (user_id group_id : List ℕ → Option ℕ) (user_name group_name : �
       ap entry_fields (append_assoc tag (58 ∷ (word ++ 58 ∷ perms.text e.perm)) t ∙ ap (λ (l : List ℕ). tag ++ 58 ∷ l) (append_assoc word (58 ∷ perms.text e.perm) t))
       ∙ fields_behind tag word t e.perm (tag_plain Long e.key) (qualifier_plain true false user_id group_id user_name group_name e.key lt named) blank
 
-  -- an entry with blanks behind it
+  -- an entry with blanks after it
   fields_again : (at : ℕ) (which : Which) (e : Entry) (t : List ℕ) → id_of e.key < 4294967295 → IsNamedKey e.key → AllByRecursion (λ b. is_blank b ≡ true) t
       → said_by user_id group_id at lines.Entry (shown user_name group_name which e ++ t) ≡ Ok (Some (said.Entry (is_default which) e))
   fields_again at Access e t lt named blank =
@@ -227,7 +227,7 @@ module _ (user_id group_id : List ℕ → Option ℕ) (user_name group_name : �
       → AllByRecursion (λ b. q b ≡ false) (shown user_name group_name which e)
   in_shown q why colon which none e lt named = all-append (λ b. q b ≡ false) (front which) (written e) none (in_entry true false user_id group_id user_name group_name q why colon Long e lt named)
 
-  -- where a line says an entry with blanks behind it
+  -- where a line is an entry with blanks after it
   abbrev Says : ℕ → Which → Entry → List ℕ → Type 0
   Says at which e line = (v : List ℕ) × (content_of line ≡ (lines.Entry, v)) × (said_by user_id group_id at lines.Entry v ≡ Ok (Some (said.Entry (is_default which) e)))
 

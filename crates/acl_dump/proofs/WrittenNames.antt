@@ -36,7 +36,7 @@ name_clean path false = all-append (λ c. (c == 10) ≡ false) (path_text path) 
 
 -- ---- the last byte
 
--- bytes whose last is no slash
+-- bytes whose last is not a slash
 record EndsClean (bytes : List ℕ) : Type 0 where
   before : List ℕ
   last : ℕ

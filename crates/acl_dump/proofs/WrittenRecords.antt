@@ -98,7 +98,7 @@ module _ (dump_use : DumpUse) (user_id group_id : List ℕ → Option ℕ) (user
       ap (λ ps. dump_stream user_id group_id dump_use records draft (enumerate_from at ps)) (pieces_at 10 line rest clean)
       ∙ ap (λ k. next (step records draft at k) (λ s. reading s.0 s.1 (at + 1) rest)) is
 
-  -- a line that says something of the record that is begun
+  -- a line that adds to the open record
   pub spoken : (records : List DumpRecord) (draft new : Option Draft) (at : ℕ) (line rest : List ℕ) (k : LineKind) (v : List ℕ) (s : Option Said) → AllByRecursion (λ b. (b == 10) ≡ false) line → content_of line ≡ (k, v)
       → begins_record k ≡ false → said_by user_id group_id at k v ≡ Ok s → add s draft ≡ Ok new → reading records draft at (line ++ 10 ∷ rest) ≡ reading records new (at + 1) rest
   spoken records draft new at line rest k v s clean is other says adds =

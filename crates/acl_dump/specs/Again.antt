@@ -24,7 +24,7 @@ abbrev pub AreFlags : Option (List Bool) → Type 0
 AreFlags None = Unit {0}
 AreFlags (Some flags) = length flags ≡ 3
 
--- what a use needs is there
+-- what a use needs is present
 abbrev pub HasHeaders : DumpUse → DumpRecord → Type 0
 HasHeaders Load r = (is_some r.owner ≡ true) × (is_some r.group ≡ true)
 HasHeaders Restore r = Unit {0}
@@ -50,7 +50,7 @@ module _ (user_id group_id : List ℕ → Option ℕ) (user_name group_name : �
     pub access : IsList r.access
     pub dacl : IsListIf r.dacl
 
--- no path stands among those before it
+-- no path is among those before it
 abbrev pub AreApart : List (List (List ℕ)) → List (List (List ℕ)) → Type 0
 AreApart before [] = Unit {0}
 AreApart before (p ∷ ps) = (list_any (same_path p) before ≡ false) × AreApart (before ++ p ∷ []) ps
@@ -58,7 +58,7 @@ AreApart before (p ∷ ps) = (list_any (same_path p) before ≡ false) × AreApa
 abbrev pub paths : List DumpRecord → List (List (List ℕ))
 paths rs = map (λ r. r.path) rs
 
--- a line for a header that is there
+-- a line for a header that is present
 abbrev pub lines_if : {A : Type 0} → Option A → ℕ
 lines_if None = 0
 lines_if (Some x) = 1
@@ -71,7 +71,7 @@ default_count (Some acl) = length (entries acl)
 abbrev pub line_count : DumpRecord → ℕ
 line_count r = 1 + (lines_if r.owner + (lines_if r.group + (lines_if r.flags + (length (entries r.access) + (default_count r.dacl + 1)))))
 
--- records that stand one after another from a line on
+-- records that are one after another from a line on
 abbrev pub placed : ℕ → List DumpRecord → List DumpRecord
 placed at [] = []
 placed at (r ∷ rs) = record r { at = at } ∷ placed (at + line_count r) rs

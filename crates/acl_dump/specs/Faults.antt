@@ -8,7 +8,7 @@ use Rattle.acl_dump.specs.declared.draft.Draft.{Draft}
 use Rattle.acl_dump.specs.Groups.{in_turn, grouped, by_groups}
 use Rattle.acl_dump.specs.Records.{Numbered, begins, line_in, begin, close}
 
--- lines none of which begins a record
+-- lines that begin no record
 abbrev pub BeginNone : List Numbered → Type 0
 BeginNone ls = AllByRecursion (λ l. begins l ≡ false) ls
 
@@ -18,11 +18,11 @@ EndARecord [] = Unit {0}
 EndARecord (l ∷ ls) = begins l ≡ true
 
 module _ (user_id group_id : List ℕ → Option ℕ) where
-  -- lines that begin no record, each added to the one that is begun
+  -- lines that begin no record, each added to the open one
   abbrev pub added : Option Draft → List Numbered → Result (Option Draft) TextFault
   added draft ls = in_turn (line_in user_id group_id) draft ls
 
-  -- One of the lines behind has the fault; those before it belong to the same record, or to none, and are not faulty.
+  -- One of the lines after has the fault; those before it belong to the same record, or to no record, and are not faulty.
   pub record IsOfALine (draft : Option Draft) (ls : List Numbered) (fault : TextFault) : Type 0 where
     pub before : List Numbered
     pub line : Numbered
@@ -35,7 +35,7 @@ module _ (user_id group_id : List ℕ → Option ℕ) where
     pub faulty : line_in user_id group_id so_far line ≡ Err fault
 
   module _ (dump_use : DumpUse) where
-    -- A record has the fault as a whole, which is told at a place; all its lines are not faulty, and what comes behind it
+    -- A record has the fault as a whole, at a place; all its lines are not faulty, and what comes after it
     -- is not looked at.
     pub record IsOfTheWhole (at : ℕ) (records : List DumpRecord) (draft : Option Draft) (ls : List Numbered) (fault : TextFault) : Type 0 where
       pub place : fault.at ≡ at
@@ -48,7 +48,7 @@ module _ (user_id group_id : List ℕ → Option ℕ) where
       pub no_faulty_line : added draft others ≡ Ok so_far
       pub faulty : close dump_use records so_far ≡ Err fault
 
-    -- the record that is begun at a place has the fault, in one of the lines behind, or there as a whole
+    -- the record that is open at a place has the fault, in one of the lines after, or there as a whole
     abbrev pub IsOfTheRecord : ℕ → List DumpRecord → Option Draft → List Numbered → TextFault → Type 0
     IsOfTheRecord at records draft ls fault = IsOfALine draft ls fault ⊎ IsOfTheWhole at records draft ls fault
 
@@ -62,7 +62,7 @@ module _ (user_id group_id : List ℕ → Option ℕ) where
     abbrev pub records_in : List Numbered → Result (List DumpRecord) TextFault
     records_in ls = by_groups begins begin (line_in user_id group_id) (close dump_use) [] None (grouped begins ls)
 
-    -- A record has the fault, in its `file:` line or behind it; the lines before it are a dump without a fault.
+    -- A record has the fault, in its `file:` line or after it; the lines before it are a dump without a fault.
     pub record IsOfALaterRecord (ls : List Numbered) (fault : TextFault) : Type 0 where
       pub before : List Numbered
       pub file : Numbered

@@ -1,4 +1,4 @@
--- Lines in groups: each group is begun by its first line, goes on line by line, and is closed as a whole.
+-- Lines in groups: each group is opened by its first line, goes on line by line, and is closed as a whole.
 use Rattle.std.specs.Prelude.{List, [], ◌∷◌, Bool, true, false, if◌then◌else◌, Result, Ok, Err}
 use Rattle.acl_text.specs.declared.fault.TextFault.{TextFault}
 
@@ -17,7 +17,7 @@ abbrev pub put_front : {P : Type 0} → Bool → P → List P × List (P × List
 put_front true p g = ([], (p, g.0) ∷ g.1)
 put_front false p g = (p ∷ g.0, g.1)
 
--- what stands before the first piece that begins a group, and the groups, each by its first piece and its others
+-- what is before the first piece that begins a group, and the groups, each by its first piece and its others
 abbrev pub grouped : {P : Type 0} → (P → Bool) → List P → List P × List (P × List P)
 grouped begins [] = ([], [])
 grouped begins (p ∷ ps) = put_front (begins p) p (grouped begins ps)
@@ -27,7 +27,7 @@ module _ {S D P : Type 0} (begins : P → Bool) (first : S → P → Result D Te
   abbrev pub group_of : S → P × List P → Result S TextFault
   group_of said g = next (first said g.0) (λ draft. next (in_turn line draft g.1) (λ whole. close said whole))
 
-  -- the pieces by groups, the first of which is begun already
+  -- the pieces by groups, the first of which is open already
   abbrev pub by_groups : S → D → List P × List (P × List P) → Result S TextFault
   by_groups said draft g = next (in_turn line draft g.0) (λ whole. next (close said whole) (λ more. in_turn group_of more g.1))
 

@@ -24,7 +24,7 @@ header_of text =
     else (if begins_with text (codes "flags:") then (Flags, trimmed (drop 6 text))
     else (Nothing, []))))
 
--- a line by what stands behind the white space in front: an empty line says nothing
+-- a line by what is after the white space in front: an empty line has no content
 abbrev pub content_behind : List ℕ → LineKind × List ℕ
 content_behind [] = (Nothing, [])
 content_behind (b ∷ bs) = if b == 35 then header_of (trim_front bs) else (Entry, content Line (b ∷ bs))

@@ -80,7 +80,7 @@ module _ (user_id group_id : List ℕ → Option ℕ) where
   HasInItself Entry value kind = EntryHas user_id group_id rules value kind
 
   module _ (draft : Option Draft) (l : Numbered) where
-    -- it belongs to a record, and no record has begun
+    -- it belongs to a record, and no record is open
     pub record HasNoRecord (kind : FaultKind) : Type 0 where
       pub is : kind ≡ MissingHeader
       pub none : draft ≡ None

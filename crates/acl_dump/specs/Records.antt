@@ -64,7 +64,7 @@ abbrev pub entry_said : Spec → Said
 entry_said spec = said.Entry spec.dflt (record { key = spec.key; perm = perm_said spec.perm })
 
 module _ (user_id group_id : List ℕ → Option ℕ) where
-  -- what a line says that begins no record, or the lowest kind of fault that it has in itself
+  -- the content of a line that begins no record, or the lowest kind of fault that it has in itself
   abbrev pub said_by : ℕ → LineKind → List ℕ → Result (Option Said) FaultKind
   said_by at Nothing value = Ok None
   said_by at File value = Ok None
@@ -81,12 +81,12 @@ module _ (user_id group_id : List ℕ → Option ℕ) where
     spec ← entry_of user_id group_id rules at value
     Ok (Some (entry_said spec))
 
--- ---- a record in the making
+-- ---- an open record
 
 abbrev pub has_no_entry : Draft → Bool
 has_no_entry draft = (length draft.access == 0) && (length draft.dacl == 0)
 
--- a header stands once, and before the entries
+-- a header comes once, and before the entries
 abbrev pub may_head : {A : Type 0} → Option A → Draft → Bool
 may_head there draft = not (is_some there) && has_no_entry draft
 
@@ -99,7 +99,7 @@ with_said (said.OwningGroup id) draft = if may_head draft.group draft then Ok (r
 with_said (said.Flags flags) draft = if may_head draft.flags draft then Ok (record draft { flags = Some flags }) else Err BadHeader
 with_said (said.Entry dflt entry) draft = Ok (with_entry dflt entry draft)
 
--- what is said belongs to the record that is begun, if one is
+-- the content belongs to the open record, if there is one
 abbrev pub add : Option Said → Option Draft → Result (Option Draft) FaultKind
 add None draft = Ok draft
 add (Some said) None = Err MissingHeader
@@ -118,7 +118,7 @@ same_path = eq_by_cmp path_cmp
 abbrev pub is_repeated : List DumpRecord → List (List ℕ) → Bool
 is_repeated records path = list_any (λ r. same_path path r.path) records
 
--- a record that is begun by the value of its `file:` line
+-- a record that is opened by the value of its `file:` line
 abbrev pub begun : List DumpRecord → ℕ → List ℕ → Result Draft FaultKind
 begun records at [] = Err BadHeader
 begun records at (b ∷ bs) = do
@@ -172,13 +172,13 @@ begins l = begins_record (content_of l.1).0
 abbrev pub begin : List DumpRecord → Numbered → Result (Option Draft) TextFault
 begin records l = at_place l.0 (begun records l.0 (content_of l.1).1) (λ draft. Ok (Some draft))
 
--- what a record lacks as a whole is told at its `file:` line
+-- the place of what a record lacks as a whole is its `file:` line
 abbrev pub close : DumpUse → List DumpRecord → Option Draft → Result (List DumpRecord) TextFault
 close dump_use records None = Ok records
 close dump_use records (Some draft) = at_place draft.at (record_of dump_use draft) (λ r. Ok (records ++ r ∷ []))
 
 module _ (user_id group_id : List ℕ → Option ℕ) where
-  -- a line that begins no record, with the record that is begun, or the lowest kind of fault that it has there
+  -- a line that begins no record, with the open record, or the lowest kind of fault that it has there
   abbrev pub judged : Option Draft → Numbered → Result (Option Draft) FaultKind
   judged draft l = do
     said ← said_by user_id group_id l.0 (content_of l.1).0 (content_of l.1).1
@@ -188,7 +188,7 @@ module _ (user_id group_id : List ℕ → Option ℕ) where
   line_in draft l = at_place l.0 (judged draft l) (λ new. Ok new)
 
   -- the records of a dump, or its first fault: record after record, each line by line and then as a whole; the lines
-  -- before the first record belong to none
+  -- before the first record belong to no record
   abbrev pub dump_of : DumpUse → List ℕ → Result (List DumpRecord) TextFault
   dump_of dump_use bytes = by_groups begins begin line_in (close dump_use) [] None (grouped begins (lines_of bytes))
 

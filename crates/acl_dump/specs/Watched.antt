@@ -12,7 +12,7 @@ use Rattle.acl_dump.specs.Groups.{streamed}
 use Rattle.acl_dump.specs.Lines.{content_of}
 use Rattle.acl_dump.specs.Records.{Numbered, is_repeated, ends_in_slash, begins, line_in, close}
 
--- a record that is begun by the value of its `file:` line; it may have the path of an earlier one where paths are not watched
+-- a record that is opened by the value of its `file:` line; it may have the path of an earlier one where paths are not watched
 abbrev pub begun : Bool → List DumpRecord → ℕ → List ℕ → Result Draft FaultKind
 begun watched records at [] = Err BadHeader
 begun watched records at (b ∷ bs) = do

@@ -25,14 +25,14 @@ is_told WhereMasked mask perm = not (perms.contains mask perm)
 is_told Always mask perm = true
 is_told Never mask perm = false
 
--- the tabs behind an entry of this many bytes
+-- the tabs after an entry of this many bytes
 abbrev pub tab_count : ℕ → ℕ
 tab_count bytes = max 1 (4 - bytes / 8)
 
 abbrev pub tabs : ℕ → List ℕ
 tabs bytes = take (tab_count bytes) (9 ∷ 9 ∷ 9 ∷ 9 ∷ [])
 
--- what is written behind an entry of this many bytes, by its list's mask
+-- what is written after an entry of this many bytes, by its list's mask
 abbrev pub comment : Effective → Option Perms → Entry → ℕ → List ℕ
 comment how None e bytes = []
 comment how (Some mask) e bytes =
@@ -74,7 +74,7 @@ group_text group_name None = []
 group_text group_name (Some id) = codes "# group: " ++ (id_text id (group_name id) ++ 10 ∷ [])
 
 module _ (user_name group_name : ℕ → Option (List ℕ)) where
-  -- the header lines, each where it is there
+  -- the header lines, each where it is present
   abbrev pub header_text : List (List ℕ) → Bool → Option ℕ → Option ℕ → Option (List Bool) → List ℕ
   header_text path slash owner group flags = file_text path slash ++ (owner_text user_name owner ++ (group_text group_name group ++ flags_text flags))
 

@@ -12,6 +12,7 @@ use acl_entry::{Acl, Entry, ListFault};
 use acl_text::{FaultKind, TextFault, Which};
 use std::alloc::Global;
 
+/// The list of a record's entries, or its fault.
 fn list_of(alloc: Global, at: usize, which: Which, entries: &[Entry]) -> Result<Acl, TextFault>
     ensures { GivesAt at (λ acl. acl) result (list_of which entries.now) }
 {
@@ -28,6 +29,7 @@ fn list_of(alloc: Global, at: usize, which: Which, entries: &[Entry]) -> Result<
     }
 }
 
+/// The default list of a record's entries; `None` without entries.
 fn default_list_of(alloc: Global, at: usize, entries: &[Entry]) -> Result<Option<Acl>, TextFault>
     ensures { GivesAt at (λ acl. acl) result (default_list_of entries.now) }
 {
@@ -37,6 +39,7 @@ fn default_list_of(alloc: Global, at: usize, entries: &[Entry]) -> Result<Option
     Ok(Some(list_of(alloc, at, Which::Default, entries)?))
 }
 
+/// Whether the record has the headers that its use needs.
 fn has_headers(dump_use: DumpUse, draft: &Draft) -> bool
     ensures { result ≡ has_headers dump_use draft.now }
 {
@@ -46,7 +49,7 @@ fn has_headers(dump_use: DumpUse, draft: &Draft) -> bool
     }
 }
 
-/// The record of all its lines, or what it lacks as a whole, told at its `file:` line.
+/// The record of all its lines, or what it lacks as a whole, at its `file:` line.
 fn record_of(alloc: Global, dump_use: DumpUse, draft: Draft) -> Result<DumpRecord, TextFault>
     ensures { GivesAt draft.at (λ r. r) result (record_of dump_use draft) }
 {
@@ -71,7 +74,7 @@ fn record_of(alloc: Global, dump_use: DumpUse, draft: Draft) -> Result<DumpRecor
     })
 }
 
-/// Adds the record that was begun, if one was, to the others.
+/// Adds the open record, if there is one, to the others.
 pub(crate) fn close(
     alloc: Global,
     dump_use: DumpUse,

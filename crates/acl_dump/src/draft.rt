@@ -1,4 +1,4 @@
-//! A record in the making.
+//! An open record: the `# file:` line and the lines after it so far.
 
 ghost use Rattle.std.specs.Prelude.{◌≡◌, ◌++◌, ◌∷◌, [], List, IfOk, IfErr, OnOk, is_some};
 ghost use Rattle.acl_text.specs.declared.fault.FaultKind.TheVariants.{NoMemory};
@@ -75,7 +75,7 @@ impl Draft {
     }
 }
 
-/// The record with what a line at a place says.
+/// The record with the content of a line at a place.
 fn with_said(draft: Draft, at: usize, said: Said) -> Result<Draft, TextFault>
     ensures { GivesAt at (λ draft. draft) result (with_said said draft) }
 {
@@ -111,6 +111,7 @@ fn with_said(draft: Draft, at: usize, said: Said) -> Result<Draft, TextFault>
     }
 }
 
+/// The record with one more entry.
 fn with_entry(draft: Draft, dflt: bool, entry: Entry) -> Result<Draft, TextFault>
     ensures ok { IfOk result (λ new. new ≡ with_entry dflt entry draft) }
     ensures err { IfErr result (λ fault. fault.kind ≡ NoMemory) }
@@ -124,7 +125,7 @@ fn with_entry(draft: Draft, dflt: bool, entry: Entry) -> Result<Draft, TextFault
     Ok(new)
 }
 
-/// Adds what a line says to the record that is begun, if one is.
+/// Adds the content of a line to the open record, if there is one.
 pub(crate) fn add(
     draft: Option<Draft>,
     at: usize,

@@ -21,16 +21,16 @@ use std::alloc::Global;
 
 /// The records of a dump, in their order: what getfacl(1) writes and setfacl(1) --restore reads.
 ///
-/// A line is, behind white space, a header `# file:`, `# owner:`, `# group:` or `# flags:`, or a comment,
+/// A line is, after white space, a header `# file:`, `# owner:`, `# group:` or `# flags:`, or a comment,
 /// or empty, or an entry as setfacl(1) takes it, without `X`. `# file:` begins a record; its other headers
-/// stand once and before its entries. Lines count from 1.
+/// come once and before its entries. Lines count from 1.
 ///
 /// # Errors
 ///
 /// The first faulty record's fault. It is the first faulty line of the record and there the first kind
 /// that applies of: an entry's, `UnknownUser` and `UnknownGroup`, `BadHeader` (an empty value, flags that
-/// are none, a header that stands twice or behind an entry), `MissingHeader` (before the first `# file:`),
-/// `BadPath`, and `RepeatedFile`. A record whose lines have no fault is told at its `# file:` line:
+/// are not valid, a header that comes twice or after an entry), `MissingHeader` (before the first `# file:`),
+/// `BadPath`, and `RepeatedFile`. The fault of a record whose lines have none is at its `# file:` line:
 /// `MissingHeader` where it is loaded and has no owner or no group, else `List` of its access list, else
 /// of its default list, whose places count the record's entries of that list. Or `NoMemory`.
 ///
@@ -96,7 +96,7 @@ fn read_stream<N: Names>(
 }
 
 /// Reads a line: one that begins a record closes the record before it, and any other belongs to the
-/// record that is begun.
+/// open record.
 fn read_line<N: Names>(
     alloc: Global,
     names: &N,

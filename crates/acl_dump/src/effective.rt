@@ -1,6 +1,6 @@
 //! Effective permissions beside the entries of a list.
 
-/// Where a listing tells the effective permissions of the entries of the group class, in a list that has
+/// Where a listing shows the effective permissions of the entries of the group class, in a list that has
 /// a mask (getfacl(1)).
 #[derive(Clone, Copy, Debug, PartialEq, Eq)]
 pub enum Effective {

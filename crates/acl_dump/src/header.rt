@@ -12,6 +12,7 @@ use acl_names::{Path, append_path};
 use acl_text::{Names, Which, append_id};
 use std::alloc::AllocError;
 
+/// The letter of a flag that is set, else `-`.
 fn mark(letter: u8, set: bool) -> u8
     ensures { result ≡ mark letter set }
 {
@@ -26,6 +27,7 @@ fn marks(flags: [bool; 3]) -> [u8; 3]
     [mark(b's', setuid), mark(b's', setgid), mark(b't', sticky)]
 }
 
+/// Adds the `# flags:` line, if there are flags.
 fn push_flags(text: &mut Vec<u8>, flags: Option<[bool; 3]>) -> Result<(), AllocError>
     ensures ok { OnOk result (text.new.items ≡ text.old.items ++ flags_text flags) }
     ensures err { OnErr result (StartsWith text.new.items text.old.items) }
@@ -39,6 +41,7 @@ fn push_flags(text: &mut Vec<u8>, flags: Option<[bool; 3]>) -> Result<(), AllocE
     Ok(())
 }
 
+/// Adds the `# file:` line.
 fn push_file(text: &mut Vec<u8>, path: &Path, slash: bool) -> Result<(), AllocError>
     ensures ok { OnOk result (text.new.items ≡ text.old.items ++ file_text path.now slash) }
     ensures err { OnErr result (StartsWith text.new.items text.old.items) }
@@ -52,6 +55,7 @@ fn push_file(text: &mut Vec<u8>, path: &Path, slash: bool) -> Result<(), AllocEr
     Ok(())
 }
 
+/// Adds the `# owner:` line, if there is an owner.
 fn push_owner<N: Names>(text: &mut Vec<u8>, owner: &Option<Id>, names: &N) -> Result<(), AllocError>
     ensures ok { OnOk result (text.new.items ≡ text.old.items ++ owner_text (N.user_name names.now) owner.now) }
     ensures err { OnErr result (StartsWith text.new.items text.old.items) }
@@ -67,6 +71,7 @@ fn push_owner<N: Names>(text: &mut Vec<u8>, owner: &Option<Id>, names: &N) -> Re
     }
 }
 
+/// Adds the `# group:` line, if there is a group.
 fn push_group<N: Names>(text: &mut Vec<u8>, group: &Option<Id>, names: &N) -> Result<(), AllocError>
     ensures ok { OnOk result (text.new.items ≡ text.old.items ++ group_text (N.group_name names.now) group.now) }
     ensures err { OnErr result (StartsWith text.new.items text.old.items) }
@@ -82,6 +87,7 @@ fn push_group<N: Names>(text: &mut Vec<u8>, group: &Option<Id>, names: &N) -> Re
     }
 }
 
+/// Adds the header lines. A part of them is left where memory runs out.
 fn push_header<N: Names>(
     text: &mut Vec<u8>,
     path: &Path,
@@ -100,13 +106,13 @@ fn push_header<N: Names>(
     push_flags(text, flags)
 }
 
-/// Adds the header lines of a record: `# file:`, with a final `/` where `slash` says so, and `# owner:`,
-/// `# group:` and `# flags:` (set user ID, set group ID, sticky), each where it is there. An id is written
+/// Adds the header lines of a record: `# file:`, with a final `/` where `slash` is true, and `# owner:`,
+/// `# group:` and `# flags:` (set user ID, set group ID, sticky), each where it is present. An id is written
 /// as its name, with escapes, and as a number where it has none.
 ///
 /// # Errors
 ///
-/// Want of memory; then nothing is added.
+/// If memory runs out; then nothing is added.
 pub fn append_header<N: Names>(
     text: &mut Vec<u8>,
     path: &Path,
@@ -127,6 +133,7 @@ pub fn append_header<N: Names>(
     Ok(())
 }
 
+/// Adds a record. A part of it is left where memory runs out.
 fn push_record<N: Names>(
     text: &mut Vec<u8>,
     dump_record: &DumpRecord,
@@ -161,7 +168,7 @@ fn push_record<N: Names>(
 ///
 /// # Errors
 ///
-/// Want of memory; then nothing is added.
+/// If memory runs out; then nothing is added.
 pub fn append_record<N: Names>(
     text: &mut Vec<u8>,
     dump_record: &DumpRecord,

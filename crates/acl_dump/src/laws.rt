@@ -13,34 +13,34 @@ ghost use Rattle.acl_dump.specs.Lowest.{FileHas, LineHas};
 ghost use Rattle.acl_dump.specs.Lines.{content_of};
 ghost use Rattle.acl_dump.specs.Again.{IsReadable, AreApart, paths, placed, dump_text};
 
-/// The fault of a dump is that of the first faulty record: the lines before the record are a dump without a
+/// Proof only: the fault of a dump is that of the first faulty record: the lines before the record are a dump without a
 /// fault. Where its `# file:` line is not faulty, it is that of the record's first faulty line, and where
-/// none of its lines is faulty that of the record as a whole, which is told at the `# file:` line, whatever
-/// comes behind the record. A fault of a line before the first record goes before all these.
+/// no line is faulty that of the record as a whole, at its `# file:` line, whatever comes after the
+/// record. A fault of a line before the first record goes before all these.
 pub fn dump_fault_is_first()
     ensures { (user_id group_id : List ℕ → Option ℕ) (dump_use : DumpUse) (bytes : List ℕ) (fault : TextFault) →
         (dump_of user_id group_id dump_use bytes ≡ Err fault) ↔ IsFirstFault user_id group_id dump_use (lines_of bytes) fault }
 {}
 
-/// The fault of a `# file:` line is the lowest of the kinds that it has, each looked for on its own: an
-/// empty value, a value that is not a path, and the path of an earlier record. Where it has none, the line
+/// Proof only: the fault of a `# file:` line is the lowest of the kinds that it has, each looked for on its own: an
+/// empty value, a value that is not a path, and the path of an earlier record. Without a fault, the line
 /// begins a record.
 pub fn dump_file_fault_is_lowest()
     ensures { (records : List DumpRecord) (line : Numbered) → begins line ≡ true →
         TellsLowest (FileHas records (content_of line.1).1) (begun records line.0 (content_of line.1).1) }
 {}
 
-/// The fault of a line that begins no record is the lowest of the kinds that it has, each looked for on its
+/// Proof only: the fault of a line that begins no record is the lowest of the kinds that it has, each looked for on its
 /// own: what an entry has by the rules of a dump, a value that names nobody, is empty or is not three
-/// flags, a line before the first record, and a header that comes twice or after an entry. Where it has
-/// none, the line is read.
+/// flags, a line before the first record, and a header that comes twice or after an entry. Without a
+/// fault, the line is read.
 pub fn dump_line_fault_is_lowest()
     ensures { (user_id group_id : List ℕ → Option ℕ) (draft : Option Draft) (line : Numbered) →
         TellsLowest (LineHas user_id group_id draft line) (judged user_id group_id draft line) }
 {}
 
-/// The texts of records, put one after another, are read as those records, each at its line: where their
-/// names are found again under the ids that they are written for, no path stands twice, and records that
+/// Proof only: the texts of records, put one after another, are read as those records, each at its line: where their
+/// names are found again under the ids that they are written for, no path is twice, and records that
 /// are loaded have owners and groups.
 pub fn records_are_read_again()
     ensures { (user_id group_id : List ℕ → Option ℕ) (user_name group_name : ℕ → Option (List ℕ)) (dump_use : DumpUse) (records : List DumpRecord) →

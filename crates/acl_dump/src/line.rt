@@ -28,6 +28,7 @@ fn begins_with(text: &[u8], word: &[u8]) -> bool
     text.starts_with(word)
 }
 
+/// The value without one space in front.
 fn without_space(value: &[u8]) -> &[u8]
     ensures { result.now ≡ without_space value.now }
 {

@@ -12,7 +12,7 @@ pub enum DumpUse {
     Restore,
 }
 
-/// A file as a record of a dump says it.
+/// A file as in a record of a dump.
 #[derive(Debug, Drop)]
 pub struct DumpRecord {
     /// The number of its `# file:` line, counted from 1.
@@ -22,7 +22,7 @@ pub struct DumpRecord {
     pub slash: bool,
     pub owner: Option<Id>,
     pub group: Option<Id>,
-    /// Whether the file has set user ID, set group ID, and is sticky, where the record says so.
+    /// Whether the file has set user ID, set group ID, and is sticky, where the record has a `# flags:` line.
     pub flags: Option<[bool; 3]>,
     pub access: Acl,
     /// The default list, where the record has default entries.

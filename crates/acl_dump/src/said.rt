@@ -1,4 +1,4 @@
-//! What a line says of the record that it belongs to.
+//! The content of a line: what it gives the record that it belongs to.
 
 ghost use Rattle.std.specs.Prelude.{◌≡◌};
 ghost use Rattle.acl_text.specs.Told.{GivesAt, or_fault};
@@ -12,7 +12,7 @@ use acl_text::{
 };
 use std::alloc::Global;
 
-/// What a line says that begins no record.
+/// The content of a line that begins no record.
 #[derive(Clone, Copy, Debug)]
 pub(crate) enum Said {
     Owner(Id),
@@ -23,6 +23,7 @@ pub(crate) enum Said {
     Entry(bool, Entry),
 }
 
+/// Whether a flag's byte is its letter, or `-`.
 fn flag_of(letter: u8, b: u8) -> Option<bool>
     ensures { result ≡ flag_of letter b }
 {
@@ -35,6 +36,7 @@ fn flag_of(letter: u8, b: u8) -> Option<bool>
     }
 }
 
+/// The flags of three bytes.
 fn flags_of(value: &[u8]) -> Option<[bool; 3]>
     ensures { result ≡ flags_of value.now }
 {
@@ -60,6 +62,7 @@ fn rules() -> Rules
     }
 }
 
+/// The permissions of an entry's field, which a dump gives without `X`.
 fn perm_said(perm: Option<PermSpec>) -> Perm
     ensures { result ≡ perm_said perm }
 {
@@ -69,6 +72,7 @@ fn perm_said(perm: Option<PermSpec>) -> Perm
     }
 }
 
+/// The content of an entry's line.
 fn entry_said(spec: Spec) -> Said
     ensures { result ≡ entry_said spec }
 {
@@ -130,7 +134,7 @@ pub(crate) fn bad_header(at: usize) -> TextFault
     }
 }
 
-/// What a line says that begins no record, or the lowest kind of fault that it has in itself.
+/// The content of a line that begins no record, or the lowest kind of fault that it has in itself.
 pub(crate) fn said_by<N: Names>(
     alloc: Global,
     names: &N,

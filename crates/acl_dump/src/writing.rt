@@ -12,9 +12,10 @@ use acl_entry::{Acl, Entry, Key, Perm};
 use acl_text::{Form, Names, Which, append_entry};
 use std::alloc::AllocError;
 
-/// As many tabs as are ever written behind an entry.
+/// As many tabs as are ever written after an entry.
 const TABS: [u8; 4] = [b'\t', b'\t', b'\t', b'\t'];
 
+/// Whether the effective permissions of an entry are shown.
 fn is_told(how: Effective, mask: Perm, perm: Perm) -> bool
     ensures { result ≡ is_told how mask perm }
 {
@@ -25,14 +26,14 @@ fn is_told(how: Effective, mask: Perm, perm: Perm) -> bool
     }
 }
 
-/// The number of tabs behind an entry of this many bytes.
+/// The number of tabs after an entry of this many bytes.
 fn tab_count(bytes: usize) -> usize
     ensures { result ≡ tab_count bytes }
 {
     4usize.saturating_sub(bytes / 8).max(1)
 }
 
-/// Adds the effective permissions of an entry of this many bytes, where they are told.
+/// Adds the effective permissions of an entry of this many bytes, where they are shown.
 fn push_comment(
     text: &mut Vec<u8>,
     how: Effective,
@@ -55,6 +56,7 @@ fn push_comment(
     Ok(())
 }
 
+/// What is before each entry of a list.
 fn front(which: Which) -> &'static [u8]
     ensures { result.now ≡ front which }
 {
@@ -64,6 +66,7 @@ fn front(which: Which) -> &'static [u8]
     }
 }
 
+/// Adds an entry and its effective permissions.
 fn push_shown<N: Names>(
     text: &mut Vec<u8>,
     which: Which,
@@ -77,6 +80,7 @@ fn push_shown<N: Names>(
     append_entry(text, entry, Form::Long, names)
 }
 
+/// Adds an entry's line.
 fn push_line<N: Names>(
     text: &mut Vec<u8>,
     how: Effective,
@@ -96,6 +100,7 @@ fn push_line<N: Names>(
     Ok(())
 }
 
+/// Adds the lines of a list.
 fn push_list<N: Names>(
     text: &mut Vec<u8>,
     how: Effective,
@@ -114,12 +119,12 @@ fn push_list<N: Names>(
 }
 
 /// Adds the entries of one of a file's lists, a line each, in the long form and in list order; default
-/// entries have `default:` in front. Where the effective permissions of an entry are told they follow
-/// behind tabs and `#effective:`; the tabs are as many as an entry of its length needs, at least one.
+/// entries have `default:` in front. Where the effective permissions of an entry are shown they follow
+/// after tabs and `#effective:`; the tabs are as many as an entry of its length needs, at least one.
 ///
 /// # Errors
 ///
-/// Want of memory; then nothing is added.
+/// If memory runs out; then nothing is added.
 pub fn append_list<N: Names>(
     text: &mut Vec<u8>,
     acl: &Acl,

@@ -46,7 +46,7 @@ fn a_listing_is_read(rt: HostRuntime) {
     assert!(rt; records.len() == 1);
 }
 
-// The access lists of the dump are written like this.
+/// The access lists of the dump are written like this.
 fn expect_lists<N: Names>(
     rt: &impl Abort,
     alloc: Global,
@@ -72,7 +72,7 @@ fn effective_permissions(rt: HostRuntime) {
     expect_lists(&rt, rt.alloc(), Effective::Always, &People, always);
 }
 
-// The dump has this fault, with the number of its line.
+/// The dump has this fault, with the number of its line.
 fn expect_fault<N: Names>(
     rt: &impl Abort,
     alloc: Global,
@@ -87,7 +87,7 @@ fn expect_fault<N: Names>(
     assert!(rt; found.as_str() == want, "not {want}");
 }
 
-// Dumps to be loaded, and their faults.
+/// Dumps to be loaded, and their faults.
 static FAULTS: [(&[u8], &str); 8] = [
     (b"# file: a\n# owner: li\n", "UnknownUser, 2"),
     (
@@ -112,7 +112,7 @@ fn faults(rt: HostRuntime) {
     }
 }
 
-// The kinds of fault that the other tests do not show, each once.
+/// The kinds of fault that the other tests do not show, each once.
 static OTHER_KINDS: [(&[u8], &str); 10] = [
     (b"#file:a\nx:y:z:7", "BadTag, 2"),
     (b"#file:a\nu:joe", "MissingPerms, 2"),
@@ -139,13 +139,13 @@ fn each_other_kind(rt: HostRuntime) {
     }
 }
 
-// Of the kinds of fault that one line has, the lowest is reported.
+/// Of the kinds of fault that one line has, the lowest is reported.
 static LOWEST_KINDS: [(&[u8], &str); 6] = [
     (b"#file:a\nuser:nosuch:X", "BadPerms, 2"),
     (b"user:nosuch:X", "BadPerms, 1"),
     (b"user:nosuch:r", "UnknownUser, 1"),
     (b"#file:a\n#owner:joe\n#owner:nosuch", "UnknownUser, 3"),
-    // An empty value is no path, although its text would be read as that of the root.
+    // An empty value is not a path, although its text would be read as that of the root.
     (b"#file:.\nu::7\ng::7\no::7\n# file: ", "BadHeader, 5"),
     (b"#file:.\nu::7\ng::7\no::7\n# file: /", "RepeatedFile, 5"),
 ];
@@ -168,7 +168,7 @@ fn records_of(rt: &impl Abort, alloc: Global, paths: &[u8]) -> Vec<u8> {
     bytes
 }
 
-// Records may come in any order of their paths, and keep the order of their lines.
+/// Records may come in any order of their paths, and keep the order of their lines.
 static ANY_ORDER: [&[u8]; 3] = [b"b a c", b"a-b a/c a", b"a a/b b"];
 
 #[test]
@@ -183,7 +183,7 @@ fn paths_in_any_order(rt: HostRuntime) {
     }
 }
 
-// Of a repeated path and another fault the first is reported.
+/// Of a repeated path and another fault the first is reported.
 static REPEATED: [(&[u8], &str); 4] = [
     (b"b a ./b/", "RepeatedFile, 9"),
     (b"a b b a", "RepeatedFile, 9"),

@@ -1,6 +1,6 @@
 //! Worked dumps, read and written; a dump cut and changed at every byte; and the most entries of a list.
 //!
-//! They stand apart from `acl_dump`, since a crate with tests is proved twice.
+//! They are apart from `acl_dump`, since a crate with tests is proved twice.
 #![tactic(auto)]
 
 #[cfg(test)]

@@ -1,5 +1,5 @@
 //! A reader of dumps that is written apart from the one that is tested, for texts without digits and with
-//! one backslash at most, in which no escape stands, and whose paths have no `..`.
+//! one backslash at most, without escapes, and whose paths have no `..`.
 use crate::people::People;
 use acl_dump::DumpUse;
 use acl_entry::{Entry, Key, ListFault, Perm};
@@ -23,7 +23,7 @@ pub struct Slow {
 /// A kind of fault and the number of its line.
 pub type Fault = (FaultKind, usize);
 
-/// What a line says.
+/// The content of a line.
 #[derive(Drop)]
 enum Says {
     Nothing,
@@ -202,7 +202,7 @@ fn push(rt: &impl Abort, entries: &mut Vec<Entry>, key: Key, perm: Perm) {
     entries.push(Entry { key, perm }).expect(rt, "memory");
 }
 
-// Adds what a line says of a record. Returns whether it may say so there.
+/// Adds the content of a line to a record. Returns whether the line may come there.
 fn put(rt: &impl Abort, record: &mut Slow, said: Says) -> bool {
     let bare = record.access.is_empty() && record.dacl.is_empty();
     match said {
@@ -297,7 +297,7 @@ fn whole(record: &Slow, dump_use: DumpUse) -> Option<FaultKind> {
     Some(FaultKind::List(Which::Default, fault))
 }
 
-/// The name in a `# file:` line: what stands behind the colon, without a blank in front.
+/// The name in a `# file:` line: what is after the colon, without a blank in front.
 fn name_of(line: &[u8]) -> &[u8] {
     match line.splitn(2, |b| *b == b':').last() {
         Some([b' ', name @ ..]) => name,
@@ -331,14 +331,14 @@ fn started(rt: &impl Abort, alloc: Global, at: usize, name: &[u8]) -> Slow {
     }
 }
 
-// What is wrong with the last record, once it is whole.
+/// What is wrong with the last record, once it is whole.
 fn last_fault(records: &[Slow], dump_use: DumpUse) -> Option<Fault> {
     let last = records.last()?;
     let kind = whole(last, dump_use)?;
     Some((kind, last.at))
 }
 
-// Adds what a line says, but for the start of a record. Returns what is wrong with it.
+/// Adds the content of a line that begins no record. Returns what is wrong with it.
 fn add(rt: &impl Abort, records: &mut [Slow], at: usize, said: Says) -> Option<Fault> {
     let Some(last) = records.last_mut() else {
         return Some((FaultKind::MissingHeader, at));
