@@ -124,7 +124,7 @@ module _ {A : Type 0} (f : KeyMap → A) (blind : (m : KeyMap) (v : Perms) → f
 
 -- ---- the mask
 
--- the mask that stands, or else one that is made
+-- the present mask, or else one that is made
 abbrev made : Bool → KeyMap → Option Perms
 made lost m = or_else (maps.get m Mask) (if has_named m && not lost then maps.get m OwningGroup else None)
 
@@ -175,7 +175,7 @@ mask_key Other = refl
 pub loses : (x : Bool) (p : Part) (m : KeyMap) → takes_mask p (replace x p.set m) ≡ loses_mask x p (maps.get m Mask)
 loses x p m = λ i. is_some (get-replace x p m Mask i) && list_any (λ (s : Spec). mask_key s.key i) p.remove
 
--- the mask of a list that is completed, told by the list that it becomes
+-- the mask of a list that is completed, from the list that it becomes
 pub get-mask_after : (x : Bool) (c : Change) (p : Part) (lost : Bool) (had : Option Perms) (m : KeyMap) → lost ≡ loses_mask x p had → maps.get m Mask ≡ left_at x p Mask had
     → maps.get (with_mask c p lost m) Mask ≡ mask_after x c p had (with_mask c p lost m)
 get-mask_after x c p lost had m takes stands =

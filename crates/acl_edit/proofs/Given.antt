@@ -84,7 +84,7 @@ get-with_mask c p lost m k s h stays = by_again (is_recalculated c p) stays ∙ 
     by_again true e = get-recalculate (if lost then m else add_mask m) k (not_mask (is_mask k) e)
     by_again false e = refl
 
--- ---- copied base entries touch no key that stands
+-- ---- copied base entries touch no key that is present
 
 get-fill_one : (other m : KeyMap) (q k : Key) (s : Perms) → maps.get m k ≡ Some s → maps.get (fill_one other m q) k ≡ Some s
 get-fill_one other m q k s h = by_test (is_some (maps.get m q)) refl

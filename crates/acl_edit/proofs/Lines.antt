@@ -51,7 +51,7 @@ checked_default_is m d h = by_test (eqb (length (entries m)) 0) h
     by_test true e = cc
     by_test false e = by_fault (fault (entries m)) e
 
--- a default list that is told to be none has no entry
+-- a default list that is `None` has no entry
 not_none : (m : KeyMap) (k : Key) (v : Perms) → checked_default m ≡ Ok None → maps.get m k ≡ Some v → ⊥
 not_none m k v h there = by_test (eqb (length (entries m)) 0) refl h
   where

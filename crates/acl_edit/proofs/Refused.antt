@@ -74,7 +74,7 @@ module _ (n : Node) (c : Change) (r : Bool) where
       by_cases false (Some f) = refl
       by_cases false None = ap (λ d. d >>= λ d. Ok (with_lists n left d)) (of_kind_is n.kind)
 
-  -- ---- what each outcome is told for
+  -- ---- when each outcome is returned
 
   only_misplaced : (b : Bool) (f : Option ListFault) (k : Kind) (z : Bool) (g : Option ListFault) → outcome b f k z g ≡ Err DefaultOnFile → b ≡ true
   only_misplaced true f k z g h = refl

@@ -46,7 +46,7 @@ default_after c x acl m =
 abbrev pub checked : Which → KeyMap → Result KeyMap EditFault
 checked which m = option_map_or (λ f. Err (ListIs which f)) (fault (entries m)) (Ok m)
 
--- a default list without entries is none
+-- a default list without entries is no list
 abbrev pub checked_default : KeyMap → Result (Option KeyMap) EditFault
 checked_default m = if length (entries m) == 0 then Ok None else (checked Default m >>= λ d. Ok (Some d))
 
@@ -61,12 +61,12 @@ default_before c o = if c.strip || c.drop_default then maps.empty else unwrap_or
 abbrev pub changed_access : Node → Change → Result KeyMap EditFault
 changed_access n c = checked Access (access_after c (gives_execute n) (access_before c n.label.acl))
 
--- only directories have default lists: entries for one skip every other file, and -b and -k leave it none
+-- only directories have default lists: entries for one skip every other file, and -b and -k remove the default list
 abbrev pub changed_default : Kind → Node → Change → KeyMap → Result (Option KeyMap) EditFault
 changed_default Plain n c acl = Ok (if c.strip || c.drop_default then None else n.dacl)
 changed_default Directory n c acl = checked_default (default_after c (gives_execute n) acl (default_before c n.dacl))
 
--- default entries for a file that is no directory are refused, and skipped in a recursion
+-- default entries for a file that is not a directory are refused, and skipped in a recursion
 abbrev pub is_misplaced : Node → Change → Bool → Bool
 is_misplaced n c in_recursion = not (is_directory n.kind) && not in_recursion && puts (part c Default)
 
@@ -77,14 +77,14 @@ change n c in_recursion =
 
 -- ---- whole lists
 
--- a default list that is given; for a file that is no directory it is refused, and skipped in a recursion
+-- a default list that is given; for a file that is not a directory it is refused, and skipped in a recursion
 abbrev pub allowed : Kind → Bool → Option KeyMap → Result (Option KeyMap) EditFault
 allowed Directory in_recursion o = Ok o
 allowed Plain in_recursion None = Ok None
 allowed Plain false (Some d) = Err DefaultOnFile
 allowed Plain true (Some d) = Ok None
 
--- each list that is given stands in place of the file's
+-- each list that is given replaces the file's
 unfoldable pub put : Node → Option KeyMap → Option KeyMap → Bool → Result Node EditFault
 put n access dacl in_recursion =
     allowed n.kind in_recursion dacl >>= λ d. Ok (with_lists n (unwrap_or access n.label.acl) (or_else d n.dacl))
@@ -97,7 +97,7 @@ flatten n access dacl =
 abbrev pub no_flags : List Bool
 no_flags = false ∷ false ∷ false ∷ []
 
--- the lists are put and the flags set; owner and group stay where none is named
+-- the lists are put and the flags set; owner and group stay where nobody is named
 unfoldable pub restore : Node → KeyMap → Option KeyMap → Option ℕ → Option ℕ → Option (List Bool) → Bool → Result Node EditFault
 restore n access dacl owner group flags in_recursion =
     allowed n.kind in_recursion dacl >>= λ d. Ok (record {

@@ -43,7 +43,7 @@ abbrev pub last_for : Key → List Spec → Option Spec
 last_for k [] = None
 last_for k (s ∷ specs) = or_else (last_for k specs) (if same_key k s.key then Some s else None)
 
--- what the last entry for a key gives, where x says whether X gives execute
+-- what the last entry for a key gives, where x is whether X gives execute
 abbrev pub given : Bool → Key → List Spec → Option Perms
 given x k specs = option_map (λ (s : Spec). perms_of x s.perm) (last_for k specs)
 
@@ -64,7 +64,7 @@ left_at x p k had = or_else (given x k p.modify) (if has_entry k p.remove then N
 abbrev pub loses_mask : Bool → Part → Option Perms → Bool
 loses_mask x p had = is_some (set_at x p Mask had) && has_entry Mask p.remove
 
--- the mask that the line's entries leave, or one with the permissions of the owning group, where named entries stand and the line took
+-- the mask that the line's entries leave, or one with the permissions of the owning group, where there are named entries and the line took
 -- no mask out
 abbrev pub mask_made : Bool → Part → Option Perms → KeyMap → Option Perms
 mask_made x p had new =
@@ -75,7 +75,7 @@ abbrev pub mask_after : Bool → Change → Part → Option Perms → KeyMap →
 mask_after x c p had new =
     if is_recalculated c p then option_map (λ _. class_union new) (mask_made x p had new) else mask_made x p had new
 
--- what an access list has at a key before the line's entries: under -b a base entry has what it granted, and no other stands
+-- what an access list has at a key before the line's entries: under -b a base entry has what it granted, and there is no other entry
 abbrev pub had_access : Node → Change → Key → Option Perms
 had_access old c k =
     if c.strip then (if is_base k then effective old.label.acl k else None) else maps.get old.label.acl k
@@ -154,7 +154,7 @@ puts_default (edits.Put access dacl) = is_some dacl
 puts_default (edits.Flatten access dacl) = false
 puts_default (edits.Restore access dacl owner group flags) = is_some dacl
 
--- it puts them on a file that is no directory, and not in a recursion
+-- it puts them on a file that is not a directory, and not in a recursion
 abbrev pub misplaces_default : Node → Edit → Bool → Bool
 misplaces_default n e in_recursion = not (is_directory n.kind) && not in_recursion && puts_default e
 
@@ -174,7 +174,7 @@ pub record IsDefaultLeft (old : Node) (c : Change) (access : KeyMap) (m : KeyMap
   pub keys : (k : Key) → is_mask k ≡ false → maps.get m k ≡ default_left_at old c access k
   pub mask : maps.get m Mask ≡ (if names (part c Default) then mask_after (gives_execute old) c (part c Default) (had_default old c Mask) m else had_default old c Mask)
 
--- a directory's default list has this fault, where the access list has none; without entries it is none, and has no fault
+-- a directory's default list has this fault, where the access list has none; without entries there is no default list, and no fault
 pub record IsDefaultFault (n : Node) (access : KeyMap) (dacl : KeyMap) (f : ListFault) : Type 0 where
   pub directory : n.kind ≡ Directory
   pub valid : IsValid access
@@ -191,7 +191,7 @@ pub record RefusesLists (n : Node) (c : Change) (in_recursion : Bool) : Type 0 w
       ↔ ((misplaces_default n (edits.Change c) in_recursion ≡ false) × (fault (entries access) ≡ Some f))
   pub dacl_fault : (f : ListFault) → (edit n (edits.Change c) in_recursion ≡ Err (ListIs Default f)) ↔ IsDefaultFault n access dacl f
 
--- whole lists are lists already, so no edit that puts them is refused for a fault of theirs
+-- whole lists are lists already, so no edit that puts them is refused for their faults
 abbrev pub RefusesNoList : Node → Edit → Bool → Type 0
 RefusesNoList n (edits.Change c) in_recursion = Unit {0}
 RefusesNoList n (edits.Put access dacl) in_recursion = (which : Which) (f : ListFault) → edit n (edits.Put access dacl) in_recursion ≢ Err (ListIs which f)

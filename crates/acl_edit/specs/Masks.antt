@@ -19,7 +19,7 @@ has_named m = list_any (λ e. is_named e.key) (entries m)
 abbrev pub add_mask : KeyMap → KeyMap
 add_mask m = if has_named m && not (has_mask m) then put_some m Mask (maps.get m OwningGroup) else m
 
--- a mask that stands becomes all that the group class has
+-- a mask that is present becomes all that the group class has
 abbrev pub recalculate : KeyMap → KeyMap
 recalculate m = if has_mask m then maps.insert m Mask (class_union m) else m
 
@@ -27,11 +27,11 @@ recalculate m = if has_mask m then maps.insert m Mask (class_union m) else m
 abbrev pub is_recalculated : Change → Part → Bool
 is_recalculated c p = not c.no_mask && (c.remask || not (gives_mask p))
 
--- a mask stands in m, and the line takes it out
+-- a mask is in m, and the line takes it out
 abbrev pub takes_mask : Part → KeyMap → Bool
 takes_mask p m = has_mask m && list_any is_of_mask p.remove
 
--- the mask of a list, where lost says that the line took one out
+-- the mask of a list, where lost means that the line took one out
 abbrev pub with_mask : Change → Part → Bool → KeyMap → KeyMap
 with_mask c p lost m =
     let masked = if lost then m else add_mask m in

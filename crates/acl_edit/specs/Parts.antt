@@ -13,7 +13,7 @@ abbrev pub speaks_of : Bool → Which → Spec → Bool
 speaks_of as_default Access s = not (as_default || s.dflt)
 speaks_of as_default Default s = if as_default then not s.dflt else s.dflt
 
--- what a line says of one list
+-- what a line asks of one list
 pub record Part : Type 0 where
   pub remove : List Spec
   pub set : List Spec

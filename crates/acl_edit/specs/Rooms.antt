@@ -22,7 +22,7 @@ puts_of p = length p.set + length p.modify
 abbrev pub Fits : ℕ → Type 0
 Fits n = n ≤ inline_entries
 
--- a list that may be none
+-- a list, or no list
 abbrev pub size_of : Option KeyMap → ℕ
 size_of o = size (unwrap_or o maps.empty)
 

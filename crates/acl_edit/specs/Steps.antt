@@ -27,7 +27,7 @@ may_execute e = not (is_mask e.key) && e.perm.execute
 abbrev pub gives_execute : Node → Bool
 gives_execute n = is_directory n.kind || list_any may_execute (entries n.label.acl)
 
--- what an entry gives, where x says whether X gives execute; one without permissions gives none
+-- what an entry gives, where x is whether X gives execute; one without permissions gives no permission
 abbrev pub perms_of : Bool → Option PermSpec → Perms
 perms_of x None = perms.none
 perms_of x (Some p) = if x && p.cond_x then perms.union p.fixed execute else p.fixed
@@ -54,7 +54,7 @@ remove specs m = fold (λ kept s. maps.remove kept s.key) m specs
 abbrev pub modify : Bool → List Spec → KeyMap → KeyMap
 modify x specs m = fold (λ put s. maps.insert put s.key (perms_of x s.perm)) m specs
 
--- the entries stand in place of the list, if there are any
+-- the entries replace the list, if there are any
 abbrev pub replace : Bool → List Spec → KeyMap → KeyMap
 replace x [] m = m
 replace x (s ∷ specs) m = modify x (s ∷ specs) maps.empty

@@ -19,14 +19,14 @@ use acl_text::Which;
 use std::alloc::{AllocError, Global};
 
 impl Change {
-    // Whether the line takes the list's mask out.
+    /// Whether the line takes the list's mask out.
     fn takes_mask(&self, which: Which, draft: &Draft) -> bool
         ensures { result ≡ takes_mask (part self.now which) draft.now }
     {
         has_mask(draft) && self.scope(which).takes_mask(self.remove.as_slice())
     }
 
-    // Replaces, removes and modifies, and says whether the list lost its mask.
+    /// Replaces, removes and modifies, and returns whether the list lost its mask.
     #[tactic(auto, unfolding(crate::specs::Edits::worked))]
     fn work(
         &self,
@@ -47,7 +47,7 @@ impl Change {
         Ok(lost)
     }
 
-    // The line's steps on an access list.
+    /// The line's steps on an access list.
     #[tactic(auto, unfolding(crate::specs::Edits::access_after))]
     fn edit_access(&self, alloc: Global, x: bool, draft: &mut Draft) -> Result<(), AllocError>
         ensures edited { OnOk result (draft.new ≡ access_after self.now x draft.old) }
@@ -60,7 +60,7 @@ impl Change {
         Ok(())
     }
 
-    // The line's steps on a default list, beside the access list that they left.
+    /// The line's steps on a default list, beside the access list that they left.
     #[tactic(auto, unfolding(crate::specs::Edits::default_after))]
     fn edit_default(
         &self,
@@ -82,7 +82,7 @@ impl Change {
         Ok(())
     }
 
-    // The access list that the steps begin with.
+    /// The access list that the steps begin with.
     fn access_before(&self, alloc: Global, acl: &Acl) -> Result<Draft, AllocError>
         ensures begun { IfOk result (λ draft. draft ≡ access_before self.now acl.now) }
         ensures room { Fits (size acl.now) → IsOk result }
@@ -94,7 +94,7 @@ impl Change {
         }
     }
 
-    // The default list of a file that is no directory, if there is one: -b and -k leave none.
+    /// The default list of a file that is not a directory, if there is one: -b and -k remove it.
     fn kept_default(&self, alloc: Global, dacl: &Option<Acl>) -> Result<Option<Acl>, AllocError>
         ensures kept { IfOk result (λ kept. kept ≡ (if self.now.strip || self.now.drop_default then None else dacl.now)) }
         ensures room { Fits (size_of dacl.now) → IsOk result }
@@ -105,7 +105,7 @@ impl Change {
         clone_of(alloc, dacl)
     }
 
-    // The default list that the steps begin with.
+    /// The default list that the steps begin with.
     fn default_before(&self, alloc: Global, dacl: &Option<Acl>) -> Result<Draft, AllocError>
         ensures begun { IfOk result (λ draft. draft ≡ default_before self.now dacl.now) }
         ensures room { Fits (size_of dacl.now) → IsOk result }
@@ -117,7 +117,7 @@ impl Change {
     }
 }
 
-// The entries as a list, if they are one.
+/// The entries as a list, if they are one.
 fn checked(which: Which, draft: Draft) -> Result<Acl, EditFault>
     ensures made { IfOk result (λ acl. edits.checked which draft ≡ Ok acl) }
     ensures told { IfErr result (λ fault. edits.checked which draft ≡ Err fault) }
@@ -129,7 +129,7 @@ fn checked(which: Which, draft: Draft) -> Result<Acl, EditFault>
     }
 }
 
-// The entries as a default list, which is none where there are no entries.
+/// The entries as a default list; `None` where there are no entries.
 fn checked_default(draft: Draft) -> Result<Option<Acl>, EditFault>
     ensures made { IfOk result (λ dacl. edits.checked_default draft ≡ Ok dacl) }
     ensures told { IfErr result (λ fault. edits.checked_default draft ≡ Err fault) }
@@ -141,6 +141,7 @@ fn checked_default(draft: Draft) -> Result<Option<Acl>, EditFault>
     Ok(Some(checked(Which::Default, draft)?))
 }
 
+/// The access list that a line leaves.
 fn changed_access(alloc: Global, node: &Node, change: &Change, x: bool) -> Result<Acl, EditFault>
     requires { x ≡ steps.gives_execute node.now }
     ensures made { IfOk result (λ acl. changed_access node.now change.now ≡ Ok acl) }
@@ -152,6 +153,7 @@ fn changed_access(alloc: Global, node: &Node, change: &Change, x: bool) -> Resul
     checked(Which::Access, draft)
 }
 
+/// The default list that a line leaves.
 fn changed_default(
     alloc: Global,
     node: &Node,
@@ -172,7 +174,7 @@ fn changed_default(
     checked_default(draft)
 }
 
-// The same list again, if there is one.
+/// The same list again, if there is one.
 pub(crate) fn clone_of(alloc: Global, acl: &Option<Acl>) -> Result<Option<Acl>, AllocError>
     ensures same { IfOk result (λ clone. clone ≡ acl.now) }
     ensures room { Fits (size_of acl.now) → IsOk result }
@@ -183,7 +185,7 @@ pub(crate) fn clone_of(alloc: Global, acl: &Option<Acl>) -> Result<Option<Acl>, 
     }
 }
 
-// Whether the line puts default entries into a file that is no directory, and not in a recursion.
+/// Whether the line puts default entries into a file that is not a directory, and not in a recursion.
 fn is_misplaced(node: &Node, line: &Change, in_recursion: bool) -> bool
     ensures { result ≡ is_misplaced node.now line.now in_recursion }
 {

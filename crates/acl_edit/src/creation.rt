@@ -19,7 +19,7 @@ use std::alloc::{AllocError, Global};
 ///
 /// # Errors
 ///
-/// Want of memory, never where the directory's default list has at most eight entries.
+/// If memory runs out, never where the directory's default list has at most eight entries.
 pub fn create(
     alloc: Global,
     parent: &Node,
@@ -40,7 +40,7 @@ pub fn create(
     Ok(node)
 }
 
-// What a new file gets of its directory.
+/// What a new file gets of its directory.
 fn inherit(
     alloc: Global,
     parent: &Node,
@@ -73,7 +73,7 @@ fn inherit(
     })
 }
 
-// The access list under a directory's default list, if it has one.
+/// The access list under a directory's default list, if it has one.
 fn inherited_access(
     alloc: Global,
     dacl: &Option<Acl>,

@@ -7,7 +7,7 @@ use acl_entry::{Acl, Id, ListFault};
 use acl_text::Which;
 use std::alloc::{AllocError, AllocFailed};
 
-/// The options of a setfacl(1) line but `--restore` and `--test`. Their order on the line says nothing.
+/// The options of a setfacl(1) line but `--restore` and `--test`. Their order on the line has no meaning.
 #[derive(Debug, Drop)]
 pub struct Change {
     /// `-b`: the access list keeps its base entries with what they grant, and the default list goes.
@@ -44,8 +44,8 @@ pub enum Edit {
         access: bool,
         dacl: bool,
     },
-    /// A record of `setfacl --restore`: a file without default list or flags in its record has none
-    /// afterwards, and keeps its owner or group where none is named.
+    /// A record of `setfacl --restore`: a file without default list or flags in its record loses
+    /// them, and keeps its owner or group where nobody is named.
     Restore {
         access: Acl,
         dacl: Option<Acl>,
@@ -55,16 +55,16 @@ pub enum Edit {
     },
 }
 
-/// Why an edit is refused. Where several apply, the variant that stands first here is told, and the
+/// Why an edit is refused. Where several apply, the first variant of this enum is returned, and the
 /// access list's fault before the default list's.
 #[derive(Clone, Copy, PartialEq, Eq, Debug)]
 pub enum EditFault {
-    /// Entries of a default list for a file that is no directory.
+    /// Entries of a default list for a file that is not a directory.
     DefaultOnFile,
-    /// The list that would result is none; its entries in list order have this fault, which is never want
-    /// of memory.
+    /// The list that would result is not valid; its entries in list order have this fault, which is never that
+    /// memory ran out.
     List(Which, ListFault),
-    /// Memory could not be had.
+    /// Memory ran out.
     NoMemory,
 }
 

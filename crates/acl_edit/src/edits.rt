@@ -12,14 +12,13 @@ use crate::{Edit, EditFault, Kind, Node};
 use acl_entry::{Acl, Id, Label};
 use std::alloc::{AllocError, Global};
 
-/// What an edit makes of a file. The file that is lent stays as it is. `in_recursion` says that the edit
-/// goes to a whole subtree (`-R`, chacl's `-r`), where default entries skip files that are no
-/// directories.
+/// What an edit makes of a file. The borrowed file stays as it is. `in_recursion`: the edit goes to a
+/// whole subtree (`-R`, chacl's `-r`), where default entries skip files that are not directories.
 ///
 /// # Errors
 ///
-/// Default entries or a default list for a file that is no directory, but in a recursion, which takes no
-/// memory to tell; a resulting list that is none; want of memory, never where no list has more than
+/// Default entries or a default list for a file that is not a directory, but in a recursion, which takes no
+/// memory to find; a resulting list that is not valid; that memory ran out, never where no list has more than
 /// eight entries, counted with what a setfacl(1) line puts into it, a mask, and copied base entries.
 #[tactic(auto, unfolding(crate::specs::Edits::restore))]
 pub fn apply(alloc: Global, node: &Node, edit: &Edit, in_recursion: bool) -> Result<Node, EditFault>
@@ -71,7 +70,7 @@ pub fn apply(alloc: Global, node: &Node, edit: &Edit, in_recursion: bool) -> Res
     Ok(edited)
 }
 
-// A default list that is given, where the file may have one.
+/// A default list that is given, where the file may have one.
 fn allowed(
     alloc: Global,
     kind: Kind,
@@ -91,7 +90,7 @@ fn allowed(
     }
 }
 
-// Each list that is given, and else the file's own.
+/// Each list that is given, and else the file's own.
 #[tactic(auto, unfolding(crate::specs::Edits::put))]
 fn put(
     alloc: Global,
@@ -118,7 +117,7 @@ fn put(
     Ok(node.with_lists(acl, dacl))
 }
 
-// The minimal list of the mode, and no default list, as they are asked for.
+/// The minimal list of the mode, and no default list, as they are asked for.
 #[tactic(auto, unfolding(crate::specs::Edits::flatten))]
 fn flatten(alloc: Global, node: &Node, access: bool, dacl: bool) -> Result<Node, AllocError>
     ensures made { IfOk result (λ n. n ≡ edits.flatten node.now access dacl) }
@@ -144,7 +143,7 @@ impl Edit {
     ///
     /// # Errors
     ///
-    /// Want of memory.
+    /// If memory runs out.
     pub fn restoring(alloc: Global, node: &Node) -> Result<Edit, AllocError>
         ensures gives_back { IsSound node.now → IfOk result (GivesBack node.now) }
         ensures room { HasShortLists node.now → IsOk result }

@@ -1,7 +1,7 @@
 //! One file's edits after setfacl(1), chacl(1), chmod(1) and acl(5): what an edit leaves of a file's
 //! lists, and what a new file gets of its directory's.
 //!
-//! A [`Node`] is plain data. Paths, people and whole commands stand in the crates above.
+//! A [`Node`] is plain data. Paths, people and whole commands are in the crates above.
 #![tactic(auto)]
 
 mod change;

@@ -24,7 +24,7 @@ fn has_named(draft: &Draft) -> bool
     draft.entries().iter().any(|entry| entry.key.is_named())
 }
 
-// All that the entries of the group class have.
+/// All that the entries of the group class have.
 fn class_union(entries: &[Entry]) -> Perm
     ensures { result ≡ union_all (map perm_of_entry (filter in_class entries.now)) }
 {
@@ -37,7 +37,7 @@ fn class_union(entries: &[Entry]) -> Perm
     all
 }
 
-// Gives a list with named entries and without a mask one that is equal to the owning group.
+/// Gives a list with named entries and without a mask one that is equal to the owning group.
 fn add_mask(draft: &mut Draft) -> Result<(), AllocError>
     ensures added { OnOk result (draft.new ≡ masks.add_mask draft.old) }
     ensures room { size draft.old < inline_entries → IsOk result }
@@ -50,7 +50,7 @@ fn add_mask(draft: &mut Draft) -> Result<(), AllocError>
     Ok(())
 }
 
-// Makes a mask that stands all that the group class has.
+/// Makes a mask that is all that the group class has.
 fn recalculate(draft: &mut Draft) -> Result<(), AllocError>
     ensures recalculated { OnOk result (draft.new ≡ masks.recalculate draft.old) }
     ensures room { IsOk result }
@@ -62,13 +62,14 @@ fn recalculate(draft: &mut Draft) -> Result<(), AllocError>
     Ok(())
 }
 
+/// Whether the line has the list's mask recalculated.
 fn is_recalculated(change: &Change, which: Which) -> bool
     ensures { result ≡ is_recalculated change.now (part change.now which) }
 {
     !change.no_mask && (change.remask || !change.gives_mask(which))
 }
 
-/// Completes a list with its mask, where `lost` says that the line took one out.
+/// Completes a list with its mask, where `lost` means that the line took one out.
 pub(crate) fn complete_mask(
     draft: &mut Draft,
     change: &Change,

@@ -24,7 +24,7 @@ pub struct Node {
     pub label: Label,
     /// Set user ID, set group ID and the sticky bit, in this order: chmod(1).
     pub flags: [bool; 3],
-    /// The default list. A sound node that is no directory has none.
+    /// The default list. A sound node that is not a directory has no default list.
     pub dacl: Option<Acl>,
 }
 
@@ -33,7 +33,7 @@ impl Node {
     ///
     /// # Errors
     ///
-    /// Want of memory, never where its lists have at most eight entries each.
+    /// If memory runs out, never where its lists have at most eight entries each.
     pub fn try_clone(&self, alloc: Global) -> Result<Node, AllocError>
         ensures same { IfOk result (λ node. node ≡ self.now) }
         ensures room { HasShortLists self.now → IsOk result }
@@ -46,7 +46,7 @@ impl Node {
         Ok(self.with_lists(acl, dacl))
     }
 
-    // The file with other lists.
+    /// The file with other lists.
     pub(crate) fn with_lists(&self, acl: Acl, dacl: Option<Acl>) -> Node
         ensures { result ≡ nodes.with_lists self.now acl dacl }
     {
@@ -62,8 +62,8 @@ impl Node {
         }
     }
 
-    /// Each list of a file is a valid one, as [`Acl`] has no others. A caller that has to know it of the
-    /// lists that it holds reads them here.
+    /// Proof only: each list of a file is a valid one, as [`Acl`] has no others. A caller that has to know it reads
+    /// them here.
     pub fn lists_are_valid(&self)
         ensures { HasValidLists self.now }
     {
@@ -98,7 +98,7 @@ pub fn chmod(node: &mut Node, mode: u16)
     node.lists_are_valid();
 }
 
-// The flags that a mode leaves.
+/// The flags that a mode leaves.
 fn flags_after(kind: Kind, flags: [bool; 3], mode: u16) -> [bool; 3]
     ensures { result ≡ chmod_flags kind flags mode }
 {
@@ -111,7 +111,7 @@ fn flags_after(kind: Kind, flags: [bool; 3], mode: u16) -> [bool; 3]
     ]
 }
 
-// Whether a bit of a mode is set.
+/// Whether a bit of a mode is set.
 fn has_flag(mode: u16, bit: u32) -> bool
     requires { bit < 16 }
     ensures { result ≡ has_bit mode bit }

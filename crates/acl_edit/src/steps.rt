@@ -19,7 +19,7 @@ fn execute() -> Perm
     Perm::from_number(1).unwrap()
 }
 
-// Whether the entry, which is not the mask, has execute.
+/// Whether the entry, which is not the mask, has execute.
 fn may_execute(entry: &Entry) -> bool
     ensures { result ≡ may_execute entry.now }
 {
@@ -40,7 +40,7 @@ pub(crate) fn gives_execute(node: &Node) -> bool
     node.kind == Kind::Directory || someone_may_execute(node.label.acl.entries())
 }
 
-// What an entry gives, where x says whether X gives execute.
+/// What an entry gives, where x is whether X gives execute.
 fn perms_of(x: bool, perm: &Option<PermSpec>) -> Perm
     ensures { result ≡ perms_of x perm.now }
 {
@@ -51,7 +51,7 @@ fn perms_of(x: bool, perm: &Option<PermSpec>) -> Perm
     }
 }
 
-// Puts an entry, if there is one.
+/// Puts an entry, if there is one.
 pub(crate) fn put_some(draft: &mut Draft, key: &Key, perm: Option<Perm>) -> Result<(), AllocError>
     ensures put { OnOk result (draft.new ≡ steps.put_some draft.old key.now perm) }
     ensures room { size draft.old < inline_entries → IsOk result }
@@ -135,7 +135,7 @@ pub(crate) fn fill_from(draft: &mut Draft, other: &Acl) -> Result<(), AllocError
     fill_one(draft, &Key::Other, other)
 }
 
-// Copies one entry, if the list lacks it.
+/// Copies one entry, if the list lacks it.
 fn fill_one(draft: &mut Draft, key: &Key, other: &Acl) -> Result<(), AllocError>
     ensures filled { OnOk result (draft.new ≡ steps.fill_one other.now draft.old key.now) }
     ensures room { size draft.old < inline_entries → IsOk result }

@@ -2,7 +2,7 @@
 use crate::made::{JOE, STAFF, USERS, expect_label, expect_lists, file, id};
 use acl_edit::{Kind, chmod, create};
 
-// A directory with the flags that a mode gives it, and a new file in it, made by joe of users.
+/// A directory with the flags that a mode gives it, and a new file in it, made by joe of users.
 struct Made {
     parent: &'static str,
     parent_mode: u16,

@@ -1,6 +1,6 @@
 //! Worked examples of edits, chmod and new files, and each public call of `acl_edit` once.
 //!
-//! They stand apart from `acl_edit`, since a crate with tests is proved twice.
+//! They are apart from `acl_edit`, since a crate with tests is proved twice.
 #![tactic(auto)]
 
 #[cfg(test)]

@@ -5,7 +5,7 @@ use acl_text::Want;
 use std::alloc::Global;
 use std::process::Abort;
 
-// A file, a line, and what becomes of the file.
+/// A file, a line, and what becomes of the file.
 static LINES: [(&str, &str, &str); 35] = [
     // Named entries get a mask.
     (
@@ -156,7 +156,7 @@ static LINES: [(&str, &str, &str); 35] = [
         "-k",
         "u::rwx,g::r-x,o::r-x/",
     ),
-    // A mask is missing; the access list is told first.
+    // A mask is missing; the access list's fault is returned first.
     (
         "u::rwx,g::r-x,g:70:rwx,m::rwx,o::r-x/u::rwx,u:7:r--,g::---,m::r--,o::---",
         "-x=m:",
@@ -184,7 +184,7 @@ fn has(line: &str, flag: &str) -> bool {
     line.split(' ').any(|word| word == flag)
 }
 
-// What stands behind an option's `=`; nothing where the line lacks the option.
+/// What is after an option's `=`; nothing where the line lacks the option.
 fn value<'a>(line: &'a str, option: &str) -> &'a str {
     for word in line.split(' ') {
         if let Some((name, value)) = word.split_once('=') {

@@ -10,7 +10,7 @@ use acl_text::{PermSpec, Spec, Which};
 use std::alloc::Global;
 use std::process::Abort;
 
-// A file, an access list and a default list that are put, where they are given, and what becomes of the file.
+/// A file, an access list and a default list that are put, where they are given, and what becomes of the file.
 static PUTS: [(&str, &str, &str, &str); 4] = [
     (
         "u::rw-,g::r--,o::---",
@@ -50,7 +50,7 @@ fn lists_are_put(rt: HostRuntime) {
     }
 }
 
-// A file, and its lists once they are minimal.
+/// A file, and its lists once they are minimal.
 static FLATTENED: [(&str, &str); 3] = [
     (
         "u::rwx,g::r-x,g:70:rwx,m::rwx,o::r-x/u::rwx,g::---,o::---",
@@ -71,13 +71,13 @@ fn lists_become_minimal(rt: HostRuntime) {
     }
 }
 
-// The edit is refused with this fault.
+/// The edit is refused with this fault.
 fn expect_fault(rt: &impl Abort, alloc: Global, node: &Node, edit: &Edit, want: EditFault) {
     let told = apply(alloc, node, edit, false).err();
     assert!(rt; told == Some(want), "not {want:?}");
 }
 
-// A record that names an owner, and no group; the text of its default list may be empty.
+/// A record that names an owner, and no group; the text of its default list may be empty.
 fn record(rt: &impl Abort, alloc: Global, default: &str) -> Edit {
     Edit::Restore {
         access: list(rt, alloc, "u::rwx,g::r-x,o::---"),
@@ -123,7 +123,7 @@ fn a_record_of_a_file_gives_it_back(rt: HostRuntime) {
     expect_lists(&rt, alloc, &back, want);
 }
 
-// A line that removes and modifies these entries, and says nothing else.
+/// A line that removes and modifies these entries, and does nothing else.
 fn line(alloc: Global, remove: Vec<Spec>, modify: Vec<Spec>) -> Edit {
     Edit::Change(Change {
         strip: false,
@@ -137,7 +137,7 @@ fn line(alloc: Global, remove: Vec<Spec>, modify: Vec<Spec>) -> Edit {
     })
 }
 
-// The line's only entry takes a key out, a base key too, which no text does.
+/// The line's only entry takes a key out, a base key too, which no text does.
 fn removing(rt: &impl Abort, alloc: Global, dflt: bool, key: Key) -> Edit {
     let mut keys = Vec::new(alloc);
     let spec = Spec {
@@ -150,7 +150,7 @@ fn removing(rt: &impl Abort, alloc: Global, dflt: bool, key: Key) -> Edit {
     line(alloc, keys, Vec::new(alloc))
 }
 
-// Without the key the list has no such base entry.
+/// Without the key the list has no such base entry.
 fn expect_missing(rt: &impl Abort, alloc: Global, node: &Node, which: Which, key: &Key) {
     let edit = removing(rt, alloc, which == Which::Default, *key);
     let fault = ListFault::MissingBase { key: *key };
@@ -167,7 +167,7 @@ fn a_base_entry_is_missing(rt: HostRuntime) {
     }
 }
 
-// A line that gives so many named users read.
+/// A line that gives so many named users read.
 fn giving_users(rt: &impl Abort, alloc: Global, dflt: bool, users: u32) -> Edit {
     let mut entries = Vec::new(alloc);
     for number in 0..users {
@@ -185,7 +185,7 @@ fn giving_users(rt: &impl Abort, alloc: Global, dflt: bool, users: u32) -> Edit 
     line(alloc, Vec::new(alloc), entries)
 }
 
-// Three base entries, a mask and the named users: 4096 entries, and one more.
+/// Three base entries, a mask and the named users: 4096 entries, and one more.
 #[test]
 fn a_list_is_too_long(rt: HostRuntime) {
     let alloc = rt.alloc();

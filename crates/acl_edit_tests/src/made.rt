@@ -41,7 +41,7 @@ pub fn list(rt: &impl Abort, alloc: Global, text: &str) -> Acl {
     Acl::from_entries(alloc, &entries).expect(rt, "a list")
 }
 
-/// The list of a text; none of an empty one.
+/// The list of a text; `None` for an empty one.
 pub fn list_of(rt: &impl Abort, alloc: Global, text: &str) -> Option<Acl> {
     if text.is_empty() {
         None
@@ -50,7 +50,7 @@ pub fn list_of(rt: &impl Abort, alloc: Global, text: &str) -> Option<Acl> {
     }
 }
 
-/// A file of lisa and staff. Behind the access list of a directory stands a slash, and its default list.
+/// A file of lisa and staff. After the access list of a directory is a slash, and its default list.
 pub fn file(rt: &impl Abort, alloc: Global, text: &str) -> Node {
     let (kind, access, default) = match text.split_once('/') {
         Some((access, default)) => (Kind::Directory, access, default),

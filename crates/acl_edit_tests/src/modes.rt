@@ -3,7 +3,7 @@ use crate::made::{ANN, JOE, LISA, STAFF, USERS, expect_label, expect_lists, file
 use acl_edit::chmod;
 use acl_entry::{Subject, granted};
 
-// A file, modes that it is given in turn, and its lists and flags afterwards.
+/// A file, modes that it is given in turn, and its lists and flags afterwards.
 static MODES: [(&str, &[u16], &str, [bool; 3]); 5] = [
     (
         "u::rw-,u:1000:rwx,g::r--,m::rwx,o::---",
@@ -49,7 +49,7 @@ fn modes_are_put(rt: HostRuntime) {
     }
 }
 
-// joe's entry denies what users and the others may do.
+/// joe's entry denies what users and the others may do.
 #[test]
 fn a_named_user_is_not_one_of_the_others(rt: HostRuntime) {
     let alloc = rt.alloc();
