@@ -1,4 +1,4 @@
--- The names of counted rows stand once, are not empty, and are made of bytes.
+-- The names of counted rows are distinct, not empty, and made of bytes.
 use Rattle.std.proofs.Common.{◌≡◌, ℕ, ◌+◌, ◌<◌, Bool, true, false, ◌||◌, cond, List, [], ◌∷◌, ◌++◌, length, map, get_or, take, position, Option, Some, None, option_map, Result, Ok, Err, if◌then◌else◌, nat_le, refl, sym, ap, subst, ◌∙◌, inl, inr, arith, length-append}
 use Rattle.std.specs.List.{list_all, position_or_len, remove}
 use Rattle.std.specs.Option.{option_or}

@@ -19,7 +19,7 @@ module _ {X : Type 0} (p : X → Bool) where
       position_from-zero p (x ∷ xs)
       ∙ ap (λ o. cond (p x) (Some 0) o) (position_from-later 0 xs ∙ ap (λ o. option_map (λ k. k + 1) o) (sym (position_from-zero p xs)))
 
-  -- the first element that passes stands at the first place
+  -- the first element that passes is at the first place
   pub find-position : (xs : List X) → find p xs ≡ option_and_then (λ i. slice_get xs i) (position p xs)
   find-position [] = refl
   find-position (x ∷ xs) = rw (position-cons x xs) (elim (p x) as (λ b. cond b (Some x) (find p xs) ≡ option_and_then (λ i. slice_get (x ∷ xs) i) (cond b (Some 0) (option_map (λ k. k + 1) (position p xs)))) [

@@ -23,7 +23,7 @@ gid_of group known = option_map_or (λ row. row.gid) (slice_get known.groups gro
 abbrev pub name_added : List ℕ → GroupRow → GroupRow
 name_added name row = record { name = row.name; gid = row.gid; names = row.names ++ name ∷ [] }
 
--- a group's row without a name, however often it is there
+-- a group's row without a name, however often it occurs
 abbrev pub name_removed : List ℕ → GroupRow → GroupRow
 name_removed name row = record { name = row.name; gid = row.gid; names = filter (λ member. not (bytes_eq member name)) row.names }
 

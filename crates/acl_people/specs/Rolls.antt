@@ -43,7 +43,7 @@ place_of_word word es =
     if is_number word then option_and_then (λ id. position (is_id id) es) (id_of word)
     else position (is_name word) es
 
--- each name stands in one row, is not empty, and is made of bytes
+-- each name is in one row, is not empty, and is made of bytes
 pub record AreNames (es : List Named) : Type 0 where
   pub once : (i : ℕ) (d : Named) → i < length es → position (is_name (slice_index_or es i d).0) es ≡ Some i
   pub filled : (i : ℕ) (d : Named) → i < length es → 0 < length (slice_index_or es i d).0

@@ -11,7 +11,7 @@ use std::alloc::{AllocError, AllocFailed};
 pub enum LoadFault {
     /// A text of this kind was loaded before.
     AlreadyLoaded,
-    /// The text's first fault, which is not want of memory.
+    /// The text's first fault, which is never that memory ran out.
     Text(TextFault),
     NoMemory,
 }
@@ -32,7 +32,7 @@ impl<T: Drop> From<AllocFailed<T>> for LoadFault {
     }
 }
 
-/// A text's fault, and want of memory as such.
+/// A text's fault, and running out of memory as such.
 pub(crate) fn text_fault(fault: TextFault) -> LoadFault
     ensures text { fault.kind ≢ FaultKind.NoMemory → result ≡ LoadFault.Text fault }
     ensures memory { fault.kind ≡ FaultKind.NoMemory → result ≡ NoMemory }

@@ -41,7 +41,7 @@ fn push_other(members: &mut Vec<Rc<Name>>, member: &Rc<Name>, name: &[u8]) -> Re
 }
 
 impl Group {
-    /// The row, its names behind pointers. Fails only if memory runs out.
+    /// The row, its names as pointers. Fails only if memory runs out.
     pub fn new(alloc: Global, row: GroupRow) -> Result<Group, AllocError>
         ensures { IfOk result (λ group. group ≡ row) }
     {
@@ -92,7 +92,7 @@ impl Group {
         })
     }
 
-    /// The row without a name, however often it is there. Fails only if memory runs out.
+    /// The row without a name, however often it occurs. Fails only if memory runs out.
     pub fn without_name(&self, alloc: Global, name: &[u8]) -> Result<Group, AllocError>
         ensures { IfOk result (λ group. group ≡ name_removed name.now self.now) }
     {

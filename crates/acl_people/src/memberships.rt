@@ -57,7 +57,7 @@ impl People {
         Ok(people)
     }
 
-    /// These people without a user's name in the row of a group, however often it is there. Fails only if
+    /// These people without a user's name in the row of a group, however often it occurs. Fails only if
     /// memory runs out.
     pub fn without_member(
         &self,

@@ -46,8 +46,8 @@ fn groups_of_one(alloc: Global, before: &Subject, after: &Subject) -> Result<Vec
 }
 
 impl People {
-    /// The ids of the groups that a user joined or left between these people and the next, rising. Where
-    /// there are none, all users are as they were. Fails only if memory runs out.
+    /// The ids of the groups that a user joined or left between these people and the next, rising. Without
+    /// any, all users are as they were. Fails only if memory runs out.
     pub fn moved_groups(
         &self,
         alloc: Global,

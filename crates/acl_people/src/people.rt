@@ -42,7 +42,7 @@ impl Model for People {
 }
 
 impl People {
-    /// Nobody: no text is loaded. Refused for want of memory only.
+    /// Nobody: no text is loaded. Fails only if memory runs out.
     pub fn new(alloc: Global) -> Result<People, AllocError>
         ensures { IfOk result (λ people. people ≡ nobody) }
     {
@@ -55,7 +55,7 @@ impl People {
         })
     }
 
-    /// The same people once more; the rows are shared. Refused for want of memory only.
+    /// The same people once more; the rows are shared. Fails only if memory runs out.
     pub fn share(&self) -> Result<People, AllocError>
         ensures { IfOk result (λ people. people ≡ self.now) }
     {
@@ -107,7 +107,7 @@ impl People {
         self.groups.roll().place_of_word(word)
     }
 
-    /// The name in the user's row; none past the last user.
+    /// The name in the user's row; `None` past the last user.
     pub fn name(&self, user: usize) -> Option<&[u8]>
         ensures { option_copied result ≡ option_map (λ row. row.name) (slice_get self.now.users user) }
     {
@@ -117,7 +117,7 @@ impl People {
         }
     }
 
-    /// The user's row; None past the last user.
+    /// The user's row; `None` past the last user.
     pub fn user_row(&self, user: usize) -> Option<&PasswdRow>
         ensures { option_copied result ≡ slice_get self.now.users user }
     {
@@ -127,7 +127,7 @@ impl People {
         }
     }
 
-    /// The user's id and groups; none past the last user.
+    /// The user's id and groups; `None` past the last user.
     pub fn subject(&self, user: usize) -> Option<&Subject>
         ensures { option_copied result ≡ subject self.now user }
     {
@@ -145,7 +145,7 @@ impl People {
     }
 
     /// These people with the users of a passwd text. Refused where one was loaded, whatever memory there is,
-    /// for the text's first fault and for want of memory.
+    /// for the text's first fault, or if memory runs out.
     pub fn load_passwd(&self, alloc: Global, bytes: &[u8]) -> Result<People, LoadFault>
         ensures told { Loads (λ people. people) result (load_passwd self.now bytes.now) }
         ensures again { self.now.passwd_loaded ≡ true → result ≡ Err AlreadyLoaded }
@@ -168,7 +168,7 @@ impl People {
     }
 
     /// These people with the groups of a group text. Refused where one was loaded, whatever memory there is,
-    /// for the text's first fault and for want of memory.
+    /// for the text's first fault, or if memory runs out.
     pub fn load_group(&self, alloc: Global, bytes: &[u8]) -> Result<People, LoadFault>
         ensures told { Loads (λ people. people) result (load_group self.now bytes.now) }
         ensures again { self.now.group_loaded ≡ true → result ≡ Err AlreadyLoaded }
@@ -279,7 +279,7 @@ impl People {
         })
     }
 
-    /// Proof only. There are at most 65,536 users and as many groups, and each name is in one row.
+    /// Proof only: there are at most 65,536 users and as many groups, and each name is in one row.
     pub fn is_sound(&self)
         ensures { IsSound self.now }
     {

@@ -35,7 +35,7 @@ impl Model for Roll {
         × ((id : ℕ) → get nat_eq r.shown id ≡ position (prints id) (map (λ e. (e.0.items, e.1)) r.ids.entries)) };
 }
 
-/// Keeps the place for the id, unless it has one. Refused for want of memory only.
+/// Keeps the place for the id, unless it has one. Fails only if memory runs out.
 fn note(places: &mut HashMap<u32, usize>, id: u32, place: usize) -> Result<(), AllocError>
     ensures { OnOk result ((q : ℕ) → get nat_eq places.new q ≡ option_or (get nat_eq places.old q) (if id == q then Some place else None)) }
 {

@@ -5,7 +5,7 @@ ghost use Rattle.std.specs.Prelude.{◌≡◌, map, IfOk};
 use std::alloc::{AllocError, Global};
 use std::rc::Rc;
 
-/// The items, each behind a pointer of its own. Fails only if memory runs out.
+/// The items, each with a pointer of its own. Fails only if memory runs out.
 pub fn shared<T: Drop>(alloc: Global, items: Vec<T>) -> Result<Vec<Rc<T>>, AllocError>
     ensures { IfOk result (λ all. map (λ item. item.value) all.items ≡ items.items) }
 {

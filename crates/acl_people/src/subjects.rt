@@ -13,6 +13,7 @@ use std::alloc::{AllocError, Global};
 use std::collections::HashMap;
 use std::rc::Rc;
 
+/// The user of a row, as the check sees one.
 fn subject_of(
     alloc: Global,
     members: &HashMap<&[u8], Vec<Id>>,

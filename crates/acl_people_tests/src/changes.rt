@@ -42,7 +42,7 @@ enum Command {
     Primary,
 }
 
-/// A change, the groups that the user joins or leaves by it, and what holds afterwards.
+/// A change, the groups that the user joins or leaves by it, and what is true afterwards.
 struct Step {
     command: Command,
     user: &'static [u8],
@@ -243,7 +243,7 @@ fn primary_groups_change(rt: HostRuntime) {
     expect_steps(&rt, rt.alloc(), &PRIMARY);
 }
 
-// A word, and the place of the group that it names.
+/// A word, and the place of the group that it names.
 static WORDS: [(&[u8], Option<usize>); 5] = [
     (b"adm", Some(3)),
     // The first of two rows.
@@ -335,7 +335,7 @@ fn users_go(rt: HostRuntime) {
     added_user_is_removed();
 }
 
-// No row names joe.
+/// No row names joe.
 #[test]
 fn users_come_again(rt: HostRuntime) {
     let alloc = rt.alloc();

@@ -1,6 +1,6 @@
 //! Worked examples of users and groups, and each public call of `acl_people` once.
 //!
-//! They stand apart from `acl_people`, since a crate with tests is proved twice.
+//! They are apart from `acl_people`, since a crate with tests is proved twice.
 #![tactic(auto)]
 
 #[cfg(test)]

@@ -30,7 +30,7 @@ fn id(rt: &impl Abort, number: u32) -> Id {
     Id::new(number).expect(rt, "an id")
 }
 
-// A word, and the place of the user that it names.
+/// A word, and the place of the user that it names.
 static WORDS: [(&[u8], Option<usize>); 7] = [
     (b"joe", Some(1)),
     // An id, though a user has this name.
@@ -76,7 +76,7 @@ fn names_have_ids(rt: HostRuntime) {
     people.is_sound();
 }
 
-// The place of a user, a group, and whether it is one of the user's groups.
+/// The place of a user, a group, and whether it is one of the user's groups.
 static GROUPS: [(usize, u32, bool); 10] = [
     (0, 50, true),
     (0, 60, true),
