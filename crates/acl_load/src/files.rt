@@ -18,6 +18,7 @@ use std::rc::Rc;
 /// A file: its path, and its node.
 pub type Record = Entry<Node>;
 
+/// A directory where a file is below it, or its record has a default list.
 fn kind_of(has_below: bool, entry: &DumpRecord) -> Kind
     ensures { result ≡ (node_of has_below entry.now).kind }
 {

@@ -7,8 +7,8 @@ ghost use Rattle.acl_dump.specs.declared.record.DumpRecord.{DumpRecord};
 ghost use Rattle.acl_load.specs.Files.{PathOf};
 ghost use Rattle.acl_load.specs.Loading.{files_of, loaded_at};
 
-/// The files of a dump are a map of its records: at a path stands the file of that path's record, and where no
-/// record has the path stands none. The order of the records doesn't matter.
+/// Proof only: the files of a dump are a map of its records: a path has the file of its record, and where no
+/// record has the path there is no file. The order of the records doesn't matter.
 #[tactic(auto, using(crate::proofs::Mapped::loaded_found))]
 pub fn each_record_is_a_file()
     ensures { (records : List DumpRecord) (p : PathOf) → find path_cmp p (files_of records) ≡ loaded_at p records }
