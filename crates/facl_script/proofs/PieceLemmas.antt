@@ -14,11 +14,11 @@ use Rattle.facl_script.proofs.TextLemmas.{begun, spelled_some}
 use Rattle.facl_script.proofs.UnitLemmas.{alone}
 use Rattle.facl_script.specs.Pieces.{end_line, with_line_feeds, AreTextLines, text_of, line_feeds, AreUnits}
 
--- lines, as they stand in the script
+-- lines, as they are in the script
 abbrev all_spelled : List Line → List ℕ
 all_spelled ls = flat_map (λ (l : Line). spelled l.bytes l.ended) ls
 
--- no line has an LF in it, and only the last may have none after it
+-- no line has an LF in it, and only the last may lack one after it
 abbrev AreLines : List Line → Type 0
 AreLines [] = Unit {0}
 AreLines (l ∷ ls) = HasNoLineFeed l.bytes × (l.ended ≡ false → (0 < length l.bytes) × (ls ≡ [])) × AreLines ls

@@ -55,7 +55,7 @@ below_at n n' b m m' grows h = h n grows ∙ updated_at n b m
 pub begins : {S : Type 0} (answered : Bool → ScriptUnit → S → Answer S) (start : S) → Progress answered start [] 1 false (quiet start)
 begins answered start = record { done = []; m = λ _. false; splits = λ rest h. refl; full = λ h. refl; plays = λ m' h. refl }
 
--- one more unit is told
+-- one more unit is answered
 pub plays_more : {S : Type 0} (answered : Bool → ScriptUnit → S → Answer S) (start : S) (done : List ScriptUnit) (m : ℕ → Bool) (told : Answer S) (u : ScriptUnit) (b : Bool)
     → play answered m done start ≡ told → m u.number ≡ b → play answered m (done ++ u ∷ []) start ≡ joined told (answered b u told.state)
 plays_more answered start done m told u b h e =
@@ -93,7 +93,7 @@ goes_on answered start taken number number' told p before after old new piece u 
       (ap m' next.numbered ∙ below_at number number' wants p.m m' next.grows agrees);
 }
 
--- what is told of the units done, where the rest that was handed out has none
+-- the answer to the units done, where the rest that was handed out has none
 pub told_full : {S : Type 0} (answered : Bool → ScriptUnit → S → Answer S) (start : S) (taken : List ℕ) (number : ℕ) (told : Answer S) (p : Progress answered start taken number false told) (tail : List ℕ)
     → HasNoUnit tail → play answered p.m (full_units (units_of (taken ++ tail))) start ≡ told
 told_full answered start taken number told p tail none =

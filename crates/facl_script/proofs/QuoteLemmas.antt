@@ -1,4 +1,4 @@
--- Whether a quote is left open is told by the number of quotes.
+-- Whether a quote is left open follows from the number of quotes.
 use Rattle.std.proofs.Common.{◌≡◌, ℕ, Bool, true, false, not, cond, List, [], ◌∷◌, length, Option, None, Some, refl, sym, ap, ◌∙◌, arith, true≢false, filter, ◌%◌}
 use Rattle.std.specs.Prelude.{option_map}
 use Rattle.std.proofs.lemmas.Bool.Decides.{nat_tests}

@@ -62,7 +62,7 @@ stops_known answered start state spent spent' NoMemory script (Some rest) o o' e
     (taken ++ tail, pending s, stop ∙ sym (append_assoc (taken ++ tail) (pending s) rest), pending_short s, told_units answered start state spent spent' o o' e e' taken number told p tail none g)
 stops_known answered start state spent spent' Write script r o o' e e' s failed taken number told p tail none stop count g = absurd stop
 
--- the source stopped: what was written is told of the units done
+-- the source stopped: what was written is the answer to the units done
 pub stops_reading : {S : Type 0} (answered : Bool → ScriptUnit → S → Answer S) (start state : S) (spent spent' : ℕ) (fault : ScriptFault) (a mid r o o' e e' : Option (List ℕ)) (s : Script) (failed : Bool)
     (taken : List ℕ) (number : ℕ) (told : Answer S) → Progress answered start taken number false told → (tail : List ℕ) → HasNoUnit tail
     → Consumes a mid taken → ScriptStopsAfter fault mid s r failed tail → script_taken s ≡ length taken + length tail → Gives told state spent spent' o o' e e' → IfSome a (λ script. StopsWith fault answered start script state spent spent' r o o' e e')
@@ -151,7 +151,7 @@ pub none_of : {A : Type 0} (o : Option A) → ((x : A) → o ≡ Some x → ⊥)
 none_of None h = refl
 none_of (Some x) h = absurd (h x refl)
 
--- an answer that is there is not the end
+-- an answer that is `Some` is not the end
 of_ok : {A E : Type 0} → Result (Option A) E → Option A
 of_ok (Ok o) = o
 of_ok (Err e) = None

@@ -54,7 +54,7 @@ pub of_not_not : (b : Bool) → not b ≡ false → b ≡ true
 of_not_not true h = refl
 of_not_not false h = sym h
 
--- what is held of a text when its line `.` is there
+-- what is kept of a text when its line `.` is read
 pub holds_ended : (found : TextFound) (held : List ℕ) (content : Option (List ℕ)) → HoldsText found held content → IsTextFound found held (ended_text content)
 holds_ended Whole held content h = ap ended_text h
 holds_ended TooLong held content h = ap ended_text h

@@ -9,7 +9,7 @@ use Rattle.facl_script.proofs.WordLemmas.{IsSeen, seen_within}
 use Rattle.facl_script.specs.Words.{asks_for_text, ask_for_text, takes_text, words_of, says_nothing}
 use Rattle.std.specs.Option.{option_map_or}
 
--- a short text is told from a word by the word's first bytes
+-- a short text differs from a word in the word's first bytes
 same_beginning : (n : ℕ) (word t : List ℕ) → length t < n → bytes_eq (take n word) t ≡ bytes_eq word t
 same_beginning zero word t h = absurd (omega (arith, h))
 same_beginning (suc n) [] t h = refl
@@ -60,7 +60,7 @@ take_grows zero word b = refl
 take_grows (suc n) [] b = refl
 take_grows (suc n) (x ∷ word) b = ap (λ l. x ∷ l) (take_grows n word b)
 
--- a line within the limit that says something takes a text where its words ask for one
+-- a line within the limit that is not blank or a comment takes a text where its words ask for one
 pub takes_text_words : (line : List ℕ) → length line ≤ 65536 → says_nothing line ≡ false → takes_text line ≡ option_map_or ask_for_text (words_of line) false
 takes_text_words line short says = rw (le-leb (length line) 65536 short, says) refl
 

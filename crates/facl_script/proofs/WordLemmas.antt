@@ -18,11 +18,11 @@ abbrev pub onto_first : List ℕ → List (List ℕ) → List (List ℕ)
 onto_first [] words = words
 onto_first (b ∷ bs) words = onto_word b (onto_first bs words)
 
--- the words of a line of which some are done, one is begun, and the rest is read from this place on
+-- the words of a line of which some are done, one is started, and the rest is read from this place on
 abbrev pub words_seen : List (List ℕ) → List ℕ → Place → List ℕ → Option (List (List ℕ))
 words_seen done begun place rest = option_map (λ words. done ++ onto_first begun words) (words_at place rest)
 
--- an empty word before the rest is the word as it was begun
+-- an empty word before the rest is the word as it was started
 pub onto_first_word : (begun : List ℕ) (words : List (List ℕ)) → onto_first begun ([] ∷ words) ≡ begun ∷ words
 onto_first_word [] words = refl
 onto_first_word (b ∷ bs) words = ap (onto_word b) (onto_first_word bs words)
@@ -47,13 +47,13 @@ ends_map : (done : List (List ℕ)) (begun : List ℕ) (o : Option (List (List �
 ends_map done begun None = refl
 ends_map done begun (Some words) = ap Some (ap (λ ws. done ++ ws) (onto_first_word begun words) ∙ sym (append_assoc done (begun ∷ []) words))
 
--- what stands between words has no beginning of a word
+-- what is between words has no beginning of a word
 abbrev pub IsBegun : Place → List ℕ → Type 0
 IsBegun Between begun = begun ≡ []
 IsBegun Within begun = Unit {0}
 IsBegun Quoted begun = Unit {0}
 
--- a line of which some words are done, one is begun, and the rest is read from this place on
+-- a line of which some words are done, one is started, and the rest is read from this place on
 pub record IsSeen (line : List ℕ) (done : List (List ℕ)) (begun : List ℕ) (place : Place) (rest : List ℕ) : Type 0 where
   pub words : words_of line ≡ words_seen done begun place rest
   pub word : IsBegun place begun
@@ -136,7 +136,7 @@ encode_high c h = by_tests _ _ _ (le-ltb c 128 h)
 encode_some : (c : ℕ) → 128 ≤ c → 0 < length (encode c)
 encode_some c h = omega (arith, length-encode c, (len_utf8_bounds c).0)
 
--- where the reading stands after bytes past ASCII
+-- where a character after bytes past ASCII is
 high_place : Place → Place
 high_place Between = Within
 high_place Within = Within
@@ -225,7 +225,7 @@ pub nil_by_length : (xs : List ℕ) → length xs ≡ 0 → xs ≡ []
 nil_by_length [] h = refl
 nil_by_length (x ∷ xs) h = absurd (omega (arith, h))
 
--- what a line says that is no comment and not blank
+-- what a line means that is not a comment and not blank
 pub line_words_text : (line : List ℕ) (words : List (List ℕ)) → says_nothing line ≡ false → IsUtf8 line → words_of line ≡ Some words → line_words line ≡ Ok words
 line_words_text line words n u h = rw (n, is_utf8-from_IsUtf8 line u, h) refl
 

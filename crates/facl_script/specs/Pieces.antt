@@ -1,4 +1,4 @@
--- How units stand in a script: here the script is told from its units, where specs/Units.antt tells the units from the script.
+-- How units are in a script: here the script is given by its units; in specs/Units.antt the units by the script.
 use Rattle.std.specs.Prelude.{◌≡◌, ◌<◌, ◌+◌, ◌==◌, ◌⊎◌, ℕ, true, false, if◌then◌else◌, nat_le, List, [], ◌∷◌, ◌++◌, length, filter, Some}
 use Rattle.std.specs.List.{AllByRecursion, flat_map, list_all}
 use Rattle.facl_script.specs.Limits.{line_limit}
@@ -14,7 +14,7 @@ end_line = 46 ∷ []
 abbrev pub with_line_feeds : List (List ℕ) → List ℕ
 with_line_feeds lines = flat_map (λ line. spelled line true) lines
 
--- lines of a text: none of them is the line `.`
+-- lines of a text: no line is `.`
 abbrev pub AreTextLines : List (List ℕ) → Type 0
 AreTextLines lines = AllByRecursion (λ line. HasNoLineFeed line × (line ≡ end_line → ⊥)) lines
 

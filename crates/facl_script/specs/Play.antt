@@ -18,7 +18,7 @@ quiet state = record { out = []; err = []; state = state; refused = false; cost 
 abbrev pub joined : {S : Type 0} → Answer S → Answer S → Answer S
 joined a b = record { out = a.out ++ b.out; err = a.err ++ b.err; state = b.state; refused = a.refused || b.refused; cost = a.cost + b.cost }
 
--- What units do in turn. How one is answered goes by whether it wants memory, and m tells by their numbers which do.
+-- What units do in turn. How one is answered goes by whether memory runs out for it, and m gives the numbers of those for which it does.
 abbrev pub play : {S : Type 0} → (Bool → ScriptUnit → S → Answer S) → (ℕ → Bool) → List ScriptUnit → S → Answer S
 play answered m [] state = quiet state
 play answered m (u ∷ us) state = joined (answered (m u.number) u state) (play answered m us (answered (m u.number) u state).state)

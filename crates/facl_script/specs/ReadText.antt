@@ -7,7 +7,7 @@ use Rattle.facl_script.specs.declared.text.TextRead.{TextRead}
 use Rattle.facl_script.specs.declared.text.TextFound.{TextFound}
 use Rattle.facl_script.specs.declared.text.TextFound.TheVariants.{Absent, Whole, TooLong, Unended, Lost}
 
--- of the lines of a text so far the code holds these bytes, or knows that one is over the limit, or has lost them (for inner functions)
+-- of the lines of a text so far the code has these bytes, or knows that one is over the limit, or has lost them (for inner functions)
 abbrev pub HoldsText : TextFound → List ℕ → Option (List ℕ) → Type 0
 HoldsText Whole held content = content ≡ Some held
 HoldsText TooLong held content = content ≡ None
@@ -15,7 +15,7 @@ HoldsText Lost held content = Unit {0}
 HoldsText Absent held content = ⊥
 HoldsText Unended held content = ⊥
 
--- the code holds the text of a unit, or has lost it
+-- the code has the text of a unit, or has lost it
 abbrev pub IsTextFound : TextFound → List ℕ → UnitText → Type 0
 IsTextFound Absent held text = text ≡ none
 IsTextFound Whole held text = text ≡ whole held

@@ -13,7 +13,7 @@ abbrev pub IsLineFound : Bool → List ℕ → Option (List ℕ) → Type 0
 IsLineFound true held line = line ≡ None
 IsLineFound false held line = line ≡ Some held
 
--- The code holds this unit, with its line and its text. Where it lost the text, the line is one that takes a text.
+-- The code has this unit, with its line and its text. Where it lost the text, the line is one that takes a text.
 pub record IsUnitFound (found : UnitFound) (line text : List ℕ) (unit : ScriptUnit) : Type 0 where
   pub number : unit.number ≡ found.number
   pub line_is : IsLineFound found.is_too_long line unit.line

@@ -28,6 +28,6 @@ line_held s = s.line.items
 abbrev pub text_held : Script → List ℕ
 text_held s = s.text.items
 
--- The script handed out this text, which holds no unit to its end, and then stopped with this fault.
+-- The script handed out this text, which has no unit to its end, and then stopped with this fault.
 abbrev pub ScriptStopsAfter : ScriptFault → Option (List ℕ) → Script → Option (List ℕ) → Bool → List ℕ → Type 0
 ScriptStopsAfter fault before s remaining failed text = StopsAfter fault before s.source remaining failed text

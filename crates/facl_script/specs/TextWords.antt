@@ -1,4 +1,4 @@
--- The words of a tool line that say that the lines after it are its text (setfacl(1): `-M -`, `-X -`, `--restore=-`).
+-- The words of a tool line that ask for the lines after it as its text (setfacl(1): `-M -`, `-X -`, `--restore=-`).
 use Rattle.std.specs.Prelude.{ℕ, Bool, List, [], ◌∷◌, codes}
 use Rattle.std.specs.List.{list_any}
 use Rattle.std.specs.Str.{bytes_eq}

@@ -12,7 +12,7 @@ pub data UnitText : Type 0 where
   too_long : UnitText
   unended : UnitText
 
--- A line with its number and its text. A line over the limit is not there. A unit is full if the LF of its last line is there.
+-- A line with its number and its text. A line over the limit is `None`. A unit is full if its last line ends with an LF.
 pub record ScriptUnit : Type 0 where
   pub number : ℕ
   pub line : Option (List ℕ)

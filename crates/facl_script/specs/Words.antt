@@ -28,7 +28,7 @@ onto_word b [] = (b ∷ []) ∷ []
 onto_word b (word ∷ words) = (b ∷ word) ∷ words
 
 -- The words of what is left of a line, from a place on. Within a word and in a quote the first of them is the rest of that word.
--- White space ends a word. From a quote to the next one all bytes are kept as they stand. A quote that is left open has no words.
+-- White space ends a word. From a quote to the next one all bytes are kept as they are. A quote that is left open has no words.
 abbrev pub words_at : Place → List ℕ → Option (List (List ℕ))
 words_at Between [] = Some []
 words_at Within [] = Some ([] ∷ [])
@@ -48,8 +48,8 @@ abbrev pub words_or_open : Option (List (List ℕ)) → Result (List (List ℕ))
 words_or_open None = Err OpenQuote
 words_or_open (Some words) = Ok words
 
--- What a line within the limit says: its words, or what is wrong with it as a line.
--- A line that says nothing has no words, whatever bytes it has. Bytes that are no UTF-8 are told before an open quote.
+-- What a line within the limit means: its words, or what is wrong with it as a line.
+-- A blank line or comment has no words, whatever bytes it has. That bytes are not UTF-8 is found before an open quote.
 abbrev pub line_words : List ℕ → Result (List (List ℕ)) SplitFault
 line_words line = if says_nothing line then Ok [] else if is_utf8 line then words_or_open (words_of line) else Err NotUtf8
 
@@ -63,6 +63,6 @@ abbrev pub ask_for_text : List (List ℕ) → Bool
 ask_for_text [] = false
 ask_for_text (tool ∷ words) = asks_for_text true tool || list_any (asks_for_text false) words
 
--- The lines after this one are its text. None takes a text that is over the limit, says nothing or has an open quote.
+-- The lines after this one are its text. No line takes a text that is over the limit, blank, a comment, or has an open quote.
 abbrev pub takes_text : List ℕ → Bool
 takes_text line = nat_le (length line) line_limit && not (says_nothing line) && option_map_or ask_for_text (words_of line) false

@@ -7,7 +7,7 @@ pub record Writes (out out' err err' : Option (List ℕ)) (to_out to_err : List 
   pub out_grows : Appends out out' to_out
   pub err_grows : Appends err err' to_err
 
--- A proper beginning of what is to be written. None of err comes before all of out.
+-- A proper beginning of what is to be written. No byte of err comes before all of out.
 abbrev pub IsPart : (part_out part_err to_out to_err : List ℕ) → Type 0
 IsPart part_out part_err to_out to_err =
     ((n : ℕ) × (n < length to_out) × (part_out ≡ take n to_out) × (part_err ≡ []))

@@ -1,24 +1,24 @@
--- How words stand in a line: here the line is told from its words, where specs/Words.antt tells the words from the line.
+-- How words are in a line: here the line is given by its words; in specs/Words.antt the words by the line.
 use Rattle.std.specs.Prelude.{◌≡◌, ◌<◌, ℕ, true, false, List, [], ◌∷◌, ◌++◌, length, map}
 use Rattle.std.specs.List.{AllByRecursion, flat_map}
 use Rattle.facl_script.specs.Words.{is_white, is_quote}
 
--- a part of a word: bytes that stand as they are, or bytes between two quotes
+-- a part of a word: bytes that are as they are, or bytes between two quotes
 pub data Part : Type 0 where
   bare : List ℕ → Part
   quoted : List ℕ → Part
 
--- the part as it stands in the line
+-- the part as it is written in the line
 abbrev pub written : Part → List ℕ
 written (bare bytes) = bytes
 written (quoted bytes) = 39 ∷ (bytes ++ 39 ∷ [])
 
--- what it says
+-- what it means
 abbrev pub said : Part → List ℕ
 said (bare bytes) = bytes
 said (quoted bytes) = bytes
 
--- Bare bytes are one or more, and none is white space or a quote. Between quotes stands anything but a quote.
+-- Bare bytes are one or more, without white space or a quote. Between quotes there is no quote.
 abbrev pub IsPart : Part → Type 0
 IsPart (bare bytes) = (0 < length bytes) × AllByRecursion (λ b. (is_white b ≡ false) × (is_quote b ≡ false)) bytes
 IsPart (quoted bytes) = AllByRecursion (λ b. is_quote b ≡ false) bytes
@@ -43,7 +43,7 @@ abbrev pub AreWords : List Word → Type 0
 AreWords [] = Unit {0}
 AreWords (w ∷ ws) = IsPart w.part × AllByRecursion IsPart w.parts × IsWhiteSpace w.gap × (length w.gap ≡ 0 → ws ≡ []) × AreWords ws
 
--- the line is white space, which may be none, and then words that say these
+-- the line is white space, perhaps empty, and then words that mean these
 pub record Spells (line : List ℕ) (words : List (List ℕ)) : Type 0 where
   pub front : List ℕ
   pub spelled : List Word

@@ -15,7 +15,7 @@ pub trait Feed {
     /// Whether a read answered an error.
     ghost has_failed: { Self → Bool };
 
-    /// Reads into the front of `buf`, and tells how many bytes. 0 bytes are the end. Each error is a failure, whatever its kind.
+    /// Reads into the front of `buf`, and returns how many bytes. 0 bytes are the end. Each error is a failure, whatever its kind.
     /// After a failure nothing is read.
     fn read(&mut self, buf: &mut [u8]) -> io::Result<usize>
         requires { has_failed self.old ≡ false }
@@ -30,13 +30,13 @@ pub trait Feed {
 
 /// A writer that remembers whether it failed.
 pub trait Sink {
-    /// The bytes that the writer holds, where they are known.
+    /// The bytes that the writer has, where they are known.
     ghost contents: { Self → Option (List ℕ) };
 
     /// Whether a write answered an error, or took nothing of a piece that is not empty.
     ghost has_failed: { Self → Bool };
 
-    /// Writes a beginning of the piece, and tells how many bytes. Each error is a failure, whatever its kind. After a failure
+    /// Writes a beginning of the piece, and returns how many bytes. Each error is a failure, whatever its kind. After a failure
     /// nothing is written.
     fn write(&mut self, piece: &[u8]) -> io::Result<usize>
         requires { has_failed self.old ≡ false }

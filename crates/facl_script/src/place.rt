@@ -1,8 +1,8 @@
-//! Where in a line its reading stands, and what each character does there.
+//! Where in a line a character is, and what it does there.
 ghost use Rattle.std.specs.Prelude.{◌≡◌};
 ghost use Rattle.facl_script.specs.Steps.{effect_of, place_after};
 
-/// Where in a line its reading stands.
+/// Where in a line a character is.
 #[derive(Clone, Copy)]
 pub enum Place {
     /// Before a word, or after one.
@@ -36,7 +36,7 @@ impl Place {
         }
     }
 
-    /// Where the reading stands after a character.
+    /// Where the next character is.
     pub fn after(self, c: char) -> Place
         ensures { result ≡ place_after self c }
     {

@@ -1,4 +1,4 @@
-//! A run over a whole script: each unit is answered, and what it says is written before the next is read.
+//! A run over a whole script: each unit is answered, and its answer is written before the next is read.
 ghost use Rattle.std.specs.Prelude.{◌≡◌, ◌⊎◌, ◌<◌, ◌≤◌, ◌+◌, ℕ, Bool, List, true, false, IfOk, IfErr, IfSome, OnOk, OnErr};
 ghost use Rattle.std.specs.Io.KnownBytes.{IsAtEnd};
 ghost use Rattle.facl_script.specs.Units.{ScriptUnit};
@@ -14,7 +14,7 @@ use crate::unit::{Script, UnitFound};
 use crate::write::say;
 use std::alloc::Global;
 
-/// What answers the units of a script: it holds a state, which each unit may change, and what the last unit says.
+/// What answers the units of a script: it has a state, which each unit may change, and the answer to the last unit.
 pub trait Session {
     /// What contracts know of the state.
     type State;
@@ -22,13 +22,13 @@ pub trait Session {
     /// The state of a session.
     ghost state: { Self → Self.State };
 
-    /// What a unit does at a state: the first argument tells whether it wants memory.
+    /// What a unit does at a state: the first argument is whether memory runs out for it.
     ghost answered: { Bool → ScriptUnit → Self.State → Answer Self.State };
 
     /// What a session has spent so far of something that it counts. The cost of an answer bounds what a unit adds.
     ghost spent: { Self → ℕ } = { λ _. 0 };
 
-    /// What a session needs to hold before the line with a number is answered, so that its counts fit.
+    /// What has to be true of a session before the line with a number is answered, so that its counts fit.
     ghost is_ready: { ℕ → Self → Type 0 } = { λ _ _. Unit {0} };
 
     /// The name of the reference that a session holds to what it spends from, if it holds one: whoever lent it knows it
@@ -41,8 +41,8 @@ pub trait Session {
     /// What the last unit writes to the messages.
     ghost to_err: { Self → List ℕ };
 
-    /// Answers a unit, of which this line and this text are held, and tells whether it is refused. All that it writes is
-    /// composed here. Where its text was lost, or a growth is refused, the unit wants memory.
+    /// Answers a unit, of which this line and this text are kept, and returns whether it is refused. All that it writes is
+    /// composed here. Where its text was lost, or an allocation fails, memory runs out for the unit.
     fn answer(&mut self, unit: &UnitFound, line: &[u8], text: &[u8]) -> bool
         requires { is_ready unit.now.number self.old }
         ensures answers { (u : ScriptUnit) → IsUnitFound unit.now line.now text.now u
@@ -61,7 +61,7 @@ pub trait Session {
         ensures { result.now ≡ to_err self.now };
 }
 
-/// Answers one unit, and writes what it says.
+/// Answers one unit, and writes the answer.
 fn answer_unit<S: Session, O: Sink, E: Sink>(
     session: &mut S,
     unit: &UnitFound,
@@ -96,10 +96,10 @@ fn answer_unit<S: Session, O: Sink, E: Sink>(
     Ok(is_refused)
 }
 
-/// Runs a session over a script: reads it unit by unit, and writes what each unit says before the next is read. Tells
+/// Runs a session over a script: reads it unit by unit, and writes each answer before the next is read. Returns
 /// whether a unit was refused.
 ///
-/// An error says that the reader or a writer failed, that the script goes on past the limit, or that no memory was there
+/// An error means that the reader or a writer failed, that the script goes on past the limit, or that there was no memory
 /// for a line. No read or write is tried again, and nothing is read after the end.
 pub fn run_session<S: Session, R: Feed, O: Sink, E: Sink>(
     alloc: Global,
@@ -125,7 +125,7 @@ pub fn run_session<S: Session, R: Feed, O: Sink, E: Sink>(
     // An answer comes only once the reader is at its end.
     ensures end { OnOk result (IsAtEnd (R.remaining reader.new)) }
 
-    // A fault of a device is told only where that device has failed.
+    // A fault of a device is returned only where that device has failed.
     ensures works { OnOk result ((R.has_failed reader.new ≡ false)
         × (O.has_failed out.new ≡ false) × (E.has_failed err.new ≡ false)) }
     ensures read { result ≡ Err ScriptFault.Read → R.has_failed reader.new ≡ true }

@@ -36,7 +36,7 @@ fn line_feed_at(piece: &[u8]) -> Option<usize>
     None
 }
 
-/// Adds a piece to what is held of a line, and tells whether the line is too long by now.
+/// Adds a piece to what is kept of a line, and returns whether the line is too long by now.
 fn hold(line: &mut Vec<u8>, is_too_long: bool, piece: &[u8]) -> Result<bool, AllocError>
     ensures { IfOk result (λ long. (text : List ℕ)
         → Held is_too_long line.old.items text → Held long line.new.items (text ++ piece.now)) }
@@ -94,12 +94,14 @@ impl Source {
         }
     }
 
+    /// The bytes that are read and not taken yet.
     fn pending(&self) -> &[u8]
         ensures { result.now ≡ pending self.now }
     {
         &self.chunk[self.start..self.end]
     }
 
+    /// Takes the first bytes of those.
     fn skip(&mut self, n: usize)
         requires { n ≤ length (pending self.old) }
         ensures pending { pending self.new ≡ drop n (pending self.old) }

@@ -33,6 +33,7 @@ pub(crate) struct TextRead {
     pub(crate) is_full: bool,
 }
 
+/// Whether the line ends a text: it is `.`.
 fn is_end(line: &[u8]) -> bool
     ensures { result ≡ ends_text line.now }
 {
@@ -49,6 +50,7 @@ fn ends_here(is_too_long: bool, line: &[u8]) -> bool
     !is_too_long && is_end(line)
 }
 
+/// Adds a line and its LF. A part of it is left where memory runs out.
 fn append(text: &mut Vec<u8>, line: &[u8]) -> Result<(), AllocError>
     ensures { OnOk result (text.new.items ≡ text.old.items ++ (line.now ++ 10 ∷ [])) }
 {
@@ -57,7 +59,7 @@ fn append(text: &mut Vec<u8>, line: &[u8]) -> Result<(), AllocError>
     Ok(())
 }
 
-/// Adds a line to what is held of a text, and tells what is held by now.
+/// Adds a line to what is kept of a text, and returns what is kept by now.
 fn keep(text: &mut Vec<u8>, held: TextFound, is_too_long: bool, line: &[u8]) -> TextFound
     ensures { (content : Option (List ℕ)) (t : List ℕ)
         → HoldsText held text.old.items content → Held is_too_long line.now t

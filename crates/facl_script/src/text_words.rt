@@ -74,7 +74,7 @@ impl Beginning {
 }
 
 /// Whether a line takes the lines after it, up to a line `.`, as its text: its first word is `load`, or a later one names
-/// standard input, once quotes are taken off. No line does that is over the limit, says nothing or has an open quote.
+/// standard input, once quotes are taken off. No line does that is over the limit, blank, a comment, or has an open quote.
 pub fn takes_text(line: &[u8]) -> bool
     ensures { result ≡ takes_text_after line.now }
 {

@@ -132,7 +132,7 @@ impl Script {
     /// The next unit of the script, or `None` where it ends. After the end, and after an error, nothing is read, and the
     /// answer is `None`.
     ///
-    /// A text that memory cannot keep is read to its end all the same. An error says that the reader failed, that the script
+    /// A text that memory cannot keep is read to its end all the same. An error means that the reader failed, that the script
     /// goes on past the limit, or that no memory was there for a line.
     pub fn next_unit<R: Feed>(&mut self, reader: &mut R) -> Result<Option<UnitFound>, ScriptFault>
         requires { R.has_failed reader.old ≡ false }

@@ -79,8 +79,8 @@ fn split_text(alloc: Global, text: &str) -> Result<Vec<String>, SplitFault>
     }
 }
 
-/// The words of a line, split at spaces and tabs. From `'` to the next `'` all characters are kept as they stand, inside a
-/// word too, and `''` is an empty word. A line that says nothing has none, and is looked at no further.
+/// The words of a line, split at spaces and tabs. From `'` to the next `'` all characters are kept as they are, inside a
+/// word too, and `''` is an empty word. A blank line or comment has no words, and is looked at no further.
 pub fn split_words(alloc: Global, line: &[u8]) -> Result<Vec<String>, SplitFault>
     ensures { MatchResult result
         (λ words. line_words line.now ≡ Ok (map string_bytes words.items))

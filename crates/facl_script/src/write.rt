@@ -28,7 +28,7 @@ pub fn write_whole<W: Sink>(sink: &mut W, bytes: &[u8]) -> Result<(), ScriptFaul
     Ok(())
 }
 
-/// Writes what a unit says: all of its output, and then its messages.
+/// Writes the answer of a unit: all of its output, and then its messages.
 pub fn say<O: Sink, E: Sink>(
     out: &mut O,
     err: &mut E,

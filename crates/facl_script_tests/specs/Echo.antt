@@ -24,7 +24,7 @@ abbrev pub is_silent : Option (List ℕ) → Bool
 is_silent None = false
 is_silent (Some line) = says_nothing line
 
--- a unit that wants memory is refused without a message
+-- a unit for which memory runs out is refused without a message
 abbrev pub echoed : Bool → ScriptUnit → Bool → Answer Bool
 echoed wants u state = if is_silent u.line then quiet state else if wants then refusal [] else echo_line u.line u.text state
 

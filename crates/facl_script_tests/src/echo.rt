@@ -7,7 +7,7 @@ ghost use Rattle.facl_script_tests.specs.Echo.{echoed, echoed_there};
 use facl_script::{Session, TextFound, UnitFound, says_nothing};
 use std::alloc::{AllocError, Global};
 
-/// What a unit says.
+/// The answer to a unit.
 #[derive(Drop)]
 pub struct Echo {
     out: Vec<u8>,
@@ -48,7 +48,7 @@ fn give_back(out: &mut Vec<u8>, line: &[u8], text: &[u8]) -> Result<bool, AllocE
     Ok(false)
 }
 
-/// Composes what a unit says that is not silent.
+/// Composes the answer to a unit that is not silent.
 fn compose(
     out: &mut Vec<u8>,
     err: &mut Vec<u8>,
