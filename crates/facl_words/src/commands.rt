@@ -11,6 +11,7 @@ use clap::{Arg, ArgAction, ArgMatches, Command};
 use facl_usage::{LineRows, OperandRow, SwitchRow};
 use std::alloc::{AllocError, Global};
 
+/// A flag or an option, as an argument of `clap`.
 fn switch_arg<'a>(alloc: Global, row: &SwitchRow, action: ArgAction) -> Arg<'a>
     ensures rule { rule_of result ≡ switch_rule action (switch_of row.now) }
     ensures local { result.global ≡ false }
@@ -25,6 +26,7 @@ fn switch_arg<'a>(alloc: Global, row: &SwitchRow, action: ArgAction) -> Arg<'a>
     arg
 }
 
+/// An operand, as an argument of `clap`.
 fn operand_arg<'a>(alloc: Global, row: &OperandRow) -> Arg<'a>
     ensures rule { rule_of result ≡ operand_rule (operand_of row.now) }
     ensures local { result.global ≡ false }

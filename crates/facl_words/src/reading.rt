@@ -71,6 +71,7 @@ fn push_words(alloc: Global, items: &mut Vec<Word>, texts: &[&str]) -> Result<()
     Ok(())
 }
 
+/// Adds the words of one operand.
 fn push_operand(
     alloc: Global,
     items: &mut Vec<Word>,

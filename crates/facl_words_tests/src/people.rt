@@ -39,7 +39,7 @@ static LINES: [(&str, &str); 49] = [
     ("useradd -u 7x -g s b", "usage"),
     ("useradd -u '' -g s b", "usage"),
     ("useradd -u -7 -g s b", "usage"),
-    // The decoded name is not empty, not digits alone, and holds no colon, comma, line feed or NUL.
+    // The decoded name is not empty, not digits alone, and contains no colon, comma, line feed or NUL.
     ("useradd -u 7 -g s b7", "-u=7 -g=s : b7"),
     ("useradd -u 7 -g s a\\040b", "-u=7 -g=s : a\\040b"),
     ("useradd -u 7 -g s \\", "-u=7 -g=s : \\"),

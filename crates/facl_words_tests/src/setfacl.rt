@@ -75,7 +75,7 @@ static LINES: [(&str, &str); 94] = [
     ("setfacl --set a -X - f", "usage"),
     ("setfacl --set-file=- -m a f", "usage"),
     ("setfacl --set-file - -b f", "usage"),
-    // Texts: each spelling that takes one, and those that take none.
+    // Texts: each spelling that takes one, and those that do not.
     ("setfacl -M - f", "-M=- : f"),
     ("setfacl -M- f", "-M=- : f"),
     ("setfacl --modify-file=- f", "-M=- : f"),

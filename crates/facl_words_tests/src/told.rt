@@ -1,4 +1,4 @@
-//! What is read of a line, told as text: the flags and options that were given, in the order of the
+//! What is read of a line, as text: the flags and options that were given, in the order of the
 //! table, a colon, and the operands. An empty operand is `''`, and a refused line is `usage`.
 use facl_words::places::{
     can, chacl, chmod, creat, getfacl, gpasswd, may, rm, setfacl, useradd, usermod, who,
