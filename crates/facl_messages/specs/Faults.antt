@@ -1,4 +1,4 @@
--- What the faults of the layers below are for a line or a run: their want of memory is its own.
+-- What the faults of the layers below are for a line or a run: their running out of memory is its own.
 use Rattle.acl_text.specs.declared.fault.FaultKind.TheVariants as kinds
 use Rattle.acl_text.specs.declared.fault.TextFault.{TextFault}
 use Rattle.acl_tree.specs.declared.command.TreeFault.{TreeFault}
@@ -16,7 +16,7 @@ use Rattle.facl_messages.specs.declared.fault.RunFault.{RunFault}
 use Rattle.facl_messages.specs.declared.fault.RunFault.TheVariants as run
 use Rattle.acl_text.specs.declared.fault.FaultKind.{FaultKind}
 
--- want of memory, or else another fault
+-- that memory ran out, or else another fault
 abbrev pub unless_memory : FaultKind → LineFault → LineFault
 unless_memory kinds.NoMemory fault = line.NoMemory
 unless_memory _ fault = fault

@@ -24,7 +24,7 @@ line_text (Both at) = codes "entry " ++ decimal at ++ codes ": both removed and 
 line_text (Tree fault) = tree_text fault
 line_text NoMemory = codes "no memory"
 
--- who tells a fault: the tool, once its own words are read, and before that the program
+-- who reports a fault: the tool, once its own words are read, and before that the program
 abbrev pub teller : List ℕ → LineFault → List ℕ
 teller tool LineTooLong = codes "facl"
 teller tool NotUtf8 = codes "facl"

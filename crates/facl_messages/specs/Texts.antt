@@ -1,4 +1,4 @@
--- What is told of the faults of lists, texts and commands. Want of memory is told by none of them: it is
+-- The messages of the faults of lists, texts and commands. That memory ran out is none of them: it is
 -- lifted to the line or the run before, and has a text here since each fault has one.
 use Rattle.std.specs.Prelude.{ℕ, Bool, true, false, ◌&&◌, ◌==◌, List, ◌++◌, codes, decimal, if◌then◌else◌}
 use Rattle.acl_entry.specs.declared.entry.ListFault.{ListFault}

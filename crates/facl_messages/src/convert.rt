@@ -1,4 +1,4 @@
-//! The faults of the layers below as faults of a line or of a run. Each one's want of memory is `NoMemory`.
+//! The faults of the layers below as faults of a line or of a run. Each one's running out of memory is `NoMemory`.
 
 ghost use Rattle.std.specs.Prelude.{◌≡◌};
 ghost use Rattle.facl_messages.specs.Faults.{line_fault_of_split, line_fault_of_text, line_fault_of_tree, line_fault_of_words, run_fault_of_script};

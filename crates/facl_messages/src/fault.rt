@@ -4,7 +4,7 @@ use acl_text::TextFault;
 use acl_tree::{Table, TreeFault};
 use thiserror::Error;
 
-/// Where a faulty entry, line or operand stands.
+/// Where a faulty entry, line or operand is.
 #[derive(Clone, Copy, Debug, PartialEq, Eq)]
 pub enum Source {
     /// In the entries of an option, or of chacl(1)'s access list.
@@ -19,7 +19,7 @@ pub enum Source {
     Operand,
 }
 
-/// Why a line is refused. Of several faults the first of this list is told, but `Both` comes before the fault
+/// Why a line is refused. Of several faults the first of this enum is returned, but `Both` comes before the fault
 /// of an operand's path. `NoMemory` may come in place of each.
 #[derive(Debug, Drop, Error)]
 pub enum LineFault {
@@ -44,13 +44,13 @@ pub enum LineFault {
     /// The words are not such as the tool takes.
     #[error("usage")]
     Usage,
-    /// A text or an operand has no value. Its want of memory is `NoMemory` and never stands here.
+    /// A text or an operand has no value. That memory ran out is `NoMemory`, never this.
     #[error("faulty text")]
     Text(Source, TextFault),
     /// The entry of the modified text at this place, counted from 1, is removed too.
     #[error("both removed and modified")]
     Both { at: usize },
-    /// The command is refused. Its want of memory is `NoMemory` and never stands here.
+    /// The command is refused. That memory ran out is `NoMemory`, never this.
     #[error("refused command")]
     Tree(TreeFault),
     /// A growth of memory was refused.
@@ -67,7 +67,7 @@ pub enum RunFault {
     /// A writer failed.
     #[error("write fault")]
     Write,
-    /// A text of the setup cannot be loaded. Want of memory is `NoMemory` and never stands here.
+    /// A text of the setup cannot be loaded. That memory ran out is `NoMemory`, never this.
     #[error("setup")]
     Setup { which: Table, fault: TreeFault },
     /// The script has more than 67,108,864 bytes.

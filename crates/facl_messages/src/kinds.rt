@@ -1,4 +1,4 @@
-//! What is told of a text's fault.
+//! The message of a text's fault.
 
 ghost use Rattle.std.specs.Prelude.{◌≡◌, ◌++◌, OnOk, OnErr};
 ghost use Rattle.std.specs.Io.{StartsWith};
@@ -69,6 +69,7 @@ fn source_name(source: Source) -> &'static [u8]
     }
 }
 
+/// Whether the fault is of a list and not of one of its entries.
 fn is_of_whole_list(fault: &TextFault) -> bool
     ensures { result ≡ is_of_whole_list fault.now }
 {

@@ -1,4 +1,4 @@
-//! Why a script's line or a whole run is refused, and the exact bytes of what is told of it.
+//! Why a script's line or a whole run is refused, and the exact bytes of its message.
 #![tactic(auto)]
 
 mod convert;

@@ -1,4 +1,4 @@
-//! What is told of a list's fault.
+//! The message of a list's fault.
 
 ghost use Rattle.std.specs.Prelude.{◌≡◌, ◌++◌, OnOk, OnErr, codes, decimal};
 ghost use Rattle.std.specs.Io.{StartsWith};

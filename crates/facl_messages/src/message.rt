@@ -11,7 +11,7 @@ use crate::trees::push_tree_fault;
 use itoa::Buffer;
 use std::alloc::AllocError;
 
-/// Who tells a fault: the tool, once the line has words and a text, and before that the program.
+/// Who reports a fault: the tool, once the line has words and a text, and before that the program.
 fn teller<'a>(tool: &'a [u8], fault: &LineFault) -> &'a [u8]
     ensures { result.now ≡ teller tool.now fault.now }
 {
@@ -71,10 +71,10 @@ fn push_head(text: &mut Vec<u8>, number: u64, told_by: &[u8]) -> Result<(), Allo
     text.extend_from_slice(b": ")
 }
 
-#[tactic(auto, unfolding(crate::specs::Messages::message))]
 /// Adds the message of a line that is refused: `line N: TOOL: TEXT` and a line feed. TOOL is the line's first
-/// word, but `facl` for a fault that is found before the tool's own words are read, and for want of memory.
-/// Refused for want of memory only, and then what stood before still stands.
+/// word, but `facl` for a fault that is found before the tool's own words are read, and where memory ran out.
+/// Fails only if memory runs out, and then what was before is kept.
+#[tactic(auto, unfolding(crate::specs::Messages::message))]
 pub fn append_message(
     text: &mut Vec<u8>,
     number: u64,

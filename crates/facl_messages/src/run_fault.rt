@@ -29,8 +29,8 @@ fn push_setup(text: &mut Vec<u8>, which: Table, fault: &TreeFault) -> Result<(),
     push_tree_fault(text, fault)
 }
 
-/// Adds what the program prints after `facl: ` of a run that ended early, without a line feed. Refused for
-/// want of memory only, and then what stood before still stands.
+/// Adds what the program prints after `facl: ` of a run that ended early, without a line feed. Fails only if
+/// memory runs out, and then what was before is kept.
 pub fn append_run_fault(text: &mut Vec<u8>, fault: &RunFault) -> Result<(), AllocError>
     ensures ok { OnOk result (text.new.items ≡ text.old.items ++ run_fault_text fault.now) }
     ensures err { OnErr result (StartsWith text.new.items text.old.items) }

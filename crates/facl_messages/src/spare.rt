@@ -29,7 +29,7 @@ impl Model for Spare {
 }
 
 impl Spare {
-    /// Room with no message in it. Refused for want of memory only.
+    /// Room with no message in it. Fails only if memory runs out.
     pub fn new(alloc: Global) -> Result<Spare, AllocError>
         ensures { IfOk result (λ spare. spare ≡ []) }
     {
@@ -38,7 +38,7 @@ impl Spare {
         })
     }
 
-    /// Puts the message that there was no memory for the line with this number in the place of what stood
+    /// Puts the message that there was no memory for the line with this number in the place of what was
     /// there. It takes no memory.
     pub fn put_no_memory(&mut self, number: u64)
         ensures { self.new ≡ message number [] NoMemory }

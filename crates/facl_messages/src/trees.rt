@@ -1,4 +1,4 @@
-//! What is told of a command's fault.
+//! The message of a command's fault.
 
 ghost use Rattle.std.specs.Prelude.{◌≡◌, ◌++◌, OnOk, OnErr, codes, decimal};
 ghost use Rattle.std.specs.Io.{StartsWith};
