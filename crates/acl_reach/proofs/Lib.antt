@@ -1,2 +1,4 @@
 pub mod Orders
 pub mod Walks
+mod Begins
+mod Tops

@@ -17,9 +17,8 @@ use Rattle.path_map.specs.Entries.{PathOf, IsInOrder}
 use Rattle.path_map.proofs.Places.{above}
 use Rattle.path_map.proofs.Convex.{convex}
 use Rattle.acl_verdicts.specs.Rows.{Rows}
-use Rattle.acl_reach.specs.Reach.{execute, can_search, passes_in, reached_from, reached_rows}
-use Rattle.acl_reach.proofs.Orders.{in_order-values}
-use Rattle.acl_reach.specs.Walks.{nearest_from, nearest, last_from, last_of, lets, cut_from, AllBefore, IsWalked}
+use Rattle.acl_reach.specs.Reach.{execute, can_search, passes_in, reached_from}
+use Rattle.acl_reach.specs.Walks.{nearest_from, nearest, last_from, last_of, lets, cut_from, AllBefore, reached_in, IsWalked}
 
 -- ---- which paths are below which
 
@@ -39,7 +38,7 @@ both a b p q = cc
 exact_names : IsAntisymmetric (slice_cmp nat_cmp)
 exact_names = slice_cmp-IsAntisymmetric nat_cmp-IsAntisymmetric
 
-false_from : (b : Bool) → (b ≡ true → ⊥) → b ≡ false
+pub false_from : (b : Bool) → (b ≡ true → ⊥) → b ≡ false
 false_from true h = absurd (h refl)
 false_from false h = refl
 
@@ -114,7 +113,7 @@ before_end : {A : Type 0} (es : List (PathOf × A)) (e : PathOf × A) (p : PathO
 before_end [] e p h = h.0
 before_end (d ∷ es) e p h = before_end es e p h.1
 
-before_more : {A : Type 0} (es : List (PathOf × A)) (e : PathOf × A) (p : PathOf) → AllBefore p es → path_cmp e.0 p ≡ Less → AllBefore p (es ++ e ∷ [])
+pub before_more : {A : Type 0} (es : List (PathOf × A)) (e : PathOf × A) (p : PathOf) → AllBefore p es → path_cmp e.0 p ≡ Less → AllBefore p (es ++ e ∷ [])
 before_more [] e p h k = (k, tt)
 before_more (d ∷ es) e p h k = (h.0, before_more es e p h.1 k)
 
@@ -145,7 +144,7 @@ take_none : {A : Type 0} (es : List A) → take 0 es ≡ []
 take_none [] = refl
 take_none (e ∷ es) = refl
 
-take_all : {A : Type 0} (es : List A) → take (length es) es ≡ es
+pub take_all : {A : Type 0} (es : List A) → take (length es) es ≡ es
 take_all [] = refl
 take_all (e ∷ es) = ap (λ l. e ∷ l) (take_all es)
 
@@ -224,11 +223,11 @@ cut_search above n (suc user) (c ∷ cells) = let e : suc n + user ≡ n + suc u
 
 -- ---- who passes
 
-and_true : (b : Bool) → (b && true) ≡ b
+pub and_true : (b : Bool) → (b && true) ≡ b
 and_true true = refl
 and_true false = refl
 
-all-append : {A : Type 0} (f : A → Bool) (es fs : List A) → list_all f (es ++ fs) ≡ (list_all f es && list_all f fs)
+pub all-append : {A : Type 0} (f : A → Bool) (es fs : List A) → list_all f (es ++ fs) ≡ (list_all f es && list_all f fs)
 all-append f [] fs = refl
 all-append f (e ∷ es) fs = ap (λ b. f e && b) (all-append f es fs) ∙ assoc (f e) (list_all f es) (list_all f fs)
   where
@@ -236,7 +235,7 @@ all-append f (e ∷ es) fs = ap (λ b. f e && b) (all-append f es fs) ∙ assoc 
     assoc true b c = refl
     assoc false b c = refl
 
-passes_alike : (done : Rows) (user : ℕ) (q p : PathOf) → AllBefore q done → is_below q p ≡ true → passes_in done user p ≡ passes_in done user q
+pub passes_alike : (done : Rows) (user : ℕ) (q p : PathOf) → AllBefore q done → is_below q p ≡ true → passes_in done user p ≡ passes_in done user q
 passes_alike [] user q p before h = refl
 passes_alike (e ∷ done) user q p before h = let same = sym (below_alike e.0 q p before.0 h) in λ i. (not (same i) || can_search user e.1) && passes_alike done user q p before.1 h i
 
@@ -259,49 +258,64 @@ passes_front done r rest user order =
     ∙ ap (λ b. passes_in done user r.0 && b) (none_later rest user r.0 parts.0)
     ∙ and_true (passes_in done user r.0)
 
+-- ---- what lies within a top
+
+pub within_trans : (p s t : PathOf) → is_within p s ≡ true → is_within s t ≡ true → is_within p t ≡ true
+within_trans [] s t h k = refl
+within_trans (x ∷ p) [] t h k = cc
+within_trans (x ∷ p) (y ∷ s) [] h k = cc
+within_trans (x ∷ p) (y ∷ s) (z ∷ t) h k =
+    let one = and_parts (is_eq (slice_cmp nat_cmp x y)) (is_within p s) h in
+    let two = and_parts (is_eq (slice_cmp nat_cmp y z)) (is_within s t) k in
+    both _ _ (ap (λ w. is_eq (slice_cmp nat_cmp w z)) (exact_names x y (equal (slice_cmp nat_cmp x y) one.0)) ∙ two.0) (within_trans p s t one.1 two.1)
+
+pub below_of_within : (p s t : PathOf) → is_below p s ≡ true → is_within s t ≡ true → is_below p t ≡ true
+below_of_within [] [] t h k = cc
+below_of_within [] (y ∷ s) [] h k = cc
+below_of_within [] (y ∷ s) (z ∷ t) h k = refl
+below_of_within (x ∷ p) [] t h k = cc
+below_of_within (x ∷ p) (y ∷ s) [] h k = cc
+below_of_within (x ∷ p) (y ∷ s) (z ∷ t) h k =
+    let one = and_parts (is_eq (slice_cmp nat_cmp x y)) (is_below p s) h in
+    let two = and_parts (is_eq (slice_cmp nat_cmp y z)) (is_within s t) k in
+    both _ _ (ap (λ w. is_eq (slice_cmp nat_cmp w z)) (exact_names x y (equal (slice_cmp nat_cmp x y) one.0)) ∙ two.0) (below_of_within p s t one.1 two.1)
+
 -- ---- the walk
 
-module _ (rows : Rows) (order : IsInOrder rows) where
-  -- nothing is walked
-  pub walk_begins : (reached stack : Rows) → reached ≡ [] → stack ≡ [] → IsWalked rows rows reached stack
-  walk_begins reached stack none empty = record {
-    done = [];
-    split = refl;
-    made = none;
-    leads = record { before = λ p h. subst (AllBefore p) (sym empty) tt; passes = λ p user h. sym (ap (λ s. lets (nearest p s) user) empty) };
-  }
-
+module _ (top : PathOf) (rows total : Rows) (order : IsInOrder rows) where
   -- the stack comes before the next path
-  pub stack_before : (r : PathOf × List ℕ) (rest reached stack : Rows) → IsWalked rows (r ∷ rest) reached stack → AllBefore r.0 stack
-  stack_before r rest reached stack w = w.leads.before r.0 (all_before w.done r rest (subst IsInOrder (sym w.split) order))
+  pub stack_before : (r : PathOf × List ℕ) (rest reached stack : Rows) → IsWalked top rows total (r ∷ rest) reached stack → AllBefore r.0 stack
+  stack_before r rest reached stack w = w.leads.before r.0 w.inside.0 (all_before w.done r (rest ++ w.post) (subst IsInOrder (sym w.split) order))
 
   -- a row more is walked
-  pub walked_on : (r : PathOf × List ℕ) (rest reached stack shrunk : Rows) (entry : PathOf × List ℕ) (n : ℕ) → IsWalked rows (r ∷ rest) reached stack
+  pub walked_on : (r : PathOf × List ℕ) (rest reached stack shrunk : Rows) (entry : PathOf × List ℕ) (n : ℕ) → IsWalked top rows total (r ∷ rest) reached stack
       → shrunk ≡ take n stack → ((p : PathOf) → is_gt (path_cmp r.0 p) ≡ false → nearest p shrunk ≡ nearest p stack) → entry ≡ (r.0, cut_from (nearest r.0 stack) 0 r.1)
-      → IsWalked rows rest (reached ++ entry ∷ []) (shrunk ++ entry ∷ [])
+      → IsWalked top rows total rest (reached ++ entry ∷ []) (shrunk ++ entry ∷ [])
   walked_on r rest reached stack shrunk entry n w taken kept is = record {
     done = w.done ++ r ∷ [];
-    split = append_assoc w.done (r ∷ []) rest ∙ w.split;
-    made = (λ i. w.made i ++ (is ∙ ap (λ l. (r.0, l)) (sym cells)) i ∷ []) ∙ sym (map-append (λ r. (r.0, reached_from rows r.0 0 r.1)) w.done (r ∷ []));
+    post = w.post;
+    split = append_assoc w.done (r ∷ []) (rest ++ w.post) ∙ w.split;
+    inside = w.inside.1;
+    made = append_assoc reached (entry ∷ []) (map (reached_in rows) rest) ∙ (λ i. reached ++ (is ∙ ap (λ l. (r.0, l)) (sym cells)) i ∷ map (reached_in rows) rest) ∙ w.made;
     leads = record { before = before; passes = passes };
   }
     where
-      ordered : IsInOrder (w.done ++ r ∷ rest)
+      ordered : IsInOrder (w.done ++ r ∷ (rest ++ w.post))
       ordered = subst IsInOrder (sym w.split) order
 
       ahead : AllBefore r.0 w.done
-      ahead = all_before w.done r rest ordered
+      ahead = all_before w.done r (rest ++ w.post) ordered
 
       cells : reached_from rows r.0 0 r.1 ≡ cut_from (nearest r.0 stack) 0 r.1
-      cells = cut_is rows r.0 (nearest r.0 stack) 0 r.1 (λ user. ap (λ l. passes_in l user r.0) (sym w.split) ∙ passes_front w.done r rest user ordered ∙ w.leads.passes r.0 user ahead)
+      cells = cut_is rows r.0 (nearest r.0 stack) 0 r.1 (λ user. ap (λ l. passes_in l user r.0) (sym w.split) ∙ passes_front w.done r (rest ++ w.post) user ordered ∙ w.leads.passes r.0 user w.inside.0 ahead)
 
-      before : (p : PathOf) → AllBefore p (w.done ++ r ∷ []) → AllBefore p (shrunk ++ entry ∷ [])
-      before p h =
-          before_more shrunk entry p (subst (AllBefore p) (sym taken) (before_take n stack p (w.leads.before p (before_front w.done (r ∷ []) p h))))
+      before : (p : PathOf) → is_within top p ≡ true → AllBefore p (w.done ++ r ∷ []) → AllBefore p (shrunk ++ entry ∷ [])
+      before p in_top h =
+          before_more shrunk entry p (subst (AllBefore p) (sym taken) (before_take n stack p (w.leads.before p in_top (before_front w.done (r ∷ []) p h))))
           (ap (λ e. path_cmp e.0 p) is ∙ before_end w.done r p h)
 
-      passes : (p : PathOf) (user : ℕ) → AllBefore p (w.done ++ r ∷ []) → passes_in (w.done ++ r ∷ []) user p ≡ lets (nearest p (shrunk ++ entry ∷ [])) user
-      passes p user h =
+      passes : (p : PathOf) (user : ℕ) → is_within top p ≡ true → AllBefore p (w.done ++ r ∷ []) → passes_in (w.done ++ r ∷ []) user p ≡ lets (nearest p (shrunk ++ entry ∷ [])) user
+      passes p user in_top h =
           all-append (λ e. not (is_below e.0 p) || can_search user e.1) w.done (r ∷ [])
           ∙ ap (λ b. passes_in w.done user p && b) (and_true (not (is_below r.0 p) || can_search user r.1))
           ∙ by (is_below r.0 p) refl
@@ -309,17 +323,28 @@ module _ (rows : Rows) (order : IsInOrder rows) where
         where
           by : (b : Bool) → is_below r.0 p ≡ b → (passes_in w.done user p && (not b || can_search user r.1)) ≡ lets (if b then Some (cut_from (nearest r.0 stack) 0 r.1) else nearest p stack) user
           by true below =
-              ap (λ x. x && can_search user r.1) (passes_alike w.done user r.0 p ahead below ∙ w.leads.passes r.0 user ahead)
+              ap (λ x. x && can_search user r.1) (passes_alike w.done user r.0 p ahead below ∙ w.leads.passes r.0 user w.inside.0 ahead)
               ∙ sym (cut_search (nearest r.0 stack) 0 user r.1 ∙ nothing)
             where
               nothing : (lets (nearest r.0 stack) (0 + user) && can_search user r.1) ≡ (lets (nearest r.0 stack) user && can_search user r.1)
               nothing = let e : 0 + user ≡ user = omega arith in ap (λ k. lets (nearest r.0 stack) k && can_search user r.1) e
-          by false below = and_true (passes_in w.done user p) ∙ w.leads.passes p user (before_front w.done (r ∷ []) p h)
+          by false below = and_true (passes_in w.done user p) ∙ w.leads.passes p user in_top (before_front w.done (r ∷ []) p h)
+
+  pub walked_post : (r : PathOf × List ℕ) (rest reached stack shrunk : Rows) (entry : PathOf × List ℕ) (n : ℕ) (w : IsWalked top rows total (r ∷ rest) reached stack)
+      (taken : shrunk ≡ take n stack) (kept : (p : PathOf) → is_gt (path_cmp r.0 p) ≡ false → nearest p shrunk ≡ nearest p stack) (is : entry ≡ (r.0, cut_from (nearest r.0 stack) 0 r.1))
+      → (walked_on r rest reached stack shrunk entry n w taken kept is).post ≡ w.post
+  unfolding walked_on
+  walked_post r rest reached stack shrunk entry n w taken kept is = refl
+
+  pub walked_done : (r : PathOf × List ℕ) (rest reached stack shrunk : Rows) (entry : PathOf × List ℕ) (n : ℕ) (w : IsWalked top rows total (r ∷ rest) reached stack)
+      (taken : shrunk ≡ take n stack) (kept : (p : PathOf) → is_gt (path_cmp r.0 p) ≡ false → nearest p shrunk ≡ nearest p stack) (is : entry ≡ (r.0, cut_from (nearest r.0 stack) 0 r.1))
+      → (walked_on r rest reached stack shrunk entry n w taken kept is).done ≡ w.done ++ r ∷ []
+  unfolding walked_on
+  walked_done r rest reached stack shrunk entry n w taken kept is = refl
 
   -- all are walked
-  pub walk_ends : (rest reached stack : Rows) → rest ≡ [] → IsWalked rows rest reached stack → reached ≡ reached_rows rows
-  walk_ends rest reached stack none w =
-      w.made ∙ ap (map (λ r. (r.0, reached_from rows r.0 0 r.1))) (sym (append-nil w.done) ∙ ap (λ l. w.done ++ l) (sym none) ∙ w.split)
+  pub walk_ends : (rest reached stack : Rows) → rest ≡ [] → IsWalked top rows total rest reached stack → reached ≡ total
+  walk_ends rest reached stack none w = sym (append-nil reached) ∙ ap (λ l. reached ++ map (reached_in rows) l) (sym none) ∙ w.made
 
 -- ---- for what is kept in rows of another form
 
@@ -375,37 +400,33 @@ cut_step above cells at x cell new more all lt is made pushed so_far =
     ∙ ap (λ l. new ++ cut_from above at l) (sym (drop_more cells at x lt ∙ ap (λ y. y ∷ drop (at + 1) cells) (sym is)))
     ∙ so_far
 
-module _ {R : Type 0} (f : R → PathOf × List ℕ) (rows : Rows) (order : IsInOrder rows) where
-  pub row_ahead : (r : PathOf × List ℕ) (es rest : Rows) (reached stack seen : List R) (q : PathOf) → es ≡ r ∷ rest → IsWalked rows es (map f reached) (map f stack) → q ≡ r.0 → seen ≡ stack → AllBefore q (map f seen)
+module _ {R : Type 0} (f : R → PathOf × List ℕ) (top : PathOf) (rows total : Rows) (order : IsInOrder rows) where
+  pub row_ahead : (r : PathOf × List ℕ) (es rest : Rows) (reached stack seen : List R) (q : PathOf) → es ≡ r ∷ rest → IsWalked top rows total es (map f reached) (map f stack) → q ≡ r.0 → seen ≡ stack → AllBefore q (map f seen)
   row_ahead r es rest reached stack seen q is w path same =
-      subst (λ p. AllBefore p (map f seen)) (sym path) (subst (λ xs. AllBefore r.0 (map f xs)) (sym same) (stack_before rows order r rest (map f reached) (map f stack) (subst (λ l. IsWalked rows l (map f reached) (map f stack)) is w)))
+      subst (λ p. AllBefore p (map f seen)) (sym path) (subst (λ xs. AllBefore r.0 (map f xs)) (sym same) (stack_before top rows total order r rest (map f reached) (map f stack) (subst (λ l. IsWalked top rows total l (map f reached) (map f stack)) is w)))
 
   pub row_walked : (r : PathOf × List ℕ) (es rest : Rows) (reached stack seen left left_seen reached_new stack_new : List R) (x y : R) (q : PathOf) (n : ℕ) (above : Option (List ℕ))
-      → es ≡ r ∷ rest → IsWalked rows es (map f reached) (map f stack) → q ≡ r.0 → seen ≡ stack → left ≡ take n stack → left_seen ≡ left
+      → es ≡ r ∷ rest → IsWalked top rows total es (map f reached) (map f stack) → q ≡ r.0 → seen ≡ stack → left ≡ take n stack → left_seen ≡ left
       → ((p : PathOf) → is_gt (path_cmp q p) ≡ false → nearest p (take n (map f seen)) ≡ nearest p (map f seen))
       → last_of (take n (map f seen)) ≡ nearest q (map f seen)
       → above ≡ last_of (map f left_seen) → f x ≡ (r.0, cut_from above 0 r.1) → f y ≡ f x
       → reached_new ≡ reached ++ x ∷ [] → stack_new ≡ left ++ y ∷ []
-      → IsWalked rows rest (map f reached_new) (map f stack_new)
-  row_walked r es rest reached stack seen left left_seen reached_new stack_new x y q n above is w path same taken left_same kept top over made copy new_is stack_is =
+      → IsWalked top rows total rest (map f reached_new) (map f stack_new)
+  row_walked r es rest reached stack seen left left_seen reached_new stack_new x y q n above is w path same taken left_same kept last over made copy new_is stack_is =
       let entry = f x in
       let shorter : map f left ≡ take n (map f stack) = ap (map f) taken ∙ sym (take_seen f n stack) in
       let seen_left : take n (map f seen) ≡ map f left = ap (λ xs. take n (map f xs)) same ∙ sym shorter in
       let nearest_is : above ≡ nearest r.0 (map f stack) =
-      over ∙ ap (λ xs. last_of (map f xs)) left_same ∙ ap last_of (sym seen_left) ∙ top ∙ (λ i. nearest (path i) (map f (same i))) in
+      over ∙ ap (λ xs. last_of (map f xs)) left_same ∙ ap last_of (sym seen_left) ∙ last ∙ (λ i. nearest (path i) (map f (same i))) in
       let walked =
-      walked_on rows order r rest (map f reached) (map f stack) (map f left) entry n (subst (λ l. IsWalked rows l (map f reached) (map f stack)) is w) shorter
+      walked_on top rows total order r rest (map f reached) (map f stack) (map f left) entry n (subst (λ l. IsWalked top rows total l (map f reached) (map f stack)) is w) shorter
       (λ p le. ap (nearest p) (sym seen_left) ∙ kept p (ap (λ z. is_gt (path_cmp z p)) path ∙ le) ∙ ap (λ xs. nearest p (map f xs)) same)
       (made ∙ ap (λ o. (r.0, cut_from o 0 r.1)) nearest_is) in
-      subst (λ l. IsWalked rows rest l (map f stack_new)) (sym (ap (map f) new_is ∙ map-append f reached (x ∷ [])))
-      (subst (λ l. IsWalked rows rest (map f reached ++ entry ∷ []) l) (sym (ap (map f) stack_is ∙ map-append f left (y ∷ []) ∙ ap (λ z. map f left ++ z ∷ []) copy)) walked)
+      subst (λ l. IsWalked top rows total rest l (map f stack_new)) (sym (ap (map f) new_is ∙ map-append f reached (x ∷ [])))
+      (subst (λ l. IsWalked top rows total rest (map f reached ++ entry ∷ []) l) (sym (ap (map f) stack_is ∙ map-append f left (y ∷ []) ∙ ap (λ z. map f left ++ z ∷ []) copy)) walked)
 
-  pub row_ends : (rest : Rows) (reached stack : List R) → rest ≡ [] → IsWalked rows rest (map f reached) (map f stack) → map f reached ≡ reached_rows rows
-  row_ends rest reached stack none w = walk_ends rows order rest (map f reached) (map f stack) none w
-
-  pub row_order : (rest : Rows) (reached stack : List R) → rest ≡ [] → IsWalked rows rest (map f reached) (map f stack) → IsInOrder (map f reached)
-  row_order rest reached stack none w =
-      subst IsInOrder (sym (row_ends rest reached stack none w)) (in_order-values (λ (r : PathOf × List ℕ). reached_from rows r.0 0 r.1) rows order)
+  pub row_ends : (rest : Rows) (reached stack : List R) → rest ≡ [] → IsWalked top rows total rest (map f reached) (map f stack) → map f reached ≡ total
+  row_ends rest reached stack none w = walk_ends top rows total order rest (map f reached) (map f stack) none w
 
 pub cut_some : {B : Type 0} (f : B → List ℕ) (o : Option B) (a : B) (cells l : List ℕ) → o ≡ Some a → l ≡ cells → cut_from (Some (f a)) 0 l ≡ cut_from (option_map f o) 0 cells
 cut_some f o a cells l is same = λ i. cut_from (option_map f (sym is i)) 0 (same i)

@@ -1,3 +1,4 @@
 pub mod Reach
 pub mod Differing
 pub mod Walks
+pub mod Subtrees

@@ -1,12 +1,13 @@
 //! How many verdicts of a table are not as they were in a table before.
 
-ghost use Rattle.std.specs.Prelude.{◌≡◌, ◌≤◌, ◌<◌, ◌+◌, ◌^◌, length};
+ghost use Rattle.std.specs.Prelude.{◌≡◌, ◌≤◌, ◌<◌, ◌+◌, ◌^◌, length, map};
 ghost use Rattle.std.specs.Option.{option_copied};
 ghost use Rattle.acl_reach.specs.Differing.{place_before, is_as_in, fails_from, differing};
 
 use acl_entry::Requests;
 use acl_verdicts::Cells;
-use path_map::PathMap;
+use path_map::{Entry, PathMap};
+use std::rc::Rc;
 
 /// A user's place before, where the user at a place may have left.
 fn place_before(left: Option<usize>, user: usize) -> usize
@@ -58,6 +59,26 @@ pub fn differing(left: Option<usize>, old: &PathMap<Cells>, new: &PathMap<Cells>
     while let Some(row) = rest.next() {
         let more = differing_in(left, old.get(row.path()), row.value().as_slice());
         count += more as u64;
+    }
+    count
+}
+
+/// How many pairs of a user and a path of some rows have a verdict that is new or another than in a table
+/// before, from which the user at a place may have left. Allocates nothing.
+pub(crate) fn differing_rows(
+    left: Option<usize>,
+    old: &PathMap<Cells>,
+    rows: &[Rc<Entry<Cells>>],
+) -> u64
+    requires { differing left old.now (map (λ e. e.value) rows.now) < 2 ^ 64 }
+    ensures { result ≡ differing left old.now (map (λ e. e.value) rows.now) }
+{
+    let mut count: u64 = 0;
+    let mut rest = rows;
+    while let Some((row, more)) = rest.split_first() {
+        let found = differing_in(left, old.get(row.path()), row.value().as_slice());
+        count += found as u64;
+        rest = more;
     }
     count
 }

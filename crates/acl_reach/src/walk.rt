@@ -1,11 +1,13 @@
 //! A walk over rows in path order, with the rows above at hand.
 
-ghost use Rattle.std.specs.Prelude.{◌≡◌, ◌≤◌, false, length, map, take, option_map, IfOk};
+ghost use Rattle.std.specs.Prelude.{◌≡◌, ◌≤◌, ◌++◌, false, [], length, map, take, option_map, IfOk, OnOk};
 ghost use Rattle.std.specs.Ordering.{is_gt};
 ghost use Rattle.acl_names.specs.Paths.{path_cmp};
 ghost use Rattle.path_map.specs.Entries.{PathOf};
+ghost use Rattle.path_map.specs.Below.{within};
 ghost use Rattle.acl_reach.specs.Reach.{reached_rows};
 ghost use Rattle.acl_reach.specs.Walks.{nearest, last_of, AllBefore};
+ghost use Rattle.acl_reach.specs.Subtrees.{IsNearest};
 
 use crate::cut::reached_row;
 use acl_entry::Requests;
@@ -51,6 +53,39 @@ fn last_row(rows: &[Rc<Entry<Cells>>]) -> Option<&Cells> {
     }
 }
 
+/// Adds what each user reaches at a path and below it, where the rows above it that are given end with the
+/// nearest. Rows that are the same as in an old table, or as the row before, are shared.
+pub(crate) fn add_reached(
+    alloc: Global,
+    reached: &mut Vec<Rc<Entry<Cells>>>,
+    above: Vec<Rc<Entry<Cells>>>,
+    rows: &PathMap<Cells>,
+    top: &Path,
+    old: &PathMap<Cells>,
+) -> Result<(), AllocError>
+    requires { IsNearest top.now (reached_rows rows.now) (map (λ e. e.value) above.items) }
+    ensures { OnOk result (map (λ e. e.value) reached.new.items ≡ map (λ e. e.value) reached.old.items ++ within top.now (reached_rows rows.now)) }
+{
+    rows.is_in_order();
+    let mut stack = above;
+    let mut rest = rows.within(top);
+    while let Some(row) = rest.next() {
+        let depth = depth_above(&stack, row.path());
+        stack.truncate(depth);
+        let entry = reached_row(alloc, row, last_cells(&stack), old, last_row(reached))?;
+        stack.push(entry.clone()?)?;
+        reached.push(entry)?;
+    }
+    Ok(())
+}
+
+/// The root.
+fn root_path(alloc: Global) -> Path
+    ensures { result ≡ [] }
+{
+    Path::new(Vec::new(alloc)).unwrap()
+}
+
 /// What each user reaches at each path, by the verdicts. Rows that are the same as in an old table, or as the
 /// row before, are shared. Fails only if memory runs out.
 pub fn reached_of(
@@ -61,16 +96,9 @@ pub fn reached_of(
     ensures { IfOk result (λ reached. reached ≡ reached_rows rows.now) }
 {
     rows.is_in_order();
+    let root = root_path(alloc);
     let mut reached = Vec::new(alloc);
-    let mut stack: Vec<Rc<Entry<Cells>>> = Vec::new(alloc);
-    let mut rest = rows.iter();
-    while let Some(row) = rest.next() {
-        let depth = depth_above(&stack, row.path());
-        stack.truncate(depth);
-        let entry = reached_row(alloc, row, last_cells(&stack), old, last_row(&reached))?;
-        stack.push(entry.clone()?)?;
-        reached.push(entry)?;
-    }
+    add_reached(alloc, &mut reached, Vec::new(alloc), rows, &root, old)?;
     let all = PathMap::from_sorted(alloc, &reached)?;
     Ok(all)
 }

@@ -1,9 +1,13 @@
 -- Rows that are those of a state from which a line goes.
-use Rattle.std.proofs.Common.{◌≡◌, ℕ, ◌+◌, ◌<◌, ◌++◌, ◌∷◌, true, is_some, List, [], length, map, filter, take, get_or, set, Some, option_map, refl, sym, ap, subst, ◌∙◌, Bool, zero, suc, arith}
+use Rattle.std.proofs.Common.{◌≡◌, ℕ, ◌+◌, ◌<◌, ◌++◌, ◌∷◌, true, false, ◌||◌, is_some, List, [], length, map, filter, take, get_or, set, Some, option_map, refl, sym, ap, subst, ◌∙◌, Bool, zero, suc, arith}
 use Rattle.std.specs.FinMap.{find}
 use Rattle.std.specs.List.{AllByRecursion, remove}
 use Rattle.std.specs.Prelude.{slice_get}
 use Rattle.path_map.specs.Merged.{merged, put_all}
+use Rattle.path_map.proofs.Merges.{without_none}
+use Rattle.acl_load.specs.Below.{is_below}
+use Rattle.acl_tree.specs.Sound.{holds_below}
+use Rattle.acl_reach.specs.Subtrees.{has_below, IsApart}
 use Rattle.std.proofs.lemmas.List.{length-map, map-append, take_more}
 use Rattle.acl_entry.specs.Mentions.{AgreeOnMentions}
 use Rattle.acl_entry.specs.Person.{Person}
@@ -21,7 +25,6 @@ use Rattle.acl_rights.specs.Tables.{Verdict, Rows, cells_of, rows_of}
 use Rattle.acl_rights.specs.Stages.{mentions_one}
 use Rattle.acl_rights.specs.Kept.{GoesFrom}
 use Rattle.acl_group_files.proofs.Maps.{map_values, map_filter, find-values, found_passed, seen_at, same_length}
-use Rattle.path_map.proofs.Joined.{merged_nothing}
 use Rattle.acl_rights.proofs.Orders.{same_order}
 use Rattle.acl_rights.proofs.Lines.{changed_whole, moved_whole, row_paths, cells_again, moved_in, moved_long, set_here, shorter, wide}
 
@@ -52,13 +55,6 @@ module _ (V : Verdict) (rows : Rows) (t : StagedState) (goes : GoesFrom V rows t
         let those = gone_are ∙ goes.tells.gone in
         let rows_are = goes.rows_are ∙ ap (λ (l : List Person). rows_of V l goes.state.tree.files) (sym same_users) in
         (λ i. merged (these i) (those i) (rows_are i)) ∙ changed_whole V us goes.state.tree.files t.state.tree.files (old_order r) n
-
-    -- with no file changed and none gone the rows are the same
-    pub same_rows : t.changed ≡ [] → t.gone ≡ [] → IsInOrder rows → IsInOrder t.state.tree.files → rows ≡ rows_of V (persons t.state.people) t.state.tree.files
-    same_rows unchanged none r n =
-        let puts : Rows = [] in
-        let gone : Files = [] in
-        sym (merged_nothing puts gone rows refl refl) ∙ changed_goes puts gone r n (sym (ap (rows_of V (persons t.state.people)) unchanged)) (sym none)
 
   module _ (at : ℕ) (groups : List ℕ) (is : t.moved ≡ Moved at groups) where
     pub moves : (t.state.tree ≡ goes.state.tree) × MovesUser (persons goes.state.people) (persons t.state.people) at groups
@@ -165,3 +161,26 @@ one_more f g xs x new all i e pushed so_far one lt here =
     ap (λ l. map f l) pushed ∙ map-append f xs (x ∷ [])
     ∙ (λ k. so_far k ++ one k ∷ [])
     ∙ sym (ap (λ l. map g l) (take_more all i e lt ∙ ap (λ y. take i all ++ y ∷ []) here) ∙ map-append g (take i all) (e ∷ []))
+
+-- ---- what is gone is apart from the rows
+
+pub below_rows : (V : Verdict) (us : List Person) (p : PathOf) (fs : Files) → has_below (rows_of V us fs) p ≡ holds_below fs p
+below_rows V us p [] = refl
+below_rows V us p (e ∷ fs) = ap (λ b. is_below p e.0 || b) (below_rows V us p fs)
+
+apart_all : (V : Verdict) (us : List Person) (fs gone : Files) → AllByRecursion (λ e. holds_below fs e.0 ≡ false) gone → IsApart (rows_of V us fs) gone
+apart_all V us fs [] h = tt
+apart_all V us fs (e ∷ gone) h = (below_rows V us e.0 fs ∙ h.0, apart_all V us fs gone h.1)
+
+pub gone_apart : (V : Verdict) (rows : Rows) (t : StagedState) → GoesFrom V rows t → (us : List Person) (new : Rows) (gone : Files) → new ≡ rows_of V us t.state.tree.files → gone ≡ t.gone → IsApart new gone
+gone_apart V rows t goes us new gone is same =
+    subst (λ r. IsApart r gone) (sym is) (subst (IsApart (rows_of V us t.state.tree.files)) (sym same) (apart_all V us t.state.tree.files t.gone goes.tells.apart))
+
+pub none_apart : (new : Rows) (gone : Files) → gone ≡ [] → IsApart new gone
+none_apart new gone none = subst (IsApart new) (sym none) tt
+
+pub none_in_order : (gone : Files) → gone ≡ [] → IsInOrder gone
+none_in_order gone none = subst IsInOrder (sym none) refl
+
+pub put_again : (puts old new : Rows) (gone : Files) → gone ≡ [] → new ≡ put_all puts old → new ≡ merged puts gone old
+put_again puts old new gone none is = is ∙ ap (put_all puts) (sym (without_none gone old none))

@@ -509,17 +509,6 @@ left_was xs at i = by (nat_lt i at) refl
 person_same : (a b : Person) → Some a ≡ Some b → a ≡ b
 person_same a b h = cc
 
-none_within : (fs : Files) → count_by (lies_within []) fs ≡ 0
-none_within [] = refl
-none_within (f ∷ fs) = let e = sum_by-cons (λ (g : PathOf × Node). 0) f fs in let r = none_within fs in omega (arith, e, r)
-
--- a line that changes no file and moves no user changes nothing along paths
-pub same_least : (t : StagedState) → t.moved ≡ Same → t.changed ≡ [] → most_refreshed t ≡ 0
-same_least t is none =
-    let users = length t.state.people.users in
-    let count : count_by (lies_within t.changed) t.state.tree.files ≡ 0 = ap (λ (es : Files). count_by (lies_within es) t.state.tree.files) none ∙ none_within t.state.tree.files in
-    (λ i. users * count i + moves_refreshed (is i) t.state.tree.files) ∙ (let e = times_none users in omega (arith, e))
-
 -- ---- a line
 
 module _ (V : Verdict) (local : (u w : Person) (f : Label) → AgreeOnMentions u w f → V u f ≡ V w f) (rows : Rows) (t : StagedState) (goes : GoesFrom V rows t) (ro : IsInOrder rows) (go : IsInOrder t.state.tree.files) where

@@ -1,8 +1,12 @@
--- For inner functions: rows of the state from which a line goes.
-use Rattle.std.specs.Prelude.{◌≡◌}
+-- For inner functions: rows of the state from which a line goes, and those after it.
+use Rattle.std.specs.Prelude.{◌≡◌, ⊤}
 use Rattle.acl_people.specs.Registers.{persons}
+use Rattle.path_map.specs.Merged.{merged, put_all}
+use Rattle.acl_tree.specs.Files.{Files}
 use Rattle.acl_tree.specs.Step.{State}
 use Rattle.acl_tree.specs.Tells.{StagedState, Tells}
+use Rattle.acl_tree.specs.declared.moved.UsersMove.{UsersMove}
+use Rattle.acl_tree.specs.declared.moved.UsersMove.TheVariants.{Same, Loaded, Moved, Joined, Left}
 use Rattle.acl_rights.specs.Tables.{Verdict, Rows, rows_of}
 
 -- the rows are those of some state, from which the line goes
@@ -10,3 +14,11 @@ pub record GoesFrom (V : Verdict) (rows : Rows) (t : StagedState) : Type 0 where
   pub state : State
   pub rows_are : rows ≡ rows_of V (persons state.people) state.tree.files
   pub tells : Tells state t
+
+-- where no user comes or goes, the new rows are the old ones with some put, without those of gone paths
+abbrev pub IsAgain : UsersMove → Rows → Rows → Files → Rows → Type 0
+IsAgain Same new puts gone old = new ≡ merged puts gone old
+IsAgain Loaded new puts gone old = ⊤
+IsAgain (Moved user groups) new puts gone old = new ≡ put_all puts old
+IsAgain Joined new puts gone old = ⊤
+IsAgain (Left user) new puts gone old = ⊤

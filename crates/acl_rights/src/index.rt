@@ -8,13 +8,13 @@ ghost use Rattle.acl_names.specs.Paths.{path_cmp};
 ghost use Rattle.acl_tree.specs.Step as step;
 
 use crate::judged::judged_tree;
-use crate::reach::{NewReached, staged_reached};
+use crate::reach::staged_reached;
 use crate::rows::{NewRows, staged_rows};
 use acl_entry::{Perm, Requests};
 use acl_group_files::GroupLists;
 use acl_names::Path;
 use acl_people::People;
-use acl_reach::reached_of;
+use acl_reach::{Again, reached_of};
 use acl_tree::{Staged, Tree};
 use acl_verdicts::{Cells, Judge, granted_paths, granted_users};
 use path_map::PathMap;
@@ -151,9 +151,9 @@ impl<J: Judge> Index<J> {
         )?;
         let tree = staged.tree().share()?;
         let new = staged_rows(alloc, judge, &self.rows, &self.lists, staged)?;
-        let NewRows { rows, looked } = new;
-        let along = staged_reached::<J>(alloc, &self.rows, &self.reached, &rows, staged)?;
-        let NewReached { reached, refreshed } = along;
+        let NewRows { rows, looked, puts } = new;
+        let along = staged_reached::<J>(alloc, &self.rows, &self.reached, &rows, &puts, staged)?;
+        let Again { reached, refreshed } = along;
         let index = Index {
             users: staged.people().users(),
             tree,

@@ -3,6 +3,8 @@
 ghost use Rattle.std.specs.Prelude.{◌≡◌, ◌+◌, ◌<◌, ◌≤◌, ◌^◌, true, ℕ, List, length, map, filter, is_some, Some, slice_get, slice_set, IfOk};
 ghost use Rattle.std.specs.FinMap.{find};
 ghost use Rattle.acl_names.specs.Paths.{path_cmp};
+ghost use Rattle.path_map.specs.Entries.{IsInOrder};
+ghost use Rattle.path_map.specs.Merged.{put_all};
 ghost use Rattle.acl_edit.specs.declared.node.Node as node_types;
 ghost use Rattle.acl_people.specs.Registers.{persons};
 ghost use Rattle.acl_tree.specs.declared.moved.UsersMove.TheVariants.{Moved};
@@ -110,6 +112,8 @@ pub fn moved_rows<J: Judge>(
     requires lists { AreLists staged.now.state.tree.files lists.now }
     requires moved { staged.now.moved ≡ Moved at groups.now }
     ensures rows { IfOk result (λ new. new.rows ≡ rows_of J.verdict_of (persons staged.now.state.people) staged.now.state.tree.files) }
+    ensures order { IfOk result (λ new. IsInOrder (map (λ r. r.value) new.puts.items)) }
+    ensures again { IfOk result (λ new. new.rows ≡ put_all (map (λ r. r.value) new.puts.items) rows.now) }
     ensures at_most { J.asked_of judge.new ≤ J.asked_of judge.old + most_asked staged.now }
     ensures looked_most { IfOk result (λ new. new.looked ≤ sum_mentioning groups.now staged.now.state.tree.files) }
     ensures looked_least { IfOk result (λ new. J.asked_of judge.new ≤ J.asked_of judge.old + new.looked) }
@@ -123,5 +127,6 @@ pub fn moved_rows<J: Judge>(
     Ok(NewRows {
         rows: new,
         looked: paths.len() as u64,
+        puts,
     })
 }

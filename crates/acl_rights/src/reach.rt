@@ -1,24 +1,20 @@
 //! Verdicts along paths after a line, made from the rows that are kept.
 
-ghost use Rattle.std.specs.Prelude.{◌≡◌, ◌≤◌, ◌<◌, ◌*◌, ◌^◌, [], true, length, IfOk};
+ghost use Rattle.std.specs.Prelude.{◌≡◌, ◌≤◌, ◌<◌, ◌*◌, ◌^◌, None, length, map, IfOk};
+ghost use Rattle.path_map.specs.Entries.{IsInOrder};
+ghost use Rattle.path_map.specs.Merged.{merged};
 ghost use Rattle.acl_people.specs.Registers.{persons};
-ghost use Rattle.acl_tree.specs.declared.moved.UsersMove.TheVariants.{Same};
+ghost use Rattle.acl_reach.specs.Subtrees.{IsApart};
 ghost use Rattle.acl_rights.specs.Tables.{rows_of};
 ghost use Rattle.acl_rights.specs.Reach.{reached_rows, unlike, most_refreshed, place_left};
-ghost use Rattle.acl_rights.specs.Kept.{GoesFrom};
+ghost use Rattle.acl_rights.specs.Kept.{GoesFrom, IsAgain};
 
-use acl_reach::{differing, reached_of};
-use acl_tree::{Staged, UsersMove};
+use acl_reach::{Again, differing, reached_again, reached_of};
+use acl_tree::{Record, Staged, UsersMove};
 use acl_verdicts::{Cells, Judge};
-use path_map::PathMap;
+use path_map::{Entry, PathMap};
 use std::alloc::{AllocError, Global};
-
-/// The table of verdicts along paths, and how many of them are new or other ones than before.
-#[derive(Drop)]
-pub struct NewReached {
-    pub reached: PathMap<Cells>,
-    pub refreshed: u64,
-}
+use std::rc::Rc;
 
 /// The place of the user who left.
 fn place_left(moved: &UsersMove) -> Option<usize>
@@ -30,31 +26,14 @@ fn place_left(moved: &UsersMove) -> Option<usize>
     }
 }
 
-/// Whether a line changes no file that the check looks at, and moves no user.
-fn is_same(staged: &Staged) -> bool
-    ensures { result ≡ true → (staged.now.moved ≡ Same) × ((staged.now.changed ≡ []) × (staged.now.gone ≡ [])) }
-{
-    match staged.moved() {
-        UsersMove::Same => {
-            if staged.changed().is_empty() {
-                staged.gone().is_empty()
-            } else {
-                false
-            }
-        }
-        _ => false,
-    }
-}
-
-/// The verdicts along paths after a line. Rows that are as before are shared, and all of them
-/// where the line changes nothing.
-pub fn staged_reached<J: Judge>(
+/// The verdicts along paths after a line by which a user comes or goes: all rows are walked.
+fn whole_reached<J: Judge>(
     alloc: Global,
     old: &PathMap<Cells>,
     old_reached: &PathMap<Cells>,
     rows: &PathMap<Cells>,
     staged: &Staged,
-) -> Result<NewReached, AllocError>
+) -> Result<Again, AllocError>
     requires room { length staged.now.state.tree.files * length staged.now.state.people.users < 2 ^ 64 }
     requires goes { GoesFrom J.verdict_of old.now staged.now }
     requires reached { old_reached.now ≡ reached_rows old.now }
@@ -65,14 +44,71 @@ pub fn staged_reached<J: Judge>(
 {
     old.is_in_order();
     staged.tree().is_sound();
-    if is_same(staged) {
-        let same = old_reached.share()?;
-        return Ok(NewReached {
-            reached: same,
-            refreshed: 0,
-        });
-    }
     let reached = reached_of(alloc, rows, old_reached)?;
     let refreshed = differing(place_left(staged.moved()), old_reached, &reached);
-    Ok(NewReached { reached, refreshed })
+    Ok(Again { reached, refreshed })
+}
+
+/// The verdicts along paths after a line by which no user comes or goes, with the rows that were put, and the
+/// gone files.
+fn part_reached<J: Judge>(
+    alloc: Global,
+    old: &PathMap<Cells>,
+    old_reached: &PathMap<Cells>,
+    rows: &PathMap<Cells>,
+    puts: &[Rc<Entry<Cells>>],
+    gone: &[Rc<Record>],
+    staged: &Staged,
+) -> Result<Again, AllocError>
+    requires room { length staged.now.state.tree.files * length staged.now.state.people.users < 2 ^ 64 }
+    requires goes { GoesFrom J.verdict_of old.now staged.now }
+    requires reached { old_reached.now ≡ reached_rows old.now }
+    requires new { rows.now ≡ rows_of J.verdict_of (persons staged.now.state.people) staged.now.state.tree.files }
+    requires stays { place_left staged.now.moved ≡ None }
+    requires puts { IsInOrder (map (λ r. r.value) puts.now) }
+    requires gone { IsInOrder (map (λ r. r.value) gone.now) }
+    requires again { rows.now ≡ merged (map (λ r. r.value) puts.now) (map (λ r. r.value) gone.now) old.now }
+    requires apart { IsApart rows.now (map (λ r. r.value) gone.now) }
+    ensures reached { IfOk result (λ new. new.reached ≡ reached_rows rows.now) }
+    ensures most { IfOk result (λ new. new.refreshed ≤ most_refreshed staged.now) }
+    ensures least { IfOk result (λ new. unlike staged.now.moved old.now rows.now ≤ new.refreshed) }
+{
+    old.is_in_order();
+    staged.tree().is_sound();
+    let new = reached_again(alloc, old, old_reached, rows, puts, gone)?;
+    Ok(new)
+}
+
+/// The verdicts along paths after a line. Where no user comes or goes, only what is at the paths of the rows
+/// that were put and below them is walked, and the rest is shared.
+pub fn staged_reached<J: Judge>(
+    alloc: Global,
+    old: &PathMap<Cells>,
+    old_reached: &PathMap<Cells>,
+    rows: &PathMap<Cells>,
+    puts: &[Rc<Entry<Cells>>],
+    staged: &Staged,
+) -> Result<Again, AllocError>
+    requires room { length staged.now.state.tree.files * length staged.now.state.people.users < 2 ^ 64 }
+    requires goes { GoesFrom J.verdict_of old.now staged.now }
+    requires reached { old_reached.now ≡ reached_rows old.now }
+    requires new { rows.now ≡ rows_of J.verdict_of (persons staged.now.state.people) staged.now.state.tree.files }
+    requires puts { IsInOrder (map (λ r. r.value) puts.now) }
+    requires again { IsAgain staged.now.moved rows.now (map (λ r. r.value) puts.now) staged.now.gone old.now }
+    ensures reached { IfOk result (λ new. new.reached ≡ reached_rows rows.now) }
+    ensures most { IfOk result (λ new. new.refreshed ≤ most_refreshed staged.now) }
+    ensures least { IfOk result (λ new. unlike staged.now.moved old.now rows.now ≤ new.refreshed) }
+{
+    old.is_in_order();
+    match staged.moved() {
+        UsersMove::Same => {
+            let gone = staged.gone();
+            part_reached::<J>(alloc, old, old_reached, rows, puts, gone, staged)
+        }
+        UsersMove::Moved { .. } => {
+            let none: Vec<Rc<Record>> = Vec::new(alloc);
+            part_reached::<J>(alloc, old, old_reached, rows, puts, &none, staged)
+        }
+        _ => whole_reached::<J>(alloc, old, old_reached, rows, staged),
+    }
 }

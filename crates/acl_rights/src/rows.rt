@@ -1,11 +1,12 @@
 //! The rows after a line, by how the line moves the users.
 
-ghost use Rattle.std.specs.Prelude.{◌≡◌, ◌+◌, ◌<◌, ◌≤◌, ◌^◌, true, IfOk};
+ghost use Rattle.std.specs.Prelude.{◌≡◌, ◌+◌, ◌<◌, ◌≤◌, ◌^◌, true, [], map, IfOk};
+ghost use Rattle.path_map.specs.Entries.{IsInOrder};
 ghost use Rattle.acl_people.specs.Registers.{persons};
 ghost use Rattle.acl_group_files.specs.Groups.{AreLists};
 ghost use Rattle.acl_rights.specs.Tables.{rows_of};
 ghost use Rattle.acl_rights.specs.Stages.{most_asked, most_looked, moves_groups};
-ghost use Rattle.acl_rights.specs.Kept.{GoesFrom};
+ghost use Rattle.acl_rights.specs.Kept.{GoesFrom, IsAgain};
 
 use crate::came::joined_rows;
 use crate::changed::changed_rows;
@@ -14,14 +15,30 @@ use crate::moved::moved_rows;
 use acl_group_files::GroupLists;
 use acl_tree::{Staged, UsersMove};
 use acl_verdicts::{Cells, Judge};
-use path_map::PathMap;
+use path_map::{Entry, PathMap};
 use std::alloc::{AllocError, Global};
+use std::rc::Rc;
 
-/// Rows after a line, and how many labels were fetched for them.
+/// Rows after a line, how many labels were fetched for them, and, where no user comes or goes, those that were
+/// put in place of old ones.
 #[derive(Drop)]
 pub struct NewRows {
     pub rows: PathMap<Cells>,
     pub looked: u64,
+    pub puts: Vec<Rc<Entry<Cells>>>,
+}
+
+/// Rows that are all made anew.
+fn all_new(alloc: Global, rows: PathMap<Cells>) -> NewRows
+    ensures rows { result.rows ≡ rows }
+    ensures looked { result.looked ≡ 0 }
+    ensures puts { map (λ r. r.value) result.puts.items ≡ [] }
+{
+    NewRows {
+        rows,
+        looked: 0,
+        puts: Vec::new(alloc),
+    }
 }
 
 /// The rows after a line.
@@ -36,29 +53,25 @@ pub fn staged_rows<J: Judge>(
     requires goes { GoesFrom J.verdict_of rows.now staged.now }
     requires lists { moves_groups staged.now.moved ≡ true → AreLists staged.now.state.tree.files lists.now }
     ensures rows { IfOk result (λ new. new.rows ≡ rows_of J.verdict_of (persons staged.now.state.people) staged.now.state.tree.files) }
+    ensures order { IfOk result (λ new. IsInOrder (map (λ r. r.value) new.puts.items)) }
+    ensures again { IfOk result (λ new. IsAgain staged.now.moved new.rows (map (λ r. r.value) new.puts.items) staged.now.gone rows.now) }
     ensures at_most { J.asked_of judge.new ≤ J.asked_of judge.old + most_asked staged.now }
     ensures looked_most { IfOk result (λ new. new.looked ≤ most_looked staged.now.moved staged.now.state.tree.files) }
     ensures looked_least { IfOk result (λ new. moves_groups staged.now.moved ≡ true → J.asked_of judge.new ≤ J.asked_of judge.old + new.looked) }
 {
     match staged.moved() {
-        UsersMove::Same => {
-            let rows = changed_rows(alloc, judge, rows, staged)?;
-            Ok(NewRows { rows, looked: 0 })
-        }
-        UsersMove::Loaded => Ok(NewRows {
-            rows: PathMap::new(alloc),
-            looked: 0,
-        }),
+        UsersMove::Same => changed_rows(alloc, judge, rows, staged),
+        UsersMove::Loaded => Ok(all_new(alloc, PathMap::new(alloc))),
         UsersMove::Moved { user, groups } => {
             moved_rows(alloc, judge, rows, lists, staged, *user, groups)
         }
         UsersMove::Joined => {
             let rows = joined_rows(alloc, judge, rows, staged)?;
-            Ok(NewRows { rows, looked: 0 })
+            Ok(all_new(alloc, rows))
         }
         UsersMove::Left { user } => {
             let rows = shorter_rows(alloc, rows, *user)?;
-            Ok(NewRows { rows, looked: 0 })
+            Ok(all_new(alloc, rows))
         }
     }
 }

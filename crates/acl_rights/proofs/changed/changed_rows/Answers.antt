@@ -1,5 +1,6 @@
 use Rattle.std.proofs.Common.{map, ap, subst, ◌∙◌}
 use Rattle.path_map.specs.Entries.{IsInOrder}
+use Rattle.path_map.specs.Merged.{merged}
 use Rattle.acl_people.specs.Registers.{persons}
 use Rattle.acl_tree.specs.Files.{Recorded}
 use Rattle.acl_rights.specs.Tables.{rows_of}
@@ -24,3 +25,12 @@ returns-clause-rows g c =
     c.is_in_order.ensures (subst (λ (r : Recorded). IsInOrder r.files) c.tree.ensures c.is_sound.ensures.order)
     (ap (map (λ r. r.value)) c.deref.ensures.value ∙ c.in_ok-puts.ensures.rows ∙ (λ i. rows_of V ((c.subjects.ensures ∙ ap persons c.people.ensures) i) (c.changed.ensures i)))
     c.gone.ensures
+
+pub returns-clause-order : goal.returns-clause-order
+returns-clause-order g c =
+    let V = g.J.Judge.verdict_of in
+    puts_order V c.args.rows.now c.args.staged.now c.requires.goes c.requires.moved (map (λ r. r.value) c.in_ok-puts.puts.items) (subst (λ (r : Recorded). IsInOrder r.files) c.tree.ensures c.is_sound.ensures.order)
+    (c.in_ok-puts.ensures.rows ∙ (λ i. rows_of V ((c.subjects.ensures ∙ ap persons c.people.ensures) i) (c.changed.ensures i)))
+
+pub returns-clause-again : goal.returns-clause-again
+returns-clause-again g c = c.in_ok-new.ensures ∙ (λ i. merged (map (λ r. r.value) (c.deref.ensures.value i)) (c.gone.ensures i) c.args.rows.now)

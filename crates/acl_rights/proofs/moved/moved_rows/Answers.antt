@@ -4,6 +4,7 @@ use Rattle.acl_edit.specs.declared.node.Node.{Node}
 use Rattle.acl_tree.specs.Files.{PathOf, Recorded}
 use Rattle.acl_people.specs.Registers.{persons}
 use Rattle.path_map.specs.Entries.{IsInOrder}
+use Rattle.path_map.specs.Merged.{put_all}
 use Rattle.acl_rights.specs.Tables.{cells_of}
 use Rattle.acl_rights.specs.Stages.{mentions_one}
 use Rattle.acl_group_files.proofs.Maps.{map_values, map_filter, same_length}
@@ -73,3 +74,12 @@ returns-clause-looked_most g c =
     let paths = c.in_ok-paths.ensures t.state.tree.files order c.requires.lists ∙ ap (λ (gs : List ℕ). map (λ (e : PathOf × Node). e.0) (filter (mentions_one gs) t.state.tree.files)) c.as_slice.ensures in
     let long = ap length c.deref-paths.ensures.value ∙ same_length (λ r. r.value) (λ (e : PathOf × Node). e.0) c.in_ok-paths.paths.items (filter (mentions_one c.args.groups.now) t.state.tree.files) paths in
     omega (arith, long, looked_le c.args.groups.now t.state.tree.files)
+
+pub returns-clause-order : goal.returns-clause-order
+returns-clause-order g c =
+    let t = c.args.staged.now in
+    let order = subst (λ (r : Recorded). IsInOrder r.files) c.tree.ensures c.is_sound.ensures.order in
+    subst IsInOrder (sym c.in_ok-puts.ensures.rows) (map_values (λ (e : PathOf × Node). cells_of g.J.Judge.verdict_of (persons t.state.people) e.1) (filter (mentions_one c.args.groups.now) t.state.tree.files) (map_filter (mentions_one c.args.groups.now) t.state.tree.files order))
+
+pub returns-clause-again : goal.returns-clause-again
+returns-clause-again g c = c.in_ok-new.ensures ∙ ap (λ l. put_all (map (λ r. r.value) l) c.args.rows.now) c.deref.ensures.value

@@ -1,9 +1,0 @@
-use Rattle.std.proofs.Common.{length, map}
-use Rattle.acl_reach.specs.Walks.{IsWalked}
-use Rattle.acl_reach.proofs.walk.reached_of.Given as goal
-
-abbrev pub invariant-loop-row : goal.invariant-loop-row
-invariant-loop-row l = IsWalked l.rows l.rest (map (λ e. e.value) l.reached.items) (map (λ e. e.value) l.stack.items)
-
-abbrev pub decreases-loop-row : goal.decreases-loop-row
-decreases-loop-row l = length l.rest

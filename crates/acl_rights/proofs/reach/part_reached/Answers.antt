@@ -1,0 +1,28 @@
+use Rattle.std.proofs.Common.{◌≡◌, ◌≤◌, ◌<◌, ◌^◌, arith, ◌∙◌, sym, ap, subst}
+use Rattle.acl_tree.specs.Files.{Recorded}
+use Rattle.path_map.specs.Entries.{IsInOrder}
+use Rattle.acl_reach.specs.Differing.{differing}
+use Rattle.acl_rights.specs.Reach.{reached_rows, most_refreshed, unlike}
+use Rattle.acl_rights.proofs.Refreshed.{line_most, line_fits}
+use Rattle.acl_rights.proofs.reach.part_reached.Goals as goal
+
+pub reached_again-requires-clause-room : goal.reached_again-requires-clause-room
+reached_again-requires-clause-room g c =
+    let t = c.args.staged.now in
+    let fits = line_fits g.J.Judge.verdict_of g.met.J.Judge.local c.args.old.now t c.requires.goes c.is_in_order.ensures (subst (λ (r : Recorded). IsInOrder r.files) c.tree.ensures c.is_sound.ensures.order) c.requires.room in
+    let same = ap reached_rows c.requires.new in
+    subst (λ n. n < 2 ^ 64) (sym (λ i. differing (sym c.requires.stays i) (c.requires.reached i) (same i))) fits
+
+pub returns-clause-most : goal.returns-clause-most
+returns-clause-most g c =
+    let t = c.args.staged.now in
+    let most = line_most g.J.Judge.verdict_of g.met.J.Judge.local c.args.old.now t c.requires.goes c.is_in_order.ensures (subst (λ (r : Recorded). IsInOrder r.files) c.tree.ensures c.is_sound.ensures.order) in
+    let same = ap reached_rows c.requires.new in
+    subst (λ n. n ≤ most_refreshed t) (sym (c.in_ok-new.ensures.refreshed ∙ (λ i. differing (sym c.requires.stays i) (c.requires.reached i) (same i)))) most
+
+pub returns-clause-least : goal.returns-clause-least
+returns-clause-least g c =
+    let t = c.args.staged.now in
+    let is : c.in_ok-new.new.refreshed ≡ unlike t.moved c.args.old.now c.args.rows.now =
+    c.in_ok-new.ensures.refreshed ∙ (λ i. differing (sym c.requires.stays i) (c.requires.reached i) (reached_rows c.args.rows.now)) in
+    omega (arith, is)
