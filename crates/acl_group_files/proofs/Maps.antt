@@ -31,7 +31,7 @@ module _ {A B : Type 0} (g : PathOf × A → B) where
   sorted-values [] = refl
   sorted-values (e ∷ es) = λ i. below-values e.0 es i && sorted-values es i
 
-  -- they stand in the same order
+  -- they are in the same order
   pub map_values : (es : List (PathOf × A)) → IsInOrder es → IsInOrder (map (λ e. (e.0, g e)) es)
   map_values es h = sorted-values es ∙ h
 

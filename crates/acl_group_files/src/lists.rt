@@ -150,7 +150,8 @@ impl GroupLists {
     }
 
     /// The lists of a new tree, where these are those of the old one. Only the lists of groups that a changed
-    /// file mentions or mentioned, or one that is gone mentioned, are rebuilt; with no such file all are shared. Fails only if memory runs out.
+    /// file mentions or mentioned, or one that is gone mentioned, are rebuilt; with no such file all are shared. Fails
+    /// only if memory runs out.
     pub fn staged(
         &self,
         alloc: Global,

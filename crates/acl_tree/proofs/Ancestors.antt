@@ -123,7 +123,7 @@ true_of false h = absurd (search rules)
 to_true : (b : Bool) → b ≡ true → IsTrue b
 to_true b h = subst IsTrue (sym h) refl
 
--- what holds of all holds of a first part
+-- what is true of all is true of a first part
 valid_start : {A : Type 0} (f : A → Bool) (x : List A) (c : A) (y : List A) → list_all f (x ++ c ∷ y) ≡ true → list_all f (x ++ c ∷ []) ≡ true
 valid_start f [] c y h = ap (λ b. b && true) (and_parts (f c) (list_all f y) h).0
 valid_start f (a ∷ x) c y h =

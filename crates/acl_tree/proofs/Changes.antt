@@ -65,7 +65,7 @@ entries_itself : (as' : List Entry) → same_entries as' as' ≡ true
 entries_itself [] = refl
 entries_itself (a ∷ as') = both _ _ (entry_itself a) (entries_itself as')
 
--- labels that are told to be the same are
+-- labels that are found to be the same are the same
 pub label_told : (a b : Label) → same_label a b ≡ true → a ≡ b
 label_told a b h =
     let parts = and_parts (eqb a.owner b.owner) _ h in
@@ -156,7 +156,7 @@ module _ (test : PathOf → Bool) (g : PathOf → Node → Node) where
       by true rest = ap (λ l. changed_one true g e ++ l) rest
       by false rest = rest
 
--- where no file stood all are new
+-- where there was no file all are new
 pub all_changed : (new : Files) → changed_between [] new ≡ new
 all_changed [] = refl
 all_changed (e ∷ es) = ap (λ l. e ∷ l) (all_changed es)

@@ -38,7 +38,7 @@ module _ (n : Node) (line : Change) (m : Node) where
         bounded = bounds_recalculated n line acl dacl made is;
       })
 
-  -- the rules hold at one file
+  -- the rules are true at one file
   one : (recursive : Bool) → edit n (edits.Change line) recursive ≡ Ok m → KeepsMaskRules n line m
   unfolding change
   one recursive h = by (is_misplaced n line recursive) h

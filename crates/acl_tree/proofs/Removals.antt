@@ -145,7 +145,7 @@ none_left ps p (e ∷ t) h = by (is_file true ps e.0) refl (none_left ps p t h)
 some_is_not_none : {A : Type 0} (a : A) → Some a ≡ None → ⊥
 some_is_not_none a h = cc
 
--- an operand that may be removed alone is no directory
+-- an operand that may be removed alone is not a directory
 plain_one : (p : PathOf) (n : Node) (o : Option Node) → o ≡ Some n → refusal false p o ≡ None → is_directory n.kind ≡ false
 plain_one p n None is h = absurd (some_is_not_none n (sym is))
 plain_one p n (Some m) is h = by (is_directory m.kind) refl h

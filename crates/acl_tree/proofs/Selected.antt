@@ -333,7 +333,7 @@ none_meant b p t rest more e order is at out =
         by true k = absurd (true≢false (sym (means_convex b p e.0 x.0 le (λ gt. less_is_not_greater (sym h.0 ∙ gt)) k) ∙ out))
         by false k = refl
 
--- whether another file is below it is told by the next
+-- whether another file is below it is seen from the next file
 pub next_at_end : (p : PathOf) (t rest more : Files) (e : PathOf × Node) → IsInOrder t → rest ≡ e ∷ more → IsAtEnd p t rest → next_file_below e.0 more ≡ holds_below t e.0
 next_at_end p t rest more e order is at =
     let whole : t ≡ at.seen ++ e ∷ more = at.whole ∙ ap (λ l. at.seen ++ l) is in

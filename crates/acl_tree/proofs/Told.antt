@@ -1,4 +1,4 @@
--- What is told of a state that is staged.
+-- What a staged state reports of its changes.
 use Rattle.std.proofs.Common.{◌≡◌, ◌≢◌, ℕ, List, [], ◌∷◌, filter, true, false, refl, sym, ap, subst, ◌∙◌}
 use Rattle.std.specs.List.{AllByRecursion}
 use Rattle.acl_people.specs.Registers.{Register, persons}
@@ -19,7 +19,7 @@ module _ (old : State) (s : StagedState) where
   none_apart : s.gone ≡ [] → AllByRecursion (λ e. holds_below s.state.tree.files e.0 ≡ false) s.gone
   none_apart none = subst (AllByRecursion (λ e. holds_below s.state.tree.files e.0 ≡ false)) (sym none) tt
 
-  -- after a load of files, where none stood
+  -- after a load of files, where there was none
   pub told_load : old.tree.files ≡ [] → s.changed ≡ s.state.tree.files → s.gone ≡ [] → s.moved ≡ Same → s.state.people ≡ old.people → Tells old s
   told_load none all gone moved people = record {
     changed = all ∙ sym (ap (λ es. changed_between es s.state.tree.files) none ∙ all_changed s.state.tree.files);

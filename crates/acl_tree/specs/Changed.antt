@@ -1,4 +1,4 @@
--- What changed from one list of files to another: what the check of access may answer anew.
+-- What changed from one list of files to another: where the check of access may answer otherwise.
 use Rattle.std.specs.Prelude.{List, [], ◌∷◌, Bool, true, false, ◌==◌, ◌&&◌, not, is_some, filter}
 use Rattle.std.specs.Option.{option_map_or}
 use Rattle.std.specs.FinMap.{find}

@@ -20,7 +20,8 @@ use Rattle.acl_tree.specs.Step.{State}
 
 -- ---- each file of an edit
 
--- each file of the command is what its edit makes of it, so the rules on one file hold at each of them, and every other file is as it was
+-- each file of the command is what its edit makes of it, so the rules on one file are true at each of them, and every
+-- other file is as it was
 pub record EditsEach (edit : PathOf → Node → Result Node EditFault) (recursive : Bool) (paths : List PathOf) (old new : Recorded) : Type 0 where
   pub edited : (p : PathOf) (n : Node) → is_file recursive paths p ≡ true → find path_cmp p old.files ≡ Some n → option_map Ok (find path_cmp p new.files) ≡ Some (edit p n)
   pub others : (p : PathOf) → is_file recursive paths p ≡ false → find path_cmp p new.files ≡ find path_cmp p old.files
@@ -31,7 +32,7 @@ pub record KeepsMaskRules (old : Node) (line : Change) (new : Node) : Type 0 whe
   pub shown : ShowsRecalculated old line new
   pub bounded : BoundsRecalculated old line new
 
--- they hold at each file of the command
+-- they are true at each file of the command
 abbrev pub MasksEach : Change → Bool → List PathOf → Recorded → Recorded → Type 0
 MasksEach line recursive paths old new =
     (p : PathOf) (n m : Node) → is_file recursive paths p ≡ true → find path_cmp p old.files ≡ Some n → find path_cmp p new.files ≡ Some m → KeepsMaskRules n line m
@@ -69,7 +70,7 @@ with_users_loaded s = record s { people = record s.people { passwd_loaded = true
 
 -- ---- a restore of what is
 
--- the record says what the file is: its lists and its flags, and its owner and group where it names them
+-- the record contains what the file is: its lists and its flags, and its owner and group where it names them
 pub record Says (r : DumpRecord) (n : Node) : Type 0 where
   pub access : r.access ≡ n.label.acl
   pub default : r.dacl ≡ n.dacl
@@ -77,7 +78,7 @@ pub record Says (r : DumpRecord) (n : Node) : Type 0 where
   pub group : unwrap_or r.group n.label.group ≡ n.label.group
   pub flags : unwrap_or r.flags no_flags ≡ n.flags
 
--- the record's path is recorded, and its file is what the record says
+-- the record's path is recorded, and its file is what the record contains
 pub record IsAsRecorded (t : Files) (r : DumpRecord) : Type 0 where
   pub node : Node
   pub recorded : find path_cmp r.path t ≡ Some node

@@ -29,7 +29,7 @@ restore_one records p n = edit_if_some (option_map edit_of (record_at p records)
 abbrev pub paths_of : List DumpRecord → List PathOf
 paths_of records = map (λ r. r.path) records
 
--- the tree after the records are restored, or the first fault: of the records from left to right, one whose path is not recorded, then of
--- the files in path order
+-- the tree after the records are restored, or the first fault: of the records from left to right, one whose path is not
+-- recorded, then of the files in path order
 abbrev pub restored_tree : List DumpRecord → Recorded → Result Recorded TreeFault
 restored_tree records t = unless_missing (first_missing (paths_of records) t.files) (edit_all (restore_one records) false (paths_of records) t)

@@ -15,7 +15,7 @@ abbrev pub ArePlaced : Files → Files → Type 0
 ArePlaced all [] = ⊤
 ArePlaced all (e ∷ es) = IsPlaced all e × ArePlaced all es
 
--- the files stand in path order, there are not too many, none stands before a dump is loaded, and each is placed
+-- the files are in path order, there are not too many, there is none before a dump is loaded, and each is placed
 pub record IsSoundTree (t : Recorded) : Type 0 where
   pub order : IsInOrder t.files
   pub few : length t.files ≤ max_files

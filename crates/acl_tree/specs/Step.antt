@@ -128,6 +128,6 @@ step s (Usermod user group) = with_change s (usermod user group s.people)
 step s (Useradd new) = with_change s (useradd new s.people)
 step s (Userdel user) = with_change s (userdel user s.people)
 
--- A call stages the state after a step, or tells exactly its fault, unless memory ran out.
+-- A call stages the state after a step, or returns exactly its fault, unless memory ran out.
 abbrev pub Stages : {A : Type 0} → (A → State) → Result A TreeFault → Result State TreeFault → Type 0
 Stages view result is = MatchResult result (λ staged. is ≡ Ok (view staged)) (λ fault. fault ≢ NoMemory → is ≡ Err fault)

@@ -1,4 +1,4 @@
--- What a command that is prepared tells of the state after it.
+-- What a prepared command reports of the state after it.
 use Rattle.std.specs.Prelude.{◌≡◌, ◌≢◌, ℕ, List, [], ◌∷◌, false, Result, Ok, Err, refl}
 use Rattle.std.specs.List.{AllByRecursion}
 use Rattle.std.specs.Coded.{Coded, code_by, coded×, coded_ℕ, coded_list}
@@ -67,7 +67,8 @@ users_move s (Usermod user group) = change_moves s.people (usermod user group s.
 users_move s (Useradd new) = Joined
 users_move s (Userdel user) = user_left (userdel user s.people)
 
--- each user has the same id and groups; or no file is recorded; or one user moved, came or went, and the files are the same
+-- each user has the same id and groups; or no file is recorded; or one user moved, came or went, and the files are the
+-- same
 abbrev pub UsersMoved : State → State → UsersMove → Type 0
 UsersMoved old new Same = persons new.people ≡ persons old.people
 UsersMoved old new Loaded = new.tree.files ≡ []

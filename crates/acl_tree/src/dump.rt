@@ -21,7 +21,7 @@ use std::rc::Rc;
 /// The largest number of files of a tree.
 pub(crate) const MAX_FILES: usize = 1048576;
 
-/// A text's fault, and want of memory as such.
+/// A text's fault as that of the command; where memory ran out, `NoMemory`.
 fn text_fault(fault: TextFault) -> TreeFault
     ensures text { fault.kind ≢ FaultKind.NoMemory → result ≡ TreeFault.Text fault }
     ensures memory { fault.kind ≡ FaultKind.NoMemory → result ≡ TreeFault.NoMemory }

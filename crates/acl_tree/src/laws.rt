@@ -24,7 +24,7 @@ ghost use Rattle.acl_tree.specs.declared.command.NewFile.{NewFile};
 ghost use Rattle.acl_tree.specs.declared.command.NewUser.{NewUser};
 
 /// Proof only. An edit and a restore make each of their files what the edit of that one file makes of it, and leave
-/// every other file as it was. So the rules on the masks that a line leaves hold at each file of a recursion.
+/// every other file as it was. So the rules on the masks that a line leaves are true at each file of a recursion.
 pub fn each_file_is_edited()
     ensures edit { (recursive : Bool) (paths : List PathOf) (e : Edit) (old new : Recorded) → IsInOrder old.files → edited_tree recursive paths e old ≡ Ok new → EditsEach (edit_one e recursive) recursive paths old new }
     ensures restore { (records : List DumpRecord) (old new : Recorded) → IsInOrder old.files → restored_tree records old ≡ Ok new → EditsEach (restore_one records) false (paths_of records) old new }
@@ -51,7 +51,7 @@ pub fn new_user_is_removed()
     ensures whole { (new : NewUser) (old made : State) → is_user_name new.name ≡ true → list_any (names_user new.name) old.people.groups ≡ false → old.people.passwd_loaded ≡ true → step old (commands.Useradd new) ≡ Ok made → step made (commands.Userdel new.name) ≡ Ok old }
 {}
 
-/// Proof only. A restore of records that say what their files are changes nothing.
+/// Proof only. A restore of records that contain what their files are changes nothing.
 pub fn restore_of_what_is_changes_nothing()
     ensures { (records : List DumpRecord) (state : State) → IsSoundTree state.tree → AllByRecursion (IsAsRecorded state.tree.files) records → step state (commands.Restore records) ≡ Ok state }
 {}

@@ -1,4 +1,4 @@
-//! setfacl(1) --restore: files get back what their records say.
+//! setfacl(1) --restore: files get back what their records contain.
 
 ghost use Rattle.std.specs.Prelude.{◌≡◌, ◌≢◌, ◌++◌, [], true, map, None, Some, Ok, Err, false, MatchOption, IfOk, IfErr, OnOk};
 ghost use Rattle.std.specs.FinMap.{find};

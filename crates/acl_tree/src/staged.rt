@@ -1,4 +1,4 @@
-//! A command that is prepared: the state after it, before it stands.
+//! A prepared command: the state after it, before it is put in place.
 
 ghost use Rattle.std.specs.Prelude.{◌≡◌, map};
 ghost use Rattle.acl_tree.specs.Sound.{IsSoundTree};
@@ -9,7 +9,7 @@ use acl_people::People;
 use std::marker::Model;
 use std::rc::Rc;
 
-/// The whole state after a command, and what it changes. It is put in place by [`Tree::commit`], or given up:
+/// The whole state after a command, and what it changes. It is put in place by [`Tree::commit`], or discarded:
 /// one of these has to be done with it.
 pub struct Staged {
     tree: Tree,
@@ -66,28 +66,28 @@ impl Staged {
     }
 
     /// The files after the command that are new, or whose owner, group or access list is another than
-    /// before, in path order. It takes no memory.
+    /// before, in path order. It allocates nothing.
     pub fn changed(&self) -> &[Rc<Record>]
         ensures { map (λ r. r.value) result.now ≡ self.now.changed }
     {
         &self.changed
     }
 
-    /// The files before the command that are recorded no more, in path order. It takes no memory.
+    /// The files before the command that are recorded no more, in path order. It allocates nothing.
     pub fn gone(&self) -> &[Rc<Record>]
         ensures { map (λ r. r.value) result.now ≡ self.now.gone }
     {
         &self.gone
     }
 
-    /// How the users moved. It takes no memory.
+    /// How the users moved. It allocates nothing.
     pub fn moved(&self) -> &UsersMove
         ensures { result.now ≡ self.now.moved }
     {
         &self.moved
     }
 
-    /// Leaves the state as it is. It takes no memory.
+    /// Discards the prepared state, and leaves the present one as it is. It allocates nothing.
     pub fn give_up(self) {
         let Staged {
             tree: _tree,
@@ -100,7 +100,7 @@ impl Staged {
 }
 
 impl Tree {
-    /// Puts the state after a command in place of the one that stands. It takes no memory and succeeds.
+    /// Puts the state after a command in place of the present one. It allocates nothing and succeeds.
     pub fn commit(&mut self, people: &mut People, staged: Staged)
         ensures tree { self.new ≡ staged.state.tree }
         ensures people { people.new ≡ staged.state.people }

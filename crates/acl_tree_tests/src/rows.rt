@@ -137,7 +137,7 @@ pub fn command(rt: &impl Abort, alloc: Global, people: &People, line: &Line) -> 
     }
 }
 
-/// A command ends as the text says. Refused it changes nothing.
+/// Checks that a command ends as the text describes, and that a refused one changes nothing.
 pub fn expect_outcome(
     rt: &impl Abort,
     alloc: Global,

@@ -9,7 +9,7 @@ use acl_tree::{Command, Record, Staged, State, Tree, TreeFault, UsersMove};
 use std::alloc::Global;
 use std::process::Abort;
 
-/// A fault, without what it holds.
+/// A fault, without what it contains.
 fn words(fault: &TreeFault) -> &'static [u8] {
     match fault {
         TreeFault::NoSuchFile { .. } => b"no such file ",
@@ -122,7 +122,7 @@ fn staged_text(rt: &impl Abort, alloc: Global, staged: &Staged) -> Vec<u8> {
     text
 }
 
-/// Runs a command, and says what came of it.
+/// Runs a command, and returns its outcome as a text.
 pub fn outcome(rt: &impl Abort, alloc: Global, state: &mut State, command: Command<'_>) -> Vec<u8> {
     match state.prepare(alloc, &command) {
         Ok(staged) => {
@@ -198,7 +198,7 @@ fn expect_file(rt: &impl Abort, alloc: Global, state: &State, name: &[u8], want:
     expect_text(rt, text, want);
 }
 
-/// Files are as the texts say.
+/// Checks that files are as the texts describe.
 pub fn expect_files(rt: &impl Abort, alloc: Global, state: &State, files: &[(&[u8], &str)]) {
     for (name, want) in files {
         expect_file(rt, alloc, state, name, want);

@@ -1,4 +1,4 @@
--- Lines that are refused before their words are known, and what a session says of a unit.
+-- Lines that are refused before their words are known, and what a session returns for a unit.
 use Rattle.std.proofs.Common.{◌≡◌, ◌≢◌, ◌∙◌, ◌+◌, ◌≤◌, ℕ, Bool, true, false, [], Err, ap, sym, subst, refl, arith, true≢false}
 use Rattle.acl_tree.specs.Step.{State}
 use Rattle.acl_rights.specs.Tables.{Verdict}
@@ -26,7 +26,7 @@ refused_line V u false number fault s f same memory said h =
     subst (λ a. Says a f true) (ap (λ n. refused n [] fault s) (sym same)
     ∙ ap (answer_of_words V u s) (sym (said (λ e. true≢false (sym (memory e)))))) h
 
--- what a session says of an answer, of which it asked for this many verdicts
+-- what a session returns for an answer, where it asked for no more verdicts than the answer costs
 pub is_answer : {J : Type 0} (a : Answer State) (f : Facl J) (asked asked' : ℕ) (is_refused : Bool) → Says a f is_refused → asked' ≤ asked + a.cost
     → IsAnswer a (state_of f) asked asked' (out_of f) (err_of f) is_refused
 is_answer a f asked asked' is_refused h le = record {
@@ -37,7 +37,7 @@ is_answer a f asked asked' is_refused h le = record {
   refused_is = h.refused;
 }
 
--- a unit that says something
+-- a unit whose line is neither blank nor a comment
 pub not_silent : (V : Verdict) (u : ScriptUnit) (wants : Bool) (s : State) → is_silent u.line ≡ false
     → answered V wants u s ≡ answered_line V wants u s
 not_silent V u wants s e = rw e refl

@@ -41,8 +41,8 @@ pub record IsUntouched (remaining remaining' out out' err err' : Option (List �
   pub writes_out : out' ≡ out
   pub writes_err : err' ≡ err
 
--- The run started at this state, and its script stopped so: no more verdicts were asked for than on every user and every
--- file at the start, and what each unit costs that was read.
+-- The run started at this state, and its script stopped so: no more verdicts were asked for than on every user and
+-- every file at the start, and what each unit costs that was read.
 pub record Stops (fault : ScriptFault) (verdict : Verdict) (begun : Result State RunFault) (asked : ℕ) (remaining remaining' out out' err err' : Option (List ℕ)) : Type 0 where
   pub start : State
   pub starts : begun ≡ Ok start

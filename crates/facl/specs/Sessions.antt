@@ -1,4 +1,4 @@
--- What a contract sees of a session: its state, its index, and what the last line says.
+-- What a contract sees of a session: its state, its index, and the output and the message of the last line.
 use Rattle.std.specs.Prelude.{◌≡◌, ℕ, Bool, false, if◌then◌else◌, List, []}
 use Rattle.acl_tree.specs.Step.{State}
 use Rattle.acl_rights.specs.Tables.{Table}
@@ -21,13 +21,14 @@ wants_memory f = f.lacks_memory
 abbrev pub err_of : {J : Type 0} → Facl J → List ℕ
 err_of f = if f.lacks_memory then f.spare else f.err.items
 
--- nothing is said yet
+-- nothing is printed yet, and there is no message
 pub record IsQuiet {J : Type 0} (f : Facl J) : Type 0 where
   pub out : f.out.items ≡ []
   pub err : f.err.items ≡ []
   pub memory : f.lacks_memory ≡ false
 
--- the session is at the state of the answer, and says what it says
+-- the session is at the state of the answer, with its output and its message; and the line is refused where the answer
+-- is
 pub record Says {J : Type 0} (a : Answer State) (f : Facl J) (is_refused : Bool) : Type 0 where
   pub state : state_of f ≡ a.state
   pub out : out_of f ≡ a.out

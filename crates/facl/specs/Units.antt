@@ -84,14 +84,15 @@ abbrev pub answer_of_words : Verdict → ScriptUnit → State → Result (List T
 answer_of_words verdict u s (Ok words) = answer_of u.number (tool_word words) s (reply verdict s u.text words)
 answer_of_words verdict u s (Err fault) = refused u.number [] fault s
 
--- a line that runs out of memory is refused with that message; the verdicts for its change may have been asked for by then
+-- a line that runs out of memory is refused with that message; the verdicts for its change may have been asked for by
+-- then
 abbrev pub unless_wanting : Bool → ℕ → State → Answer State → Answer State
 unless_wanting wants number s a = if wants then record (refused number [] NoMemory s) { cost = a.cost } else a
 
--- a line that says something is refused with its first fault, or does what it asks for
+-- a line that is neither blank nor a comment is refused with its first fault, or does what it asks for
 abbrev pub answered_line : Verdict → Bool → ScriptUnit → State → Answer State
 answered_line verdict wants u s = unless_wanting wants u.number s (answer_of_words verdict u s (words_said u.line))
 
--- what a unit does at a state: nothing where it says nothing
+-- what a unit does at a state: nothing where its line is blank or a comment
 abbrev pub answered : Verdict → Bool → ScriptUnit → State → Answer State
 answered verdict wants u s = if is_silent u.line then quiet s else answered_line verdict wants u s

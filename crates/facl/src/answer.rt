@@ -12,7 +12,7 @@ use acl_tree::State;
 use facl_script::{Session, UnitFound};
 
 /// A session with the judge that it asks, who is borrowed for the whole script. The session is a type parameter so that
-/// whoever lent the judge learns what became of it.
+/// the owner of the borrowed judge learns what became of it.
 pub(crate) struct Judged<'a, J, S> {
     pub judge: &'a mut J,
     pub session: S,

@@ -1,4 +1,4 @@
-//! A script of access control list tools over a tree of files: what each line prints, and what is told of each that is
+//! A script of access control list tools over a tree of files: what each line prints, and the message of each that is
 //! refused.
 //!
 //! [`run`] loads three texts, answers a script line by line, and writes what each line prints. Its contract is the

@@ -15,9 +15,9 @@ use facl_messages::RunFault;
 use facl_script::{Feed, Sink, run_session};
 use std::alloc::Global;
 
-/// [`run`] with a judge of who may do what in the place of acl(5)'s check. The index asks the judge about every user and
-/// every file once, then for each line that changes the state at most for the verdicts that the change can have changed;
-/// a question, a `--test` and a refused line ask for none.
+/// [`run`] with a judge of who may do what in the place of acl(5)'s check. The index asks the judge about every user
+/// and every file once, then for each line that changes the state at most for the verdicts that the change can have
+/// changed; a question, a `--test` and a refused line ask for none.
 ///
 /// # Errors
 ///
@@ -58,20 +58,20 @@ pub fn run_judged<J: Judge, R: Feed, O: Sink, E: Sink>(
     Ok(Status::of(is_refused))
 }
 
-/// Loads the setup's texts, then answers a script: reads it line by line, and writes what each line prints to `out`, and
-/// the message of each refused line to `err`, before the next line is read.
+/// Loads the setup's texts, then answers a script: reads it line by line, and writes what each line prints to `out`,
+/// and the message of each refused line to `err`, before the next line is read.
 ///
 /// What is written are the bytes of the session made from scratch: the definition of each accepted line replayed on the
 /// loaded texts, every question judged by acl(5)'s check. A refused line changes nothing, and its message names its
-/// first fault. This is proved for a reader and writers that tell their bytes, as those over memory do; of the streams
-/// of a system no contract can say what they give or take.
+/// first fault. This is proved for a reader and writers whose bytes contracts can name, as of those over memory; of the
+/// streams of a system no contract can state what they give or take.
 ///
 /// # Errors
 ///
 /// `Setup` is the first text that is refused: nothing is read or written then. `Read`, `Write` and `ScriptTooLong`
 /// are why the script was not answered to its end. `NoMemory`: memory ran out for the setup, for the room of the
-/// `no memory` message, or for a line while it was read (a line whose answer finds none is refused alone). What was
-/// written by then is the start of the session.
+/// `no memory` message, or for a line while it was read (where it runs out for a line's answer, that line alone is
+/// refused). What was written by then is the start of the session.
 pub fn run<R: Feed, O: Sink, E: Sink>(
     alloc: Global,
     setup: &Setup<'_>,

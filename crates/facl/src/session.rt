@@ -1,4 +1,4 @@
-//! The session of a script: the state with its index, and what the last line says.
+//! The session of a script: the state with its index, and the output and the message of the last line.
 
 ghost use Rattle.std.specs.Prelude.{◌≡◌, ◌+◌, ◌≤◌, ℕ, [], true, false, map, string_bytes, IfOk, OnOk, OnErr};
 ghost use Rattle.facl_script.specs.Units.{ScriptUnit, UnitText};
@@ -19,7 +19,7 @@ use facl_script::{TextFound, UnitFound};
 use facl_replies::Effect;
 use std::alloc::{AllocError, Global};
 
-/// The state of a script with its index, and what its last line says.
+/// The state of a script with its index, and the output and the message of its last line.
 #[derive(Drop)]
 pub(crate) struct Facl<J> {
     alloc: Global,
@@ -61,7 +61,7 @@ impl<J: Judge> Facl<J> {
         })
     }
 
-    /// Forgets what the last line said.
+    /// Discards the output and the message of the last line.
     pub fn fall_silent(&mut self)
         ensures quiet { IsQuiet self.new }
         ensures world { self.new.world ≡ self.old.world }
@@ -71,7 +71,7 @@ impl<J: Judge> Facl<J> {
         self.lacks_memory = false;
     }
 
-    /// Refuses a line. The message of a line for which memory ran out takes none.
+    /// Refuses a line. The message of a line for which memory ran out is written without an allocation.
     fn refuse(&mut self, number: u64, tool: &[u8], fault: &LineFault)
         requires { IsQuiet self.old }
         ensures says { Says (unless_wanting (wants_memory self.new) number (state_of self.old)
@@ -87,7 +87,8 @@ impl<J: Judge> Facl<J> {
         }
     }
 
-    /// Does what an accepted line does, and says it. Fails only if memory runs out; then nothing is done.
+    /// Does what an accepted line does, and keeps its output and its warning. Fails only if memory runs out; then
+    /// nothing is done.
     fn do_line(&mut self, judge: &mut J, number: u64, effect: Effect) -> Result<(), AllocError>
         requires quiet { IsQuiet self.old }
         requires ready { IsReady J.verdict_of (J.asked_of judge.old) number (state_of self.old) (index_of self.old) }

@@ -17,7 +17,7 @@ abbrev pub fault_by_words : WordsFault → ProgramFault
 fault_by_words words.Usage = Usage
 fault_by_words words.NoMemory = NoMemory
 
--- the system had no memory
+-- the system ran out of memory
 abbrev pub wants_memory : ErrorKind → Bool
 wants_memory OutOfMemory = true
 wants_memory kind = false
@@ -39,12 +39,13 @@ fault_line fault = line_of (fault_text fault)
 abbrev pub unread_line : List ℕ → List ℕ
 unread_line file = line_of (file ++ codes ": cannot read")
 
--- the line of the fault is composed in memory: only a fault of the setup has one that is
+-- the line of the fault is composed in an allocated buffer: only that of a fault of the setup is
 abbrev pub is_composed : ProgramFault → Bool
 is_composed (Run (Setup which fault)) = true
 is_composed fault = false
 
--- The fault's line is added. Only where it is composed in memory may that of `no memory` be added in its place.
+-- The fault's line is added. Only where it is composed in an allocated buffer may that of `no memory` be added in its
+-- place.
 abbrev pub IsLineTold : ProgramFault → (err err' : Option (List ℕ)) → Type 0
 IsLineTold fault err err' = Appends err err' (fault_line fault) ⊎ ((is_composed fault ≡ true) × Appends err err' (fault_line NoMemory))
 

@@ -24,7 +24,7 @@ pub record HaveNoText (bytes_of : List ℕ → Bytes) (words : List (List ℕ)) 
   pub named : files_named words ≡ Some files
   pub first : IsFirstUnread bytes_of fault files
 
--- why there are no texts: the words name no files, or one has no text, or there is no memory
+-- why there are no texts: the words name no files, or one has no text, or memory ran out
 abbrev pub IsUnloaded : (List ℕ → Bytes) → List (List ℕ) → ProgramFault → Type 0
 IsUnloaded bytes_of words Usage = files_named words ≡ None
 IsUnloaded bytes_of words (CannotRead file) = HaveNoText bytes_of words (CannotRead file)

@@ -35,8 +35,8 @@ IsOver broken = ⊥
 abbrev pub Opens : {E A : Type 0} → Bytes → Bytes → Result A E → Type 0
 Opens bytes left result = MatchResult result (λ _. IsOpened bytes left) (λ _. MayFail bytes)
 
--- A read gives the next bytes that are left, and none of them only at the end or without room. An error comes only where it is
--- not known that they can be read.
+-- A read gives the next bytes that are left, and none of them only at the end or without room. An error comes only
+-- where it is not known that they can be read.
 abbrev pub Reads : {E : Type 0} → Bytes → Bytes → Result ℕ E → List ℕ → Type 0
 Reads left left' result piece =
     MatchResult result (λ n. Loses left left' (take n piece) × (n ≡ 0 → 0 < length piece → IsOver left')) (λ _. MayFail left)

@@ -13,7 +13,7 @@ use std::env::Env;
 use std::io::ErrorKind;
 use std::{env, io};
 
-/// The fault of words that cannot be had: one of them is no text, or there is no memory.
+/// The fault of words that cannot be read: one of them is not text, or memory ran out.
 fn words_fault(error: &io::Error) -> ProgramFault
     ensures { result ≡ if wants_memory (error_kind error.now) then faults.NoMemory else faults.Usage }
 {
@@ -23,7 +23,7 @@ fn words_fault(error: &io::Error) -> ProgramFault
     }
 }
 
-/// The words of the program, its name first. What they are is the system's to say.
+/// The words of the program, its name first. No contract can state which words the system gives.
 pub fn words_given(rt: &(impl Env + AllocGlobal)) -> Result<Vec<String>, ProgramFault> {
     match env::args(rt) {
         Ok(words) => Ok(words.collect(rt.alloc())?),

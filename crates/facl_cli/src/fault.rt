@@ -18,7 +18,7 @@ pub enum ProgramFault {
     CannotRead { file: String },
     /// The run ended before its script did.
     Run(RunFault),
-    /// A growth of memory was refused.
+    /// Memory ran out.
     NoMemory,
 }
 
@@ -49,7 +49,7 @@ impl From<RunFault> for ProgramFault {
     }
 }
 
-/// The line of a fault of the setup, which is composed in memory.
+/// The line of a fault of the setup. Fails only if memory runs out.
 fn setup_line(alloc: Global, fault: &RunFault) -> Result<Vec<u8>, AllocError>
     ensures { IfOk result (λ line. line.items ≡ fault_line (faults.Run fault.now)) }
 {
@@ -90,8 +90,8 @@ fn write_unread<E: Sink>(file: &str, err: &mut E) -> Result<(), ScriptFault>
     write_whole(err, b": cannot read\n")
 }
 
-/// Writes the line of a fault. It takes no memory, but for a fault of the setup: where there is none for its line, that of
-/// `no memory` is written.
+/// Writes the line of a fault. It allocates nothing, but for a fault of the setup: where memory runs out for its line,
+/// that of `no memory` is written.
 pub fn write_fault<E: Sink>(
     alloc: Global,
     fault: &ProgramFault,

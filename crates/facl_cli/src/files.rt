@@ -26,7 +26,7 @@ const CHUNK: usize = 65_536;
 enum Unread {
     /// It cannot be opened or read, or has more bytes than the limit.
     NoText,
-    /// A growth of memory was refused.
+    /// Memory ran out.
     NoMemory,
 }
 
@@ -38,7 +38,7 @@ impl From<AllocError> for Unread {
     }
 }
 
-/// A want of memory of the system itself is one of the program.
+/// The system's error where it ran out of memory is `NoMemory`, and every other one is `NoText`.
 impl From<io::Error> for Unread {
     ghost from_gives = { λ error why. why ≡ (if wants_memory (error_kind error) then unread.NoMemory else unread.NoText) };
 
@@ -140,8 +140,8 @@ fn read_given<S: Shelf>(
     }
 }
 
-/// The texts of the files of users, of groups and of a dump, each if it is given, read in this order. The fault is that of the
-/// first file that has no text.
+/// The texts of the files of users, of groups and of a dump, each if it is given, read in this order. The fault is that
+/// of the first file that has no text.
 pub fn read_texts<S: Shelf>(
     alloc: Global,
     shelf: &mut S,

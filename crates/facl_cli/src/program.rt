@@ -71,8 +71,8 @@ pub fn answer_words<S: Shelf, R: Feed, O: Sink, E: Sink>(
     Ok(status)
 }
 
-/// Prints the line of a fault, and returns what the program ends with: 0 where every line was accepted, 1 where some line was
-/// refused, 2 at a fault. A fault of standard error itself cannot be printed.
+/// Prints the line of a fault, and returns what the program ends with: 0 where every line was accepted, 1 where some
+/// line was refused, 2 at a fault. A fault of standard error itself cannot be printed.
 pub fn end<E: Sink>(alloc: Global, outcome: &Result<Status, ProgramFault>, err: &mut E) -> ExitCode
     requires { E.has_failed err.old ≡ false }
     ensures status { exit_status result ≡ status_of outcome.now }

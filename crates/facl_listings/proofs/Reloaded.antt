@@ -96,7 +96,7 @@ kind_again Plain false h = refl
 kind_again Directory true h = refl
 kind_again Directory false h = refl
 
--- what tells a directory without a final `/` is right
+-- what shows a directory without a final `/` is right
 told_rightly : (k : Kind) (root below : Bool) (dacl : Option KeyMap) → ((root || below) ≡ true → k ≡ Directory) → (k ≡ Plain → dacl ≡ None) → (root || (is_some dacl || below)) ≡ true → k ≡ Directory
 told_rightly Directory root below dacl placed default told = refl
 told_rightly Plain true below dacl placed default told = placed refl

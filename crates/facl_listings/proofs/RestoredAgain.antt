@@ -34,7 +34,7 @@ module _ (test : PathOf × Node → Bool) where
     | false ↦ leads_left all es h.1
   ]
 
--- each record that is printed says what its file is
+-- each record that is printed contains what its file is
 as_recorded : (known : Register) (all es : Files) (at : ℕ) → Leads all es → AllByRecursion (IsReadAgain known) es → AllByRecursion (IsAsRecorded all) (placed at (records_of all es))
 as_recorded known all [] at leads again = tt
 as_recorded known all (e ∷ es) at leads again = (
@@ -55,7 +55,8 @@ module _ (state : State) (recursive : Bool) (operands : List PathOf) (order : Is
   meant_again : AllByRecursion (IsReadAgain known) meant
   meant_again = all_left (λ e. is_file recursive operands e.0) (IsReadAgain known) all again
 
-  -- records are read again as they are printed, and a restore of records that say what is changes nothing
+  -- records are read again as they are printed, and a restore of records that contain what their files are changes
+  -- nothing
   pub restored_again :
       (AllByRecursion (IsReadable (user_id known) (group_id known) (user_name known) (group_name known) Restore) (records_of all meant) → AreApart [] (paths (records_of all meant))
       → dump_of (user_id known) (group_id known) Restore (dump_text (user_name known) (group_name known) (records_of all meant)) ≡ Ok (placed 1 (records_of all meant)))

@@ -20,7 +20,7 @@ use Rattle.acl_load.proofs.Follows.{above}
 abbrev pub Before : List PathOf → PathOf → Type 0
 Before ps p = AllByRecursion (λ q. path_cmp q p ≡ Less) ps
 
--- the paths rise, behind others
+-- the paths rise, and come after others
 abbrev pub Rising : List PathOf → List PathOf → Type 0
 Rising before [] = Unit {0}
 Rising before (p ∷ ps) = Before before p × Rising (before ++ p ∷ []) ps
@@ -56,7 +56,7 @@ not_same : (p : PathOf) (ps : List PathOf) → Before ps p → list_any (same_pa
 not_same p [] h = refl
 not_same p (q ∷ ps) h = ap (λ o. is_eq o || list_any (same_path p) ps) (above q p h.0) ∙ not_same p ps h.1
 
--- none stands twice
+-- none is there twice
 pub apart : (before ps : List PathOf) → Rising before ps → AreApart before ps
 apart before [] h = tt
 apart before (p ∷ ps) h = (not_same p before h.0, apart (before ++ p ∷ []) ps h.1)

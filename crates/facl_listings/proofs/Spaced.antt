@@ -1,4 +1,4 @@
--- Requests one behind another.
+-- Requests one after another.
 use Rattle.std.proofs.Common.{◌≡◌, ◌+◌, ◌<◌, ℕ, zero, suc, Bool, true, false, List, [], ◌∷◌, ◌++◌, length, get_or, take, map, refl, sym, ap, ◌∙◌, append_assoc, arith}
 use Rattle.std.specs.Prelude.{filter, codes, cond}
 use Rattle.std.specs.List.{flat_map, AllByRecursion}

@@ -11,14 +11,14 @@ use Rattle.acl_dump.specs.Writing.{header_text, list_text, default_text, slash_t
 use Rattle.acl_tree.specs.Found.{FoundFile}
 use Rattle.facl_listings.specs.declared.options.Options.{Options}
 
--- a file has no more than its mode says: a minimal access list and no default list
+-- a file has no more than its mode shows: a minimal access list and no default list
 abbrev pub has_base_alone : Node → Bool
 has_base_alone n = is_minimal n.label.acl && is_none n.dacl
 
 abbrev pub is_listed : Options → FoundFile → Bool
 is_listed options file = not (options.skip_base && has_base_alone file.node)
 
--- A final `/` tells a directory that nothing else tells: that is not the root, has no default list and no file below
+-- A final `/` marks a directory that nothing else shows: that is not the root, has no default list and no file below
 -- it.
 abbrev pub has_slash : FoundFile → Bool
 has_slash file = is_directory file.node.kind && not ((length file.path == 0) || (is_some file.node.dacl || file.has_below))
@@ -27,7 +27,7 @@ has_slash file = is_directory file.node.kind && not ((length file.path == 0) || 
 abbrev pub path_shown : FoundFile → List ℕ
 path_shown file = path_text file.path ++ slash_text (has_slash file)
 
--- the flags are told where one of them is set
+-- the flags are printed where one of them is set
 abbrev pub flags_told : List Bool → Option (List Bool)
 flags_told flags = if list_any (λ flag. flag) flags then Some flags else None
 

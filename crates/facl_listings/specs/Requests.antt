@@ -11,7 +11,7 @@ requests_granted granted = filter (has granted) (map numbered (1 ∷ 2 ∷ 3 ∷
 abbrev pub after_space : Perms → List ℕ
 after_space request = 32 ∷ text request
 
--- a request, behind a space where it is not the first
+-- a request, after a space where it is not the first
 abbrev pub request_text : Bool → Perms → List ℕ
 request_text is_first request = if is_first then text request else after_space request
 

@@ -24,7 +24,7 @@ fn is_listed(options: &Options, file: &Found) -> bool
     !(options.skip_base && has_base_alone(file.node()))
 }
 
-/// Whether a final `/` says that the file is a directory, as nothing else does.
+/// Whether a final `/` shows that the file is a directory, as nothing else does.
 pub(crate) fn has_slash(file: &Found) -> bool
     ensures { result ≡ has_slash file.now }
 {
@@ -157,11 +157,11 @@ fn push_listing<N: Names>(
 
 /// Adds what getfacl(1) prints of these files, in their order: for each its header lines, its access
 /// entries, its default entries with `default:` in front, and an empty line. The path of a directory ends
-/// in `/` where nothing else tells that it is one.
+/// in `/` where nothing else shows that it is one.
 ///
 /// # Errors
 ///
-/// Want of memory; then nothing is added.
+/// Fails only if memory runs out; then nothing is added.
 pub fn append_listing<N: Names>(
     text: &mut Vec<u8>,
     names: &N,

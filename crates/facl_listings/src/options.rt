@@ -9,7 +9,7 @@ pub struct Options {
     pub access_only: bool,
     /// No header lines (`-c`).
     pub omit_header: bool,
-    /// Where effective permissions are told: where the mask takes something from an entry, at each entry of
+    /// Where effective permissions are printed: where the mask takes something from an entry, at each entry of
     /// the group class of a list with a mask (`-e`), or nowhere (`-E`).
     pub effective: Effective,
     /// Leaves out the files that have the three base entries alone and no default list (`-s`).

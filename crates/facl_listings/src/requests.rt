@@ -10,7 +10,7 @@ use std::alloc::AllocError;
 /// The numbers of the requests other than none.
 const NUMBERS: [u8; 7] = [1, 2, 3, 4, 5, 6, 7];
 
-/// Adds a request that is granted, behind a space where it is not the first.
+/// Adds a request that is granted, after a space where it is not the first.
 fn push_request(text: &mut Vec<u8>, request: Perm, is_first: bool) -> Result<(), AllocError>
     ensures ok { OnOk result (text.new.items ≡ text.old.items ++ request_text is_first request) }
     ensures err { OnErr result (StartsWith text.new.items text.old.items) }
@@ -55,7 +55,7 @@ fn push_line(text: &mut Vec<u8>, granted: Requests) -> Result<(), AllocError>
 ///
 /// # Errors
 ///
-/// Want of memory; then nothing is added.
+/// Fails only if memory runs out; then nothing is added.
 pub fn append_requests(text: &mut Vec<u8>, granted: Requests) -> Result<(), AllocError>
     ensures ok { OnOk result (text.new.items ≡ text.old.items ++ requests_line granted) }
     ensures err { OnErr result (text.new.items ≡ text.old.items) }

@@ -91,7 +91,7 @@ fn push_files<N: Names>(text: &mut Vec<u8>, names: &N, files: &[Found]) -> Resul
 
 /// Adds what setfacl(1) prints with `--test` of these files, in their order: a line for each, with its path, its
 /// access list in the short form, and its default entries with `d:` before each. The path of a directory ends in
-/// `/` where nothing else says that it is one.
+/// `/` where nothing else shows that it is one.
 ///
 /// # Errors
 ///

@@ -27,7 +27,7 @@ abbrev pub paths_from : ℕ → List Text → Result (List PathOf) LineFault
 paths_from at [] = Ok []
 paths_from at (word ∷ words) = after (path_at at word) (λ path. after (paths_from (at + 1) words) (λ paths. Ok (path ∷ paths)))
 
--- the name that a user's word stands for: it is trimmed, then decoded
+-- the name that a user's word means: it is trimmed, then decoded
 abbrev pub name_meant : Text → Text
 name_meant word = decoded (trimmed word)
 

@@ -13,7 +13,8 @@ use Rattle.facl_messages.specs.declared.fault.LineFault.TheVariants.{NoMemory}
 use Rattle.facl_messages.specs.Faults.{line_fault_of_tree}
 use Rattle.facl_replies.specs.declared.effect.Effect.{Effect}
 
--- what an accepted line leaves: the state, how it moved the users, what is printed, and whether it warns of default entries that were dropped
+-- what an accepted line leaves: the state, how it moved the users, what is printed, and whether it warns of default
+-- entries that were dropped
 pub record Reply : Type 0 where
   pub state : State
   pub moved : UsersMove
@@ -54,7 +55,7 @@ left s effect = record {
   warns = effect.warns;
 }
 
--- a staged state goes from this one: it tells what differs, and its tree is sound
+-- a staged state was prepared from this one: it reports what differs, and its tree is sound
 abbrev pub IsPrepared : State → Option StagedState → Type 0
 IsPrepared s staged = IfSome staged (λ new. Tells s new × IsSoundTree new.state.tree)
 
@@ -62,7 +63,8 @@ IsPrepared s staged = IfSome staged (λ new. Tells s new × IsSoundTree new.stat
 abbrev pub Gives : {A B : Type 0} → (A → B) → Result A LineFault → Result B LineFault → Type 0
 Gives view result is = MatchResult result (λ a. is ≡ Ok (view a)) (λ fault. fault ≢ NoMemory → is ≡ Err fault)
 
--- A call gives the effect of a line whose reply at a state is this, with its state prepared; or returns exactly the fault, unless memory ran out.
+-- A call gives the effect of a line whose reply at a state is this, with its state prepared; or returns exactly the
+-- fault, unless memory ran out.
 abbrev pub Replies : State → Result Effect LineFault → Result Reply LineFault → Type 0
 Replies s result is =
     MatchResult result (λ effect. (is ≡ Ok (left s effect)) × IsPrepared s effect.staged) (λ fault. fault ≢ NoMemory → is ≡ Err fault)

@@ -1,7 +1,7 @@
 //! Scripts with what they print, and runs over devices that fail. Expected bytes are
 //! written out by hand from the rules of docs/SPECIFICATION.md and the example of getfacl(1).
 //!
-//! They stand apart from `facl`, since a crate with tests is proved twice.
+//! They are in a crate of their own, since a crate with tests is proved twice.
 #![tactic(auto)]
 
 #[cfg(test)]

@@ -4,7 +4,7 @@ use crate::texts::PASSWD;
 use facl::{Setup, StdFeed, StdSink, append_run_fault, run};
 use std::test::Fail;
 
-/// A setup, and what is told of it.
+/// A setup, and the message of its fault.
 struct FaultRow {
     setup: Setup<'static>,
     text: &'static [u8],

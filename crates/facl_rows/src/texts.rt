@@ -243,7 +243,7 @@ pub const GREATEST: Setup<'static> = Setup {
     dump: Some(GREATEST_DUMP),
 };
 
-/// Users whose names are told apart with care, and a file.
+/// Users with a repeated name, a repeated id, a name of digits and one with a space, and a file.
 pub const NAMES: Setup<'static> = Setup {
     passwd: Some(NAMES_PASSWD),
     group: Some(GROUP),

@@ -92,7 +92,7 @@ tree_after : (s new : State) (r : Result Recorded TreeFault) → with_tree s r �
 tree_after s new (Ok t) h = ap (λ (r : Result State TreeFault). Ok (tree_in t r)) h
 tree_after s new (Err fault) h = absurd (err_is_not_ok _ _ h)
 
--- what each_file_is_edited says of edits and of restores
+-- what each_file_is_edited ensures of edits and of restores
 abbrev pub EditsFiles : Type 0
 EditsFiles = (recursive : Bool) (paths : List PathOf) (e : Edit) (old new : Recorded) → IsInOrder old.files → edited_tree recursive paths e old ≡ Ok new → EditsEach (edit_one e recursive) recursive paths old new
 

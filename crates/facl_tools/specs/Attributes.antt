@@ -43,13 +43,13 @@ rest_of start word = if starts_with nat_eq word start then Some (drop (length st
 abbrev pub digits_of : Text → Text → Text → Option Text
 digits_of lower upper word = option_or (rest_of lower word) (rest_of upper word)
 
--- the list that an attribute's name stands for, and the hex digits of its bytes
+-- the list that an attribute's name means, and the hex digits of its bytes
 abbrev pub attribute_of : Text → Option (Which × Text)
 attribute_of word =
     option_or (option_map (λ digits. (Access, digits)) (digits_of (codes "system.posix_acl_access=0x") (codes "system.posix_acl_access=0X") word))
     (option_map (λ digits. (Default, digits)) (digits_of (codes "system.posix_acl_default=0x") (codes "system.posix_acl_default=0X") word))
 
--- text that is no hex digits is a bad attribute, at its beginning
+-- text that is not hex digits is a bad attribute, at its start
 abbrev pub bytes_or_fault : Result (List ℕ) FromHexError → Result (List ℕ) LineFault
 bytes_or_fault (Ok bytes) = Ok bytes
 bytes_or_fault (Err e) = Err (faults.Text AttributeEntry (bad_attr 0))

@@ -33,7 +33,7 @@ task_of w =
     else if has tools.Chacl w (codes "l") then tasks.List
     else tasks.PutAccess
 
--- what the flags of a line say
+-- what the flags of a line mean
 abbrev pub line_of : Words → ChaclLine
 line_of w = record { task = task_of w; recursive = has tools.Chacl w (codes "r") }
 

@@ -36,7 +36,7 @@ use Rattle.facl_tools.specs.declared.setfacl_entries.Given.{Given}
 
 -- ---- entry texts
 
--- what a text says, or the line's fault with this source
+-- what a text contains, or the line's fault with this source
 abbrev pub said_in : {A : Type 0} → Source → Result A TextFault → Result A LineFault
 said_in source (Ok a) = Ok a
 said_in source (Err fault) = Err (line_fault_of_text source fault)

@@ -37,7 +37,7 @@ enum Task {
     List,
 }
 
-/// A line of chacl(1): what its flags say.
+/// A line of chacl(1): what its flags mean.
 #[derive(Clone, Copy, Debug)]
 struct ChaclLine {
     task: Task,

@@ -17,7 +17,7 @@ use facl_usage::places::setattr::{ATTRIBUTE, FILE};
 use hex::FromHexError;
 use std::alloc::Global;
 
-/// An attribute: the list that its name stands for, and the hex digits of its bytes.
+/// An attribute: the list that its name means, and the hex digits of its bytes.
 #[derive(Clone, Copy, Debug)]
 struct Attribute<'a> {
     which: Which,

@@ -73,7 +73,7 @@ abbrev pub fits_gpasswd : Words → Bool
 fits_gpasswd w = (gives Gpasswd w (codes "a") || gives Gpasswd w (codes "d"))
     && not (gives Gpasswd w (codes "a") && gives Gpasswd w (codes "d"))
 
--- the id and the group are given, and the decoded name may stand in a row
+-- the id and the group are given, and the decoded name may be written in a row
 abbrev pub fits_useradd : Words → Bool
 fits_useradd w = option_map_or is_id (value Useradd w (codes "u")) false
     && gives Useradd w (codes "g") && is_user_name (decoded (operand Useradd w (codes "name")))

@@ -43,7 +43,7 @@ reads_input w = reads_input_alone w (codes "modify-file")
     && reads_input_alone w (codes "set-file")
     && reads_input_alone w (codes "restore")
 
--- a flag says how lists are changed
+-- a flag determines how lists are changed
 abbrev pub says_how : Words → Bool
 says_how w = sets_flag w (codes "no-mask") || sets_flag w (codes "mask")
     || sets_flag w (codes "default") || sets_flag w (codes "recursive")
