@@ -1,8 +1,8 @@
 -- How a run ends that stops in its script.
-use Rattle.std.proofs.Common.{◌≡◌, ◌+◌, ◌≤◌, ℕ, Bool, List, Option, Some, None, Result, Ok, inr, ◌∙◌, subst, arith}
+use Rattle.std.proofs.Common.{◌≡◌, ℕ, List, Option, Result, Ok, inr, subst}
 use Rattle.std.specs.Prelude.{IfSome}
 use Rattle.acl_tree.specs.Step.{State}
-use Rattle.facl_script.specs.Run.{StopsWith, Ends}
+use Rattle.facl_script.specs.Run.{StopsWith}
 use Rattle.facl_script.specs.declared.fault.ScriptFault.{ScriptFault}
 use Rattle.facl_script.specs.declared.fault.ScriptFault.TheVariants.{Read, Write, TooLong, NoMemory}
 use Rattle.facl_messages.specs.Faults.{run_fault_of_script}
@@ -10,8 +10,7 @@ use Rattle.facl_messages.specs.declared.fault.RunFault.{RunFault}
 use Rattle.facl_tools.specs.Tools.{Verdict}
 use Rattle.facl.specs.Costs.{all_pairs}
 use Rattle.facl.specs.Units.{answered}
-use Rattle.facl.specs.declared.status.Status.{Status}
-use Rattle.facl.specs.Runs.{EndsBy, RunsTo, has_refused}
+use Rattle.facl.specs.Runs.{EndsBy}
 
 ended : (fault : ScriptFault) (verdict : Verdict) (begun : Result State RunFault) (start state : State) (asked : ℕ) (remaining remaining' out out' err err' : Option (List ℕ))
     → begun ≡ Ok start → IfSome remaining (λ script. StopsWith fault (answered verdict) start script state (all_pairs start) asked remaining' out out' err err')
@@ -28,14 +27,3 @@ pub ends_by : (fault : ScriptFault) (verdict : Verdict) (begun : Result State Ru
 ends_by fault verdict begun start state asked asked' remaining remaining' out out' err err' e pairs h =
     ended fault verdict begun start state asked' remaining remaining' out out' err err' e
     (subst (λ n. IfSome remaining (λ script. StopsWith fault (answered verdict) start script state n asked' remaining' out out' err err')) pairs h)
-
--- a script that was answered to its end
-pub runs_to : (verdict : Verdict) (begun : Result State RunFault) (start state : State) (refused : Bool) (status : Status) (asked asked' : ℕ) (remaining out out' err err' : Option (List ℕ))
-    → begun ≡ Ok start → asked ≡ all_pairs start → has_refused status ≡ refused → IfSome remaining (λ script. Ends (answered verdict) start script refused state asked asked' out out' err err')
-    → IfSome remaining (λ script. RunsTo verdict begun script status asked' out out' err err')
-runs_to verdict begun start state refused status asked asked' None out out' err err' e pairs is h = h
-runs_to verdict begun start state refused status asked asked' (Some script) out out' err err' e pairs is h = record {
-  start = start;
-  starts = e;
-  answers = record { m = h.m; within = h.within; writes = h.gives.writes; status_is = is ∙ h.refused_is; asks = omega (arith, h.gives.spends, pairs) };
-}

@@ -1,3 +1,2 @@
 pub mod Refusing
 pub mod Ending
-pub mod Ready

@@ -11,8 +11,8 @@ ghost use Rattle.facl.specs.Units.{is_silent, words_said, tool_or_fault, text_or
 use crate::world::World;
 use acl_rights::Judge;
 use facl_messages::LineFault;
-use facl_script::{TextFound, says_nothing, split_words};
 use facl_replies::Effect;
+use facl_script::{TextFound, says_nothing, split_words};
 use facl_tools::tool_line;
 use facl_words::{Tool, Words, read_words};
 use std::alloc::Global;

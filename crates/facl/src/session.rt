@@ -15,8 +15,8 @@ use crate::world::World;
 use acl_rights::Judge;
 use acl_tree::State;
 use facl_messages::{LineFault, Spare, append_message, append_warning};
-use facl_script::{TextFound, UnitFound};
 use facl_replies::Effect;
+use facl_script::{TextFound, UnitFound};
 use std::alloc::{AllocError, Global};
 
 /// The state of a script with its index, and the output and the message of its last line.
@@ -166,13 +166,7 @@ impl<J: Judge> Facl<J> {
     }
 
     /// Answers a line that is neither blank nor a comment, and returns whether it is refused.
-    pub fn answer_line(
-        &mut self,
-        judge: &mut J,
-        unit: &UnitFound,
-        line: &[u8],
-        text: &[u8],
-    ) -> bool
+    pub fn answer_line(&mut self, judge: &mut J, unit: &UnitFound, line: &[u8], text: &[u8]) -> bool
         requires quiet { IsQuiet self.old }
         requires ready { IsReady J.verdict_of (J.asked_of judge.old) unit.now.number (state_of self.old) (index_of self.old) }
         ensures says { (u : ScriptUnit) → IsUnitFound unit.now line.now text.now u

@@ -37,12 +37,7 @@ impl<J: Judge> World<J> {
 
     /// Puts a prepared state and its index in place of these. The index is staged first, which fails only if memory
     /// runs out: then the prepared state is discarded, and both are as they were.
-    pub fn accept(
-        &mut self,
-        alloc: Global,
-        judge: &mut J,
-        staged: Staged,
-    ) -> Result<(), AllocError>
+    pub fn accept(&mut self, alloc: Global, judge: &mut J, staged: Staged) -> Result<(), AllocError>
         requires room { J.asked_of judge.old + most_pairs < 2 ^ 64 }
         requires whole { IsWhole J.verdict_of self.old.state self.old.index }
         requires tells { Tells self.old.state staged }

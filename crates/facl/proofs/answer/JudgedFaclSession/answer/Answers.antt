@@ -12,6 +12,8 @@ returns-clause-answers g c = λ u found.
     let asked = g.J.Judge.asked_of c.args.self.now.judge.now in
     let silent = sym (c.is_silent.ensures u.line found.line_is) ∙ c.if-is_silent.false in
     let answer = ap (λ w. answered_line V wants u w.state) c.fall_silent.ensures.world ∙ sym (not_silent V u wants (state_of c.args.self.now.session) silent) in
-    let asked' = g.J.Judge.asked_of c.answer_line.new.judge in
-    (wants, is_answer _ new asked asked' c.answer_line.result (subst (λ a. Says a new c.answer_line.result) answer (c.answer_line.ensures.says u found))
-    (subst (λ a. asked' ≤ asked + a.cost) answer (c.answer_line.ensures.asked u found)))
+    let asked' = g.J.Judge.asked_of c.answer_line.new.judge in (
+      wants,
+      is_answer _ new asked asked' c.answer_line.result (subst (λ a. Says a new c.answer_line.result) answer (c.answer_line.ensures.says u found))
+          (subst (λ a. asked' ≤ asked + a.cost) answer (c.answer_line.ensures.asked u found)),
+    )
