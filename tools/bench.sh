@@ -48,7 +48,7 @@ mkdir "$folder/tree" && cd "$folder/tree"
 sed -E 's/(user|group):[ug]([0-9]+):/\1:10\2:/; /^# (owner|group):/d' ../dump >../restored
 sed -n 's/^# file: \(.*\)\/$/\1/p' ../dump | xargs mkdir -p
 sed -n 's/^# file: \(.*[^/.]\)$/\1/p' ../dump | xargs touch
-# What a command takes, a file; a command that fails is told and not measured.
+# What a command takes, a file; a command that fails is reported and not measured.
 seconds() {
     local begun=$EPOCHREALTIME ended status=0
     "$@" >/dev/null 2>&1 || status=$?

@@ -11,13 +11,13 @@ nothing else shows to be one is given with a final `/`. The system has to have t
 What is not compared, since the program does otherwise (docs/DECISIONS.md has a table of lines):
 - which of several faults is reported, and in which words;
 - what a refused line changed: the real tools go file by file, and the program acts on all files or on none. The real
-  tree is then made anew from the program's listing, which tests the way back;
+  tree is then rebuilt from the program's listing, which tests the way back;
 - the meaning of the order of options: lines give them in the program's order (-d -n --mask first, then -b -k, then -x,
   then -m);
 - what `setfacl --test` prints (its layout is the program's own); that it changes nothing is compared;
 - the superuser's rights, who is a user as any other for the program;
 - names with a backslash, symbolic links, -L and -P, an option given twice;
-- lists of chacl with permissions as a digit or a bare user name, and -r beside a flag, which chacl(1) takes not;
+- lists of chacl with permissions as a digit or a bare user name, and -r beside a flag, which chacl(1) does not take;
 - a record for --restore that lacks a mask or base entries of a default list, or has a key twice, which the real tool
   mends; --test with --restore, where the real tool sets owners and flags;
 - white space before a comment in a text of -X, where the real tool takes it for a part of the name.

@@ -3,7 +3,7 @@
 #
 # usage: tools/each_growth.sh [PROGRAM]      PROGRAM: one that is built already
 #
-# It needs python3 and a C compiler, and stands outside the gate, which has no way to refuse a growth.
+# It needs python3 and a C compiler, and is outside the gate, which has no way to refuse a growth.
 set -eu
 top=$(cd "$(dirname "$0")/.." && pwd)
 program=${1:-$top/crates/facl_cli/out/facl_cli}

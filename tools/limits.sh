@@ -3,7 +3,7 @@
 #
 # usage: tools/limits.sh [PROGRAM]      PROGRAM: one that is built already
 #
-# It needs python3, some 700 MB of memory and as much in the temporary folder, and stands outside the gate.
+# It needs python3, some 700 MB of memory and as much in the temporary folder, and is outside the gate.
 set -eu
 top=$(cd "$(dirname "$0")/.." && pwd)
 program=${1:-$top/crates/facl_cli/out/facl_cli}

@@ -3,7 +3,7 @@
 
 usage: tools/prove.py [--jobs N] [CRATE]
 
-CRATE is facl_cli unless it is given. A crate is started once those that it stands on are built, the one with the
+CRATE is facl_cli unless it is given. A crate is started once those that it depends on are built, the one with the
 longest way to CRATE first. N crates run at a time: as many as there are processors, and as memory has room for, unless
 N is given. A crate that runs alone checks N of its functions at a time; otherwise rt decides. What is proved already,
 and has not changed since, is not proved again.
@@ -31,7 +31,7 @@ def folder_of(crate, *inner):
 
 
 def read_crates():
-    """The crates of this repository that each crate of crates.txt stands on."""
+    """The crates of this repository that each crate of crates.txt depends on."""
     uses = {}
     with open(os.path.join(TOP, "crates.txt"), encoding="utf-8") as lines:
         for line in lines:
@@ -43,7 +43,7 @@ def read_crates():
 
 
 def needed(uses, crate):
-    """The crate and all that it stands on."""
+    """The crate and all that it depends on."""
     found, left = set(), [crate]
     while left:
         crate = left.pop()

@@ -242,7 +242,7 @@ class Grammar:
         return words[:at] + [more.get(kind, "''")] + words[at:]
 
     def broken(self, top):
-        """A line that is at fault as a line, or says nothing."""
+        """A line that is at fault as a line, or does nothing."""
         if self.chance(0.004):
             return b"getfacl " + b"a" * self.one(65527, 65528, 65529)
         return self.one(b"", b" \t ", b"# a comment -", b"can 'joe " + top.encode(), b"getfacl \xff", b"getfacl \r", b"'", b"getfacl \xff '", b"\0")

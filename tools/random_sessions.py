@@ -13,7 +13,7 @@ their lines in turn. Of each batch, with no second implementation but of the che
 - the listing of all files (`getfacl -R .`), loaded by the same users, gives the same listing; restored there it changes
   nothing;
 - `index` and random questions of can, who and may, half of them with `--reach`, are answered as acl(5)'s check has it,
-  made anew from that listing and the users (answers.py).
+  rebuilt from that listing and the users (answers.py).
 
 A batch that breaks one is cut down to as few lines as break it, which are printed. The exit status is then 1. The same
 seed gives the same sessions.
