@@ -4,7 +4,7 @@
 usage: measure.py PROGRAM RUNS USERS FILES..
 
 A run starts the program with the texts of make_tree.py, and then sends it lines. Its output goes to /dev/null. After
-some lines comes one that is refused; its message shows that the lines before it are answered, since a line is answered
+some lines comes one that is refused; its message tells that the lines before it are answered, since a line is answered
 before the next one is read. So each time is that of the lines alone, without the load. Of the runs the best is taken.
 """
 import os
