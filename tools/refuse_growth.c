@@ -1,5 +1,5 @@
-/* A malloc that refuses one growth: the one with the number REFUSE, counted from 1. It reports on descriptor 9, if that is
-   open, that it did. Preloaded by tools/each_growth.sh under the built program; no part of facl. */
+/* A malloc that refuses one growth: the one with the number REFUSE, counted from 1. It reports on descriptor 9, if that
+   is open, that it did. Preloaded by tools/each_growth.sh under the built program; no part of facl. */
 #define _GNU_SOURCE
 #include <dlfcn.h>
 #include <stddef.h>
