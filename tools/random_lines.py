@@ -160,11 +160,14 @@ class Grammar:
         return ["-g", self.group(), self.user()], []
 
     def useradd(self, top):
-        name = self.one("lisa", "8", "a:b", "''") if self.chance(0.2) else "n%d" % self.random.randrange(40)
+        if self.chance(0.2):
+            return ["-u", self.one("1000", "1001", "1002"), "-g", self.group(), self.one("lisa", "joe", "ann")], []
+        name = self.one("lisa", "8", "a:b", "''") if self.chance(0.1) else "n%d" % self.random.randrange(40)
         return ["-u", self.one("1000", "-1", "4294967295") if self.chance(0.1) else str(self.random.randrange(2000, 2040)), "-g", self.group(), name], []
 
     def userdel(self, top):
-        return ["n%d" % self.random.randrange(40) if self.chance(0.7) else self.user()], []
+        # The users are those of all sessions of a run: some have to stay.
+        return ["n%d" % self.random.randrange(40) if self.chance(0.9) else self.user()], []
 
     def load(self, top):
         return [self.one("passwd", "group", "dump", "dumps")], self.one([], ["# file: a"], ["x:x:1:"], ["..", " ."])
@@ -217,7 +220,7 @@ class Grammar:
         words = [tool] + words
         if self.chance(0.1):
             words = self.spoilt(words, top)
-        line = self.one(" ", " ", "  ", "\t").join(words) + self.one("", "", "", " ", " #")
+        line = self.one(" ", " ", "  ", "\t").join(words) + (" #" if self.chance(0.04) else self.one("", "", "", " "))
         seen = [word.replace("'", "") for word in self.split(line)]
         takes = seen and (seen[0] == "load" or TEXT_WORDS & set(seen[1:]))
         text = [it.encode().replace(b"\n", b"") for it in text] if takes else None
