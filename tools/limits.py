@@ -220,6 +220,11 @@ def files_of_the_tree(checks):
     checks.expect("a full tree", script, line(b"0") + line(b"ffffe") + b"new [u::rw-,g::---,o::---]\n",
         b"line 1: creat: too many files\nline 3: creat: too many files\nline 7: creat: too many files\n", full)
     checks.expect("one more file", b"", err=b"facl: setup: dump: " + full_line, files={**people, "dump": more})
+    names = [b".", *sorted(b"%x" % k for k in range(FILES - 1))]
+    checks.expect("what is granted on so many files", b"may joe 0\nmay --reach joe r\nwho x .\ncan joe ffffe\n",
+        lines([*names, b".", b"lisa", b"joe", b"none"]), files=full)
+    index = (b"%s %s %s" % (b"33" if path == b"." else b"01", user, path) for path in names for user in (b"lisa", b"joe"))
+    checks.expect("their index", b"index\n", lines(index), files=full)
     checks.expect("the files of a text", b"load dump\n" + most + b".\nchacl -l ffffe\n", line(b"ffffe"), files=people)
     checks.expect("one more file of a text", b"load dump\n" + more + b".\ngetfacl .\n", b"",
         b"line 1: load: too many files\nline %d: getfacl: .: no such file\n" % (more.count(b"\n") + 3), people)
@@ -234,6 +239,10 @@ def users(count):
 
 def groups(count):
     return b"".join(b"g%d:x:%d:\n" % (k, k) for k in range(count))
+
+
+# What the group may do: `r-x` grants the requests 0, 1, 4 and 5; `r--` 0 and 4.
+USUAL = {b".": b"33", b"f": b"11"}
 
 
 def rows_of_people(checks):
@@ -255,6 +264,13 @@ def rows_of_people(checks):
     err = b"line 2: useradd: too many users\nline 3: can: 70001: no such user\nline 7: useradd: too many users\n"
     files = {"passwd": users(ROWS - 1), "group": GROUP, "dump": DUMP.replace(b"lisa", b"1")}
     checks.expect("users that are added", script, b"r--\nr--\n", err, files)
+    names = [b"u%d" % k for k in range(ROWS)]
+    files = {**files, "passwd": users(ROWS)}
+    last = names[-1]
+    checks.expect("questions with so many users", b"who r f\nwho w f\nwho --reach 0 f\ncan %s f\nmay %s r\n" % (last, last),
+        lines([*names, b"u1", *names, b"r--", b".", b"f"]), files=files)
+    rights = lambda name, path: b"%s %s %s" % (b"ff" if name == b"u1" and path == b"." else b"55" if name == b"u1" else USUAL[path], name, path)
+    checks.expect("their index", b"index\n", lines(rights(name, path) for path in (b".", b"f") for name in names), files=files)
 
 
 # Lines, scripts and files as bytes.
