@@ -27,6 +27,7 @@ if [ -z "$program" ]; then
     "$here/prove.py"
     program=$here/../crates/facl_cli/out/facl_cli
 fi
+program=$(realpath "$program")
 python3 "$here/measure.py" "$program" "$runs" "$users" "${sizes[@]}"
 
 # The same work by the real tools, at real files.
@@ -78,3 +79,8 @@ files=1000
 echo "| \`setfacl -m\` of one file a call, $files calls | $(seconds each_file) |"
 echo "| \`touch\` of a new file a call, $files calls | $(seconds new_files) |"
 echo "| \`rm\` of one file a call, $files calls | $(seconds gone_files) |"
+# Who may read a file: asked of the kernel as each user of the system, and of the program in one line.
+if [ "$(id -u)" = 0 ] && command -v setpriv >/dev/null; then
+    echo asked >"$folder/asked" && chmod 755 "$folder" && chmod 640 "$folder/asked" && setfacl -m u:1:r,g:8:r "$folder/asked"
+    echo && python3 "$here/ask_real.py" "$program" "$folder/asked"
+fi
