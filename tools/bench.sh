@@ -51,11 +51,11 @@ sed -n 's/^# file: \(.*\)\/$/\1/p' ../dump | xargs mkdir -p
 sed -n 's/^# file: \(.*[^/.]\)$/\1/p' ../dump | xargs touch
 # What a command takes, a file; a command that fails is reported and not measured.
 seconds() {
-    local begun=$EPOCHREALTIME ended status=0
+    local started=$EPOCHREALTIME ended status=0
     "$@" >/dev/null 2>&1 || status=$?
     ended=$EPOCHREALTIME
     [ $status -eq 0 ] || { echo "failed with status $status" && return; }
-    echo "$ended $begun" | awk -v n=$files '{ printf "%.2f us", ($1 - $2) / n * 1e6 }'
+    echo "$ended $started" | awk -v n=$files '{ printf "%.2f us", ($1 - $2) / n * 1e6 }'
 }
 echo
 echo "| Real tools, $files files | a file |"

@@ -460,11 +460,11 @@ def main():
         for group in CHECKS:
             if words and not any(word in group.__name__ for word in words):
                 continue
-            begun = time.perf_counter()
+            started = time.perf_counter()
             checks = Checks(program, folder)
             group(checks)
             failed, done = failed + checks.failed, done + checks.done
-            print(f"{group.__name__}: {checks.done} runs, {checks.failed} of them not as expected, {time.perf_counter() - begun:.1f} s", flush=True)
+            print(f"{group.__name__}: {checks.done} runs, {checks.failed} of them not as expected, {time.perf_counter() - started:.1f} s", flush=True)
     print(f"{done} runs, {failed} of them not as expected.")
     sys.exit(1 if failed else 0)
 

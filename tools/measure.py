@@ -36,7 +36,7 @@ class Session:
         for name in ("passwd", "group", "dump"):
             words += [f"--{name}", f"{folder}/{name}"]
         how = {"stdin": subprocess.PIPE, "stdout": subprocess.DEVNULL, "stderr": subprocess.PIPE}
-        self.begun = time.perf_counter()
+        self.started = time.perf_counter()
         self.spent = 0
         self.program = subprocess.Popen(words, **how)
         self.load = self.answer([])
@@ -48,7 +48,7 @@ class Session:
             with open(f"/proc/{self.program.pid}/schedstat") as file:
                 return int(file.read().split()[0]) / 1e9
         except OSError:
-            return time.perf_counter() - self.begun
+            return time.perf_counter() - self.started
 
     def greatest_memory(self):
         """The most bytes that the program had at once; 0 where the system does not tell."""

@@ -28,7 +28,7 @@ pub struct NewRows {
     pub puts: Vec<Rc<Entry<Cells>>>,
 }
 
-/// Rows that are all made anew.
+/// Rows that are all rebuilt.
 fn all_new(alloc: Global, rows: PathMap<Cells>) -> NewRows
     ensures rows { result.rows ≡ rows }
     ensures looked { result.looked ≡ 0 }
