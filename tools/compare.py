@@ -175,7 +175,7 @@ class Comparison:
         mine, _ = facl.answer(b"getfacl -R -n .")
         real = tree.listing()
         records = Records(before)
-        told = f"status {status} {faults.decode(errors='replace').strip()!r}"
+        reported = f"status {status} {faults.decode(errors='replace').strip()!r}"
         what = None
         named = [why for text, why in REFUSED_BY_THE_PROGRAM.items() if messages and messages[0].endswith(text + "\n")]
         if named and not real_refused:
@@ -183,15 +183,15 @@ class Comparison:
         elif mine_refused != real_refused and b"--test" not in line.words:
             what = "accepted by one alone"
         elif line.compared and not mine_refused and out != printed:
-            what, told, messages = "output", repr(out.decode()), [repr(printed.decode())]
+            what, reported, messages = "output", repr(out.decode()), [repr(printed.decode())]
         elif not mine_refused and real != mine:
-            what, told, messages = "listing", self.changed(mine, real), [self.changed(real, mine)]
+            what, reported, messages = "listing", self.changed(mine, real), [self.changed(real, mine)]
         elif mine_refused and mine != before:
             what = "a refused line changed files"
         if named and not real_refused:
             pass
         elif what:
-            self.report(line, what, records, told, "".join(messages).strip() or "accepted")
+            self.report(line, what, records, reported, "".join(messages).strip() or "accepted")
         elif mine_refused:
             self.counts["refused"] += 1
             self.counts["in part"] += real != before

@@ -233,11 +233,11 @@ class Program:
 
     def run(self, units, refuse=0):
         """What a run writes and ends with, and whether the growth was refused."""
-        told_read, told_write = os.pipe()
+        reported_read, reported_write = os.pipe()
         environment = {"LD_PRELOAD": self.preloaded, "REFUSE": str(refuse)}
 
         def ready():
-            os.dup2(told_write, 9)
+            os.dup2(reported_write, 9)
 
         done = subprocess.run(
             [self.program] + self.files,
@@ -245,12 +245,12 @@ class Program:
             capture_output=True,
             env=environment,
             preexec_fn=ready,
-            pass_fds=(9, told_write),
+            pass_fds=(9, reported_write),
         )
-        os.close(told_write)
-        told = os.read(told_read, 64)
-        os.close(told_read)
-        return done.stdout, done.stderr, done.returncode, bool(told)
+        os.close(reported_write)
+        reported = os.read(reported_read, 64)
+        os.close(reported_read)
+        return done.stdout, done.stderr, done.returncode, bool(reported)
 
 
 def emptied(units, at):

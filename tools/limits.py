@@ -120,18 +120,18 @@ def lists_of_dumps(checks):
     for which, before, prefix in ((b"access", [], b""), (b"default", minimal, b"default:")):
         last = record(b"a/", before + base(ENTRIES, prefix))
         above = record(b"a/", before + base(ENTRIES + 1, prefix))
-        told = b"text line 1: " + which + b" list: too many entries\n"
+        reported = b"text line 1: " + which + b" list: too many entries\n"
         listed = listing(b"a", before + base(ENTRIES, prefix))
         checks.expect("a list of a dump", b"getfacl -c a\n", listed, files={**people, "dump": lines(last)})
-        checks.expect("a longer one", b"", err=b"facl: setup: dump: " + told, files={**people, "dump": lines(above)})
+        checks.expect("a longer one", b"", err=b"facl: setup: dump: " + reported, files={**people, "dump": lines(above)})
         load = text_of(b"load dump", last) + b"getfacl -c a\n"
         checks.expect("a list of a loaded dump", load, listed, files=people)
-        checks.expect("a longer one", text_of(b"load dump", above), err=b"line 1: load: " + told, files=people)
+        checks.expect("a longer one", text_of(b"load dump", above), err=b"line 1: load: " + reported, files=people)
     last, above = record(b"f", most), record(b"f", more)
     restore = text_of(b"setfacl --restore=-", last)
     checks.expect("a list that is restored", restore + b"getfacl -c f\n", listing(b"f", most))
-    told = b"line 1: setfacl: text line 1: access list: too many entries\n"
-    checks.expect("a longer one", text_of(b"setfacl --restore=-", above) + b"chacl -l f\n", LISTED, told)
+    reported = b"line 1: setfacl: text line 1: access list: too many entries\n"
+    checks.expect("a longer one", text_of(b"setfacl --restore=-", above) + b"chacl -l f\n", LISTED, reported)
     begin, end = "0200000001000700ffffffff", "04000400ffffffff10000400ffffffff20000000ffffffff"
     named = "".join("02000400" + (FIRST + user).to_bytes(4, "little").hex() for user in range(ENTRIES - 4))
     printed = b"# file: f\nsystem.posix_acl_access=0x" + (begin + named + end).encode() + b"\n\n"
@@ -160,12 +160,12 @@ def lists_of_lines(checks):
     checks.expect("a list that is set", b"setfacl --set %s f\ngetfacl -c f\n" % most, listed)
     checks.expect("a longer one", b"setfacl --set %s f\n" % more, err=b"line 1: setfacl: f: access list: too many entries\n")
     users = lambda count: b",".join(named(count))
-    told = b"line 1: setfacl: f: access list: too many entries\n"
+    reported = b"line 1: setfacl: f: access list: too many entries\n"
     out = listing(b"f", [b"user::rw-", *base(ENTRIES)[1:]])
     checks.expect("a list that grows", b"setfacl -m %s f\ngetfacl -c f\n" % users(ENTRIES - 4), out)
-    checks.expect("to one entry more", b"setfacl -m %s f\nchacl -l f\n" % users(ENTRIES - 3), LISTED, told)
+    checks.expect("to one entry more", b"setfacl -m %s f\nchacl -l f\n" % users(ENTRIES - 3), LISTED, reported)
     checks.expect("by one entry more", b"setfacl -m %s f\nsetfacl -m 9999:4 f\ngetfacl -c f\n" % users(ENTRIES - 4), out,
-        told.replace(b"line 1", b"line 2"))
+        reported.replace(b"line 1", b"line 2"))
     checks.expect("a default list that grows", b"setfacl -d -m %s .\n" % users(ENTRIES - 3),
         err=b"line 1: setfacl: .: default list: too many entries\n")
 
@@ -246,7 +246,7 @@ USUAL = {b".": b"33", b"f": b"11"}
 
 
 def rows_of_people(checks):
-    told = b"text line 65537: too many\n"
+    reported = b"text line 65537: too many\n"
     for which, rows, again, new in (
         ("passwd", users(ROWS), b"u0:x:70000:50:::\n", b"z:x:1:1:::\n"),
         ("group", groups(ROWS), b"g0:x:70000:\n", b"z:x:1:\n"),
@@ -255,10 +255,10 @@ def rows_of_people(checks):
         text = lambda extra: b"load " + word + b"\n" + rows + extra + b".\n"
         checks.expect("rows", b"", files={which: rows})
         checks.expect("a repeated name", b"", files={which: rows + again})
-        checks.expect("one more row", b"", err=b"facl: setup: " + word + b": " + told, files={which: rows + new})
+        checks.expect("one more row", b"", err=b"facl: setup: " + word + b": " + reported, files={which: rows + new})
         checks.expect("a bad row there", b"", err=b"facl: setup: " + word + b": text line 65537: bad row\n", files={which: rows + b"z\n"})
         checks.expect("rows of a text", text(again), files={})
-        checks.expect("one more row of a text", text(new), err=b"line 1: load: " + told, files={})
+        checks.expect("one more row of a text", text(new), err=b"line 1: load: " + reported, files={})
     script = b"useradd -u 70000 -g staff one\nuseradd -u 70001 -g staff two\ncan 70001 f\ncan one f\n"
     script += b"userdel u7\nuseradd -u 7 -g staff two\nuseradd -u 70002 -g staff three\ncan two f\n"
     err = b"line 2: useradd: too many users\nline 3: can: 70001: no such user\nline 7: useradd: too many users\n"
@@ -287,11 +287,11 @@ def lengths_of_lines(checks):
         b"line 1: facl: line too long\nline 3: facl: unknown tool\n")
     comment = padded(b"#", LINE)
     line = b"setfacl -M - f"
-    told = b"line 1: facl: text line too long\n"
+    reported = b"line 1: facl: text line too long\n"
     checks.expect("a text line", text_of(line, [comment, b"o:r"]) + b"chacl -l f\n", LISTED.replace(b"o::---", b"o::r--"))
-    checks.expect("a longer one", text_of(line, [comment + b" ", b"o:r"]) + b"chacl -l f\n", LISTED, told)
+    checks.expect("a longer one", text_of(line, [comment + b" ", b"o:r"]) + b"chacl -l f\n", LISTED, reported)
     checks.expect("one without an end", line + b"\n" + comment + b" ", err=b"line 1: facl: text without end\n")
-    checks.expect("one that is longer by far", text_of(line, [comment * 100]) + b"chacl -l f\n", LISTED, told)
+    checks.expect("one that is longer by far", text_of(line, [comment * 100]) + b"chacl -l f\n", LISTED, reported)
     checks.expect("a dot behind blanks is a text line", line + b"\n. \n.\n", err=b"line 1: setfacl: entry 1: permissions missing\n")
 
 
@@ -301,17 +301,17 @@ def lengths_of_scripts(checks):
     whole = comments * (SCRIPT // 64)
     script = whole[: SCRIPT - len(last) - 1] + b"\n" + last
     assert len(script) == SCRIPT
-    told = b"facl: script too long\n"
+    reported = b"facl: script too long\n"
     checks.expect("a script", script, LISTED)
     checks.expect("without its last line feed", script[:-1] + b" ", LISTED)
-    checks.expect("one byte more", script + b"\n", LISTED, told)
-    checks.expect("one byte more in its last line", b"#" + script, b"", told)
+    checks.expect("one byte more", script + b"\n", LISTED, reported)
+    checks.expect("one byte more in its last line", b"#" + script, b"", reported)
     text = b"setfacl -M - f\n"
     text += whole[: SCRIPT - len(text) - 3] + b"\n.\n"
     assert len(text) == SCRIPT
     checks.expect("a text as long", text)
     checks.expect("a text without an end", text[:-2], err=b"line 1: facl: text without end\n")
-    checks.expect("a text that is longer", b"\n" + text, b"", told)
+    checks.expect("a text that is longer", b"\n" + text, b"", reported)
 
 
 def reader_without_end(checks):
@@ -376,10 +376,10 @@ def ids_of_dumps(checks):
     checks.expect("ids of a dump", b"getfacl f\n", whole + b"\n", files={**people, "dump": whole})
     for at, (line, kind) in enumerate(((2, b"unknown user"), (3, b"unknown group"), (5, b"unknown user"), (7, b"unknown group"))):
         for number in ABOVE:
-            told = b"text line %d: %s\n" % (line, kind)
-            checks.expect("a greater one", b"", err=b"facl: setup: dump: " + told, files={**people, "dump": fill(at, number)})
+            reported = b"text line %d: %s\n" % (line, kind)
+            checks.expect("a greater one", b"", err=b"facl: setup: dump: " + reported, files={**people, "dump": fill(at, number)})
             restore = b"setfacl --restore=-\n" + fill(at, number) + b".\n"
-            checks.expect("a greater one, restored", restore, err=b"line 1: setfacl: " + told)
+            checks.expect("a greater one, restored", restore, err=b"line 1: setfacl: " + reported)
     checks.expect("ids that are restored", b"setfacl --restore=-\n" + whole + b".\ngetfacl f\n", whole + b"\n")
 
 
@@ -398,10 +398,10 @@ def ids_of_entries(checks):
         (b"setfacl -M - f\nu:%d:r\n.", b"setfacl: entry 1: unknown user"),
         (b"setfacl -X - f\n\ng:%d\n.", b"setfacl: entry 2: unknown group"),
     ]
-    for form, told in forms:
+    for form, reported in forms:
         checks.expect("an id of an entry", form % ID + b"\n")
         for number in ABOVE:
-            checks.expect("a greater one", form % number + b"\n", err=b"line 1: " + told + b"\n")
+            checks.expect("a greater one", form % number + b"\n", err=b"line 1: " + reported + b"\n")
     for tag in (2, 8):
         value = b"0200000001000600ffffffff"
         named = b"0%d000400%%sffffff" % tag
@@ -424,10 +424,10 @@ def ids_of_words(checks):
         (b"useradd -u 5 -g %d new", b"", b"useradd: %d: no such group"),
         (b"userdel %d", b"", b"userdel: %d: no such user"),
     ]
-    for form, out, told in forms:
+    for form, out, reported in forms:
         checks.expect("an id of a word", form % ID + b"\n", out, files=files)
         for number in ABOVE:
-            checks.expect("a greater one", form % number + b"\n", err=b"line 1: " + told % number + b"\n", files=files)
+            checks.expect("a greater one", form % number + b"\n", err=b"line 1: " + reported % number + b"\n", files=files)
     checks.expect("the id of a new user", b"useradd -u %d -g staff new\ncan new f\n" % ID, b"r--\n")
     checks.expect("one that is there", b"useradd -u %d -g staff new\n" % ID, err=b"line 1: useradd: %d: user id in use\n" % ID, files=files)
     for number in ABOVE:

@@ -11,7 +11,7 @@ use Rattle.acl_entry.specs.Perms.{Perms, number, numbered, number-numbered}
 use Rattle.byteorder.specs.Endian.{little_number}
 use Rattle.acl_attr.specs.declared.decode.Reading.{Reading}
 use Rattle.acl_attr.specs.Attr.{tag_of, id_from, key_of, perm_of, with_key, with_entry}
-use Rattle.acl_attr.specs.Said.{IsIdOf, Says}
+use Rattle.acl_attr.specs.Encoded.{IsIdOf, Encodes}
 
 none_is_not_some : {A : Type 0} (x : A) → None ≡ Some x → ⊥
 none_is_not_some x e = cc
@@ -89,7 +89,7 @@ key_is tag id k e =
 -- the entry that eight bytes are, and the state of the reading after it
 pub record IsRead (at : ℕ) (reading new : Reading) (bytes : List ℕ) : Type 0 where
   pub entry : Entry
-  pub said : Says bytes entry
+  pub encoded : Encodes bytes entry
   pub few : at ≤ 4096
   pub rises : reading.last_tag ≤ tag_of entry.key
   pub apart : maps.contains_key reading.entries entry.key ≡ false
@@ -112,7 +112,7 @@ module _ (at : ℕ) (reading new : Reading) (bytes : List ℕ) where
         | inl there ↦ absurd (none_is_not_some new (rw there at e))
         | inr apart ↦ record {
           entry = record { key = k; perm = p };
-          said = record { eight = eight; tag = parts.tag_is; perm = perm_is perm p is_perm; id = parts.id_is };
+          encoded = record { eight = eight; tag = parts.tag_is; perm = perm_is perm p is_perm; id = parts.id_is };
           few = few;
           rises = omega (arith, rises, parts.tag_is);
           apart = apart;

@@ -22,7 +22,7 @@ use Rattle.acl_entry.specs.Perms.{number}
 use Rattle.acl_entry.proofs.KeyLaws.{key_total, exact_keys, above}
 use Rattle.acl_entry.proofs.Placed.{less}
 use Rattle.acl_entry.proofs.Maps.{get-map_of, map_of-entries, in_order-entries}
-use Rattle.acl_text.specs.Told.{at_place, told_from, or_fault}
+use Rattle.acl_text.specs.InTurn.{at_place, read_each_from, or_fault}
 use Rattle.acl_text.specs.declared.fault.FaultKind.TheVariants.{BadAttr}
 use Rattle.byteorder.specs.Endian.{little_number, little_bytes}
 use Rattle.byteorder.specs.Numbers.{little_number-reads_back}
@@ -158,17 +158,17 @@ rising t e (f ∷ es) le below =
     let more = tags_rise e.key f.key (less _ parts.0) in
     (omega arith, rising t e es le parts.1)
 
-told_again : (at : ℕ) (tag : ℕ) (done es : List Entry) → at + length es ≤ 4097 → IsInOrder (done ++ es) → AllByRecursion (λ e. id_of e.key < 4294967295) es → TagsRise tag es
-    → told_from one_entry at (record { entries = map_of done; last_tag = tag }) (map entry_bytes es) ≡ Ok (record { entries = map_of (done ++ es); last_tag = lasting tag es })
-told_again at tag done [] room order ids rise = ap (λ (l : List Entry). Ok (record { entries = map_of l; last_tag = tag })) (sym (append-nil done))
-told_again at tag done (e ∷ es) room order ids rise =
+encoded_again : (at : ℕ) (tag : ℕ) (done es : List Entry) → at + length es ≤ 4097 → IsInOrder (done ++ es) → AllByRecursion (λ e. id_of e.key < 4294967295) es → TagsRise tag es
+    → read_each_from one_entry at (record { entries = map_of done; last_tag = tag }) (map entry_bytes es) ≡ Ok (record { entries = map_of (done ++ es); last_tag = lasting tag es })
+encoded_again at tag done [] room order ids rise = ap (λ (l : List Entry). Ok (record { entries = map_of l; last_tag = tag })) (sym (append-nil done))
+encoded_again at tag done (e ∷ es) room order ids rise =
     let reading : Reading = record { entries = map_of done; last_tag = tag } in
     let none = new_key done e es order in
     let new : maps.contains_key (map_of done) e.key ≡ false = ap is_some (get-map_of done e.key ∙ none) in
     let tail = later done (e ∷ es) order in
-    ap (λ j. at_place at j (λ more. told_from one_entry (at + 1) more (map entry_bytes es))) (added at reading e (omega arith) ids.0 rise.0 new)
-    ∙ ap (λ m. told_from one_entry (at + 1) (record { entries = m; last_tag = tag_of e.key }) (map entry_bytes es)) (one_more done e none)
-    ∙ told_again (at + 1) (tag_of e.key) (done ++ e ∷ []) es (omega arith) (subst IsInOrder (sym (append_assoc done (e ∷ []) es)) order) ids.1 (rising (tag_of e.key) e es (omega arith) (and_parts _ _ tail).0)
+    ap (λ j. at_place at j (λ more. read_each_from one_entry (at + 1) more (map entry_bytes es))) (added at reading e (omega arith) ids.0 rise.0 new)
+    ∙ ap (λ m. read_each_from one_entry (at + 1) (record { entries = m; last_tag = tag_of e.key }) (map entry_bytes es)) (one_more done e none)
+    ∙ encoded_again (at + 1) (tag_of e.key) (done ++ e ∷ []) es (omega arith) (subst IsInOrder (sym (append_assoc done (e ∷ []) es)) order) ids.1 (rising (tag_of e.key) e es (omega arith) (and_parts _ _ tail).0)
     ∙ ap (λ (l : List Entry). Ok (record { entries = map_of l; last_tag = lasting (tag_of e.key) es })) (append_assoc done (e ∷ []) es)
 
 no_tag : (es : List Entry) → TagsRise 0 es
@@ -197,8 +197,8 @@ attr_again acl valid ids =
     let es = entries acl in
     let bytes = flat_map entry_bytes es in
     let last = length (entries_in bytes) in
-    let told = told_again 1 0 [] es (omega (arith, few acl valid)) (in_order-entries acl) (recursion_from_All (λ (e : Entry). id_of e.key < 4294967295) es ids) (no_tag es) in
-    let read : list_in bytes ≡ list_from last (map_of es) (fault (entries (map_of es))) = ap (λ cut. list_of last (told_from one_entry 1 start cut)) (cut_again es) ∙ ap (list_of last) told in
+    let read_each = encoded_again 1 0 [] es (omega (arith, few acl valid)) (in_order-entries acl) (recursion_from_All (λ (e : Entry). id_of e.key < 4294967295) es ids) (no_tag es) in
+    let read : list_in bytes ≡ list_from last (map_of es) (fault (entries (map_of es))) = ap (λ cut. list_of last (read_each_from one_entry 1 start cut)) (cut_again es) ∙ ap (list_of last) read_each in
     let whole : list_in bytes ≡ Ok acl = read ∙ (ap (λ m. list_from last m (fault (entries m))) (map_of-entries acl) ∙ ap (list_from last acl) valid) in
     let head : has_head (attr_bytes acl) ≡ true = ap (λ b. b && true) (le-leb 4 (length (attr_bytes acl)) (omega arith)) in
     ap (λ b. cond b (list_in bytes) (Err (bad_attr 0))) head ∙ whole

@@ -14,7 +14,7 @@ use Rattle.acl_entry.specs.Perms.{Perms, number, numbered}
 use Rattle.acl_text.specs.declared.fault.FaultKind.{FaultKind}
 use Rattle.acl_text.specs.declared.fault.FaultKind.TheVariants.{BadAttr}
 use Rattle.acl_text.specs.declared.fault.TextFault.{TextFault}
-use Rattle.acl_text.specs.Told.{told, or_fault}
+use Rattle.acl_text.specs.InTurn.{read_each, or_fault}
 use Rattle.byteorder.specs.Endian.{little_number, little_bytes}
 use Rattle.acl_attr.specs.declared.decode.Reading.{Reading}
 
@@ -106,7 +106,7 @@ list_of last (Err fault) = Err fault
 
 -- the list of these bytes after the head
 abbrev pub list_in : List ℕ → Result KeyMap TextFault
-list_in bytes = list_of (length (entries_in bytes)) (told one_entry start (entries_in bytes))
+list_in bytes = list_of (length (entries_in bytes)) (read_each one_entry start (entries_in bytes))
 
 -- the list that an attribute contains, or its fault: at 0 where the head is not the number 2
 abbrev pub attr_of : List ℕ → Result KeyMap TextFault

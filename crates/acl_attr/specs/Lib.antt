@@ -1,2 +1,2 @@
 pub mod Attr
-pub mod Said
+pub mod Encoded

@@ -2,11 +2,11 @@
 
 ghost use Rattle.std.specs.Prelude.{◌≡◌, ◌≤◌, ◌<◌, ◌∷◌, length};
 ghost use Rattle.std.specs.FinMap as maps;
-ghost use Rattle.acl_text.specs.Told.{told, Gives, JudgesAt};
+ghost use Rattle.acl_text.specs.InTurn.{read_each, Gives, JudgesAt};
 ghost use Rattle.acl_attr.specs.Attr.{start, one_entry, bad_attr, has_head, perm_of, attr_of, entries_in, list_in};
 
 use crate::fields::{ENTRY_BYTES, HEAD_BYTES, VERSION, key_of};
-use acl_entry::{Acl, Draft, Key, MOST_ENTRIES, Perm};
+use acl_entry::{Acl, Draft, Key, MAX_ENTRIES, Perm};
 use acl_text::{FaultKind, TextFault};
 use byteorder::{ByteOrder, LittleEndian};
 use std::alloc::Global;
@@ -74,7 +74,7 @@ fn entry_count(bytes: &[u8]) -> usize
 
 /// Reads the entries in turn.
 fn read_entries(alloc: Global, bytes: &[u8]) -> Result<Reading, TextFault>
-    ensures { Gives (λ reading. reading) result (told one_entry start (entries_in bytes.now)) }
+    ensures { Gives (λ reading. reading) result (read_each one_entry start (entries_in bytes.now)) }
 {
     let mut reading = Reading {
         entries: Draft::new(alloc),
@@ -107,7 +107,7 @@ fn first_entry(bytes: &[u8]) -> (&[u8], &[u8])
 fn read_entry(reading: &mut Reading, at: usize, bytes: &[u8]) -> Result<(), TextFault>
     ensures { JudgesAt at result reading.new (one_entry at reading.old bytes.now) }
 {
-    if at > MOST_ENTRIES || bytes.len() != ENTRY_BYTES {
+    if at > MAX_ENTRIES || bytes.len() != ENTRY_BYTES {
         return Err(bad_attr(at));
     }
     let tag = LittleEndian::read_u16(bytes);
@@ -122,7 +122,7 @@ fn read_entry(reading: &mut Reading, at: usize, bytes: &[u8]) -> Result<(), Text
     let Some(key) = key_of(tag, id) else {
         return Err(bad_attr(at));
     };
-    if stands(&reading.entries, &key) {
+    if has_entry(&reading.entries, &key) {
         return Err(bad_attr(at));
     }
     reading.entries.insert(key, perm)?;
@@ -141,7 +141,7 @@ fn perm_of(number: u16) -> Option<Perm>
 }
 
 /// Whether there is an entry of the key.
-fn stands(entries: &Draft, key: &Key) -> bool
+fn has_entry(entries: &Draft, key: &Key) -> bool
     ensures { result ≡ maps.contains_key entries.now key.now }
 {
     entries.get(*key).is_some()

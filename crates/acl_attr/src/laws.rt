@@ -5,12 +5,12 @@ ghost use Rattle.acl_entry.specs.Lists.{KeyMap};
 ghost use Rattle.acl_text.specs.declared.fault.FaultKind.TheVariants.{BadAttr};
 ghost use Rattle.acl_text.specs.declared.fault.TextFault.{TextFault};
 ghost use Rattle.acl_attr.specs.Attr.{attr_of};
-ghost use Rattle.acl_attr.specs.Said.{IsAttribute, IsFaultyAt};
+ghost use Rattle.acl_attr.specs.Encoded.{IsAttribute, IsFaultyAt};
 
 /// Proof only: an attribute is read as a list exactly where, after the number 2, each eight bytes are an entry: a tag,
 /// permissions of three bits, and the id that the tag names, if it names one; where the tags never fall, no
 /// key comes twice, there are at most 4,096 entries, and the entries are the list, which is valid.
-pub fn attribute_says_its_entries()
+pub fn attribute_encodes_its_entries()
     ensures { (bytes : List ℕ) (acl : KeyMap) → (attr_of bytes ≡ Ok acl) ↔ IsAttribute bytes acl }
 {}
 

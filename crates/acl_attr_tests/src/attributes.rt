@@ -82,7 +82,7 @@ fn a_byte_is_missing(rt: HostRuntime) -> Result<(), Fail> {
 }
 
 #[test]
-fn an_entry_stands_twice(rt: HostRuntime) -> Result<(), Fail> {
+fn an_entry_is_repeated(rt: HostRuntime) -> Result<(), Fail> {
     let mut bytes = Vec::from_slice(rt.alloc(), &WORKED[..20])?;
     bytes.extend_from_slice(&WORKED[12..20])?;
     bytes.extend_from_slice(&WORKED[20..])?;
@@ -111,7 +111,7 @@ fn number_of(perm: Option<Perm>) -> Option<u16> {
     Some(u16::from(perm?.number()))
 }
 
-fn stands(rt: &impl Abort, acl: &Acl, row: &Row) -> bool {
+fn has_row(rt: &impl Abort, acl: &Acl, row: &Row) -> bool {
     let key = match row.tag {
         1 => Key::Owner,
         2 => Key::User(Id::new(row.id).expect(rt, "an id")),
@@ -129,7 +129,7 @@ fn agrees(rt: &impl Abort, alloc: Global, bytes: &[u8]) -> Result<(), Fail> {
         (Ok(acl), Ok(rows)) => {
             assert_eq!(rt; acl.entries().len(), rows.len());
             for row in &rows {
-                assert!(rt; stands(rt, &acl, row));
+                assert!(rt; has_row(rt, &acl, row));
             }
         }
         (Err(fault), Err(at)) => assert_eq!(rt; Some(fault), bad(at)),

@@ -10,20 +10,20 @@ use Rattle.acl_names.specs.Paths.{path_of, path_cmp}
 use Rattle.acl_names.proofs.PathOrder.{path_total, exact_paths}
 use Rattle.acl_text.specs.declared.fault.FaultKind.{FaultKind}
 use Rattle.acl_text.specs.declared.fault.FaultKind.TheVariants as kinds
-use Rattle.acl_text.specs.Told.{◌>>=◌, or_fault}
+use Rattle.acl_text.specs.InTurn.{◌>>=◌, or_fault}
 use Rattle.acl_text.specs.Entries.{entry_of}
 use Rattle.acl_text.specs.Fields.{default_of, entry_fields}
 use Rattle.acl_text.specs.Words.{word_id}
-use Rattle.acl_text.specs.Lowest.{number, TellsLowest, EntryHas}
+use Rattle.acl_text.specs.Lowest.{number, ReportsLowest, EntryHas}
 use Rattle.acl_text.proofs.Lowest.{alone, in_turn, made, or_fault-kind, fields-kind, entry_lowest}
 use Rattle.acl_dump.specs.declared.line.LineKind.{LineKind}
 use Rattle.acl_dump.specs.declared.line.LineKind.TheVariants.{Nothing, File, Owner, OwningGroup, Flags, Entry}
 use Rattle.acl_dump.specs.declared.draft.Draft.{Draft}
 use Rattle.acl_dump.specs.declared.record.DumpRecord.{DumpRecord}
-use Rattle.acl_dump.specs.declared.said.Said.{Said}
-use Rattle.acl_dump.specs.declared.said.Said.TheVariants as said
+use Rattle.acl_dump.specs.declared.item.Item.{Item}
+use Rattle.acl_dump.specs.declared.item.Item.TheVariants as item
 use Rattle.acl_dump.specs.Lines.{content_of}
-use Rattle.acl_dump.specs.Records.{Numbered, rules, named, flags_of, entry_said, said_by, judged, may_head, add, same_path, is_repeated, ends_in_slash, begun}
+use Rattle.acl_dump.specs.Records.{Numbered, rules, named, flags_of, entry_item, item_of, judged, may_head, add, same_path, is_repeated, ends_in_slash, opened_draft}
 use Rattle.acl_dump.specs.Lowest.{belongs, is_late, IsEmpty, NamesNobody, AreNoFlags, IsNoPath, IsOfAnEarlier, FileHas, HasInItself, HasNoRecord, IsLate, LineHas}
 
 or_fault-none : {A : Type 0} (o : Option A) (kind k : FaultKind) → or_fault o kind ≡ Err k → o ≡ None
@@ -36,7 +36,7 @@ or_fault-some (Some y) kind x e = let same : y ≡ x = cc in ap (λ z. Some z) s
 
 -- ---- the value of a header
 
-named_check : (look_up : List ℕ → Option ℕ) (unknown : FaultKind) (word : List ℕ) → TellsLowest (λ k. IsEmpty word k ⊎ NamesNobody look_up unknown word k) (named look_up unknown word)
+named_check : (look_up : List ℕ → Option ℕ) (unknown : FaultKind) (word : List ℕ) → ReportsLowest (λ k. IsEmpty word k ⊎ NamesNobody look_up unknown word k) (named look_up unknown word)
 named_check look_up unknown [] =
     alone (λ k. IsEmpty [] k ⊎ NamesNobody look_up unknown [] k) (named look_up unknown [])
     (λ k h. elim h [ inl e ↦ ap (λ j. Err j) (sym e.is) | inr n ↦ let some = n.some in absurd (omega arith) ])
@@ -46,7 +46,7 @@ named_check look_up unknown (b ∷ bs) =
     (λ k h. elim h [ inl e ↦ let no = e.empty in absurd cc | inr n ↦ ap (λ o. or_fault o unknown) n.nobody ∙ ap (λ j. Err j) (sym n.is) ])
     (λ k e. inr (record { is = sym (or_fault-kind (word_id look_up (b ∷ bs)) unknown k e); some = omega arith; nobody = or_fault-none (word_id look_up (b ∷ bs)) unknown k e }))
 
-flags_check : (value : List ℕ) → TellsLowest (AreNoFlags value) (or_fault (flags_of value) kinds.BadHeader)
+flags_check : (value : List ℕ) → ReportsLowest (AreNoFlags value) (or_fault (flags_of value) kinds.BadHeader)
 flags_check value =
     alone (AreNoFlags value) (or_fault (flags_of value) kinds.BadHeader)
     (λ k h. ap (λ o. or_fault o kinds.BadHeader) h.no_flags ∙ ap (λ j. Err j) (sym h.is))
@@ -85,16 +85,16 @@ of_repeated (r ∷ rs) path h =
     ]
 
 module _ (records : List DumpRecord) (at : ℕ) where
-  abbrev begun_with : List ℕ → List (List ℕ) → Draft
-  begun_with value path = record { at = at; path = path; slash = ends_in_slash value; owner = None; group = None; flags = None; access = []; dacl = [] }
+  abbrev opened_with : List ℕ → List (List ℕ) → Draft
+  opened_with value path = record { at = at; path = path; slash = ends_in_slash value; owner = None; group = None; flags = None; access = []; dacl = [] }
 
-  no_path_check : (value : List ℕ) → TellsLowest (IsNoPath records value) (or_fault (path_of value) kinds.BadPath)
+  no_path_check : (value : List ℕ) → ReportsLowest (IsNoPath records value) (or_fault (path_of value) kinds.BadPath)
   no_path_check value =
       alone (IsNoPath records value) (or_fault (path_of value) kinds.BadPath)
       (λ k h. ap (λ o. or_fault o kinds.BadPath) h.no_path ∙ ap (λ j. Err j) (sym h.is))
       (λ k e. record { is = sym (or_fault-kind (path_of value) kinds.BadPath k e); no_path = or_fault-none (path_of value) kinds.BadPath k e })
 
-  new_check : (value : List ℕ) (path : List (List ℕ)) (draft : Draft) → path_of value ≡ Some path → TellsLowest (IsOfAnEarlier records value) (if is_repeated records path then Err kinds.RepeatedFile else Ok draft)
+  new_check : (value : List ℕ) (path : List (List ℕ)) (draft : Draft) → path_of value ≡ Some path → ReportsLowest (IsOfAnEarlier records value) (if is_repeated records path then Err kinds.RepeatedFile else Ok draft)
   new_check value path draft is_path =
       alone (IsOfAnEarlier records value) (if is_repeated records path then Err kinds.RepeatedFile else Ok draft)
       (λ k h.
@@ -110,11 +110,11 @@ module _ (records : List DumpRecord) (at : ℕ) where
   abbrev NotEmptyHas : List ℕ → FaultKind → Type 0
   NotEmptyHas value k = IsNoPath records value k ⊎ IsOfAnEarlier records value k
 
-  not_empty_check : (b : ℕ) (bs : List ℕ) → TellsLowest (NotEmptyHas (b ∷ bs)) (begun records at (b ∷ bs))
+  not_empty_check : (b : ℕ) (bs : List ℕ) → ReportsLowest (NotEmptyHas (b ∷ bs)) (opened_draft records at (b ∷ bs))
   not_empty_check b bs =
-      in_turn (IsNoPath records (b ∷ bs)) (IsOfAnEarlier records (b ∷ bs)) (or_fault (path_of (b ∷ bs)) kinds.BadPath) (λ path. if is_repeated records path then Err kinds.RepeatedFile else Ok (begun_with (b ∷ bs) path))
+      in_turn (IsNoPath records (b ∷ bs)) (IsOfAnEarlier records (b ∷ bs)) (or_fault (path_of (b ∷ bs)) kinds.BadPath) (λ path. if is_repeated records path then Err kinds.RepeatedFile else Ok (opened_with (b ∷ bs) path))
       (λ j k h later. omega (arith, ap number h.is, ap number later.is)) (no_path_check (b ∷ bs))
-      (λ path is. new_check (b ∷ bs) path (begun_with (b ∷ bs) path) (or_fault-some (path_of (b ∷ bs)) kinds.BadPath path is))
+      (λ path is. new_check (b ∷ bs) path (opened_with (b ∷ bs) path) (or_fault-some (path_of (b ∷ bs)) kinds.BadPath path is))
 
   file_kind : (value : List ℕ) (k : FaultKind) → FileHas records value k → 8 ≤ number k
   file_kind value k h =
@@ -126,7 +126,7 @@ module _ (records : List DumpRecord) (at : ℕ) where
         ]
       ]
 
-  pub file_lowest : (value : List ℕ) → TellsLowest (FileHas records value) (begun records at value)
+  pub file_lowest : (value : List ℕ) → ReportsLowest (FileHas records value) (opened_draft records at value)
   file_lowest [] = record {
     no_fault = λ x e k h. absurd cc;
     lowest = λ k e.
@@ -145,36 +145,36 @@ module _ (records : List DumpRecord) (at : ℕ) where
 -- ---- any other line
 
 -- content that comes late
-abbrev late : Option Said → Draft → Bool
+abbrev late : Option Item → Draft → Bool
 late None draft = false
-late (Some (said.Owner id)) draft = not (may_head draft.owner draft)
-late (Some (said.OwningGroup id)) draft = not (may_head draft.group draft)
-late (Some (said.Flags flags)) draft = not (may_head draft.flags draft)
-late (Some (said.Entry dflt entry)) draft = false
+late (Some (item.Owner id)) draft = not (may_head draft.owner draft)
+late (Some (item.OwningGroup id)) draft = not (may_head draft.group draft)
+late (Some (item.Flags flags)) draft = not (may_head draft.flags draft)
+late (Some (item.Entry dflt entry)) draft = false
 
 -- the content of a line of a kind
-record IsOfKind (kind : LineKind) (s : Option Said) : Type 0 where
+record IsOfKind (kind : LineKind) (s : Option Item) : Type 0 where
   lone : is_some s ≡ belongs kind
   late_is : (draft : Draft) → late s draft ≡ is_late kind draft
 
-says_of_kind : {A : Type 0} (r : Result A FaultKind) (say : A → Said) (kind : LineKind) (s : Option Said) → ((x : A) → IsOfKind kind (Some (say x))) → (r >>= (λ x. Ok (Some (say x)))) ≡ Ok s → IsOfKind kind s
-says_of_kind (Ok x) say kind s is e = let same : Some (say x) ≡ s = cc in rw (← same) (is x)
-says_of_kind (Err j) say kind s is e = absurd cc
+reads_of_kind : {A : Type 0} (r : Result A FaultKind) (item_from : A → Item) (kind : LineKind) (s : Option Item) → ((x : A) → IsOfKind kind (Some (item_from x))) → (r >>= (λ x. Ok (Some (item_from x)))) ≡ Ok s → IsOfKind kind s
+reads_of_kind (Ok x) item_from kind s is e = let same : Some (item_from x) ≡ s = cc in rw (← same) (is x)
+reads_of_kind (Err j) item_from kind s is e = absurd cc
 
 module _ (user_id group_id : List ℕ → Option ℕ) (at : ℕ) where
-  abbrev says : LineKind → List ℕ → Result (Option Said) FaultKind
-  says kind value = said_by user_id group_id at kind value
+  abbrev reads_as : LineKind → List ℕ → Result (Option Item) FaultKind
+  reads_as kind value = item_of user_id group_id at kind value
 
-  none_check : TellsLowest (λ k. ⊥) (says Nothing [])
-  none_check = alone (λ k. ⊥) (says Nothing []) (λ k h. absurd h) (λ k e. absurd cc)
+  none_check : ReportsLowest (λ k. ⊥) (reads_as Nothing [])
+  none_check = alone (λ k. ⊥) (reads_as Nothing []) (λ k h. absurd h) (λ k e. absurd cc)
 
-  itself_check : (kind : LineKind) (value : List ℕ) → TellsLowest (HasInItself user_id group_id kind value) (says kind value)
+  itself_check : (kind : LineKind) (value : List ℕ) → ReportsLowest (HasInItself user_id group_id kind value) (reads_as kind value)
   itself_check Nothing value = none_check
   itself_check File value = none_check
-  itself_check Owner value = made (HasInItself user_id group_id Owner value) (named user_id kinds.UnknownUser value) (λ id. Some (said.Owner id)) (named_check user_id kinds.UnknownUser value)
-  itself_check OwningGroup value = made (HasInItself user_id group_id OwningGroup value) (named group_id kinds.UnknownGroup value) (λ id. Some (said.OwningGroup id)) (named_check group_id kinds.UnknownGroup value)
-  itself_check Flags value = made (HasInItself user_id group_id Flags value) (or_fault (flags_of value) kinds.BadHeader) (λ flags. Some (said.Flags flags)) (flags_check value)
-  itself_check Entry value = made (EntryHas user_id group_id rules value) (entry_of user_id group_id rules at value) (λ spec. Some (entry_said spec)) (entry_lowest user_id group_id rules at value)
+  itself_check Owner value = made (HasInItself user_id group_id Owner value) (named user_id kinds.UnknownUser value) (λ id. Some (item.Owner id)) (named_check user_id kinds.UnknownUser value)
+  itself_check OwningGroup value = made (HasInItself user_id group_id OwningGroup value) (named group_id kinds.UnknownGroup value) (λ id. Some (item.OwningGroup id)) (named_check group_id kinds.UnknownGroup value)
+  itself_check Flags value = made (HasInItself user_id group_id Flags value) (or_fault (flags_of value) kinds.BadHeader) (λ flags. Some (item.Flags flags)) (flags_check value)
+  itself_check Entry value = made (EntryHas user_id group_id rules value) (entry_of user_id group_id rules at value) (λ spec. Some (entry_item spec)) (entry_lowest user_id group_id rules at value)
 
   -- the kinds that a line has in itself
   itself-kind : (kind : LineKind) (value : List ℕ) (k : FaultKind) → HasInItself user_id group_id kind value k → number k ≤ 8
@@ -185,13 +185,13 @@ module _ (user_id group_id : List ℕ → Option ℕ) (at : ℕ) where
   itself-kind Flags value k h = omega (arith, ap number h.is)
   itself-kind Entry value k h = let is = fields-kind user_id group_id rules (default_of (entry_fields value)) k h in omega (arith, is)
 
-  of_kind : (kind : LineKind) (value : List ℕ) (s : Option Said) → says kind value ≡ Ok s → IsOfKind kind s
+  of_kind : (kind : LineKind) (value : List ℕ) (s : Option Item) → reads_as kind value ≡ Ok s → IsOfKind kind s
   of_kind Nothing value s e = let same : None ≡ s = cc in rw (← same) (record { lone = refl; late_is = λ draft. refl })
   of_kind File value s e = let same : None ≡ s = cc in rw (← same) (record { lone = refl; late_is = λ draft. refl })
-  of_kind Owner value s e = says_of_kind (named user_id kinds.UnknownUser value) (λ id. said.Owner id) Owner s (λ id. record { lone = refl; late_is = λ draft. refl }) e
-  of_kind OwningGroup value s e = says_of_kind (named group_id kinds.UnknownGroup value) (λ id. said.OwningGroup id) OwningGroup s (λ id. record { lone = refl; late_is = λ draft. refl }) e
-  of_kind Flags value s e = says_of_kind (or_fault (flags_of value) kinds.BadHeader) (λ flags. said.Flags flags) Flags s (λ flags. record { lone = refl; late_is = λ draft. refl }) e
-  of_kind Entry value s e = says_of_kind (entry_of user_id group_id rules at value) entry_said Entry s (λ spec. record { lone = refl; late_is = λ draft. refl }) e
+  of_kind Owner value s e = reads_of_kind (named user_id kinds.UnknownUser value) (λ id. item.Owner id) Owner s (λ id. record { lone = refl; late_is = λ draft. refl }) e
+  of_kind OwningGroup value s e = reads_of_kind (named group_id kinds.UnknownGroup value) (λ id. item.OwningGroup id) OwningGroup s (λ id. record { lone = refl; late_is = λ draft. refl }) e
+  of_kind Flags value s e = reads_of_kind (or_fault (flags_of value) kinds.BadHeader) (λ flags. item.Flags flags) Flags s (λ flags. record { lone = refl; late_is = λ draft. refl }) e
+  of_kind Entry value s e = reads_of_kind (entry_of user_id group_id rules at value) entry_item Entry s (λ spec. record { lone = refl; late_is = λ draft. refl }) e
 
 -- ---- the place of a line
 
@@ -203,25 +203,25 @@ not_late : (b : Bool) (draft new : Draft) (k : FaultKind) → ((if b then Ok new
 not_late true draft new k e = absurd cc
 not_late false draft new k e = (cc, refl)
 
-is_refused : (s : Option Said) (draft : Draft) → late s draft ≡ true → add s (Some draft) ≡ Err kinds.BadHeader
+is_refused : (s : Option Item) (draft : Draft) → late s draft ≡ true → add s (Some draft) ≡ Err kinds.BadHeader
 is_refused None draft is = absurd cc
-is_refused (Some (said.Owner id)) draft is = refused (may_head draft.owner draft) draft _ is
-is_refused (Some (said.OwningGroup id)) draft is = refused (may_head draft.group draft) draft _ is
-is_refused (Some (said.Flags flags)) draft is = refused (may_head draft.flags draft) draft _ is
-is_refused (Some (said.Entry dflt entry)) draft is = absurd cc
+is_refused (Some (item.Owner id)) draft is = refused (may_head draft.owner draft) draft _ is
+is_refused (Some (item.OwningGroup id)) draft is = refused (may_head draft.group draft) draft _ is
+is_refused (Some (item.Flags flags)) draft is = refused (may_head draft.flags draft) draft _ is
+is_refused (Some (item.Entry dflt entry)) draft is = absurd cc
 
-is_late_where : (s : Option Said) (draft : Draft) (k : FaultKind) → add s (Some draft) ≡ Err k → (k ≡ kinds.BadHeader) × (late s draft ≡ true)
+is_late_where : (s : Option Item) (draft : Draft) (k : FaultKind) → add s (Some draft) ≡ Err k → (k ≡ kinds.BadHeader) × (late s draft ≡ true)
 is_late_where None draft k e = absurd cc
-is_late_where (Some (said.Owner id)) draft k e = not_late (may_head draft.owner draft) draft _ k e
-is_late_where (Some (said.OwningGroup id)) draft k e = not_late (may_head draft.group draft) draft _ k e
-is_late_where (Some (said.Flags flags)) draft k e = not_late (may_head draft.flags draft) draft _ k e
-is_late_where (Some (said.Entry dflt entry)) draft k e = absurd cc
+is_late_where (Some (item.Owner id)) draft k e = not_late (may_head draft.owner draft) draft _ k e
+is_late_where (Some (item.OwningGroup id)) draft k e = not_late (may_head draft.group draft) draft _ k e
+is_late_where (Some (item.Flags flags)) draft k e = not_late (may_head draft.flags draft) draft _ k e
+is_late_where (Some (item.Entry dflt entry)) draft k e = absurd cc
 
-no_record : (s : Option Said) → is_some s ≡ true → add s None ≡ Err kinds.MissingHeader
+no_record : (s : Option Item) → is_some s ≡ true → add s None ≡ Err kinds.MissingHeader
 no_record None is = absurd cc
 no_record (Some x) is = refl
 
-none_where : (s : Option Said) (k : FaultKind) → add s None ≡ Err k → (k ≡ kinds.MissingHeader) × (is_some s ≡ true)
+none_where : (s : Option Item) (k : FaultKind) → add s None ≡ Err k → (k ≡ kinds.MissingHeader) × (is_some s ≡ true)
 none_where None k e = absurd cc
 none_where (Some x) k e = (cc, refl)
 
@@ -232,18 +232,18 @@ module _ (user_id group_id : List ℕ → Option ℕ) (draft : Option Draft) (l 
   abbrev Misplaced : FaultKind → Type 0
   Misplaced k = HasNoRecord user_id group_id draft l k ⊎ IsLate user_id group_id draft l k
 
-  found : (s : Option Said) → IsOfKind kind_of s → (k : FaultKind) → Misplaced k → add s draft ≡ Err k
+  found : (s : Option Item) → IsOfKind kind_of s → (k : FaultKind) → Misplaced k → add s draft ≡ Err k
   found s is k misplaced =
       elim misplaced [
         | inl h ↦ ap (add s) h.none ∙ (no_record s (is.lone ∙ h.lone) ∙ ap (λ j. Err j) (sym h.is))
-        | inr h ↦ ap (add s) h.begun ∙ (is_refused s h.so_far (is.late_is h.so_far ∙ h.late) ∙ ap (λ j. Err j) (sym h.is))
+        | inr h ↦ ap (add s) h.opened_draft ∙ (is_refused s h.so_far (is.late_is h.so_far ∙ h.late) ∙ ap (λ j. Err j) (sym h.is))
       ]
 
-  applies_to : (s : Option Said) → IsOfKind kind_of s → (d : Option Draft) → draft ≡ d → (k : FaultKind) → add s d ≡ Err k → Misplaced k
+  applies_to : (s : Option Item) → IsOfKind kind_of s → (d : Option Draft) → draft ≡ d → (k : FaultKind) → add s d ≡ Err k → Misplaced k
   applies_to s is None none k e = let w = none_where s k e in inl (record { is = w.0; none = none; lone = sym is.lone ∙ w.1 })
-  applies_to s is (Some d) begun k e = let w = is_late_where s d k e in inr (record { is = w.0; so_far = d; begun = begun; late = sym (is.late_is d) ∙ w.1 })
+  applies_to s is (Some d) opened_draft k e = let w = is_late_where s d k e in inr (record { is = w.0; so_far = d; opened_draft = opened_draft; late = sym (is.late_is d) ∙ w.1 })
 
-  place_check : (s : Option Said) → IsOfKind kind_of s → TellsLowest Misplaced (add s draft)
+  place_check : (s : Option Item) → IsOfKind kind_of s → ReportsLowest Misplaced (add s draft)
   place_check s is = alone Misplaced (add s draft) (found s is) (λ k e. applies_to s is draft refl k e)
 
   abbrev Itself : FaultKind → Type 0
@@ -257,7 +257,7 @@ module _ (user_id group_id : List ℕ → Option ℕ) (draft : Option Draft) (l 
         | inr m ↦ omega (arith, low, ap number m.is)
       ]
 
-  pub line_lowest : TellsLowest (LineHas user_id group_id draft l) (judged user_id group_id draft l)
+  pub line_lowest : ReportsLowest (LineHas user_id group_id draft l) (judged user_id group_id draft l)
   line_lowest =
-      in_turn Itself Misplaced (said_by user_id group_id l.0 kind_of (content_of l.1).1) (λ s. add s draft) below (itself_check user_id group_id l.0 kind_of (content_of l.1).1)
+      in_turn Itself Misplaced (item_of user_id group_id l.0 kind_of (content_of l.1).1) (λ s. add s draft) below (itself_check user_id group_id l.0 kind_of (content_of l.1).1)
       (λ s e. place_check s (of_kind user_id group_id l.0 kind_of (content_of l.1).1 s e))

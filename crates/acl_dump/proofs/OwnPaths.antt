@@ -9,17 +9,17 @@ use Rattle.acl_text.specs.declared.fault.FaultKind.{FaultKind}
 use Rattle.acl_text.specs.declared.fault.FaultKind.TheVariants.{BadHeader, BadPath, MissingHeader, RepeatedFile}
 use Rattle.acl_text.specs.declared.fault.TextFault.{TextFault}
 use Rattle.acl_text.specs.declared.fault.Which.TheVariants.{Access}
-use Rattle.acl_text.specs.Told.{at_place, ◌>>=◌, or_fault, Gives}
+use Rattle.acl_text.specs.InTurn.{at_place, ◌>>=◌, or_fault, Gives}
 use Rattle.acl_dump.specs.declared.draft.Draft.{Draft}
 use Rattle.acl_dump.specs.declared.record.DumpRecord.{DumpRecord}
 use Rattle.acl_dump.specs.declared.record.DumpUse.{DumpUse}
-use Rattle.acl_dump.specs.declared.said.Said.{Said}
-use Rattle.acl_dump.specs.declared.said.Said.TheVariants as said
+use Rattle.acl_dump.specs.declared.item.Item.{Item}
+use Rattle.acl_dump.specs.declared.item.Item.TheVariants as item
 use Rattle.acl_dump.specs.OwnPaths.{have_own_paths}
 use Rattle.acl_dump.specs.Groups.{next}
 use Rattle.acl_dump.proofs.Streams.{streamed_by_groups}
 use Rattle.acl_dump.specs.Lines.{content_of}
-use Rattle.acl_dump.specs.Records.{Numbered, same_path, is_repeated, ends_in_slash, begun, begin, begins, close, list_of, default_list_of, whole, has_headers, record_of, with_said, may_head, add, said_by, judged, line_in, lines_of, dump_of, dump_stream}
+use Rattle.acl_dump.specs.Records.{Numbered, same_path, is_repeated, ends_in_slash, opened_draft, open_record, begins, close, list_of, default_list_of, whole, has_headers, record_of, with_item, may_head, add, item_of, judged, line_in, lines_of, dump_of, dump_stream}
 
 -- ---- what is true of the values of steps that may fail
 
@@ -88,25 +88,25 @@ Fresh records (Some draft) = is_repeated records draft.path ≡ false
 abbrev Keeps : Draft → Draft → Type 0
 Keeps old new = new.path ≡ old.path
 
-with_said_keeps : (s : Said) (draft : Draft) → IfOk (with_said s draft) (Keeps draft)
-with_said_keeps (said.Owner id) draft = elim (may_head draft.owner draft) as (λ b. IfOk (cond b (Ok (record draft { owner = Some id })) (Err BadHeader)) (Keeps draft)) [ true ↦ refl | false ↦ tt ]
-with_said_keeps (said.OwningGroup id) draft = elim (may_head draft.group draft) as (λ b. IfOk (cond b (Ok (record draft { group = Some id })) (Err BadHeader)) (Keeps draft)) [ true ↦ refl | false ↦ tt ]
-with_said_keeps (said.Flags flags) draft = elim (may_head draft.flags draft) as (λ b. IfOk (cond b (Ok (record draft { flags = Some flags })) (Err BadHeader)) (Keeps draft)) [ true ↦ refl | false ↦ tt ]
-with_said_keeps (said.Entry true entry) draft = refl
-with_said_keeps (said.Entry false entry) draft = refl
+with_item_keeps : (s : Item) (draft : Draft) → IfOk (with_item s draft) (Keeps draft)
+with_item_keeps (item.Owner id) draft = elim (may_head draft.owner draft) as (λ b. IfOk (cond b (Ok (record draft { owner = Some id })) (Err BadHeader)) (Keeps draft)) [ true ↦ refl | false ↦ tt ]
+with_item_keeps (item.OwningGroup id) draft = elim (may_head draft.group draft) as (λ b. IfOk (cond b (Ok (record draft { group = Some id })) (Err BadHeader)) (Keeps draft)) [ true ↦ refl | false ↦ tt ]
+with_item_keeps (item.Flags flags) draft = elim (may_head draft.flags draft) as (λ b. IfOk (cond b (Ok (record draft { flags = Some flags })) (Err BadHeader)) (Keeps draft)) [ true ↦ refl | false ↦ tt ]
+with_item_keeps (item.Entry true entry) draft = refl
+with_item_keeps (item.Entry false entry) draft = refl
 
 fresh_by : (records : List DumpRecord) (draft : Draft) (r : Result Draft FaultKind) → is_repeated records draft.path ≡ false → IfOk r (Keeps draft) → IfOk (r >>= λ new. Ok (Some new)) (Fresh records)
 fresh_by records draft (Ok new) fresh keeps = ap (λ p. is_repeated records p) keeps ∙ fresh
 fresh_by records draft (Err kind) fresh keeps = tt
 
-add_fresh : (records : List DumpRecord) (s : Option Said) (draft : Option Draft) → Fresh records draft → IfOk (add s draft) (Fresh records)
+add_fresh : (records : List DumpRecord) (s : Option Item) (draft : Option Draft) → Fresh records draft → IfOk (add s draft) (Fresh records)
 add_fresh records None draft fresh = fresh
 add_fresh records (Some s) None fresh = tt
-add_fresh records (Some s) (Some draft) fresh = fresh_by records draft (with_said s draft) fresh (with_said_keeps s draft)
+add_fresh records (Some s) (Some draft) fresh = fresh_by records draft (with_item s draft) fresh (with_item_keeps s draft)
 
-begun_fresh : (records : List DumpRecord) (at : ℕ) (value : List ℕ) → IfOk (begun records at value) (λ draft. is_repeated records draft.path ≡ false)
-begun_fresh records at [] = tt
-begun_fresh records at (b ∷ bs) = by_path (path_of (b ∷ bs))
+opened_fresh : (records : List DumpRecord) (at : ℕ) (value : List ℕ) → IfOk (opened_draft records at value) (λ draft. is_repeated records draft.path ≡ false)
+opened_fresh records at [] = tt
+opened_fresh records at (b ∷ bs) = by_path (path_of (b ∷ bs))
   where
     draft_of : List (List ℕ) → Draft
     draft_of path = record { at = at; path = path; slash = ends_in_slash (b ∷ bs); owner = None; group = None; flags = None; access = []; dacl = [] }
@@ -119,8 +119,8 @@ begun_fresh records at (b ∷ bs) = by_path (path_of (b ∷ bs))
     by_path None = tt
     by_path (Some path) = by_test path (is_repeated records path) refl
 
-begin_fresh : (records : List DumpRecord) (l : Numbered) → IfOk (begin records l) (Fresh records)
-begin_fresh records l = at_place_ok l.0 (begun records l.0 (content_of l.1).1) (λ draft. Ok (Some draft)) (λ draft. is_repeated records draft.path ≡ false) (Fresh records) (begun_fresh records l.0 (content_of l.1).1) (λ draft fresh. fresh)
+open_fresh : (records : List DumpRecord) (l : Numbered) → IfOk (open_record records l) (Fresh records)
+open_fresh records l = at_place_ok l.0 (opened_draft records l.0 (content_of l.1).1) (λ draft. Ok (Some draft)) (λ draft. is_repeated records draft.path ≡ false) (Fresh records) (opened_fresh records l.0 (content_of l.1).1) (λ draft fresh. fresh)
 
 -- ---- a record as a whole
 
@@ -146,17 +146,17 @@ module _ (user_id group_id : List ℕ → Option ℕ) (dump_use : DumpUse) where
   line_fresh : (records : List DumpRecord) (draft : Option Draft) (l : Numbered) → Fresh records draft → IfOk (line_in user_id group_id draft l) (Fresh records)
   line_fresh records draft l fresh =
       at_place_ok l.0 (judged user_id group_id draft l) (λ new. Ok new) (Fresh records) (Fresh records)
-      (bind_ok (said_by user_id group_id l.0 (content_of l.1).0 (content_of l.1).1) (λ s. add s draft) (Fresh records) (λ s. add_fresh records s draft fresh))
+      (bind_ok (item_of user_id group_id l.0 (content_of l.1).0 (content_of l.1).1) (λ s. add s draft) (Fresh records) (λ s. add_fresh records s draft fresh))
       (λ new fresh. fresh)
 
   abbrev Good : List DumpRecord × Option Draft → Type 0
   Good s = Apart s.0 × Fresh s.0 s.1
 
   stepped_good : (records : List DumpRecord) (draft : Option Draft) (l : Numbered) → Apart records → Fresh records draft
-      → (b : Bool) → IfOk (cond b (next (close dump_use records draft) (λ more. next (begin more l) (λ new. Ok (more, new)))) (next (line_in user_id group_id draft l) (λ more. Ok (records, more)))) Good
+      → (b : Bool) → IfOk (cond b (next (close dump_use records draft) (λ more. next (open_record more l) (λ new. Ok (more, new)))) (next (line_in user_id group_id draft l) (λ more. Ok (records, more)))) Good
   stepped_good records draft l apart fresh true =
       next_ok (close dump_use records draft) _ Apart Good (close_apart dump_use records draft apart fresh) (λ more are.
-      next_ok (begin more l) _ (Fresh more) Good (begin_fresh more l) (λ new is. (are, is)))
+      next_ok (open_record more l) _ (Fresh more) Good (open_fresh more l) (λ new is. (are, is)))
   stepped_good records draft l apart fresh false = next_ok (line_in user_id group_id draft l) _ (Fresh records) Good (line_fresh records draft l fresh) (λ more is. (apart, is))
 
   stream_apart : (records : List DumpRecord) (draft : Option Draft) (lines : List Numbered) → Apart records → Fresh records draft → IfOk (dump_stream user_id group_id dump_use records draft lines) Apart
@@ -166,4 +166,4 @@ module _ (user_id group_id : List ℕ → Option ℕ) (dump_use : DumpUse) where
 
   -- the records of a dump have different paths
   pub dump_apart : (bytes : List ℕ) → IfOk (dump_of user_id group_id dump_use bytes) Apart
-  dump_apart bytes = subst (λ r. IfOk r Apart) (streamed_by_groups begins begin (line_in user_id group_id) (close dump_use) [] None (lines_of bytes)) (stream_apart [] None (lines_of bytes) refl tt)
+  dump_apart bytes = subst (λ r. IfOk r Apart) (streamed_by_groups begins open_record (line_in user_id group_id) (close dump_use) [] None (lines_of bytes)) (stream_apart [] None (lines_of bytes) refl tt)

@@ -23,25 +23,25 @@ module _ {S D P : Type 0} (begins : P → Bool) (first : S → P → Result D Te
   groups = by_groups begins first line close
 
   abbrev step_by : Bool → S → D → P → Result (S × D) TextFault
-  step_by b said draft p = cond b (next (close said draft) (λ more. next (first more p) (λ new. Ok (more, new)))) (next (line draft p) (λ more. Ok (said, more)))
+  step_by b item draft p = cond b (next (close item draft) (λ more. next (first more p) (λ new. Ok (more, new)))) (next (line draft p) (λ more. Ok (item, more)))
 
-  by_case : (said : S) (draft : D) (p : P) (ps : List P) (b : Bool) → ((s : S) (d : D) → stream s d ps ≡ groups s d (grouped begins ps))
-      → next (step_by b said draft p) (λ s. stream s.0 s.1 ps) ≡ groups said draft (put_front b p (grouped begins ps))
-  by_case said draft p ps true again =
+  by_case : (item : S) (draft : D) (p : P) (ps : List P) (b : Bool) → ((s : S) (d : D) → stream s d ps ≡ groups s d (grouped begins ps))
+      → next (step_by b item draft p) (λ s. stream s.0 s.1 ps) ≡ groups item draft (put_front b p (grouped begins ps))
+  by_case item draft p ps true again =
       let g = grouped begins ps in
-      next_assoc (close said draft) (λ more. next (first more p) (λ new. Ok (more, new))) (λ s. stream s.0 s.1 ps)
-      ∙ next_same (close said draft) (λ more. next (next (first more p) (λ new. Ok (more, new))) (λ s. stream s.0 s.1 ps)) (λ more. in_turn (group_of begins first line close) more ((p, g.0) ∷ g.1))
+      next_assoc (close item draft) (λ more. next (first more p) (λ new. Ok (more, new))) (λ s. stream s.0 s.1 ps)
+      ∙ next_same (close item draft) (λ more. next (next (first more p) (λ new. Ok (more, new))) (λ s. stream s.0 s.1 ps)) (λ more. in_turn (group_of begins first line close) more ((p, g.0) ∷ g.1))
       (λ more.
       next_assoc (first more p) (λ new. Ok (more, new)) (λ s. stream s.0 s.1 ps)
       ∙ next_same (first more p) (λ new. stream more new ps) (λ new. groups more new g) (λ new. again more new)
       ∙ sym (next_assoc (first more p) (λ new. next (in_turn line new g.0) (λ whole. close more whole)) (λ last. in_turn (group_of begins first line close) last g.1)
       ∙ next_same (first more p) (λ new. next (next (in_turn line new g.0) (λ whole. close more whole)) (λ last. in_turn (group_of begins first line close) last g.1)) (λ new. groups more new g) (λ new. next_assoc (in_turn line new g.0) (λ whole. close more whole) (λ last. in_turn (group_of begins first line close) last g.1))))
-  by_case said draft p ps false again =
+  by_case item draft p ps false again =
       let g = grouped begins ps in
-      next_assoc (line draft p) (λ more. Ok (said, more)) (λ s. stream s.0 s.1 ps)
-      ∙ next_same (line draft p) (λ more. stream said more ps) (λ more. groups said more g) (λ more. again said more)
-      ∙ sym (next_assoc (line draft p) (λ more. in_turn line more g.0) (λ whole. next (close said whole) (λ more. in_turn (group_of begins first line close) more g.1)))
+      next_assoc (line draft p) (λ more. Ok (item, more)) (λ s. stream s.0 s.1 ps)
+      ∙ next_same (line draft p) (λ more. stream item more ps) (λ more. groups item more g) (λ more. again item more)
+      ∙ sym (next_assoc (line draft p) (λ more. in_turn line more g.0) (λ whole. next (close item whole) (λ more. in_turn (group_of begins first line close) more g.1)))
 
-  pub streamed_by_groups : (said : S) (draft : D) (ps : List P) → streamed begins first line close said draft ps ≡ by_groups begins first line close said draft (grouped begins ps)
-  streamed_by_groups said draft [] = sym (next_ok (close said draft))
-  streamed_by_groups said draft (p ∷ ps) = by_case said draft p ps (begins p) (λ s d. streamed_by_groups s d ps)
+  pub streamed_by_groups : (item : S) (draft : D) (ps : List P) → streamed begins first line close item draft ps ≡ by_groups begins first line close item draft (grouped begins ps)
+  streamed_by_groups item draft [] = sym (next_ok (close item draft))
+  streamed_by_groups item draft (p ∷ ps) = by_case item draft p ps (begins p) (λ s d. streamed_by_groups s d ps)

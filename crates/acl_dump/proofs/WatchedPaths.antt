@@ -9,15 +9,15 @@ use Rattle.acl_text.specs.declared.fault.FaultKind.{FaultKind}
 use Rattle.acl_text.specs.declared.fault.FaultKind.TheVariants as kinds
 use Rattle.acl_text.specs.declared.fault.TextFault.{TextFault}
 use Rattle.acl_text.specs.declared.fault.Which.TheVariants.{Access}
-use Rattle.acl_text.specs.Told.{at_place, ◌>>=◌, or_fault}
+use Rattle.acl_text.specs.InTurn.{at_place, ◌>>=◌, or_fault}
 use Rattle.acl_dump.specs.declared.record.DumpUse.{DumpUse}
 use Rattle.acl_dump.specs.declared.record.DumpRecord.{DumpRecord}
 use Rattle.acl_dump.specs.declared.draft.Draft.{Draft}
-use Rattle.acl_dump.specs.declared.said.Said.{Said}
-use Rattle.acl_dump.specs.declared.said.Said.TheVariants as said
+use Rattle.acl_dump.specs.declared.item.Item.{Item}
+use Rattle.acl_dump.specs.declared.item.Item.TheVariants as item
 use Rattle.acl_dump.specs.Groups.{next, streamed}
 use Rattle.acl_dump.specs.Lines.{content_of}
-use Rattle.acl_dump.specs.Records.{Numbered, same_path, is_repeated, may_head, with_entry, with_said, add, said_by, begun, begin, begins, list_of, default_list_of, has_headers, whole, record_of, close, judged, line_in, lines_of, dump_of}
+use Rattle.acl_dump.specs.Records.{Numbered, same_path, is_repeated, may_head, with_entry, with_item, add, item_of, opened_draft, open_record, begins, list_of, default_list_of, has_headers, whole, record_of, close, judged, line_in, lines_of, dump_of}
 use Rattle.acl_dump.specs.Watched as watched
 use Rattle.acl_dump.specs.Again.{paths}
 use Rattle.acl_dump.proofs.ApartPaths.{flips}
@@ -84,45 +84,45 @@ headed_path : (b : Bool) (draft new more : Draft) → new.path ≡ draft.path �
 headed_path true draft new more same e = sym (ap (λ (d : Draft). d.path) (ok-is new more e)) ∙ same
 headed_path false draft new more same e = absurd cc
 
-said_path : (s : Said) (draft more : Draft) → with_said s draft ≡ Ok more → more.path ≡ draft.path
-said_path (said.Owner id) draft more e = headed_path (may_head draft.owner draft) draft (record draft { owner = Some id }) more refl e
-said_path (said.OwningGroup id) draft more e = headed_path (may_head draft.group draft) draft (record draft { group = Some id }) more refl e
-said_path (said.Flags flags) draft more e = headed_path (may_head draft.flags draft) draft (record draft { flags = Some flags }) more refl e
-said_path (said.Entry true entry) draft more e = sym (ap (λ (d : Draft). d.path) (ok-is (with_entry true entry draft) more e))
-said_path (said.Entry false entry) draft more e = sym (ap (λ (d : Draft). d.path) (ok-is (with_entry false entry draft) more e))
+item_path : (s : Item) (draft more : Draft) → with_item s draft ≡ Ok more → more.path ≡ draft.path
+item_path (item.Owner id) draft more e = headed_path (may_head draft.owner draft) draft (record draft { owner = Some id }) more refl e
+item_path (item.OwningGroup id) draft more e = headed_path (may_head draft.group draft) draft (record draft { group = Some id }) more refl e
+item_path (item.Flags flags) draft more e = headed_path (may_head draft.flags draft) draft (record draft { flags = Some flags }) more refl e
+item_path (item.Entry true entry) draft more e = sym (ap (λ (d : Draft). d.path) (ok-is (with_entry true entry draft) more e))
+item_path (item.Entry false entry) draft more e = sym (ap (λ (d : Draft). d.path) (ok-is (with_entry false entry draft) more e))
 
-added_path : (s : Option Said) (draft more : Option Draft) → add s draft ≡ Ok more → drafted more ≡ drafted draft
+added_path : (s : Option Item) (draft more : Option Draft) → add s draft ≡ Ok more → drafted more ≡ drafted draft
 added_path None draft more e = ap drafted (sym (ok-is draft more e))
 added_path (Some s) None more e = absurd cc
 added_path (Some s) (Some draft) more e =
-    let w = bind-ok (with_said s draft) (λ d. Ok (Some d)) more e in
-    ap drafted (sym (ok-is (Some w.0) more w.1.1)) ∙ ap (λ p. p ∷ []) (said_path s draft w.0 w.1.0)
+    let w = bind-ok (with_item s draft) (λ d. Ok (Some d)) more e in
+    ap drafted (sym (ok-is (Some w.0) more w.1.1)) ∙ ap (λ p. p ∷ []) (item_path s draft w.0 w.1.0)
 
 -- ---- a record that begins
 
-begun_apart : (records : List DumpRecord) (at : ℕ) (value : List ℕ) (draft : Draft) → watched.begun false records at value ≡ Ok draft → is_repeated records draft.path ≡ false → watched.begun true records at value ≡ Ok draft
-begun_apart records at [] draft e new = absurd cc
-begun_apart records at (b ∷ bs) draft e new =
+opened_apart : (records : List DumpRecord) (at : ℕ) (value : List ℕ) (draft : Draft) → watched.opened_draft false records at value ≡ Ok draft → is_repeated records draft.path ≡ false → watched.opened_draft true records at value ≡ Ok draft
+opened_apart records at [] draft e new = absurd cc
+opened_apart records at (b ∷ bs) draft e new =
     let s = bind-ok (or_fault (path_of (b ∷ bs)) kinds.BadPath) _ draft e in
     let made = ok-is _ draft s.1.1 in
     let fresh = ap (λ (d : Draft). is_repeated records d.path) made ∙ new in
     rw (s.1.0, fresh) (ap (λ d. Ok d) made)
 
-begin_apart : (records : List DumpRecord) (l : Numbered) (new : Option Draft) → watched.begin false records l ≡ Ok new
-    → (path : List (List ℕ)) × ((drafted new ≡ path ∷ []) × (is_repeated records path ≡ false → watched.begin true records l ≡ Ok new))
-begin_apart records l new e =
-    let s = at_place-ok l.0 (watched.begun false records l.0 (content_of l.1).1) (λ d. Ok (Some d)) new e in
+open_apart : (records : List DumpRecord) (l : Numbered) (new : Option Draft) → watched.open_record false records l ≡ Ok new
+    → (path : List (List ℕ)) × ((drafted new ≡ path ∷ []) × (is_repeated records path ≡ false → watched.open_record true records l ≡ Ok new))
+open_apart records l new e =
+    let s = at_place-ok l.0 (watched.opened_draft false records l.0 (content_of l.1).1) (λ d. Ok (Some d)) new e in
     let made = ok-is (Some s.0) new s.1.1 in
-    (s.0.path, (ap drafted (sym made), λ fresh. ap (λ r. at_place l.0 r (λ d. Ok (Some d))) (begun_apart records l.0 (content_of l.1).1 s.0 s.1.0 fresh) ∙ ap (λ d. Ok d) made))
+    (s.0.path, (ap drafted (sym made), λ fresh. ap (λ r. at_place l.0 r (λ d. Ok (Some d))) (opened_apart records l.0 (content_of l.1).1 s.0 s.1.0 fresh) ∙ ap (λ d. Ok d) made))
 
 -- ---- the stream
 
-same_begun : (records : List DumpRecord) (at : ℕ) (value : List ℕ) → watched.begun true records at value ≡ begun records at value
-same_begun records at [] = refl
-same_begun records at (b ∷ bs) = refl
+same_opened : (records : List DumpRecord) (at : ℕ) (value : List ℕ) → watched.opened_draft true records at value ≡ opened_draft records at value
+same_opened records at [] = refl
+same_opened records at (b ∷ bs) = refl
 
-same_begin : watched.begin true ≡ begin
-same_begin = λ i records l. at_place l.0 (same_begun records l.0 (content_of l.1).1 i) (λ draft. Ok (Some draft))
+same_open : watched.open_record true ≡ open_record
+same_open = λ i records l. at_place l.0 (same_opened records l.0 (content_of l.1).1 i) (λ draft. Ok (Some draft))
 
 module _ (user_id group_id : List ℕ → Option ℕ) (dump_use : DumpUse) where
   abbrev stream : Bool → List DumpRecord → Option Draft → List Numbered → Result (List DumpRecord) TextFault
@@ -130,17 +130,17 @@ module _ (user_id group_id : List ℕ → Option ℕ) (dump_use : DumpUse) where
 
   abbrev step_by : Bool → Bool → List DumpRecord → Option Draft → Numbered → Result (List DumpRecord × Option Draft) TextFault
   step_by are_watched b records draft l =
-      cond b (next (close dump_use records draft) (λ more. next (watched.begin are_watched more l) (λ new. Ok (more, new)))) (next (line_in user_id group_id draft l) (λ new. Ok (records, new)))
+      cond b (next (close dump_use records draft) (λ more. next (watched.open_record are_watched more l) (λ new. Ok (more, new)))) (next (line_in user_id group_id draft l) (λ new. Ok (records, new)))
 
   line_path : (draft : Option Draft) (l : Numbered) (more : Option Draft) → line_in user_id group_id draft l ≡ Ok more → drafted more ≡ drafted draft
   line_path draft l more e =
       let s = at_place-ok l.0 (judged user_id group_id draft l) (λ new. Ok new) more e in
-      let w = bind-ok (said_by user_id group_id l.0 (content_of l.1).0 (content_of l.1).1) (λ s. add s draft) s.0 s.1.0 in
+      let w = bind-ok (item_of user_id group_id l.0 (content_of l.1).0 (content_of l.1).1) (λ s. add s draft) s.0 s.1.0 in
       ap drafted (sym (ok-is s.0 more s.1.1)) ∙ added_path w.0 draft s.0 w.1.1
 
   -- the paths of all records begin with those that were read
-  abbrev Goes : List DumpRecord → Option Draft → List DumpRecord → Type 0
-  Goes records draft all = (rest : List (List (List ℕ))) × (paths all ≡ (paths records ++ drafted draft) ++ rest)
+  abbrev Continues : List DumpRecord → Option Draft → List DumpRecord → Type 0
+  Continues records draft all = (rest : List (List (List ℕ))) × (paths all ≡ (paths records ++ drafted draft) ++ rest)
 
   middle_is : {X : Type 0} (all front a b rest : List X) → all ≡ (front ++ a) ++ rest → a ≡ b → all ≡ (front ++ b) ++ rest
   middle_is all front a b rest e same = e ∙ ap (λ d. (front ++ d) ++ rest) same
@@ -148,36 +148,36 @@ module _ (user_id group_id : List ℕ → Option ℕ) (dump_use : DumpUse) where
   further : {X : Type 0} (all more new rest front : List X) → all ≡ (more ++ new) ++ rest → more ≡ front → all ≡ front ++ (new ++ rest)
   further all more new rest front e same = e ∙ (append_assoc more new rest ∙ ap (λ p. p ++ (new ++ rest)) same)
 
-  goes_by : (b : Bool) (l : Numbered) (ls : List Numbered) (records : List DumpRecord) (draft : Option Draft) (all : List DumpRecord) → next (step_by false b records draft l) (λ s. stream false s.0 s.1 ls) ≡ Ok all
-      → ((more : List DumpRecord) (new : Option Draft) → stream false more new ls ≡ Ok all → Goes more new all) → Goes records draft all
-  goes_by true l ls records draft all e again =
+  continues_by : (b : Bool) (l : Numbered) (ls : List Numbered) (records : List DumpRecord) (draft : Option Draft) (all : List DumpRecord) → next (step_by false b records draft l) (λ s. stream false s.0 s.1 ls) ≡ Ok all
+      → ((more : List DumpRecord) (new : Option Draft) → stream false more new ls ≡ Ok all → Continues more new all) → Continues records draft all
+  continues_by true l ls records draft all e again =
       let s = next-ok (step_by false true records draft l) (λ s. stream false s.0 s.1 ls) all e in
       let c = next-ok (close dump_use records draft) _ s.0 s.1.0 in
-      let n = next-ok (watched.begin false c.0 l) _ s.0 c.1.1 in
+      let n = next-ok (watched.open_record false c.0 l) _ s.0 c.1.1 in
       let pair = ok-is (c.0, n.0) s.0 n.1.1 in
       let tail = again c.0 n.0 (ap (λ (p : List DumpRecord × Option Draft). stream false p.0 p.1 ls) pair ∙ s.1.1) in
       (drafted n.0 ++ tail.0, further (paths all) (paths c.0) (drafted n.0) tail.0 (paths records ++ drafted draft) tail.1 (closed_paths dump_use records draft c.0 c.1.0))
-  goes_by false l ls records draft all e again =
+  continues_by false l ls records draft all e again =
       let s = next-ok (step_by false false records draft l) (λ s. stream false s.0 s.1 ls) all e in
       let n = next-ok (line_in user_id group_id draft l) _ s.0 s.1.0 in
       let pair = ok-is (records, n.0) s.0 n.1.1 in
       let tail = again records n.0 (ap (λ (p : List DumpRecord × Option Draft). stream false p.0 p.1 ls) pair ∙ s.1.1) in
       (tail.0, middle_is (paths all) (paths records) (drafted n.0) (drafted draft) tail.0 tail.1 (line_path draft l n.0 n.1.0))
 
-  goes : (ls : List Numbered) (records : List DumpRecord) (draft : Option Draft) (all : List DumpRecord) → stream false records draft ls ≡ Ok all → Goes records draft all
-  goes [] records draft all e = ([], closed_paths dump_use records draft all e ∙ sym (append-nil (paths records ++ drafted draft)))
-  goes (l ∷ ls) records draft all e = goes_by (begins l) l ls records draft all e (λ more new f. goes ls more new all f)
+  continues : (ls : List Numbered) (records : List DumpRecord) (draft : Option Draft) (all : List DumpRecord) → stream false records draft ls ≡ Ok all → Continues records draft all
+  continues [] records draft all e = ([], closed_paths dump_use records draft all e ∙ sym (append-nil (paths records ++ drafted draft)))
+  continues (l ∷ ls) records draft all e = continues_by (begins l) l ls records draft all e (λ more new f. continues ls more new all f)
 
   watched_by : (b : Bool) (l : Numbered) (ls : List Numbered) (records : List DumpRecord) (draft : Option Draft) (all : List DumpRecord) → IsDistinct same_path (paths all) → next (step_by false b records draft l) (λ s. stream false s.0 s.1 ls) ≡ Ok all
       → ((more : List DumpRecord) (new : Option Draft) → stream false more new ls ≡ Ok all → stream true more new ls ≡ Ok all) → next (step_by true b records draft l) (λ s. stream true s.0 s.1 ls) ≡ Ok all
   watched_by true l ls records draft all apart e again =
       let s = next-ok (step_by false true records draft l) (λ s. stream false s.0 s.1 ls) all e in
       let c = next-ok (close dump_use records draft) _ s.0 s.1.0 in
-      let n = next-ok (watched.begin false c.0 l) _ s.0 c.1.1 in
+      let n = next-ok (watched.open_record false c.0 l) _ s.0 c.1.1 in
       let pair = ok-is (c.0, n.0) s.0 n.1.1 in
       let f = ap (λ (p : List DumpRecord × Option Draft). stream false p.0 p.1 ls) pair ∙ s.1.1 in
-      let tail = goes ls c.0 n.0 all f in
-      let one = begin_apart c.0 l n.0 n.1.0 in
+      let tail = continues ls c.0 n.0 all f in
+      let one = open_apart c.0 l n.0 n.1.0 in
       let new = not_among (paths all) c.0 one.0 tail.0 (middle_is (paths all) (paths c.0) (drafted n.0) (one.0 ∷ []) tail.0 tail.1 one.1.0) apart in
       rw (c.1.0, one.1.1 new) (again c.0 n.0 f)
   watched_by false l ls records draft all apart e again =
@@ -193,5 +193,5 @@ module _ (user_id group_id : List ℕ → Option ℕ) (dump_use : DumpUse) where
   -- a dump is read by groups as it is line by line, where paths are watched
   pub watched_dump : (bytes : List ℕ) → stream true [] None (lines_of bytes) ≡ dump_of user_id group_id dump_use bytes
   watched_dump bytes =
-      ap (λ first. streamed begins first (line_in user_id group_id) (close dump_use) [] None (lines_of bytes)) same_begin
-      ∙ streamed_by_groups begins begin (line_in user_id group_id) (close dump_use) [] None (lines_of bytes)
+      ap (λ first. streamed begins first (line_in user_id group_id) (close dump_use) [] None (lines_of bytes)) same_open
+      ∙ streamed_by_groups begins open_record (line_in user_id group_id) (close dump_use) [] None (lines_of bytes)

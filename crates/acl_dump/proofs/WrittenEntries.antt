@@ -19,7 +19,7 @@ use Rattle.acl_text.specs.declared.form.Form.TheVariants.{Long}
 use Rattle.acl_text.specs.declared.entries.Sep.TheVariants.{Line}
 use Rattle.acl_text.specs.declared.entries.PermSpec.{PermSpec}
 use Rattle.acl_text.specs.declared.entries.Spec.{Spec}
-use Rattle.acl_text.specs.Told.{◌>>=◌, or_fault}
+use Rattle.acl_text.specs.InTurn.{◌>>=◌, or_fault}
 use Rattle.acl_text.specs.Blanks.{is_blank, trim_front, trim_back, trimmed}
 use Rattle.acl_text.specs.Fields.{EntryRow, entry_fields, row_of, is_default_word}
 use Rattle.acl_text.specs.Entries.{content, tagged, entry_from, wanted_perms, key_of, allowed_key}
@@ -28,10 +28,10 @@ use Rattle.acl_text.proofs.Plain.{is_plain, plain-line, plain-blank, plain-colon
 use Rattle.acl_text.proofs.WrittenLists.{plain_text, tag_plain, qualifier_plain, key_again, in_entry}
 use Rattle.acl_dump.specs.declared.line.LineKind.TheVariants as lines
 use Rattle.acl_dump.specs.declared.effective.Effective.{Effective}
-use Rattle.acl_dump.specs.declared.said.Said.TheVariants as said
+use Rattle.acl_dump.specs.declared.item.Item.TheVariants as item
 use Rattle.acl_dump.specs.Lines.{content_of}
-use Rattle.acl_dump.specs.Records.{rules, entry_said, said_by}
-use Rattle.acl_dump.specs.Writing.{is_told, tab_count, tabs, comment, front, shown}
+use Rattle.acl_dump.specs.Records.{rules, entry_item, item_of}
+use Rattle.acl_dump.specs.Writing.{is_shown, tab_count, tabs, comment, front, shown}
 
 -- ---- blanks after a field
 
@@ -47,8 +47,8 @@ back_trimmed : (p t : List ℕ) → AllByRecursion (λ b. is_blank b ≡ true) t
 back_trimmed p t blank = ap (λ xs. reverse (trim_front xs)) (reverse-append p t) ∙ ap reverse (front_trimmed (reverse t) (reverse p) (all-reverse (λ b. is_blank b ≡ true) t blank))
 
 -- a field of bytes that are not blanks, with blanks after it
-trimmed_behind : (b : ℕ) (p t : List ℕ) → AllByRecursion (λ c. is_blank c ≡ false) (b ∷ p) → AllByRecursion (λ c. is_blank c ≡ true) t → trimmed (b ∷ p ++ t) ≡ b ∷ p
-trimmed_behind b p t none blank =
+trimmed_followed : (b : ℕ) (p t : List ℕ) → AllByRecursion (λ c. is_blank c ≡ false) (b ∷ p) → AllByRecursion (λ c. is_blank c ≡ true) t → trimmed (b ∷ p ++ t) ≡ b ∷ p
+trimmed_followed b p t none blank =
     ap (λ c. trim_back (cond c (trim_front (p ++ t)) (b ∷ p ++ t))) none.0
     ∙ back_trimmed (b ∷ p) t blank
     ∙ ap (λ c. trim_back (cond c (trim_front p) (b ∷ p))) (sym none.0)
@@ -77,7 +77,7 @@ before_first_at q (x ∷ xs) c ys none is = rw none.0 (ap (λ (n : ℕ). take n 
 -- ---- fields
 
 perm_fields : (p : Perms) (t : List ℕ) → AllByRecursion (λ b. is_blank b ≡ true) t → trimmed (perms.text p ++ t) ≡ perms.text p
-perm_fields p t blank = trimmed_behind _ _ t (none_of is_plain is_blank plain-blank (perms.text p) (plain_text p)) blank
+perm_fields p t blank = trimmed_followed _ _ t (none_of is_plain is_blank plain-blank (perms.text p) (plain_text p)) blank
 
 blank_colon : (b : ℕ) → is_blank b ≡ true → (b == 58) ≡ false
 blank_colon b blank =
@@ -112,9 +112,9 @@ no_colon : (t : List ℕ) → AllByRecursion (λ b. is_blank b ≡ true) t → A
 no_colon [] blank = tt
 no_colon (b ∷ t) blank = (blank_colon b blank.0, no_colon t blank.1)
 
-pub fields_behind : (w v t : List ℕ) (p : Perms) → list_all is_plain w ≡ true → list_all is_plain v ≡ true → AllByRecursion (λ b. is_blank b ≡ true) t
+pub fields_followed : (w v t : List ℕ) (p : Perms) → list_all is_plain w ≡ true → list_all is_plain v ≡ true → AllByRecursion (λ b. is_blank b ≡ true) t
     → entry_fields (w ++ 58 ∷ (v ++ 58 ∷ (perms.text p ++ t))) ≡ w ∷ v ∷ perms.text p ∷ []
-fields_behind w v t p hw hv blank =
+fields_followed w v t p hw hv blank =
     let colon = none_of is_plain (λ b. b == 58) plain-colon in
     let cuts : pieces 58 (w ++ 58 ∷ (v ++ 58 ∷ (perms.text p ++ t))) ≡ w ∷ v ∷ (perms.text p ++ t) ∷ [] =
     pieces_at 58 w (v ++ 58 ∷ (perms.text p ++ t)) (colon w hw)
@@ -184,19 +184,19 @@ module _ (user_id group_id : List ℕ → Option ℕ) (user_name group_name : �
       let tag = tag_text Long e.key in
       let word = word_of e.key in
       ap entry_fields (append_assoc tag (58 ∷ (word ++ 58 ∷ perms.text e.perm)) t ∙ ap (λ (l : List ℕ). tag ++ 58 ∷ l) (append_assoc word (58 ∷ perms.text e.perm) t))
-      ∙ fields_behind tag word t e.perm (tag_plain Long e.key) (qualifier_plain true false user_id group_id user_name group_name e.key lt named) blank
+      ∙ fields_followed tag word t e.perm (tag_plain Long e.key) (qualifier_plain true false user_id group_id user_name group_name e.key lt named) blank
 
   -- an entry with blanks after it
   fields_again : (at : ℕ) (which : Which) (e : Entry) (t : List ℕ) → id_of e.key < 4294967295 → IsNamedKey e.key → AllByRecursion (λ b. is_blank b ≡ true) t
-      → said_by user_id group_id at lines.Entry (shown user_name group_name which e ++ t) ≡ Ok (Some (said.Entry (is_default which) e))
+      → item_of user_id group_id at lines.Entry (shown user_name group_name which e ++ t) ≡ Ok (Some (item.Entry (is_default which) e))
   fields_again at Access e t lt named blank =
-      ap (λ f. entry_from user_id group_id rules at f >>= (λ spec. Ok (Some (entry_said spec)))) (entry_fields_again e t lt named blank)
-      ∙ ap (λ r. r >>= (λ spec. Ok (Some (entry_said spec)))) (key_again true false user_id group_id user_name group_name Long at e.key e.perm lt named)
+      ap (λ f. entry_from user_id group_id rules at f >>= (λ spec. Ok (Some (entry_item spec)))) (entry_fields_again e t lt named blank)
+      ∙ ap (λ r. r >>= (λ spec. Ok (Some (entry_item spec)))) (key_again true false user_id group_id user_name group_name Long at e.key e.perm lt named)
   fields_again at Default e t lt named blank =
       let cut : entry_fields (codes "default" ++ 58 ∷ (written e ++ t)) ≡ codes "default" ∷ entry_fields (written e ++ t) =
       ap (map trimmed) (pieces_at 58 (codes "default") (written e ++ t) (refl, (refl, (refl, (refl, (refl, (refl, (refl, tt)))))))) in
-      ap (λ f. entry_from user_id group_id rules at f >>= (λ spec. Ok (Some (entry_said spec)))) (cut ∙ ap (λ (f : List (List ℕ)). codes "default" ∷ f) (entry_fields_again e t lt named blank))
-      ∙ ap (λ r. r >>= (λ spec. Ok (Some (entry_said spec)))) (default_again at (tag_text Long e.key) (word_of e.key) (perms.text e.perm) (default_tag e.key)
+      ap (λ f. entry_from user_id group_id rules at f >>= (λ spec. Ok (Some (entry_item spec)))) (cut ∙ ap (λ (f : List (List ℕ)). codes "default" ∷ f) (entry_fields_again e t lt named blank))
+      ∙ ap (λ r. r >>= (λ spec. Ok (Some (entry_item spec)))) (default_again at (tag_text Long e.key) (word_of e.key) (perms.text e.perm) (default_tag e.key)
       ∙ ap as_default (key_again true false user_id group_id user_name group_name Long at e.key e.perm lt named))
 
   -- ---- lines
@@ -211,8 +211,8 @@ module _ (user_id group_id : List ℕ → Option ℕ) (user_name group_name : �
 
   opened : (which : Which) (e : Entry) (rest : List ℕ) → content_of (shown user_name group_name which e ++ rest) ≡ (lines.Entry, content Line (shown user_name group_name which e ++ rest))
   opened Access e rest =
-      let behind = 58 ∷ (word_of e.key ++ 58 ∷ perms.text e.perm) in
-      subst (λ (l : List ℕ). content_of l ≡ (lines.Entry, content Line l)) (sym (append_assoc (tag_text Long e.key) behind rest)) (opened_key e.key (behind ++ rest))
+      let following = 58 ∷ (word_of e.key ++ 58 ∷ perms.text e.perm) in
+      subst (λ (l : List ℕ). content_of l ≡ (lines.Entry, content Line l)) (sym (append_assoc (tag_text Long e.key) following rest)) (opened_key e.key (following ++ rest))
   opened Default e rest = refl
 
   front_hash : (which : Which) → AllByRecursion (λ b. (b == 35) ≡ false) (front which)
@@ -228,31 +228,31 @@ module _ (user_id group_id : List ℕ → Option ℕ) (user_name group_name : �
   in_shown q why colon which none e lt named = all-append (λ b. q b ≡ false) (front which) (written e) none (in_entry true false user_id group_id user_name group_name q why colon Long e lt named)
 
   -- where a line is an entry with blanks after it
-  abbrev Says : ℕ → Which → Entry → List ℕ → Type 0
-  Says at which e line = (v : List ℕ) × (content_of line ≡ (lines.Entry, v)) × (said_by user_id group_id at lines.Entry v ≡ Ok (Some (said.Entry (is_default which) e)))
+  abbrev ReadsAs : ℕ → Which → Entry → List ℕ → Type 0
+  ReadsAs at which e line = (v : List ℕ) × (content_of line ≡ (lines.Entry, v)) × (item_of user_id group_id at lines.Entry v ≡ Ok (Some (item.Entry (is_default which) e)))
 
-  says_bare : (at : ℕ) (which : Which) (e : Entry) → id_of e.key < 4294967295 → IsNamedKey e.key → Says at which e (shown user_name group_name which e ++ [])
-  says_bare at which e lt named =
+  reads_bare : (at : ℕ) (which : Which) (e : Entry) → id_of e.key < 4294967295 → IsNamedKey e.key → ReadsAs at which e (shown user_name group_name which e ++ [])
+  reads_bare at which e lt named =
       let text = shown user_name group_name which e in
       let none = all-append (λ b. (b == 35) ≡ false) text [] (in_shown (λ b. b == 35) plain-hash refl which (front_hash which) e lt named) tt in
       (text ++ [], opened which e [] ∙ ap (λ (v : List ℕ). (lines.Entry, v)) (before_first_none (λ b. b == 35) (text ++ []) none), fields_again at which e [] lt named tt)
 
-  says_commented : (at : ℕ) (which : Which) (e : Entry) (t ys : List ℕ) → id_of e.key < 4294967295 → IsNamedKey e.key → AllByRecursion (λ b. is_blank b ≡ true) t → Says at which e (shown user_name group_name which e ++ (t ++ 35 ∷ ys))
-  says_commented at which e t ys lt named blank =
+  reads_commented : (at : ℕ) (which : Which) (e : Entry) (t ys : List ℕ) → id_of e.key < 4294967295 → IsNamedKey e.key → AllByRecursion (λ b. is_blank b ≡ true) t → ReadsAs at which e (shown user_name group_name which e ++ (t ++ 35 ∷ ys))
+  reads_commented at which e t ys lt named blank =
       let text = shown user_name group_name which e in
       let none = all-append (λ b. (b == 35) ≡ false) text t (in_shown (λ b. b == 35) plain-hash refl which (front_hash which) e lt named) (no_hash t blank) in
       (text ++ t, opened which e (t ++ 35 ∷ ys) ∙ ap (λ (v : List ℕ). (lines.Entry, v)) (ap (before_first (λ b. b == 35)) (sym (append_assoc text t (35 ∷ ys))) ∙ before_first_at (λ b. b == 35) (text ++ t) 35 ys none refl), fields_again at which e t lt named blank)
 
   -- a line of an entry, with or without its effective permissions
   pub line_again : (at : ℕ) (how : Effective) (which : Which) (mask : Option Perms) (e : Entry) → id_of e.key < 4294967295 → IsNamedKey e.key
-      → Says at which e (shown user_name group_name which e ++ comment how mask e (length (shown user_name group_name which e)))
-  line_again at how which None e lt named = says_bare at which e lt named
+      → ReadsAs at which e (shown user_name group_name which e ++ comment how mask e (length (shown user_name group_name which e)))
+  line_again at how which None e lt named = reads_bare at which e lt named
   line_again at how which (Some mask) e lt named =
       let bytes = length (shown user_name group_name which e) in
-      let behind = tabs bytes ++ (codes "#effective:" ++ perms.text (perms.meet e.perm mask)) in
-      elim (cases_Bool (is_class e.key && is_told how mask e.perm)) [
-        | inl told ↦ subst (λ b. Says at which e (shown user_name group_name which e ++ cond b behind [])) (sym told) (says_commented at which e (tabs bytes) _ lt named (blank_front (tab_count bytes)))
-        | inr silent ↦ subst (λ b. Says at which e (shown user_name group_name which e ++ cond b behind [])) (sym silent) (says_bare at which e lt named)
+      let following = tabs bytes ++ (codes "#effective:" ++ perms.text (perms.meet e.perm mask)) in
+      elim (cases_Bool (is_class e.key && is_shown how mask e.perm)) [
+        | inl shown_text ↦ subst (λ b. ReadsAs at which e (shown user_name group_name which e ++ cond b following [])) (sym shown_text) (reads_commented at which e (tabs bytes) _ lt named (blank_front (tab_count bytes)))
+        | inr without_comment ↦ subst (λ b. ReadsAs at which e (shown user_name group_name which e ++ cond b following [])) (sym without_comment) (reads_bare at which e lt named)
       ]
 
   comment_clean : (how : Effective) (mask : Option Perms) (e : Entry) (bytes : ℕ) → AllByRecursion (λ b. (b == 10) ≡ false) (comment how mask e bytes)
@@ -260,10 +260,10 @@ module _ (user_id group_id : List ℕ → Option ℕ) (user_name group_name : �
   comment_clean how (Some mask) e bytes =
       let word = codes "#effective:" in
       let granted = perms.text (perms.meet e.perm mask) in
-      let told = all-append (λ b. (b == 10) ≡ false) (tabs bytes) (word ++ granted) (no_line (tabs bytes) (blank_front (tab_count bytes)))
+      let shown_text = all-append (λ b. (b == 10) ≡ false) (tabs bytes) (word ++ granted) (no_line (tabs bytes) (blank_front (tab_count bytes)))
       (refl, (refl, (refl, (refl, (refl, (refl, (refl, (refl, (refl, (refl, (refl, none_of is_plain (λ b. b == 10) plain-line granted (plain_text (perms.meet e.perm mask))))))))))))) in
-      elim (is_class e.key && is_told how mask e.perm) as (λ b. AllByRecursion (λ b. (b == 10) ≡ false) (cond b (tabs bytes ++ (word ++ granted)) [])) [
-        | true ↦ told
+      elim (is_class e.key && is_shown how mask e.perm) as (λ b. AllByRecursion (λ b. (b == 10) ≡ false) (cond b (tabs bytes ++ (word ++ granted)) [])) [
+        | true ↦ shown_text
         | false ↦ tt
       ]
 

@@ -49,8 +49,8 @@ ends_clean b (c ∷ cs) none =
     let ends = ends_clean c cs none.1 in
     record { before = b ∷ ends.before; last = ends.last; parts = ap (λ (l : List ℕ). b ∷ l) ends.parts; clean = ends.clean }
 
-behind_clean : (front bytes : List ℕ) → EndsClean bytes → EndsClean (front ++ bytes)
-behind_clean front bytes ends = record { before = front ++ ends.before; last = ends.last; parts = ap (λ (l : List ℕ). front ++ l) ends.parts ∙ sym (append_assoc front ends.before (ends.last ∷ [])); clean = ends.clean }
+prefixed_clean : (front bytes : List ℕ) → EndsClean bytes → EndsClean (front ++ bytes)
+prefixed_clean front bytes ends = record { before = front ++ ends.before; last = ends.last; parts = ap (λ (l : List ℕ). front ++ l) ends.parts ∙ sym (append_assoc front ends.before (ends.last ∷ [])); clean = ends.clean }
 
 component_clean : (name : List ℕ) → is_component name ≡ true → EndsClean name
 component_clean [] is = absurd cc
@@ -60,7 +60,7 @@ joined_clean : (name : List ℕ) (names : List (List ℕ)) → is_component name
 joined_clean name [] is are = subst EndsClean (sym (append-nil name)) (component_clean name is)
 joined_clean name (next ∷ names) is are =
     let parts = and_parts (is_component next) (list_all is_component names) are in
-    behind_clean name (47 ∷ (next ++ flat_map after_slash names)) (behind_clean (47 ∷ []) (next ++ flat_map after_slash names) (joined_clean next names parts.0 parts.1))
+    prefixed_clean name (47 ∷ (next ++ flat_map after_slash names)) (prefixed_clean (47 ∷ []) (next ++ flat_map after_slash names) (joined_clean next names parts.0 parts.1))
 
 last_byte : (b : ℕ) (escapes : Bool) → (b == 47) ≡ false → EndsClean (byte_text escapes b)
 last_byte b true clean = record { before = 92 ∷ (48 + b / 64) ∷ (48 + (b / 8) % 8) ∷ []; last = 48 + b % 8; parts = refl; clean = ne_eqb (48 + b % 8) 47 (λ e. omega arith) }
@@ -73,7 +73,7 @@ escaped_clean : (bytes : List ℕ) → EndsClean bytes → EndsClean (escaped_wh
 escaped_clean bytes ends =
     let last = last_byte ends.last (is_escaped_in_paths ends.last) ends.clean in
     subst EndsClean (sym (ap (escaped_where is_escaped_in_paths) ends.parts ∙ (escaped_append ends.before (ends.last ∷ []) ∙ ap (λ (l : List ℕ). escaped_where is_escaped_in_paths ends.before ++ l) (append-nil (byte_text (is_escaped_in_paths ends.last) ends.last)))))
-    (behind_clean (escaped_where is_escaped_in_paths ends.before) (byte_text (is_escaped_in_paths ends.last) ends.last) last)
+    (prefixed_clean (escaped_where is_escaped_in_paths ends.before) (byte_text (is_escaped_in_paths ends.last) ends.last) last)
 
 path_clean : (path : List (List ℕ)) → list_all is_component path ≡ true → EndsClean (path_text path)
 path_clean [] are = record { before = []; last = 46; parts = refl; clean = refl }

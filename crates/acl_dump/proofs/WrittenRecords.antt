@@ -18,7 +18,7 @@ use Rattle.acl_text.specs.declared.fault.FaultKind.TheVariants.{UnknownUser, Unk
 use Rattle.acl_text.specs.declared.fault.TextFault.{TextFault}
 use Rattle.acl_text.specs.declared.fault.Which.{Which}
 use Rattle.acl_text.specs.declared.fault.Which.TheVariants.{Access, Default}
-use Rattle.acl_text.specs.Told.{at_place, ◌>>=◌, or_fault}
+use Rattle.acl_text.specs.InTurn.{at_place, ◌>>=◌, or_fault}
 use Rattle.acl_text.specs.Blanks.{is_blank, trimmed}
 use Rattle.acl_text.specs.Writing.{id_text, IsKeyNamed}
 use Rattle.acl_text.proofs.Plain.{is_plain, plain-line, plain-blank, none_of, trimmed_none, pieces_at}
@@ -30,11 +30,11 @@ use Rattle.acl_dump.specs.declared.record.DumpUse.TheVariants.{Load, Restore}
 use Rattle.acl_dump.specs.declared.record.DumpRecord.{DumpRecord}
 use Rattle.acl_dump.specs.declared.draft.Draft.{Draft}
 use Rattle.acl_dump.specs.declared.effective.Effective.TheVariants.{WhereMasked}
-use Rattle.acl_dump.specs.declared.said.Said.{Said}
-use Rattle.acl_dump.specs.declared.said.Said.TheVariants as said
+use Rattle.acl_dump.specs.declared.item.Item.{Item}
+use Rattle.acl_dump.specs.declared.item.Item.TheVariants as item
 use Rattle.acl_dump.specs.Groups.{next}
 use Rattle.acl_dump.specs.Lines.{content_of, begins_record}
-use Rattle.acl_dump.specs.Records.{named, flags_of, said_by, add, begun, ends_in_slash, is_repeated, same_path, list_of, list_unless, default_list_of, has_headers, whole, begins, begin, close, line_in, lines_of, dump_of, dump_stream}
+use Rattle.acl_dump.specs.Records.{named, flags_of, item_of, add, opened_draft, ends_in_slash, is_repeated, same_path, list_of, list_unless, default_list_of, has_headers, whole, begins, open_record, close, line_in, lines_of, dump_of, dump_stream}
 use Rattle.acl_dump.specs.Writing.{mark, marks, flags_text, slash_text, file_text, owner_text, group_text, shown, comment, entry_line, list_text, default_text, record_text}
 use Rattle.acl_dump.specs.Again.{IsFoundIf, AreFlags, HasHeaders, IsListIf, IsReadable, AreApart, paths, lines_if, default_count, line_count, placed, dump_text}
 use Rattle.acl_dump.proofs.Streams.{streamed_by_groups}
@@ -89,8 +89,8 @@ module _ (dump_use : DumpUse) (user_id group_id : List ℕ → Option ℕ) (user
 
   abbrev step : List DumpRecord → Option Draft → ℕ → LineKind × List ℕ → Result (List DumpRecord × Option Draft) TextFault
   step records draft at c =
-      cond (begins_record c.0) (next (close dump_use records draft) (λ more. next (at_place at (begun more at c.1) (λ d. Ok (Some d))) (λ new. Ok (more, new))))
-      (next (at_place at (said_by user_id group_id at c.0 c.1 >>= (λ said. add said draft)) (λ new. Ok new)) (λ more. Ok (records, more)))
+      cond (begins_record c.0) (next (close dump_use records draft) (λ more. next (at_place at (opened_draft more at c.1) (λ d. Ok (Some d))) (λ new. Ok (more, new))))
+      (next (at_place at (item_of user_id group_id at c.0 c.1 >>= (λ item. add item draft)) (λ new. Ok new)) (λ more. Ok (records, more)))
 
   cut : (records : List DumpRecord) (draft : Option Draft) (at : ℕ) (line rest : List ℕ) (c : LineKind × List ℕ) → AllByRecursion (λ b. (b == 10) ≡ false) line → content_of line ≡ c
       → reading records draft at (line ++ 10 ∷ rest) ≡ next (step records draft at c) (λ s. reading s.0 s.1 (at + 1) rest)
@@ -99,22 +99,22 @@ module _ (dump_use : DumpUse) (user_id group_id : List ℕ → Option ℕ) (user
       ∙ ap (λ k. next (step records draft at k) (λ s. reading s.0 s.1 (at + 1) rest)) is
 
   -- a line that adds to the open record
-  pub spoken : (records : List DumpRecord) (draft new : Option Draft) (at : ℕ) (line rest : List ℕ) (k : LineKind) (v : List ℕ) (s : Option Said) → AllByRecursion (λ b. (b == 10) ≡ false) line → content_of line ≡ (k, v)
-      → begins_record k ≡ false → said_by user_id group_id at k v ≡ Ok s → add s draft ≡ Ok new → reading records draft at (line ++ 10 ∷ rest) ≡ reading records new (at + 1) rest
-  spoken records draft new at line rest k v s clean is other says adds =
+  pub read_one_item : (records : List DumpRecord) (draft new : Option Draft) (at : ℕ) (line rest : List ℕ) (k : LineKind) (v : List ℕ) (s : Option Item) → AllByRecursion (λ b. (b == 10) ≡ false) line → content_of line ≡ (k, v)
+      → begins_record k ≡ false → item_of user_id group_id at k v ≡ Ok s → add s draft ≡ Ok new → reading records draft at (line ++ 10 ∷ rest) ≡ reading records new (at + 1) rest
+  read_one_item records draft new at line rest k v s clean is other reads_as adds =
       let on = λ (r : Result (List DumpRecord × Option Draft) TextFault). next r (λ s. reading s.0 s.1 (at + 1) rest) in
       cut records draft at line rest (k, v) clean is
-      ∙ (ap (λ b. on (cond b (next (close dump_use records draft) (λ more. next (at_place at (begun more at v) (λ d. Ok (Some d))) (λ new. Ok (more, new)))) (next (at_place at (said_by user_id group_id at k v >>= (λ said. add said draft)) (λ new. Ok new)) (λ more. Ok (records, more))))) other
-      ∙ (ap (λ r. on (next (at_place at (r >>= (λ said. add said draft)) (λ new. Ok new)) (λ more. Ok (records, more)))) says
+      ∙ (ap (λ b. on (cond b (next (close dump_use records draft) (λ more. next (at_place at (opened_draft more at v) (λ d. Ok (Some d))) (λ new. Ok (more, new)))) (next (at_place at (item_of user_id group_id at k v >>= (λ item. add item draft)) (λ new. Ok new)) (λ more. Ok (records, more))))) other
+      ∙ (ap (λ r. on (next (at_place at (r >>= (λ item. add item draft)) (λ new. Ok new)) (λ more. Ok (records, more)))) reads_as
       ∙ ap (λ r. on (next (at_place at r (λ new. Ok new)) (λ more. Ok (records, more)))) adds))
 
   -- a line that begins a record
   pub opened : (records more : List DumpRecord) (draft : Option Draft) (new : Draft) (at : ℕ) (line rest v : List ℕ) → AllByRecursion (λ b. (b == 10) ≡ false) line → content_of line ≡ (lines.File, v)
-      → close dump_use records draft ≡ Ok more → begun more at v ≡ Ok new → reading records draft at (line ++ 10 ∷ rest) ≡ reading more (Some new) (at + 1) rest
+      → close dump_use records draft ≡ Ok more → opened_draft more at v ≡ Ok new → reading records draft at (line ++ 10 ∷ rest) ≡ reading more (Some new) (at + 1) rest
   opened records more draft new at line rest v clean is closes begins =
       let on = λ (r : Result (List DumpRecord × Option Draft) TextFault). next r (λ s. reading s.0 s.1 (at + 1) rest) in
       cut records draft at line rest (lines.File, v) clean is
-      ∙ (ap (λ r. on (next r (λ more. next (at_place at (begun more at v) (λ d. Ok (Some d))) (λ new. Ok (more, new))))) closes
+      ∙ (ap (λ r. on (next r (λ more. next (at_place at (opened_draft more at v) (λ d. Ok (Some d))) (λ new. Ok (more, new))))) closes
       ∙ ap (λ r. on (next (at_place at r (λ d. Ok (Some d))) (λ new. Ok (more, new)))) begins)
 
   -- ---- headers
@@ -122,10 +122,10 @@ module _ (dump_use : DumpUse) (user_id group_id : List ℕ → Option ℕ) (user
   abbrev drafted : ℕ → DumpRecord → Option ℕ → Option ℕ → Option (List Bool) → List Entry → List Entry → Option Draft
   drafted at r owner group flags access dacl = Some (record { at = at; path = r.path; slash = r.slash; owner = owner; group = group; flags = flags; access = access; dacl = dacl })
 
-  begun_from : (records : List DumpRecord) (at : ℕ) (r : DumpRecord) (name : List ℕ) → 0 < length name → path_of name ≡ Some r.path → ends_in_slash name ≡ r.slash → is_repeated records r.path ≡ false
-      → begun records at name ≡ Ok (record { at = at; path = r.path; slash = r.slash; owner = None; group = None; flags = None; access = []; dacl = [] })
-  begun_from records at r [] some is slash new = absurd (omega arith)
-  begun_from records at r (b ∷ bs) some is slash new =
+  opened_from : (records : List DumpRecord) (at : ℕ) (r : DumpRecord) (name : List ℕ) → 0 < length name → path_of name ≡ Some r.path → ends_in_slash name ≡ r.slash → is_repeated records r.path ≡ false
+      → opened_draft records at name ≡ Ok (record { at = at; path = r.path; slash = r.slash; owner = None; group = None; flags = None; access = []; dacl = [] })
+  opened_from records at r [] some is slash new = absurd (omega arith)
+  opened_from records at r (b ∷ bs) some is slash new =
       let make : List (List ℕ) → Bool → Draft = λ path slash. record { at = at; path = path; slash = slash; owner = None; group = None; flags = None; access = []; dacl = [] } in
       ap (λ o. or_fault o BadPath >>= (λ path. cond (is_repeated records path) (Err RepeatedFile) (Ok (make path (ends_in_slash (b ∷ bs)))))) is
       ∙ (ap (λ c. cond c (Err RepeatedFile) (Ok (make r.path (ends_in_slash (b ∷ bs))))) new ∙ ap (λ c. Ok (make r.path c)) slash)
@@ -140,7 +140,7 @@ module _ (dump_use : DumpUse) (user_id group_id : List ℕ → Option ℕ) (user
       ap (λ (l : List ℕ). reading records draft at (codes "# file: " ++ l)) moved
       ∙ opened records more draft (record { at = at; path = r.path; slash = r.slash; owner = None; group = None; flags = None; access = []; dacl = [] }) at (codes "# file: " ++ name) rest name
       (refl, (refl, (refl, (refl, (refl, (refl, (refl, (refl, name_clean r.path r.slash)))))))) refl closes
-      (begun_from more at r name (name_some r.path r.slash are) (name_again r.path r.slash are) (slash_again r.path r.slash are) new)
+      (opened_from more at r name (name_some r.path r.slash are) (name_again r.path r.slash are) (slash_again r.path r.slash are) new)
 
   named_again : (look_up : List ℕ → Option ℕ) (unknown : FaultKind) (id : ℕ) (w : List ℕ) → IsWordOf look_up id w → named look_up unknown w ≡ Ok id
   named_again look_up unknown id [] is = absurd (omega (arith, is.some))
@@ -159,10 +159,10 @@ module _ (dump_use : DumpUse) (user_id group_id : List ℕ → Option ℕ) (user
       let w = id_text id (user_name id) in
       let word = word_again user_id id (user_name id) found.small found.named in
       ap (λ (l : List ℕ). reading records (drafted first r None None None [] []) at (codes "# owner: " ++ l)) (append_assoc w (10 ∷ []) rest)
-      ∙ spoken records (drafted first r None None None [] []) (drafted first r (Some id) None None [] []) at (codes "# owner: " ++ w) rest lines.Owner w (Some (said.Owner id))
+      ∙ read_one_item records (drafted first r None None None [] []) (drafted first r (Some id) None None [] []) at (codes "# owner: " ++ w) rest lines.Owner w (Some (item.Owner id))
       (refl, (refl, (refl, (refl, (refl, (refl, (refl, (refl, (refl, none_of is_plain (λ b. b == 10) plain-line w word.plain)))))))))
       (ap (λ (v : List ℕ). (lines.Owner, v)) (bare w word.plain)) refl
-      (ap (λ n. n >>= (λ id. Ok (Some (said.Owner id)))) (named_again user_id UnknownUser id w word)) refl
+      (ap (λ n. n >>= (λ id. Ok (Some (item.Owner id)))) (named_again user_id UnknownUser id w word)) refl
 
   group_chunk : (records : List DumpRecord) (first at : ℕ) (r : DumpRecord) (owner group : Option ℕ) (rest : List ℕ) → IsFoundIf group_id group_name group
       → reading records (drafted first r owner None None [] []) at (group_text group_name group ++ rest) ≡ reading records (drafted first r owner group None [] []) (at + lines_if group) rest
@@ -171,10 +171,10 @@ module _ (dump_use : DumpUse) (user_id group_id : List ℕ → Option ℕ) (user
       let w = id_text id (group_name id) in
       let word = word_again group_id id (group_name id) found.small found.named in
       ap (λ (l : List ℕ). reading records (drafted first r owner None None [] []) at (codes "# group: " ++ l)) (append_assoc w (10 ∷ []) rest)
-      ∙ spoken records (drafted first r owner None None [] []) (drafted first r owner (Some id) None [] []) at (codes "# group: " ++ w) rest lines.OwningGroup w (Some (said.OwningGroup id))
+      ∙ read_one_item records (drafted first r owner None None [] []) (drafted first r owner (Some id) None [] []) at (codes "# group: " ++ w) rest lines.OwningGroup w (Some (item.OwningGroup id))
       (refl, (refl, (refl, (refl, (refl, (refl, (refl, (refl, (refl, none_of is_plain (λ b. b == 10) plain-line w word.plain)))))))))
       (ap (λ (v : List ℕ). (lines.OwningGroup, v)) (bare w word.plain)) refl
-      (ap (λ n. n >>= (λ id. Ok (Some (said.OwningGroup id)))) (named_again group_id UnknownGroup id w word)) refl
+      (ap (λ n. n >>= (λ id. Ok (Some (item.OwningGroup id)))) (named_again group_id UnknownGroup id w word)) refl
 
   flags_again : (a b c : Bool) → flags_of (trimmed (32 ∷ marks (a ∷ b ∷ c ∷ []))) ≡ Some (a ∷ b ∷ c ∷ [])
   flags_again true true true = refl
@@ -198,9 +198,9 @@ module _ (dump_use : DumpUse) (user_id group_id : List ℕ → Option ℕ) (user
   flags_chunk records first at r owner group (Some (a ∷ b ∷ [])) rest three = absurd (omega arith)
   flags_chunk records first at r owner group (Some (a ∷ b ∷ c ∷ [])) rest three =
       let flags = a ∷ b ∷ c ∷ [] in
-      spoken records (drafted first r owner group None [] []) (drafted first r owner group (Some flags) [] []) at (codes "# flags: " ++ marks flags) rest lines.Flags (trimmed (32 ∷ marks flags)) (Some (said.Flags flags))
+      read_one_item records (drafted first r owner group None [] []) (drafted first r owner group (Some flags) [] []) at (codes "# flags: " ++ marks flags) rest lines.Flags (trimmed (32 ∷ marks flags)) (Some (item.Flags flags))
       (refl, (refl, (refl, (refl, (refl, (refl, (refl, (refl, (refl, ((mark_clean a).0, ((mark_clean b).0, ((mark_clean c).1, tt))))))))))))
-      refl refl (ap (λ f. or_fault f BadHeader >>= (λ flags. Ok (Some (said.Flags flags)))) (flags_again a b c)) refl
+      refl refl (ap (λ f. or_fault f BadHeader >>= (λ flags. Ok (Some (item.Flags flags)))) (flags_again a b c)) refl
   flags_chunk records first at r owner group (Some (a ∷ b ∷ c ∷ d ∷ more)) rest three = absurd (omega arith)
 
   -- ---- entries
@@ -229,10 +229,10 @@ module _ (dump_use : DumpUse) (user_id group_id : List ℕ → Option ℕ) (user
       no_more records (drafted first r r.owner r.group r.flags xs []) at rest ∙ ap (λ (l : List Entry). reading records (drafted first r r.owner r.group r.flags l []) (at + 0) rest) (sym (append-nil xs))
   access_chunk records first at r mask xs (e ∷ es) rest small found =
       let draft = drafted first r r.owner r.group r.flags in
-      let says = line_again user_id group_id user_name group_name at WhereMasked Access mask e small.0 found.0 in
+      let reads_as = line_again user_id group_id user_name group_name at WhereMasked Access mask e small.0 found.0 in
       ap (reading records (draft xs []) at) (moved_line Access mask e es rest)
-      ∙ (spoken records (draft xs []) (draft (xs ++ e ∷ []) []) at (plain_line Access mask e) (lines_text Access mask es ++ rest) lines.Entry says.0 (Some (said.Entry false e))
-      (line_clean user_id group_id user_name group_name WhereMasked Access mask e small.0 found.0) says.1 refl says.2 refl
+      ∙ (read_one_item records (draft xs []) (draft (xs ++ e ∷ []) []) at (plain_line Access mask e) (lines_text Access mask es ++ rest) lines.Entry reads_as.0 (Some (item.Entry false e))
+      (line_clean user_id group_id user_name group_name WhereMasked Access mask e small.0 found.0) reads_as.1 refl reads_as.2 refl
       ∙ (access_chunk records first (at + 1) r mask (xs ++ e ∷ []) es rest small.1 found.1
       ∙ (ap (λ (l : List Entry). reading records (draft l []) (at + 1 + length es) rest) (append_assoc xs (e ∷ []) es)
       ∙ ap (λ (n : ℕ). reading records (draft (xs ++ e ∷ es) []) n rest) (omega arith))))
@@ -243,10 +243,10 @@ module _ (dump_use : DumpUse) (user_id group_id : List ℕ → Option ℕ) (user
       no_more records (drafted first r r.owner r.group r.flags access xs) at rest ∙ ap (λ (l : List Entry). reading records (drafted first r r.owner r.group r.flags access l) (at + 0) rest) (sym (append-nil xs))
   default_chunk records first at r mask access xs (e ∷ es) rest small found =
       let draft = drafted first r r.owner r.group r.flags access in
-      let says = line_again user_id group_id user_name group_name at WhereMasked Default mask e small.0 found.0 in
+      let reads_as = line_again user_id group_id user_name group_name at WhereMasked Default mask e small.0 found.0 in
       ap (reading records (draft xs) at) (moved_line Default mask e es rest)
-      ∙ (spoken records (draft xs) (draft (xs ++ e ∷ [])) at (plain_line Default mask e) (lines_text Default mask es ++ rest) lines.Entry says.0 (Some (said.Entry true e))
-      (line_clean user_id group_id user_name group_name WhereMasked Default mask e small.0 found.0) says.1 refl says.2 refl
+      ∙ (read_one_item records (draft xs) (draft (xs ++ e ∷ [])) at (plain_line Default mask e) (lines_text Default mask es ++ rest) lines.Entry reads_as.0 (Some (item.Entry true e))
+      (line_clean user_id group_id user_name group_name WhereMasked Default mask e small.0 found.0) reads_as.1 refl reads_as.2 refl
       ∙ (default_chunk records first (at + 1) r mask access (xs ++ e ∷ []) es rest small.1 found.1
       ∙ (ap (λ (l : List Entry). reading records (draft l) (at + 1 + length es) rest) (append_assoc xs (e ∷ []) es)
       ∙ ap (λ (n : ℕ). reading records (draft (xs ++ e ∷ es)) n rest) (omega arith))))
@@ -282,7 +282,7 @@ module _ (dump_use : DumpUse) (user_id group_id : List ℕ → Option ℕ) (user
       ∙ (flags_chunk more at from_flags r r.owner r.group r.flags listing is.flags
       ∙ (access_chunk more at from_access r (maps.get r.access Mask) [] (entries r.access) ending (recursion_from_All (λ (e : Entry). id_of e.key < 4294967295) (entries r.access) is.access.ids) is.access.named
       ∙ (defaults_chunk more at from_default r (entries r.access) r.dacl (10 ∷ rest) is.dacl
-      ∙ (spoken more (Some (all_lines at r)) (Some (all_lines at r)) (from_default + default_count r.dacl) [] rest lines.Nothing [] None tt refl refl refl refl
+      ∙ (read_one_item more (Some (all_lines at r)) (Some (all_lines at r)) (from_default + default_count r.dacl) [] rest lines.Nothing [] None tt refl refl refl refl
       ∙ ap (λ (n : ℕ). reading more (Some (all_lines at r)) n rest) (omega arith))))))))
 
   any_paths : (path : List (List ℕ)) (records : List DumpRecord) → is_repeated records path ≡ list_any (same_path path) (paths records)
@@ -302,5 +302,5 @@ module _ (dump_use : DumpUse) (user_id group_id : List ℕ → Option ℕ) (user
   -- the texts of records, one after another, are read as those records
   pub dump_again : (rs : List DumpRecord) → AllByRecursion Readable rs → AreApart [] (paths rs) → dump_of user_id group_id dump_use (dump_text user_name group_name rs) ≡ Ok (placed 1 rs)
   dump_again rs are apart =
-      sym (streamed_by_groups begins begin (line_in user_id group_id) (close dump_use) [] None (lines_of (dump_text user_name group_name rs)))
+      sym (streamed_by_groups begins open_record (line_in user_id group_id) (close dump_use) [] None (lines_of (dump_text user_name group_name rs)))
       ∙ all_again [] [] None 1 rs refl are apart

@@ -6,11 +6,11 @@ use Rattle.acl_dump.specs.declared.record.DumpUse.{DumpUse}
 use Rattle.acl_dump.specs.declared.record.DumpRecord.{DumpRecord}
 use Rattle.acl_dump.specs.declared.draft.Draft.{Draft}
 use Rattle.acl_dump.specs.Groups.{in_turn, grouped, by_groups}
-use Rattle.acl_dump.specs.Records.{Numbered, begins, line_in, begin, close}
+use Rattle.acl_dump.specs.Records.{Numbered, begins, line_in, open_record, close}
 
 -- lines that begin no record
-abbrev pub BeginNone : List Numbered → Type 0
-BeginNone ls = AllByRecursion (λ l. begins l ≡ false) ls
+abbrev pub BeginNoRecord : List Numbered → Type 0
+BeginNoRecord ls = AllByRecursion (λ l. begins l ≡ false) ls
 
 -- a record ends with the dump, or where the next one begins
 abbrev pub EndARecord : List Numbered → Type 0
@@ -28,7 +28,7 @@ module _ (user_id group_id : List ℕ → Option ℕ) where
     pub line : Numbered
     pub after : List Numbered
     pub parts : ls ≡ before ++ line ∷ after
-    pub same_record : BeginNone before
+    pub same_record : BeginNoRecord before
     pub begins_none : begins line ≡ false
     pub so_far : Option Draft
     pub no_fault_before : added draft before ≡ Ok so_far
@@ -42,7 +42,7 @@ module _ (user_id group_id : List ℕ → Option ℕ) where
       pub others : List Numbered
       pub after : List Numbered
       pub parts : ls ≡ others ++ after
-      pub same_record : BeginNone others
+      pub same_record : BeginNoRecord others
       pub ended : EndARecord after
       pub so_far : Option Draft
       pub no_faulty_line : added draft others ≡ Ok so_far
@@ -53,25 +53,25 @@ module _ (user_id group_id : List ℕ → Option ℕ) where
     IsOfTheRecord at records draft ls fault = IsOfALine draft ls fault ⊎ IsOfTheWhole at records draft ls fault
 
     -- a `file:` line is not faulty, and the record that it begins has the fault
-    pub record IsBehind (records : List DumpRecord) (file : Numbered) (ls : List Numbered) (fault : TextFault) : Type 0 where
+    pub record IsInItsLines (records : List DumpRecord) (file : Numbered) (ls : List Numbered) (fault : TextFault) : Type 0 where
       pub draft : Option Draft
-      pub no_fault : begin records file ≡ Ok draft
-      pub behind : IsOfTheRecord file.0 records draft ls fault
+      pub no_fault : open_record records file ≡ Ok draft
+      pub following : IsOfTheRecord file.0 records draft ls fault
 
     -- the records of these lines, or the first fault
     abbrev pub records_in : List Numbered → Result (List DumpRecord) TextFault
-    records_in ls = by_groups begins begin (line_in user_id group_id) (close dump_use) [] None (grouped begins ls)
+    records_in ls = by_groups begins open_record (line_in user_id group_id) (close dump_use) [] None (grouped begins ls)
 
     -- A record has the fault, in its `file:` line or after it; the lines before it are a dump without a fault.
     pub record IsOfALaterRecord (ls : List Numbered) (fault : TextFault) : Type 0 where
       pub before : List Numbered
       pub file : Numbered
-      pub behind : List Numbered
-      pub parts : ls ≡ before ++ file ∷ behind
+      pub following : List Numbered
+      pub parts : ls ≡ before ++ file ∷ following
       pub begins_one : begins file ≡ true
       pub records : List DumpRecord
       pub no_fault_before : records_in before ≡ Ok records
-      pub faulty : (begin records file ≡ Err fault) ⊎ IsBehind records file behind fault
+      pub faulty : (open_record records file ≡ Err fault) ⊎ IsInItsLines records file following fault
 
     -- The first fault: of a line before the first record, or of the first faulty record.
     abbrev pub IsFirstFault : List Numbered → TextFault → Type 0

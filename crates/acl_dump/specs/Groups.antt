@@ -9,8 +9,8 @@ next (Err fault) f = Err fault
 
 -- the pieces in turn, or the first fault
 abbrev pub in_turn : {S P : Type 0} → (S → P → Result S TextFault) → S → List P → Result S TextFault
-in_turn step said [] = Ok said
-in_turn step said (p ∷ ps) = next (step said p) (λ more. in_turn step more ps)
+in_turn step state [] = Ok state
+in_turn step state (p ∷ ps) = next (step state p) (λ more. in_turn step more ps)
 
 -- a piece in front of others that are cut into groups
 abbrev pub put_front : {P : Type 0} → Bool → P → List P × List (P × List P) → List P × List (P × List P)
@@ -25,19 +25,19 @@ grouped begins (p ∷ ps) = put_front (begins p) p (grouped begins ps)
 module _ {S D P : Type 0} (begins : P → Bool) (first : S → P → Result D TextFault) (line : D → P → Result D TextFault) (close : S → D → Result S TextFault) where
   -- a group: its first piece, then its others, then the group as a whole
   abbrev pub group_of : S → P × List P → Result S TextFault
-  group_of said g = next (first said g.0) (λ draft. next (in_turn line draft g.1) (λ whole. close said whole))
+  group_of state g = next (first state g.0) (λ draft. next (in_turn line draft g.1) (λ whole. close state whole))
 
   -- the pieces by groups, the first of which is open already
   abbrev pub by_groups : S → D → List P × List (P × List P) → Result S TextFault
-  by_groups said draft g = next (in_turn line draft g.0) (λ whole. next (close said whole) (λ more. in_turn group_of more g.1))
+  by_groups state draft g = next (in_turn line draft g.0) (λ whole. next (close state whole) (λ more. in_turn group_of more g.1))
 
   -- one piece of a stream: a piece that begins a group closes the one before it
   abbrev pub stepped : S → D → P → Result (S × D) TextFault
-  stepped said draft p =
-      if begins p then next (close said draft) (λ more. next (first more p) (λ new. Ok (more, new)))
-      else next (line draft p) (λ more. Ok (said, more))
+  stepped state draft p =
+      if begins p then next (close state draft) (λ more. next (first more p) (λ new. Ok (more, new)))
+      else next (line draft p) (λ more. Ok (state, more))
 
   -- the same pieces read as a stream, whose last group is closed at the end
   abbrev pub streamed : S → D → List P → Result S TextFault
-  streamed said draft [] = close said draft
-  streamed said draft (p ∷ ps) = next (stepped said draft p) (λ s. streamed s.0 s.1 ps)
+  streamed state draft [] = close state draft
+  streamed state draft (p ∷ ps) = next (stepped state draft p) (λ s. streamed s.0 s.1 ps)

@@ -25,13 +25,13 @@ header_of text =
     else (Nothing, []))))
 
 -- a line by what is after the white space in front: an empty line has no content
-abbrev pub content_behind : List ℕ → LineKind × List ℕ
-content_behind [] = (Nothing, [])
-content_behind (b ∷ bs) = if b == 35 then header_of (trim_front bs) else (Entry, content Line (b ∷ bs))
+abbrev pub content_after_white_space : List ℕ → LineKind × List ℕ
+content_after_white_space [] = (Nothing, [])
+content_after_white_space (b ∷ bs) = if b == 35 then header_of (trim_front bs) else (Entry, content Line (b ∷ bs))
 
 -- what a line is, and its value: that of a header, or the entry without its comment
 abbrev pub content_of : List ℕ → LineKind × List ℕ
-content_of line = content_behind (trim_front line)
+content_of line = content_after_white_space (trim_front line)
 
 abbrev pub begins_record : LineKind → Bool
 begins_record File = true

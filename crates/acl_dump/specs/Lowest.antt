@@ -90,7 +90,7 @@ module _ (user_id group_id : List ℕ → Option ℕ) where
     pub record IsLate (kind : FaultKind) : Type 0 where
       pub is : kind ≡ BadHeader
       pub so_far : Draft
-      pub begun : draft ≡ Some so_far
+      pub opened_draft : draft ≡ Some so_far
       pub late : is_late (content_of l.1).0 so_far ≡ true
 
     abbrev pub LineHas : FaultKind → Type 0

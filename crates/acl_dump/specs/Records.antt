@@ -17,7 +17,7 @@ use Rattle.acl_text.specs.declared.fault.Which.TheVariants.{Access, Default}
 use Rattle.acl_text.specs.declared.entries.PermSpec.{PermSpec}
 use Rattle.acl_text.specs.declared.entries.Rules.{Rules}
 use Rattle.acl_text.specs.declared.entries.Spec.{Spec}
-use Rattle.acl_text.specs.Told.{at_place, ◌>>=◌, or_fault}
+use Rattle.acl_text.specs.InTurn.{at_place, ◌>>=◌, or_fault}
 use Rattle.acl_text.specs.Entries.{entry_of}
 use Rattle.acl_text.specs.Words.{word_id}
 use Rattle.acl_dump.specs.declared.line.LineKind.{LineKind}
@@ -26,8 +26,8 @@ use Rattle.acl_dump.specs.declared.record.DumpUse.{DumpUse}
 use Rattle.acl_dump.specs.declared.record.DumpUse.TheVariants.{Load, Restore}
 use Rattle.acl_dump.specs.declared.record.DumpRecord.{DumpRecord}
 use Rattle.acl_dump.specs.declared.draft.Draft.{Draft}
-use Rattle.acl_dump.specs.declared.said.Said.{Said}
-use Rattle.acl_dump.specs.declared.said.Said.TheVariants as said
+use Rattle.acl_dump.specs.declared.item.Item.{Item}
+use Rattle.acl_dump.specs.declared.item.Item.TheVariants as item
 use Rattle.acl_dump.specs.Groups.{by_groups, grouped, streamed}
 use Rattle.acl_dump.specs.Lines.{content_of, begins_record}
 
@@ -56,30 +56,30 @@ named look_up unknown (b ∷ bs) = or_fault (word_id look_up (b ∷ bs)) unknown
 abbrev pub rules : Rules
 rules = record { takes_default = true; takes_perms = true; takes_x = false }
 
-abbrev pub perm_said : Option PermSpec → Perms
-perm_said None = none
-perm_said (Some perm) = perm.fixed
+abbrev pub perm_of_spec : Option PermSpec → Perms
+perm_of_spec None = none
+perm_of_spec (Some perm) = perm.fixed
 
-abbrev pub entry_said : Spec → Said
-entry_said spec = said.Entry spec.dflt (record { key = spec.key; perm = perm_said spec.perm })
+abbrev pub entry_item : Spec → Item
+entry_item spec = item.Entry spec.dflt (record { key = spec.key; perm = perm_of_spec spec.perm })
 
 module _ (user_id group_id : List ℕ → Option ℕ) where
   -- the content of a line that begins no record, or the lowest kind of fault that it has in itself
-  abbrev pub said_by : ℕ → LineKind → List ℕ → Result (Option Said) FaultKind
-  said_by at Nothing value = Ok None
-  said_by at File value = Ok None
-  said_by at Owner value = do
+  abbrev pub item_of : ℕ → LineKind → List ℕ → Result (Option Item) FaultKind
+  item_of at Nothing value = Ok None
+  item_of at File value = Ok None
+  item_of at Owner value = do
     id ← named user_id UnknownUser value
-    Ok (Some (said.Owner id))
-  said_by at OwningGroup value = do
+    Ok (Some (item.Owner id))
+  item_of at OwningGroup value = do
     id ← named group_id UnknownGroup value
-    Ok (Some (said.OwningGroup id))
-  said_by at Flags value = do
+    Ok (Some (item.OwningGroup id))
+  item_of at Flags value = do
     flags ← or_fault (flags_of value) BadHeader
-    Ok (Some (said.Flags flags))
-  said_by at Entry value = do
+    Ok (Some (item.Flags flags))
+  item_of at Entry value = do
     spec ← entry_of user_id group_id rules at value
-    Ok (Some (entry_said spec))
+    Ok (Some (entry_item spec))
 
 -- ---- an open record
 
@@ -93,18 +93,18 @@ may_head there draft = not (is_some there) && has_no_entry draft
 abbrev pub with_entry : Bool → entries.Entry → Draft → Draft
 with_entry dflt entry draft = if dflt then record draft { dacl = draft.dacl ++ entry ∷ [] } else record draft { access = draft.access ++ entry ∷ [] }
 
-abbrev pub with_said : Said → Draft → Result Draft FaultKind
-with_said (said.Owner id) draft = if may_head draft.owner draft then Ok (record draft { owner = Some id }) else Err BadHeader
-with_said (said.OwningGroup id) draft = if may_head draft.group draft then Ok (record draft { group = Some id }) else Err BadHeader
-with_said (said.Flags flags) draft = if may_head draft.flags draft then Ok (record draft { flags = Some flags }) else Err BadHeader
-with_said (said.Entry dflt entry) draft = Ok (with_entry dflt entry draft)
+abbrev pub with_item : Item → Draft → Result Draft FaultKind
+with_item (item.Owner id) draft = if may_head draft.owner draft then Ok (record draft { owner = Some id }) else Err BadHeader
+with_item (item.OwningGroup id) draft = if may_head draft.group draft then Ok (record draft { group = Some id }) else Err BadHeader
+with_item (item.Flags flags) draft = if may_head draft.flags draft then Ok (record draft { flags = Some flags }) else Err BadHeader
+with_item (item.Entry dflt entry) draft = Ok (with_entry dflt entry draft)
 
 -- the content belongs to the open record, if there is one
-abbrev pub add : Option Said → Option Draft → Result (Option Draft) FaultKind
+abbrev pub add : Option Item → Option Draft → Result (Option Draft) FaultKind
 add None draft = Ok draft
-add (Some said) None = Err MissingHeader
-add (Some said) (Some draft) = do
-  new ← with_said said draft
+add (Some item) None = Err MissingHeader
+add (Some item) (Some draft) = do
+  new ← with_item item draft
   Ok (Some new)
 
 -- whether a name ends in `/` as it is written
@@ -119,9 +119,9 @@ abbrev pub is_repeated : List DumpRecord → List (List ℕ) → Bool
 is_repeated records path = list_any (λ r. same_path path r.path) records
 
 -- a record that is opened by the value of its `file:` line
-abbrev pub begun : List DumpRecord → ℕ → List ℕ → Result Draft FaultKind
-begun records at [] = Err BadHeader
-begun records at (b ∷ bs) = do
+abbrev pub opened_draft : List DumpRecord → ℕ → List ℕ → Result Draft FaultKind
+opened_draft records at [] = Err BadHeader
+opened_draft records at (b ∷ bs) = do
   path ← or_fault (path_of (b ∷ bs)) BadPath
   if is_repeated records path then Err RepeatedFile else Ok (record { at = at; path = path; slash = ends_in_slash (b ∷ bs); owner = None; group = None; flags = None; access = []; dacl = [] })
 
@@ -169,8 +169,8 @@ lines_of bytes = enumerate_from 1 (pieces 10 bytes)
 abbrev pub begins : Numbered → Bool
 begins l = begins_record (content_of l.1).0
 
-abbrev pub begin : List DumpRecord → Numbered → Result (Option Draft) TextFault
-begin records l = at_place l.0 (begun records l.0 (content_of l.1).1) (λ draft. Ok (Some draft))
+abbrev pub open_record : List DumpRecord → Numbered → Result (Option Draft) TextFault
+open_record records l = at_place l.0 (opened_draft records l.0 (content_of l.1).1) (λ draft. Ok (Some draft))
 
 -- the place of what a record lacks as a whole is its `file:` line
 abbrev pub close : DumpUse → List DumpRecord → Option Draft → Result (List DumpRecord) TextFault
@@ -181,8 +181,8 @@ module _ (user_id group_id : List ℕ → Option ℕ) where
   -- a line that begins no record, with the open record, or the lowest kind of fault that it has there
   abbrev pub judged : Option Draft → Numbered → Result (Option Draft) FaultKind
   judged draft l = do
-    said ← said_by user_id group_id l.0 (content_of l.1).0 (content_of l.1).1
-    add said draft
+    item ← item_of user_id group_id l.0 (content_of l.1).0 (content_of l.1).1
+    add item draft
 
   abbrev pub line_in : Option Draft → Numbered → Result (Option Draft) TextFault
   line_in draft l = at_place l.0 (judged draft l) (λ new. Ok new)
@@ -190,8 +190,8 @@ module _ (user_id group_id : List ℕ → Option ℕ) where
   -- the records of a dump, or its first fault: record after record, each line by line and then as a whole; the lines
   -- before the first record belong to no record
   abbrev pub dump_of : DumpUse → List ℕ → Result (List DumpRecord) TextFault
-  dump_of dump_use bytes = by_groups begins begin line_in (close dump_use) [] None (grouped begins (lines_of bytes))
+  dump_of dump_use bytes = by_groups begins open_record line_in (close dump_use) [] None (grouped begins (lines_of bytes))
 
   -- the same, read line by line
   abbrev pub dump_stream : DumpUse → List DumpRecord → Option Draft → List Numbered → Result (List DumpRecord) TextFault
-  dump_stream dump_use records draft lines = streamed begins begin line_in (close dump_use) records draft lines
+  dump_stream dump_use records draft lines = streamed begins open_record line_in (close dump_use) records draft lines

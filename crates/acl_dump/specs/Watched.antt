@@ -4,7 +4,7 @@ use Rattle.acl_names.specs.Paths.{path_of}
 use Rattle.acl_text.specs.declared.fault.FaultKind.{FaultKind}
 use Rattle.acl_text.specs.declared.fault.FaultKind.TheVariants.{BadHeader, BadPath, RepeatedFile}
 use Rattle.acl_text.specs.declared.fault.TextFault.{TextFault}
-use Rattle.acl_text.specs.Told.{at_place, ◌>>=◌, or_fault}
+use Rattle.acl_text.specs.InTurn.{at_place, ◌>>=◌, or_fault}
 use Rattle.acl_dump.specs.declared.record.DumpUse.{DumpUse}
 use Rattle.acl_dump.specs.declared.record.DumpRecord.{DumpRecord}
 use Rattle.acl_dump.specs.declared.draft.Draft.{Draft}
@@ -13,14 +13,14 @@ use Rattle.acl_dump.specs.Lines.{content_of}
 use Rattle.acl_dump.specs.Records.{Numbered, is_repeated, ends_in_slash, begins, line_in, close}
 
 -- a record that is opened by the value of its `file:` line; it may have the path of an earlier one where paths are not watched
-abbrev pub begun : Bool → List DumpRecord → ℕ → List ℕ → Result Draft FaultKind
-begun watched records at [] = Err BadHeader
-begun watched records at (b ∷ bs) = do
+abbrev pub opened_draft : Bool → List DumpRecord → ℕ → List ℕ → Result Draft FaultKind
+opened_draft watched records at [] = Err BadHeader
+opened_draft watched records at (b ∷ bs) = do
   path ← or_fault (path_of (b ∷ bs)) BadPath
   if watched && is_repeated records path then Err RepeatedFile else Ok (record { at = at; path = path; slash = ends_in_slash (b ∷ bs); owner = None; group = None; flags = None; access = []; dacl = [] })
 
-abbrev pub begin : Bool → List DumpRecord → Numbered → Result (Option Draft) TextFault
-begin watched records l = at_place l.0 (begun watched records l.0 (content_of l.1).1) (λ draft. Ok (Some draft))
+abbrev pub open_record : Bool → List DumpRecord → Numbered → Result (Option Draft) TextFault
+open_record watched records l = at_place l.0 (opened_draft watched records l.0 (content_of l.1).1) (λ draft. Ok (Some draft))
 
 abbrev pub stream : (user_id group_id : List ℕ → Option ℕ) → Bool → DumpUse → List DumpRecord → Option Draft → List Numbered → Result (List DumpRecord) TextFault
-stream user_id group_id watched dump_use records draft lines = streamed begins (begin watched) (line_in user_id group_id) (close dump_use) records draft lines
+stream user_id group_id watched dump_use records draft lines = streamed begins (open_record watched) (line_in user_id group_id) (close dump_use) records draft lines

@@ -20,10 +20,10 @@ use Rattle.acl_dump.specs.declared.record.DumpRecord.{DumpRecord}
 -- ---- effective permissions
 
 -- whether the effective permissions of an entry of the group class are written
-abbrev pub is_told : Effective → Perms → Perms → Bool
-is_told WhereMasked mask perm = not (perms.contains mask perm)
-is_told Always mask perm = true
-is_told Never mask perm = false
+abbrev pub is_shown : Effective → Perms → Perms → Bool
+is_shown WhereMasked mask perm = not (perms.contains mask perm)
+is_shown Always mask perm = true
+is_shown Never mask perm = false
 
 -- the tabs after an entry of this many bytes
 abbrev pub tab_count : ℕ → ℕ
@@ -36,7 +36,7 @@ tabs bytes = take (tab_count bytes) (9 ∷ 9 ∷ 9 ∷ 9 ∷ [])
 abbrev pub comment : Effective → Option Perms → Entry → ℕ → List ℕ
 comment how None e bytes = []
 comment how (Some mask) e bytes =
-    if is_class e.key && is_told how mask e.perm then tabs bytes ++ (codes "#effective:" ++ perms.text (perms.meet e.perm mask)) else []
+    if is_class e.key && is_shown how mask e.perm then tabs bytes ++ (codes "#effective:" ++ perms.text (perms.meet e.perm mask)) else []
 
 -- ---- flags
 

@@ -1,7 +1,7 @@
 //! Records as a whole.
 
 ghost use Rattle.std.specs.Prelude.{◌≡◌, Some, OnOk, List, is_some};
-ghost use Rattle.acl_text.specs.Told.{Gives, GivesAt};
+ghost use Rattle.acl_text.specs.InTurn.{Gives, GivesAt};
 ghost use Rattle.acl_dump.specs.Records.{list_of, default_list_of, has_headers, record_of, close};
 ghost use Rattle.acl_dump.specs.Seen.{SeenAre};
 

@@ -2,13 +2,13 @@
 
 ghost use Rattle.std.specs.Prelude.{◌≡◌, ◌++◌, ◌∷◌, [], List, IfOk, IfErr, OnOk, is_some};
 ghost use Rattle.acl_text.specs.declared.fault.FaultKind.TheVariants.{NoMemory};
-ghost use Rattle.acl_text.specs.Told.{GivesAt};
-ghost use Rattle.acl_dump.specs.Records.{has_no_entry, with_entry, with_said, add};
-ghost use Rattle.acl_dump.specs.Watched.{begun};
+ghost use Rattle.acl_text.specs.InTurn.{GivesAt};
+ghost use Rattle.acl_dump.specs.Records.{has_no_entry, with_entry, with_item, add};
+ghost use Rattle.acl_dump.specs.Watched.{opened_draft};
 ghost use Rattle.acl_dump.specs.Seen.{SeenAre};
 ghost use Rattle.acl_dump.specs.declared.record.DumpRecord.{DumpRecord};
 
-use crate::said::{Said, bad_header};
+use crate::item::{Item, bad_header};
 use crate::seen::{Seen, is_seen};
 use acl_entry::{Entry, Id, Key, Perm};
 use acl_names::{Path, read_path};
@@ -76,11 +76,11 @@ impl Draft {
 }
 
 /// The record with the content of a line at a place.
-fn with_said(draft: Draft, at: usize, said: Said) -> Result<Draft, TextFault>
-    ensures { GivesAt at (λ draft. draft) result (with_said said draft) }
+fn with_item(draft: Draft, at: usize, item: Item) -> Result<Draft, TextFault>
+    ensures { GivesAt at (λ draft. draft) result (with_item item draft) }
 {
-    match said {
-        Said::Owner(id) => {
+    match item {
+        Item::Owner(id) => {
             if draft.owner.is_some() || !draft.has_no_entry() {
                 return Err(bad_header(at));
             }
@@ -89,7 +89,7 @@ fn with_said(draft: Draft, at: usize, said: Said) -> Result<Draft, TextFault>
                 ..draft
             })
         }
-        Said::OwningGroup(id) => {
+        Item::OwningGroup(id) => {
             if draft.group.is_some() || !draft.has_no_entry() {
                 return Err(bad_header(at));
             }
@@ -98,7 +98,7 @@ fn with_said(draft: Draft, at: usize, said: Said) -> Result<Draft, TextFault>
                 ..draft
             })
         }
-        Said::Flags(flags) => {
+        Item::Flags(flags) => {
             if draft.flags.is_some() || !draft.has_no_entry() {
                 return Err(bad_header(at));
             }
@@ -107,7 +107,7 @@ fn with_said(draft: Draft, at: usize, said: Said) -> Result<Draft, TextFault>
                 ..draft
             })
         }
-        Said::Entry(dflt, entry) => with_entry(draft, dflt, entry),
+        Item::Entry(dflt, entry) => with_entry(draft, dflt, entry),
     }
 }
 
@@ -129,11 +129,11 @@ fn with_entry(draft: Draft, dflt: bool, entry: Entry) -> Result<Draft, TextFault
 pub(crate) fn add(
     draft: Option<Draft>,
     at: usize,
-    said: Option<Said>,
+    item: Option<Item>,
 ) -> Result<Option<Draft>, TextFault>
-    ensures { GivesAt at (λ draft. draft) result (add said draft) }
+    ensures { GivesAt at (λ draft. draft) result (add item draft) }
 {
-    let Some(said) = said else {
+    let Some(item) = item else {
         return Ok(draft);
     };
     match draft {
@@ -141,19 +141,19 @@ pub(crate) fn add(
             kind: FaultKind::MissingHeader,
             at,
         }),
-        Some(draft) => Ok(Some(with_said(draft, at, said)?)),
+        Some(draft) => Ok(Some(with_item(draft, at, item)?)),
     }
 }
 
 /// The record that a `file:` line of this value begins. Where paths are watched, no earlier record may have
 /// its path.
-pub(crate) fn begin(
+pub(crate) fn open_record(
     alloc: Global,
     seen: &Option<Seen>,
     at: usize,
     value: &[u8],
 ) -> Result<Draft, TextFault>
-    ensures { (records : List DumpRecord) → SeenAre seen.now records → GivesAt at (λ draft. draft) result (begun (is_some seen.now) records at value.now) }
+    ensures { (records : List DumpRecord) → SeenAre seen.now records → GivesAt at (λ draft. draft) result (opened_draft (is_some seen.now) records at value.now) }
 {
     if value.is_empty() {
         return Err(bad_header(at));

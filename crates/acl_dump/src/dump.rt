@@ -1,7 +1,7 @@
 //! Reading dumps.
 
 ghost use Rattle.std.specs.Prelude.{◌≡◌, [], ◌∷◌, OnOk, IfOk, None, true, is_some};
-ghost use Rattle.acl_text.specs.Told.{Gives, GivesAt};
+ghost use Rattle.acl_text.specs.InTurn.{Gives, GivesAt};
 ghost use Rattle.acl_dump.specs.Records.{lines_of, line_in, begins, close, dump_of};
 ghost use Rattle.acl_dump.specs.Watched as watched;
 ghost use Rattle.acl_dump.specs.Groups.{stepped};
@@ -10,10 +10,10 @@ ghost use Rattle.acl_dump.specs.OwnPaths.{have_own_paths};
 
 use crate::apart::are_apart;
 use crate::close::close;
-use crate::draft::{Draft, add, begin};
+use crate::draft::{Draft, add, open_record};
 use crate::line::{LineKind, content_of};
 use crate::record::{DumpRecord, DumpUse};
-use crate::said::said_by;
+use crate::item::item_of;
 use crate::seen::Seen;
 use acl_names::cut::first_piece;
 use acl_text::{FaultKind, Names, TextFault};
@@ -108,16 +108,16 @@ fn read_line<N: Names>(
     line: &[u8],
 ) -> Result<Option<Draft>, TextFault>
     requires { SeenAre seen.old records.old.items }
-    ensures stepped { Gives (λ new. (records.new.items, new)) result (stepped begins (watched.begin (is_some seen.old)) (line_in (N.user_id names.now) (N.group_id names.now)) (close dump_use) records.old.items draft (at, line.now)) }
+    ensures stepped { Gives (λ new. (records.new.items, new)) result (stepped begins (watched.open_record (is_some seen.old)) (line_in (N.user_id names.now) (N.group_id names.now)) (close dump_use) records.old.items draft (at, line.now)) }
     ensures seen_are { OnOk result (SeenAre seen.new records.new.items) }
     ensures watched { is_some seen.new ≡ is_some seen.old }
 {
     let (kind, value) = content_of(line);
     if kind == LineKind::File {
         close(alloc, dump_use, records, seen, draft)?;
-        Ok(Some(begin(alloc, seen, at, value)?))
+        Ok(Some(open_record(alloc, seen, at, value)?))
     } else {
-        let said = said_by(alloc, names, at, kind, value)?;
-        add(draft, at, said)
+        let item = item_of(alloc, names, at, kind, value)?;
+        add(draft, at, item)
     }
 }

@@ -5,9 +5,9 @@ ghost use Rattle.std.specs.List.{AllByRecursion};
 ghost use Rattle.acl_dump.specs.declared.record.DumpUse.{DumpUse};
 ghost use Rattle.acl_dump.specs.declared.record.DumpRecord.{DumpRecord};
 ghost use Rattle.acl_text.specs.declared.fault.TextFault.{TextFault};
-ghost use Rattle.acl_text.specs.Lowest.{TellsLowest};
+ghost use Rattle.acl_text.specs.Lowest.{ReportsLowest};
 ghost use Rattle.acl_dump.specs.declared.draft.Draft.{Draft};
-ghost use Rattle.acl_dump.specs.Records.{Numbered, begins, begun, judged, lines_of, dump_of};
+ghost use Rattle.acl_dump.specs.Records.{Numbered, begins, opened_draft, judged, lines_of, dump_of};
 ghost use Rattle.acl_dump.specs.Faults.{IsFirstFault};
 ghost use Rattle.acl_dump.specs.Lowest.{FileHas, LineHas};
 ghost use Rattle.acl_dump.specs.Lines.{content_of};
@@ -27,7 +27,7 @@ pub fn dump_fault_is_first()
 /// begins a record.
 pub fn dump_file_fault_is_lowest()
     ensures { (records : List DumpRecord) (line : Numbered) → begins line ≡ true →
-        TellsLowest (FileHas records (content_of line.1).1) (begun records line.0 (content_of line.1).1) }
+        ReportsLowest (FileHas records (content_of line.1).1) (opened_draft records line.0 (content_of line.1).1) }
 {}
 
 /// Proof only: the fault of a line that begins no record is the lowest of the kinds that it has, each looked for on its
@@ -36,7 +36,7 @@ pub fn dump_file_fault_is_lowest()
 /// fault, the line is read.
 pub fn dump_line_fault_is_lowest()
     ensures { (user_id group_id : List ℕ → Option ℕ) (draft : Option Draft) (line : Numbered) →
-        TellsLowest (LineHas user_id group_id draft line) (judged user_id group_id draft line) }
+        ReportsLowest (LineHas user_id group_id draft line) (judged user_id group_id draft line) }
 {}
 
 /// Proof only: the texts of records, put one after another, are read as those records, each at its line: where their

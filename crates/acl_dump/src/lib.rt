@@ -11,7 +11,7 @@ mod header;
 mod laws;
 mod line;
 mod record;
-mod said;
+mod item;
 mod seen;
 mod writing;
 

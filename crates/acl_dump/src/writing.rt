@@ -5,7 +5,7 @@ ghost use Rattle.std.specs.Io.{StartsWith};
 ghost use Rattle.std.specs.List.{flat_map};
 ghost use Rattle.acl_entry.specs.Lists as lists;
 ghost use Rattle.acl_text.specs.declared.fault.Which.TheVariants.{Default};
-ghost use Rattle.acl_dump.specs.Writing.{is_told, tab_count, tabs, comment, front, shown, entry_line, list_text, default_text};
+ghost use Rattle.acl_dump.specs.Writing.{is_shown, tab_count, tabs, comment, front, shown, entry_line, list_text, default_text};
 
 use crate::effective::Effective;
 use acl_entry::{Acl, Entry, Key, Perm};
@@ -16,8 +16,8 @@ use std::alloc::AllocError;
 const TABS: [u8; 4] = [b'\t', b'\t', b'\t', b'\t'];
 
 /// Whether the effective permissions of an entry are shown.
-fn is_told(how: Effective, mask: Perm, perm: Perm) -> bool
-    ensures { result ≡ is_told how mask perm }
+fn is_shown(how: Effective, mask: Perm, perm: Perm) -> bool
+    ensures { result ≡ is_shown how mask perm }
 {
     match how {
         Effective::WhereMasked => !mask.contains(perm),
@@ -47,7 +47,7 @@ fn push_comment(
     let Some(mask) = mask else {
         return Ok(());
     };
-    if !entry.key.is_class() || !is_told(how, *mask, entry.perm) {
+    if !entry.key.is_class() || !is_shown(how, *mask, entry.perm) {
         return Ok(());
     }
     text.extend_from_slice(&TABS[..tab_count(bytes)])?;

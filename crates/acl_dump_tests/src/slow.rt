@@ -25,7 +25,7 @@ pub type Fault = (FaultKind, usize);
 
 /// The content of a line.
 #[derive(Drop)]
-enum Says {
+enum Meaning {
     Nothing,
     File,
     Owner(u32),
@@ -49,7 +49,7 @@ fn flags(value: &[u8]) -> Option<[bool; 3]> {
     Some([flag(b's', *a)?, flag(b's', *b)?, flag(b't', *c)?])
 }
 
-fn says_header(text: &[u8]) -> Result<Says, FaultKind> {
+fn header_meaning(text: &[u8]) -> Result<Meaning, FaultKind> {
     if let Some(name) = text.strip_prefix(b"file:") {
         if name.is_empty() || name == b" ".as_slice() {
             return Err(FaultKind::BadHeader);
@@ -57,7 +57,7 @@ fn says_header(text: &[u8]) -> Result<Says, FaultKind> {
         if name.contains(&0) {
             return Err(FaultKind::BadPath);
         }
-        return Ok(Says::File);
+        return Ok(Meaning::File);
     }
     if let Some(word) = text.strip_prefix(b"owner:") {
         let word = word.trim_ascii();
@@ -65,7 +65,7 @@ fn says_header(text: &[u8]) -> Result<Says, FaultKind> {
             return Err(FaultKind::BadHeader);
         }
         return match People.user_id(word) {
-            Some(id) => Ok(Says::Owner(id.number())),
+            Some(id) => Ok(Meaning::Owner(id.number())),
             None => Err(FaultKind::UnknownUser),
         };
     }
@@ -75,17 +75,17 @@ fn says_header(text: &[u8]) -> Result<Says, FaultKind> {
             return Err(FaultKind::BadHeader);
         }
         return match People.group_id(word) {
-            Some(id) => Ok(Says::Group(id.number())),
+            Some(id) => Ok(Meaning::Group(id.number())),
             None => Err(FaultKind::UnknownGroup),
         };
     }
     if let Some(word) = text.strip_prefix(b"flags:") {
         return match flags(word.trim_ascii()) {
-            Some(flags) => Ok(Says::Flags(flags)),
+            Some(flags) => Ok(Meaning::Flags(flags)),
             None => Err(FaultKind::BadHeader),
         };
     }
-    Ok(Says::Nothing)
+    Ok(Meaning::Nothing)
 }
 
 fn perm(letters: &[u8]) -> Option<Perm> {
@@ -166,28 +166,28 @@ fn entry(fields: &[&[u8]]) -> Result<Entry, FaultKind> {
     Ok(Entry { key, perm })
 }
 
-fn says_entry(fields: &[&[u8]]) -> Result<Says, FaultKind> {
+fn entry_meaning(fields: &[&[u8]]) -> Result<Meaning, FaultKind> {
     match fields {
         [word, others @ ..] if !others.is_empty() && is(word, b"d", b"default") => {
             match entry(others) {
-                Ok(entry) => Ok(Says::Entry(true, entry)),
+                Ok(entry) => Ok(Meaning::Entry(true, entry)),
                 Err(kind) => Err(kind),
             }
         }
         all => match entry(all) {
-            Ok(entry) => Ok(Says::Entry(false, entry)),
+            Ok(entry) => Ok(Meaning::Entry(false, entry)),
             Err(kind) => Err(kind),
         },
     }
 }
 
-fn said_of(rt: &impl Abort, alloc: Global, line: &[u8]) -> Result<Says, FaultKind> {
+fn meaning_of(rt: &impl Abort, alloc: Global, line: &[u8]) -> Result<Meaning, FaultKind> {
     let text = line.trim_ascii_start();
     if text.is_empty() {
-        return Ok(Says::Nothing);
+        return Ok(Meaning::Nothing);
     }
-    if let Some(behind) = text.strip_prefix(b"#") {
-        return says_header(behind.trim_ascii_start());
+    if let Some(after_hash) = text.strip_prefix(b"#") {
+        return header_meaning(after_hash.trim_ascii_start());
     }
     let mut fields: Vec<&[u8]> = Vec::new(alloc);
     for content in text.split(|b| *b == b'#').take(1) {
@@ -195,7 +195,7 @@ fn said_of(rt: &impl Abort, alloc: Global, line: &[u8]) -> Result<Says, FaultKin
             fields.push(field.trim_ascii()).expect(rt, "memory");
         }
     }
-    says_entry(&fields)
+    entry_meaning(&fields)
 }
 
 fn push(rt: &impl Abort, entries: &mut Vec<Entry>, key: Key, perm: Perm) {
@@ -203,30 +203,30 @@ fn push(rt: &impl Abort, entries: &mut Vec<Entry>, key: Key, perm: Perm) {
 }
 
 /// Adds the content of a line to a record. Returns whether the line may come there.
-fn put(rt: &impl Abort, record: &mut Slow, said: Says) -> bool {
+fn put(rt: &impl Abort, record: &mut Slow, meaning: Meaning) -> bool {
     let bare = record.access.is_empty() && record.dacl.is_empty();
-    match said {
-        Says::Nothing | Says::File => {}
-        Says::Owner(id) => {
+    match meaning {
+        Meaning::Nothing | Meaning::File => {}
+        Meaning::Owner(id) => {
             if record.owner.is_some() || !bare {
                 return false;
             }
             record.owner = Some(id);
         }
-        Says::Group(id) => {
+        Meaning::Group(id) => {
             if record.group.is_some() || !bare {
                 return false;
             }
             record.group = Some(id);
         }
-        Says::Flags(flags) => {
+        Meaning::Flags(flags) => {
             if record.flags.is_some() || !bare {
                 return false;
             }
             record.flags = Some(flags);
         }
-        Says::Entry(true, entry) => push(rt, &mut record.dacl, entry.key, entry.perm),
-        Says::Entry(false, entry) => push(rt, &mut record.access, entry.key, entry.perm),
+        Meaning::Entry(true, entry) => push(rt, &mut record.dacl, entry.key, entry.perm),
+        Meaning::Entry(false, entry) => push(rt, &mut record.access, entry.key, entry.perm),
     }
     true
 }
@@ -339,11 +339,11 @@ fn last_fault(records: &[Slow], dump_use: DumpUse) -> Option<Fault> {
 }
 
 /// Adds the content of a line that begins no record. Returns what is wrong with it.
-fn add(rt: &impl Abort, records: &mut [Slow], at: usize, said: Says) -> Option<Fault> {
+fn add(rt: &impl Abort, records: &mut [Slow], at: usize, meaning: Meaning) -> Option<Fault> {
     let Some(last) = records.last_mut() else {
         return Some((FaultKind::MissingHeader, at));
     };
-    if put(rt, last, said) {
+    if put(rt, last, meaning) {
         None
     } else {
         Some((FaultKind::BadHeader, at))
@@ -361,16 +361,16 @@ pub fn read(
     let mut at = 0usize;
     for line in bytes.split(|b| *b == b'\n') {
         at = at.saturating_add(1);
-        let fault = match said_of(rt, alloc, line) {
+        let fault = match meaning_of(rt, alloc, line) {
             Err(kind) => Some((kind, at)),
-            Ok(Says::Nothing) => None,
-            Ok(Says::File) => {
+            Ok(Meaning::Nothing) => None,
+            Ok(Meaning::File) => {
                 let fault = last_fault(&records, dump_use);
                 let record = started(rt, alloc, at, name_of(line));
                 records.push(record).expect(rt, "memory");
                 fault
             }
-            Ok(said) => add(rt, &mut records, at, said),
+            Ok(meaning) => add(rt, &mut records, at, meaning),
         };
         if let Some(fault) = fault {
             return Err(fault);

@@ -178,11 +178,11 @@ loses x p m = λ i. is_some (get-replace x p m Mask i) && list_any (λ (s : Spec
 -- the mask of a list that is completed, from the list that it becomes
 pub get-mask_after : (x : Bool) (c : Change) (p : Part) (lost : Bool) (had : Option Perms) (m : KeyMap) → lost ≡ loses_mask x p had → maps.get m Mask ≡ left_at x p Mask had
     → maps.get (with_mask c p lost m) Mask ≡ mask_after x c p had (with_mask c p lost m)
-get-mask_after x c p lost had m takes stands =
+get-mask_after x c p lost had m takes is_present =
     let new = with_mask c p lost m in
     let class = sym (with_mask_blind class_union union-insert c p lost m) in
     let named = sym (with_mask_blind has_named named-insert c p lost m) in
     let owning = sym (get-masked c p lost m OwningGroup refl) in
     get-mask c p lost m
-    ∙ (λ i. if is_recalculated c p then option_map (λ _. class i) (or_else (stands i) (if named i && not (takes i) then owning i else None))
-    else or_else (stands i) (if named i && not (takes i) then owning i else None))
+    ∙ (λ i. if is_recalculated c p then option_map (λ _. class i) (or_else (is_present i) (if named i && not (takes i) then owning i else None))
+    else or_else (is_present i) (if named i && not (takes i) then owning i else None))

@@ -9,7 +9,7 @@ use Rattle.acl_text.specs.declared.entries.Spec.{Spec}
 use Rattle.acl_text.specs.declared.fault.Which.{Which}
 use Rattle.acl_text.specs.declared.fault.Which.TheVariants.{Access, Default}
 use Rattle.acl_edit.specs.Nodes.{is_directory, with_lists}
-use Rattle.acl_edit.specs.Parts.{is_given, speaks_of}
+use Rattle.acl_edit.specs.Parts.{is_given, is_for}
 use Rattle.acl_edit.specs.Edits as steps
 use Rattle.acl_edit.specs.Edits.{edit, checked_default, changed_default, is_misplaced, allowed, ◌>>=◌}
 use Rattle.acl_edit.specs.Laws.{OfLine, puts_default, misplaces_default, RefusesLists, RefusesNoList}
@@ -35,7 +35,7 @@ some_given p (s ∷ specs) = by_first (p s) (some_given p specs)
     by_first false h = h
 
 misplaced_is : (n : Node) (c : Change) (r : Bool) → is_misplaced n c r ≡ misplaces_default n (edits.Change c) r
-misplaced_is n c r = λ i. not (is_directory n.kind) && not r && (some_given (speaks_of c.as_default Default) c.set i || some_given (speaks_of c.as_default Default) c.modify i)
+misplaced_is n c r = λ i. not (is_directory n.kind) && not r && (some_given (is_for c.as_default Default) c.set i || some_given (is_for c.as_default Default) c.modify i)
 
 -- ---- a line
 

@@ -12,7 +12,7 @@ use Rattle.acl_entry.specs.declared.key.Key.TheVariants.{OwningGroup, Mask}
 use Rattle.acl_text.specs.declared.fault.Which.{Which}
 use Rattle.acl_text.specs.declared.fault.Which.TheVariants.{Access, Default}
 use Rattle.acl_edit.specs.Nodes.{is_directory}
-use Rattle.acl_edit.specs.Parts.{Part, part, names, puts, is_given, is_mask, speaks_of}
+use Rattle.acl_edit.specs.Parts.{Part, part, names, puts, is_given, is_mask, is_for}
 use Rattle.acl_edit.specs.Steps.{perms_of, gives_execute}
 use Rattle.acl_text.specs.declared.entries.Spec.{Spec}
 use Rattle.acl_edit.specs.Masks.{has_named, is_recalculated}
@@ -149,7 +149,7 @@ module _ (old : Node) (c : Change) (new : Node) where
 
 -- the edit puts entries of a default list, or a whole one; a removed entry puts nothing
 abbrev pub puts_default : Edit → Bool
-puts_default (edits.Change c) = list_any (speaks_of c.as_default Default) c.set || list_any (speaks_of c.as_default Default) c.modify
+puts_default (edits.Change c) = list_any (is_for c.as_default Default) c.set || list_any (is_for c.as_default Default) c.modify
 puts_default (edits.Put access dacl) = is_some dacl
 puts_default (edits.Flatten access dacl) = false
 puts_default (edits.Restore access dacl owner group flags) = is_some dacl

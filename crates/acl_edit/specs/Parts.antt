@@ -9,9 +9,9 @@ use Rattle.acl_text.specs.declared.fault.Which.TheVariants.{Access, Default}
 use Rattle.acl_edit.specs.declared.edit.Change.{Change}
 
 -- the entry speaks of this list: under -d plain entries are default ones, and default ones are dropped
-abbrev pub speaks_of : Bool → Which → Spec → Bool
-speaks_of as_default Access s = not (as_default || s.dflt)
-speaks_of as_default Default s = if as_default then not s.dflt else s.dflt
+abbrev pub is_for : Bool → Which → Spec → Bool
+is_for as_default Access s = not (as_default || s.dflt)
+is_for as_default Default s = if as_default then not s.dflt else s.dflt
 
 -- what a line asks of one list
 pub record Part : Type 0 where
@@ -21,9 +21,9 @@ pub record Part : Type 0 where
 
 abbrev pub part : Change → Which → Part
 part c which = record {
-  remove = filter (speaks_of c.as_default which) c.remove;
-  set = filter (speaks_of c.as_default which) c.set;
-  modify = filter (speaks_of c.as_default which) c.modify;
+  remove = filter (is_for c.as_default which) c.remove;
+  set = filter (is_for c.as_default which) c.set;
+  modify = filter (is_for c.as_default which) c.modify;
 }
 
 abbrev pub is_given : List Spec → Bool

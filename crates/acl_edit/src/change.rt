@@ -84,7 +84,7 @@ impl Change {
 
     /// The access list that the steps begin with.
     fn access_before(&self, alloc: Global, acl: &Acl) -> Result<Draft, AllocError>
-        ensures begun { IfOk result (λ draft. draft ≡ access_before self.now acl.now) }
+        ensures starts_from { IfOk result (λ draft. draft ≡ access_before self.now acl.now) }
         ensures room { Fits (size acl.now) → IsOk result }
     {
         if self.strip {
@@ -107,7 +107,7 @@ impl Change {
 
     /// The default list that the steps begin with.
     fn default_before(&self, alloc: Global, dacl: &Option<Acl>) -> Result<Draft, AllocError>
-        ensures begun { IfOk result (λ draft. draft ≡ default_before self.now dacl.now) }
+        ensures starts_from { IfOk result (λ draft. draft ≡ default_before self.now dacl.now) }
         ensures room { Fits (size_of dacl.now) → IsOk result }
     {
         match dacl {
@@ -120,7 +120,7 @@ impl Change {
 /// The entries as a list, if they are one.
 fn checked(which: Which, draft: Draft) -> Result<Acl, EditFault>
     ensures made { IfOk result (λ acl. edits.checked which draft ≡ Ok acl) }
-    ensures told { IfErr result (λ fault. edits.checked which draft ≡ Err fault) }
+    ensures reported { IfErr result (λ fault. edits.checked which draft ≡ Err fault) }
     ensures memory { result ≢ Err NoMemory }
 {
     match draft.finish() {
@@ -132,7 +132,7 @@ fn checked(which: Which, draft: Draft) -> Result<Acl, EditFault>
 /// The entries as a default list; `None` where there are no entries.
 fn checked_default(draft: Draft) -> Result<Option<Acl>, EditFault>
     ensures made { IfOk result (λ dacl. edits.checked_default draft ≡ Ok dacl) }
-    ensures told { IfErr result (λ fault. edits.checked_default draft ≡ Err fault) }
+    ensures reported { IfErr result (λ fault. edits.checked_default draft ≡ Err fault) }
     ensures memory { result ≢ Err NoMemory }
 {
     if draft.entries().is_empty() {
@@ -145,7 +145,7 @@ fn checked_default(draft: Draft) -> Result<Option<Acl>, EditFault>
 fn changed_access(alloc: Global, node: &Node, change: &Change, x: bool) -> Result<Acl, EditFault>
     requires { x ≡ steps.gives_execute node.now }
     ensures made { IfOk result (λ acl. changed_access node.now change.now ≡ Ok acl) }
-    ensures told { IfErr result (λ fault. fault ≢ NoMemory → changed_access node.now change.now ≡ Err fault) }
+    ensures reported { IfErr result (λ fault. fault ≢ NoMemory → changed_access node.now change.now ≡ Err fault) }
     ensures room { HasRoom node.now change.now → result ≢ Err NoMemory }
 {
     let mut draft = change.access_before(alloc, &node.label.acl)?;
@@ -163,7 +163,7 @@ fn changed_default(
 ) -> Result<Option<Acl>, EditFault>
     requires { x ≡ steps.gives_execute node.now }
     ensures made { IfOk result (λ dacl. changed_default node.now.kind node.now change.now acl.now ≡ Ok dacl) }
-    ensures told { IfErr result (λ fault. fault ≢ NoMemory → changed_default node.now.kind node.now change.now acl.now ≡ Err fault) }
+    ensures reported { IfErr result (λ fault. fault ≢ NoMemory → changed_default node.now.kind node.now change.now acl.now ≡ Err fault) }
     ensures room { HasRoom node.now change.now → result ≢ Err NoMemory }
 {
     if node.kind == Kind::Plain {
@@ -201,7 +201,7 @@ pub(crate) fn change(
     in_recursion: bool,
 ) -> Result<Node, EditFault>
     ensures made { IfOk result (λ n. edits.change node.now line.now in_recursion ≡ Ok n) }
-    ensures told { IfErr result (λ fault. fault ≢ NoMemory → edits.change node.now line.now in_recursion ≡ Err fault) }
+    ensures reported { IfErr result (λ fault. fault ≢ NoMemory → edits.change node.now line.now in_recursion ≡ Err fault) }
     ensures misplaced { edits.change node.now line.now in_recursion ≡ Err DefaultOnFile → result ≡ Err DefaultOnFile }
     ensures room { HasRoom node.now line.now → result ≢ Err NoMemory }
     ensures unnamed { IfOk result (LeavesUnnamed node.now line.now) }

@@ -32,7 +32,7 @@ pub fn create(
     ensures made { IfOk result (λ node. node ≡ inherit parent.now kind mode umask owner group) }
     ensures valid { IfOk result HasValidLists }
     ensures sound { IfOk result IsSound }
-    ensures told { IfErr result (λ fault. fault ≡ NoMemory) }
+    ensures reported { IfErr result (λ fault. fault ≡ NoMemory) }
     ensures room { Fits (size_of parent.now.dacl) → IsOk result }
 {
     let node = inherit(alloc, parent, kind, mode, umask, owner, group)?;

@@ -23,7 +23,7 @@ use std::alloc::{AllocError, Global};
 #[tactic(auto, unfolding(crate::specs::Edits::restore))]
 pub fn apply(alloc: Global, node: &Node, edit: &Edit, in_recursion: bool) -> Result<Node, EditFault>
     ensures made { IfOk result (λ n. edits.edit node.now edit.now in_recursion ≡ Ok n) }
-    ensures told { IfErr result (λ fault. fault ≢ NoMemory → edits.edit node.now edit.now in_recursion ≡ Err fault) }
+    ensures reported { IfErr result (λ fault. fault ≢ NoMemory → edits.edit node.now edit.now in_recursion ≡ Err fault) }
     ensures misplaced { misplaces_default node.now edit.now in_recursion ≡ true → result ≡ Err DefaultOnFile }
     ensures room { IsSmall node.now edit.now → result ≢ Err NoMemory }
 
@@ -78,7 +78,7 @@ fn allowed(
     dacl: &Option<Acl>,
 ) -> Result<Option<Acl>, EditFault>
     ensures made { IfOk result (λ d. allowed kind in_recursion dacl.now ≡ Ok d) }
-    ensures told { IfErr result (λ fault. fault ≢ NoMemory → allowed kind in_recursion dacl.now ≡ Err fault) }
+    ensures reported { IfErr result (λ fault. fault ≢ NoMemory → allowed kind in_recursion dacl.now ≡ Err fault) }
     ensures misplaced { allowed kind in_recursion dacl.now ≡ Err DefaultOnFile → result ≡ Err DefaultOnFile }
     ensures room { Fits (size_of dacl.now) → result ≢ Err NoMemory }
     ensures sound { kind ≡ Kind.Plain → IfOk result (λ d. d ≡ None) }
@@ -100,7 +100,7 @@ fn put(
     in_recursion: bool,
 ) -> Result<Node, EditFault>
     ensures made { IfOk result (λ n. edits.put node.now access.now dacl.now in_recursion ≡ Ok n) }
-    ensures told { IfErr result (λ fault. fault ≢ NoMemory → edits.put node.now access.now dacl.now in_recursion ≡ Err fault) }
+    ensures reported { IfErr result (λ fault. fault ≢ NoMemory → edits.put node.now access.now dacl.now in_recursion ≡ Err fault) }
     ensures misplaced { edits.put node.now access.now dacl.now in_recursion ≡ Err DefaultOnFile → result ≡ Err DefaultOnFile }
     ensures room { HasShortLists node.now → Fits (size_of access.now) → Fits (size_of dacl.now) → result ≢ Err NoMemory }
     ensures sound { IsSound node.now → IfOk result IsSound }

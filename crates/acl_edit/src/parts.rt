@@ -2,7 +2,7 @@
 ghost use Rattle.std.specs.Prelude.{◌≡◌, filter};
 ghost use Rattle.std.specs.List.{list_any};
 ghost use Rattle.acl_edit.specs.Parts as parts;
-ghost use Rattle.acl_edit.specs.Parts.{is_mask, is_given, part, speaks_of, is_of_mask};
+ghost use Rattle.acl_edit.specs.Parts.{is_mask, is_given, part, is_for, is_of_mask};
 
 use crate::Change;
 use acl_entry::Key;
@@ -19,7 +19,7 @@ pub(crate) struct Scope {
 impl Scope {
     /// Whether the entry speaks of the list.
     pub fn takes(self, spec: &Spec) -> bool
-        ensures { result ≡ speaks_of self.as_default self.which spec.now }
+        ensures { result ≡ is_for self.as_default self.which spec.now }
     {
         match self.which {
             Which::Access => !self.as_default && !spec.dflt,
@@ -29,7 +29,7 @@ impl Scope {
 
     /// Whether an entry speaks of the list.
     pub fn takes_some(self, specs: &[Spec]) -> bool
-        ensures { result ≡ is_given (filter (speaks_of self.as_default self.which) specs.now) }
+        ensures { result ≡ is_given (filter (is_for self.as_default self.which) specs.now) }
     {
         for spec in specs {
             if self.takes(spec) {
@@ -41,7 +41,7 @@ impl Scope {
 
     /// Whether an entry is the list's mask.
     pub fn takes_mask(self, specs: &[Spec]) -> bool
-        ensures { result ≡ list_any is_of_mask (filter (speaks_of self.as_default self.which) specs.now) }
+        ensures { result ≡ list_any is_of_mask (filter (is_for self.as_default self.which) specs.now) }
     {
         for spec in specs {
             if self.takes(spec) && is_mask(&spec.key) {

@@ -1,7 +1,7 @@
 //! The steps of a setfacl(1) line on one list.
 ghost use Rattle.std.specs.Prelude.{◌≡◌, ◌<◌, ◌+◌, length, IfOk, IsOk, OnOk, filter};
 ghost use Rattle.std.specs.List.{list_any};
-ghost use Rattle.acl_edit.specs.Parts.{speaks_of};
+ghost use Rattle.acl_edit.specs.Parts.{is_for};
 ghost use Rattle.acl_entry.specs.Lists.{inline_entries};
 ghost use Rattle.acl_edit.specs.Rooms.{Fits, size};
 ghost use Rattle.acl_edit.specs.Steps as steps;
@@ -80,7 +80,7 @@ pub(crate) fn strip(alloc: Global, acl: &Acl) -> Result<Draft, AllocError>
 
 /// Takes the keys out of a list.
 pub(crate) fn remove(draft: &mut Draft, scope: Scope, specs: &[Spec])
-    ensures { draft.new ≡ steps.remove (filter (speaks_of scope.as_default scope.which) specs.now) draft.old }
+    ensures { draft.new ≡ steps.remove (filter (is_for scope.as_default scope.which) specs.now) draft.old }
 {
     for spec in specs {
         if scope.takes(spec) {
@@ -96,8 +96,8 @@ pub(crate) fn modify(
     x: bool,
     specs: &[Spec],
 ) -> Result<(), AllocError>
-    ensures put { OnOk result (draft.new ≡ steps.modify x (filter (speaks_of scope.as_default scope.which) specs.now) draft.old) }
-    ensures room { Fits (size draft.old + length (filter (speaks_of scope.as_default scope.which) specs.now)) → IsOk result }
+    ensures put { OnOk result (draft.new ≡ steps.modify x (filter (is_for scope.as_default scope.which) specs.now) draft.old) }
+    ensures room { Fits (size draft.old + length (filter (is_for scope.as_default scope.which) specs.now)) → IsOk result }
 {
     for spec in specs {
         if scope.takes(spec) {
@@ -115,8 +115,8 @@ pub(crate) fn replace(
     x: bool,
     specs: &[Spec],
 ) -> Result<(), AllocError>
-    ensures put { OnOk result (draft.new ≡ steps.replace x (filter (speaks_of scope.as_default scope.which) specs.now) draft.old) }
-    ensures room { Fits (size draft.old + length (filter (speaks_of scope.as_default scope.which) specs.now)) → IsOk result }
+    ensures put { OnOk result (draft.new ≡ steps.replace x (filter (is_for scope.as_default scope.which) specs.now) draft.old) }
+    ensures room { Fits (size draft.old + length (filter (is_for scope.as_default scope.which) specs.now)) → IsOk result }
 {
     if scope.takes_some(specs) {
         *draft = Draft::new(alloc);

@@ -73,8 +73,8 @@ fn lists_become_minimal(rt: HostRuntime) {
 
 /// The edit is refused with this fault.
 fn expect_fault(rt: &impl Abort, alloc: Global, node: &Node, edit: &Edit, want: EditFault) {
-    let told = apply(alloc, node, edit, false).err();
-    assert!(rt; told == Some(want), "not {want:?}");
+    let reported = apply(alloc, node, edit, false).err();
+    assert!(rt; reported == Some(want), "not {want:?}");
 }
 
 /// A record that names an owner, and no group; the text of its default list may be empty.
@@ -95,14 +95,14 @@ fn a_record_is_restored(rt: HostRuntime) {
     let restored = edited(&rt, alloc, &node, &record(&rt, alloc, ""));
     expect_label(&rt, &restored, ANN, STAFF, [true, false, false]);
     expect_lists(&rt, alloc, &restored, "u::rwx,g::r-x,o::---");
-    let told = apply(
+    let reported = apply(
         alloc,
         &node,
         &record(&rt, alloc, "u::rwx,g::---,o::---"),
         false,
     );
     assert!(rt;
-        told.err() == Some(EditFault::DefaultOnFile),
+        reported.err() == Some(EditFault::DefaultOnFile),
         "a default list"
     );
 }

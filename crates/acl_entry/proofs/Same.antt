@@ -10,19 +10,19 @@ use Rattle.acl_entry.specs.contracts.perm.PermPartialEq.TheImpl.{ghosts as perm_
 use Rattle.acl_entry.specs.contracts.entry.EntryPartialEq.TheImpl.{ghosts as entry_equality}
 use Rattle.acl_entry.specs.Perms.{Perms, number, numbered}
 
-key_told : (a b : Key) → key_equality.eq a b ≡ true → a ≡ b
-key_told Owner Owner h = refl
-key_told Owner b h = cc
-key_told (User m) (User n) h = ap User (eqb-true m n h)
-key_told (User m) b h = cc
-key_told OwningGroup OwningGroup h = refl
-key_told OwningGroup b h = cc
-key_told (Group m) (Group n) h = ap Group (eqb-true m n h)
-key_told (Group m) b h = cc
-key_told Mask Mask h = refl
-key_told Mask b h = cc
-key_told Other Other h = refl
-key_told Other b h = cc
+key_is_same : (a b : Key) → key_equality.eq a b ≡ true → a ≡ b
+key_is_same Owner Owner h = refl
+key_is_same Owner b h = cc
+key_is_same (User m) (User n) h = ap User (eqb-true m n h)
+key_is_same (User m) b h = cc
+key_is_same OwningGroup OwningGroup h = refl
+key_is_same OwningGroup b h = cc
+key_is_same (Group m) (Group n) h = ap Group (eqb-true m n h)
+key_is_same (Group m) b h = cc
+key_is_same Mask Mask h = refl
+key_is_same Mask b h = cc
+key_is_same Other Other h = refl
+key_is_same Other b h = cc
 
 key_itself : (a : Key) → key_equality.eq a a ≡ true
 key_itself Owner = refl
@@ -46,8 +46,8 @@ numbered_bools false false false = refl
 numbered-number : (s : Perms) → numbered (number s) ≡ s
 numbered-number s = numbered_bools s.read s.write s.execute
 
-perm_told : (s t : Perms) → perm_equality.eq s t ≡ true → s ≡ t
-perm_told s t h = sym (numbered-number s) ∙ ap numbered (eqb-true (number s) (number t) h) ∙ numbered-number t
+perm_is_same : (s t : Perms) → perm_equality.eq s t ≡ true → s ≡ t
+perm_is_same s t h = sym (numbered-number s) ∙ ap numbered (eqb-true (number s) (number t) h) ∙ numbered-number t
 
 perm_itself : (s : Perms) → perm_equality.eq s s ≡ true
 perm_itself s = eq-eqb (number s) (number s) refl
@@ -64,6 +64,6 @@ entry_itself a = both _ _ (key_itself a.key) (perm_itself a.perm)
 -- two entries are equal where `==` returns true
 pub entry_decided : (a b : Entry) → Decides (entry_equality.eq a b) (a ≡ b)
 entry_decided a b = (
-  λ h. same_entry a b (key_told a.key b.key (and_parts _ _ h).0) (perm_told a.perm b.perm (and_parts _ _ h).1),
+  λ h. same_entry a b (key_is_same a.key b.key (and_parts _ _ h).0) (perm_is_same a.perm b.perm (and_parts _ _ h).1),
   λ p. subst (λ x. entry_equality.eq a x ≡ true) p (entry_itself a),
 )

@@ -14,7 +14,7 @@ ghost use Rattle.acl_entry.specs.Perms.{number};
 ghost use Rattle.std.specs.List.{position_from, list_all};
 
 use crate::sorted::{
-    class_union, has_base_alone, in_order, missing_base, perm_of, set_mode, stands, unmasked,
+    class_union, has_base_alone, in_order, missing_base, perm_of, set_mode, has_entry, unmasked,
 };
 use crate::{Entry, Key, ListFault, Perm};
 use smallvec::SmallVec;
@@ -22,14 +22,14 @@ use std::alloc::{AllocError, Global};
 use std::marker::Model;
 
 /// The most entries that a list may have.
-pub const MOST_ENTRIES: usize = 4096;
+pub const MAX_ENTRIES: usize = 4096;
 
 /// The most entries that a list keeps with no allocation.
 pub const INLINE_ENTRIES: usize = 8;
 
 /// Proof only: the most entries of a list, and how many of them it keeps with no allocation.
-pub fn limits_are_as_told()
-    ensures most { MOST_ENTRIES ≡ lists.most_entries }
+pub fn limits_are_as_defined()
+    ensures most { MAX_ENTRIES ≡ lists.most_entries }
     ensures inline { INLINE_ENTRIES ≡ lists.inline_entries }
 {}
 
@@ -97,17 +97,17 @@ impl Acl {
     pub fn from_entries(alloc: Global, entries: &[Entry]) -> Result<Acl, ListFault>
         ensures ok { IfOk result (λ acl. acl ≡ lists.map_of entries.now) }
         ensures no_fault { OnOk result (lists.fault entries.now ≡ None) }
-        ensures told { IfErr result (λ fault. fault ≢ NoMemory → lists.fault entries.now ≡ Some fault) }
+        ensures reported { IfErr result (λ fault. fault ≢ NoMemory → lists.fault entries.now ≡ Some fault) }
         ensures inline { length entries.now ≤ INLINE_ENTRIES → result ≢ Err NoMemory }
     {
-        if entries.len() > MOST_ENTRIES {
+        if entries.len() > MAX_ENTRIES {
             return Err(ListFault::TooLong);
         }
         let sorted = in_order(alloc, entries)?;
         if let Some(key) = missing_base(&sorted) {
             return Err(ListFault::MissingBase { key });
         }
-        if let Some(at) = unmasked(entries, stands(&sorted, &Key::Mask)) {
+        if let Some(at) = unmasked(entries, has_entry(&sorted, &Key::Mask)) {
             return Err(ListFault::MissingMask { at });
         }
         Ok(Acl { entries: sorted })

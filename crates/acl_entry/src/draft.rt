@@ -74,7 +74,7 @@ impl Draft {
         ensures ok { OnOk result (self.new ≡ maps.insert self.old key perm) }
         ensures err { OnErr result (self.new ≡ self.old) }
         ensures inline { length (lists.entries self.old) < INLINE_ENTRIES → IsOk result }
-        ensures stands { maps.contains_key self.old key ≡ true → IsOk result }
+        ensures has_entry { maps.contains_key self.old key ≡ true → IsOk result }
     {
         // How many entries have room inline is known once the capacity is read.
         let _capacity = self.entries.capacity();
@@ -110,7 +110,7 @@ impl Draft {
     pub fn finish(self) -> Result<Acl, ListFault>
         ensures ok { IfOk result (λ acl. acl ≡ self) }
         ensures valid { OnOk result (IsValid self) }
-        ensures told { IfErr result (λ fault. lists.fault (lists.entries self) ≡ Some fault) }
+        ensures reported { IfErr result (λ fault. lists.fault (lists.entries self) ≡ Some fault) }
     {
         if let Some(fault) = fault_in_order(&self.entries) {
             return Err(fault);

@@ -38,7 +38,7 @@ pub enum ListFault {
     MissingBase { key: Key },
     /// There is a named entry and no mask; the place of the first named entry.
     MissingMask { at: usize },
-    /// There are more than [`MOST_ENTRIES`](crate::MOST_ENTRIES) entries.
+    /// There are more than [`MAX_ENTRIES`](crate::MAX_ENTRIES) entries.
     TooLong,
     /// Memory ran out.
     NoMemory,

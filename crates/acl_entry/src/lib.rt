@@ -15,7 +15,7 @@ mod mentions;
 mod perm;
 mod sorted;
 
-pub use acl::{Acl, INLINE_ENTRIES, MOST_ENTRIES, limits_are_as_told};
+pub use acl::{Acl, INLINE_ENTRIES, MAX_ENTRIES, limits_are_as_defined};
 pub use check::{Requests, granted};
 pub use draft::Draft;
 pub use entry::{Entry, ListFault};

@@ -10,7 +10,7 @@ ghost use Rattle.acl_entry.specs.Lists as lists;
 ghost use Rattle.acl_entry.specs.Lists.{IsAt, IsGapFor, IsInOrder, IsList, HasIds, pairs, keys, repeated, in_class, perm_of_entry};
 ghost use Rattle.std.specs.List.{position_from, list_all};
 
-use crate::acl::{INLINE_ENTRIES, MOST_ENTRIES};
+use crate::acl::{INLINE_ENTRIES, MAX_ENTRIES};
 use crate::{Entry, Key, ListFault, Perm};
 use smallvec::SmallVec;
 use std::alloc::Global;
@@ -40,7 +40,7 @@ pub(crate) fn perm_of(entries: &[Entry], key: &Key) -> Option<Perm>
 /// Puts another permission set at a key that is present.
 pub(crate) fn set_perm(entries: &mut [Entry], key: &Key, perm: Perm)
     requires in_order { IsInOrder entries.old }
-    requires stands { IsTrue (lists.is_among key.now (keys entries.old)) }
+    requires has_entry { IsTrue (lists.is_among key.now (keys entries.old)) }
     ensures put { pairs entries.new ≡ maps.put key_cmp key.now perm (pairs entries.old) }
     ensures keys { keys entries.new ≡ keys entries.old }
 {
@@ -54,7 +54,7 @@ pub(crate) fn in_order(
     alloc: Global,
     entries: &[Entry],
 ) -> Result<SmallVec<Entry, INLINE_ENTRIES>, ListFault>
-    requires { length entries.now ≤ MOST_ENTRIES }
+    requires { length entries.now ≤ MAX_ENTRIES }
     ensures once { OnOk result (repeated (keys entries.now) ≡ None) }
     ensures in_order { IfOk result (λ sorted. IsInOrder sorted.items) }
     ensures permutation { IfOk result (λ sorted. IsPermutation entries.now sorted.items) }
@@ -74,7 +74,7 @@ pub(crate) fn in_order(
 }
 
 /// Whether there is an entry of the key.
-pub(crate) fn stands(sorted: &[Entry], key: &Key) -> bool
+pub(crate) fn has_entry(sorted: &[Entry], key: &Key) -> bool
     requires { IsInOrder sorted.now }
     ensures { result ≡ lists.is_among key.now (keys sorted.now) }
 {
@@ -86,13 +86,13 @@ pub(crate) fn missing_base(sorted: &[Entry]) -> Option<Key>
     requires { IsInOrder sorted.now }
     ensures { result ≡ lists.missing_base (keys sorted.now) }
 {
-    if !stands(sorted, &Key::Owner) {
+    if !has_entry(sorted, &Key::Owner) {
         return Some(Key::Owner);
     }
-    if !stands(sorted, &Key::OwningGroup) {
+    if !has_entry(sorted, &Key::OwningGroup) {
         return Some(Key::OwningGroup);
     }
-    if !stands(sorted, &Key::Other) {
+    if !has_entry(sorted, &Key::Other) {
         return Some(Key::Other);
     }
     None
@@ -100,7 +100,7 @@ pub(crate) fn missing_base(sorted: &[Entry]) -> Option<Key>
 
 /// The first named entry, as a place from 1.
 fn first_named(entries: &[Entry]) -> Option<usize>
-    requires { length entries.now ≤ MOST_ENTRIES }
+    requires { length entries.now ≤ MAX_ENTRIES }
     ensures { result ≡ position_from is_named 1 (keys entries.now) }
 {
     for (i, entry) in entries.iter().enumerate() {
@@ -116,13 +116,13 @@ pub(crate) fn fault_in_order(sorted: &[Entry]) -> Option<ListFault>
     requires { IsInOrder sorted.now }
     ensures { result ≡ lists.fault sorted.now }
 {
-    if sorted.len() > MOST_ENTRIES {
+    if sorted.len() > MAX_ENTRIES {
         return Some(ListFault::TooLong);
     }
     if let Some(key) = missing_base(sorted) {
         return Some(ListFault::MissingBase { key });
     }
-    match unmasked(sorted, stands(sorted, &Key::Mask)) {
+    match unmasked(sorted, has_entry(sorted, &Key::Mask)) {
         Some(at) => Some(ListFault::MissingMask { at }),
         None => None,
     }
@@ -130,7 +130,7 @@ pub(crate) fn fault_in_order(sorted: &[Entry]) -> Option<ListFault>
 
 /// The first named entry where there is no mask.
 pub(crate) fn unmasked(entries: &[Entry], has_mask: bool) -> Option<usize>
-    requires short { length entries.now ≤ MOST_ENTRIES }
+    requires short { length entries.now ≤ MAX_ENTRIES }
     requires mask { has_mask ≡ lists.is_among Mask (keys entries.now) }
     ensures { result ≡ lists.unmasked (keys entries.now) }
 {

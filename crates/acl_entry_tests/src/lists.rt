@@ -4,7 +4,7 @@ use crate::made::{
     ADM, JOE, Row, Who, entries, expect_entries, id, key, list, perm, push, push_rows,
 };
 use acl_entry::{
-    Acl, Draft, Entry, INLINE_ENTRIES, Id, Key, ListFault, MOST_ENTRIES, Perm, limits_are_as_told,
+    Acl, Draft, Entry, INLINE_ENTRIES, Id, Key, ListFault, MAX_ENTRIES, Perm, limits_are_as_defined,
 };
 use std::alloc::Global;
 use std::process::Abort;
@@ -96,9 +96,9 @@ fn expect_kept(rt: &impl Abort, alloc: Global, named: u32, want: usize) {
 
 #[test]
 fn keeps_the_most_entries_and_not_one_more(rt: HostRuntime) {
-    limits_are_as_told();
+    limits_are_as_defined();
     assert!(rt; INLINE_ENTRIES == 8);
-    assert!(rt; MOST_ENTRIES == 4096);
+    assert!(rt; MAX_ENTRIES == 4096);
     expect_kept(&rt, rt.alloc(), 4, 8);
     expect_kept(&rt, rt.alloc(), 5, 9);
     expect_kept(&rt, rt.alloc(), 4092, 4096);

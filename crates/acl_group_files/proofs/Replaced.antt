@@ -15,7 +15,7 @@ use Rattle.std.proofs.lemmas.List.Folds.{list_any-append, list_any_more}
 use Rattle.acl_edit.specs.declared.node.Node.{Node}
 use Rattle.acl_tree.specs.Files.{PathOf, Files}
 use Rattle.acl_tree.specs.Changed.{same_label, is_changed, changed_between, gone_between}
-use Rattle.acl_tree.proofs.Changes.{label_told}
+use Rattle.acl_tree.proofs.Changes.{label_is_same}
 use Rattle.path_map.specs.Entries.{IsInOrder}
 use Rattle.path_map.specs.Merged.{has, merged, without_all}
 use Rattle.path_map.proofs.Merges.{in_order-merged, in_order-without}
@@ -65,7 +65,7 @@ module _ (g : ℕ) (p : PathOf) where
           → option_or (option_map unit (if_passes (mentions_group g) p (if not c then Some k else None)))
           (cond (is_some (option_map unit (if_passes (λ e. is_one_of g (mentions m.label)) p (if not c then Some k else None)))) None (option_map unit (if_passes (mentions_group g) p (Some m))))
           ≡ option_map unit (if_passes (mentions_group g) p (Some k))
-      by true is = same (is_one_of g (mentions m.label)) ∙ ap (λ (f : Label). option_map unit (if is_one_of g (mentions f) then Some k else None)) (label_told m.label k.label is)
+      by true is = same (is_one_of g (mentions m.label)) ∙ ap (λ (f : Label). option_map unit (if is_one_of g (mentions f) then Some k else None)) (label_is_same m.label k.label is)
       by false is = changed (is_one_of g (mentions k.label)) (is_one_of g (mentions m.label))
 
 module _ (g : ℕ) (old new : Files) (o : IsInOrder old) (n : IsInOrder new) where
@@ -147,7 +147,7 @@ module _ (g : ℕ) (old new : Files) (o : IsInOrder old) (n : IsInOrder new) (ou
       same false = refl
 
       by : (c : Bool) → same_label m.label k.label ≡ c → option_map unit (if_passes (mentions_group g) p (Some m)) ≡ option_map unit (if_passes (mentions_group g) p (Some k))
-      by true is = same (mentions_group g (p, m)) ∙ ap (λ (f : Label). option_map unit (if is_one_of g (mentions f) then Some k else None)) (label_told m.label k.label is)
+      by true is = same (mentions_group g (p, m)) ∙ ap (λ (f : Label). option_map unit (if is_one_of g (mentions f) then Some k else None)) (label_is_same m.label k.label is)
       by false is =
           let parts = not_in g (mentions k.label) (mentions m.label) (changed k (ap (λ c. if not c then Some k else None) is)) in
           ap (λ c. option_map unit (if c then Some m else None)) parts.1 ∙ sym (ap (λ c. option_map unit (if c then Some k else None)) parts.0)

@@ -105,8 +105,8 @@ not_below_itself p = false_from (is_below p p) (λ below. equal_is_not_less (sym
     equal_is_not_less e = cc
 
 -- another file lies below a file exactly if the next one in path order does
-pub told_by_next : (pre : Files) (e : PathOf × Node) (es : Files) → IsInOrder (pre ++ e ∷ es) → next_file_below e.0 es ≡ holds_below (pre ++ e ∷ es) e.0
-told_by_next pre e es order =
+pub known_by_next : (pre : Files) (e : PathOf × Node) (es : Files) → IsInOrder (pre ++ e ∷ es) → next_file_below e.0 es ≡ holds_below (pre ++ e ∷ es) e.0
+known_by_next pre e es order =
     let here = order-right pre (e ∷ es) order in
     let parts = and_parts (below_all path_cmp e.0 es) (is_sorted path_cmp es) here in
     sym (list_any-append (λ (s : PathOf × Node). is_below e.0 s.0) pre (e ∷ es)

@@ -16,7 +16,7 @@ use Rattle.acl_load.specs.Files.{holds_below}
 use Rattle.acl_load.specs.Inner.{next_below, files_from, next_file_below, file_before, files_before}
 use Rattle.acl_load.proofs.Shared.{in_order-put}
 use Rattle.acl_load.proofs.Shared.{any-map}
-use Rattle.acl_load.proofs.Follows.{told_by_next}
+use Rattle.acl_load.proofs.Follows.{known_by_next}
 
 -- ---- path order
 
@@ -53,11 +53,11 @@ next_seen h (r ∷ rs) p = refl
 
 module _ (h : DumpRecord → Node) where
   -- another record lies below a record exactly if the next one in path order does
-  next_tells : (pre : List DumpRecord) (r : DumpRecord) (rs : List DumpRecord) → IsInOrder (seen h (pre ++ r ∷ rs)) → next_below r.path rs ≡ has_below (pre ++ r ∷ rs) r.path
-  next_tells pre r rs order =
+  next_shows : (pre : List DumpRecord) (r : DumpRecord) (rs : List DumpRecord) → IsInOrder (seen h (pre ++ r ∷ rs)) → next_below r.path rs ≡ has_below (pre ++ r ∷ rs) r.path
+  next_shows pre r rs order =
       let parts : seen h (pre ++ r ∷ rs) ≡ seen h pre ++ (r.path, h r) ∷ seen h rs = map-append (λ (s : DumpRecord). (s.path, h s)) pre (r ∷ rs) in
       sym (next_seen h rs r.path)
-      ∙ told_by_next (seen h pre) (r.path, h r) (seen h rs) (subst IsInOrder parts order)
+      ∙ known_by_next (seen h pre) (r.path, h r) (seen h rs) (subst IsInOrder parts order)
       ∙ ap (λ es. holds_below es r.path) (sym parts)
       ∙ below_seen h (pre ++ r ∷ rs) r.path
 
@@ -65,7 +65,7 @@ module _ (h : DumpRecord → Node) where
   by_next pre [] order = refl
   by_next pre (r ∷ rs) order =
       let moved : pre ++ r ∷ rs ≡ (pre ++ r ∷ []) ++ rs = sym (append_assoc pre (r ∷ []) rs) in
-      ap (λ b. (r.path, node_of b r) ∷ files_from rs) (next_tells pre r rs order)
+      ap (λ b. (r.path, node_of b r) ∷ files_from rs) (next_shows pre r rs order)
       ∙ ap (λ l. (r.path, node_of (has_below (pre ++ r ∷ rs) r.path) r) ∷ l) (by_next (pre ++ r ∷ []) rs (subst (λ l. IsInOrder (seen h l)) moved order) ∙ ap (λ l. as_files l rs) (sym moved))
 
 -- the files by what follows each, in path order

@@ -14,8 +14,8 @@ use Rattle.acl_names.specs.Pieces.{pieces, is_byte}
 use Rattle.acl_text.specs.declared.fault.FaultKind.{FaultKind}
 use Rattle.acl_text.specs.declared.fault.FaultKind.TheVariants.{TooMany}
 use Rattle.acl_text.specs.declared.fault.TextFault.{TextFault}
-use Rattle.acl_text.specs.Told.{told_from, at_place}
-use Rattle.acl_text.specs.Rows.{is_repeated, counted, one_line, says_nothing}
+use Rattle.acl_text.specs.InTurn.{read_each_from, at_place}
+use Rattle.acl_text.specs.Rows.{is_repeated, counted, one_line, has_no_content}
 use Rattle.acl_people.specs.Rolls.{Named, is_name, AreNames, AreCounted}
 use Rattle.acl_people.proofs.Bytes.{are_texts, pieces_made}
 use Rattle.acl_people.proofs.Places.{position-cons, position-push, position-before}
@@ -146,21 +146,21 @@ module _ {R : Type 0} (name_of : R → List ℕ) (id_of : R → ℕ) where
 
   module _ (row_of : List (List ℕ) → Option R) (text : (fields : List (List ℕ)) → are_texts fields ≡ true → (row : R) → row_of fields ≡ Some row → IsNameText (name_of row)) where
     line_keeps : (rows new : List R) (line : List ℕ) → list_all is_byte line ≡ true → AreCounted (entries rows) → one_line name_of row_of rows line ≡ Ok new → AreCounted (entries new)
-    line_keeps rows new line made known is = by (says_nothing line) is
+    line_keeps rows new line made known is = by (has_no_content line) is
       where
         by : (b : Bool) → (if b then Ok rows else counted name_of rows (row_of (pieces 58 line))) ≡ Ok new → AreCounted (entries new)
         by true e = subst (λ rs. AreCounted (entries rs)) (ok_same FaultKind rows new e) known
         by false e = counted_keeps rows new (row_of (pieces 58 line)) (λ row is. text (pieces 58 line) (pieces_made 58 line made) row is) known e
 
     -- the rows that are counted of all lines
-    pub told_keeps : (at : ℕ) (rows new : List R) (ls : List (List ℕ)) → are_texts ls ≡ true → AreCounted (entries rows) → told_from (λ at rows line. one_line name_of row_of rows line) at rows ls ≡ Ok new → AreCounted (entries new)
-    told_keeps at rows new [] made known is = subst (λ rs. AreCounted (entries rs)) (ok_same TextFault rows new is) known
-    told_keeps at rows new (l ∷ ls) made known is =
+    pub reads_keep : (at : ℕ) (rows new : List R) (ls : List (List ℕ)) → are_texts ls ≡ true → AreCounted (entries rows) → read_each_from (λ at rows line. one_line name_of row_of rows line) at rows ls ≡ Ok new → AreCounted (entries new)
+    reads_keep at rows new [] made known is = subst (λ rs. AreCounted (entries rs)) (ok_same TextFault rows new is) known
+    reads_keep at rows new (l ∷ ls) made known is =
         let parts = and_parts (list_all is_byte l) (are_texts ls) made in
-        by parts.0 (one_line name_of row_of rows l) refl is (λ mid more e. told_keeps (at + 1) mid new ls parts.1 more e)
+        by parts.0 (one_line name_of row_of rows l) refl is (λ mid more e. reads_keep (at + 1) mid new ls parts.1 more e)
       where
-        by : list_all is_byte l ≡ true → (r : Result (List R) FaultKind) → one_line name_of row_of rows l ≡ r → at_place at r (λ more. told_from (λ at rows line. one_line name_of row_of rows line) (at + 1) more ls) ≡ Ok new
-            → ((mid : List R) → AreCounted (entries mid) → told_from (λ at rows line. one_line name_of row_of rows line) (at + 1) mid ls ≡ Ok new → AreCounted (entries new)) → AreCounted (entries new)
+        by : list_all is_byte l ≡ true → (r : Result (List R) FaultKind) → one_line name_of row_of rows l ≡ r → at_place at r (λ more. read_each_from (λ at rows line. one_line name_of row_of rows line) (at + 1) more ls) ≡ Ok new
+            → ((mid : List R) → AreCounted (entries mid) → read_each_from (λ at rows line. one_line name_of row_of rows line) (at + 1) mid ls ≡ Ok new → AreCounted (entries new)) → AreCounted (entries new)
         by line (Ok mid) e is more = more mid (line_keeps rows mid l line known e) is
         by line (Err kind) e is more = absurd (err_is_not_ok _ new is)
 

@@ -15,7 +15,7 @@ record Shown (es : List Named) (id : ℕ) (name : List ℕ) : Type 0 where
   row : Named
   at : ℕ
   within : at < length es
-  stands : slice_get es at ≡ Some row
+  is_counted_there : slice_get es at ≡ Some row
   named : row.0 ≡ name
   passes : prints id row ≡ true
 
@@ -40,7 +40,7 @@ shown es id name is = by (position (prints id) es) refl (sym (ap (λ o. option_m
               row = r;
               at = i;
               within = first.0;
-              stands = e2;
+              is_counted_there = e2;
               named = some_same r.0 name h2;
               passes = ap (λ x. prints id x) (sym (get_or_from_slice_get es i r r e2)) ∙ first.1;
             }
@@ -53,11 +53,11 @@ both false b h = cc
 is_found : (es : List Named) → AreNames es → (id : ℕ) (name : List ℕ) → name_shown id es ≡ Some name → IsFoundAs (λ n. id_named n es) id name
 is_found es names id name is =
     let s = shown es id name is in
-    let at : get_or es s.at s.row ≡ s.row = get_or_from_slice_get es s.at s.row s.row s.stands in
+    let at : get_or es s.at s.row ≡ s.row = get_or_from_slice_get es s.at s.row s.row s.is_counted_there in
     let named : (get_or es s.at s.row).0 ≡ name = ap (λ e. e.0) at ∙ s.named in
     let first : position (is_name name) es ≡ Some s.at = ap (λ n. position (is_name n) es) (sym named) ∙ names.once s.at s.row s.within in
     let passes = both (eqb s.row.1 id) (is_number s.row.0) s.passes in
-    let found : find (is_name name) es ≡ Some s.row = find-position (is_name name) es ∙ ap (λ o. option_and_then (λ i. slice_get es i) o) first ∙ s.stands in
+    let found : find (is_name name) es ≡ Some s.row = find-position (is_name name) es ∙ ap (λ o. option_and_then (λ i. slice_get es i) o) first ∙ s.is_counted_there in
     record {
       made_of_bytes = ap (λ n. list_all is_byte n) (sym named) ∙ names.made_of_bytes s.at s.row s.within;
       not_empty = subst (λ n. 0 < length n) named (names.filled s.at s.row s.within);

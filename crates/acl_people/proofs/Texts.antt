@@ -10,7 +10,7 @@ use Rattle.acl_text.specs.Rows.{passwd_row, group_row, passwd_of, group_of, pass
 use Rattle.acl_people.specs.Rolls.{AreCounted}
 use Rattle.acl_people.specs.Entries.{user_entry, group_entry}
 use Rattle.acl_people.proofs.Bytes.{are_texts, pieces_made}
-use Rattle.acl_people.proofs.Counted.{IsNameText, none_counted, told_keeps}
+use Rattle.acl_people.proofs.Counted.{IsNameText, none_counted, reads_keep}
 
 none_is_not_some : {A : Type 0} (x : A) → None ≡ Some x → ⊥
 none_is_not_some x e = cc
@@ -51,7 +51,7 @@ group_text (n ∷ password ∷ gid ∷ names ∷ []) made row is = by (eqb (leng
 group_text _ made row is = absurd (none_is_not_some row is)
 
 pub passwd_counted : (bytes : List ℕ) (rows : List PasswdRow) → list_all is_byte bytes ≡ true → passwd_of bytes ≡ Ok rows → AreCounted (map user_entry rows)
-passwd_counted bytes rows made is = told_keeps passwd_name (λ row. row.uid) passwd_row passwd_text 1 [] rows (pieces 10 bytes) (pieces_made 10 bytes made) none_counted is
+passwd_counted bytes rows made is = reads_keep passwd_name (λ row. row.uid) passwd_row passwd_text 1 [] rows (pieces 10 bytes) (pieces_made 10 bytes made) none_counted is
 
 pub group_counted : (bytes : List ℕ) (rows : List GroupRow) → list_all is_byte bytes ≡ true → group_of bytes ≡ Ok rows → AreCounted (map group_entry rows)
-group_counted bytes rows made is = told_keeps group_name (λ row. row.gid) group_row group_text 1 [] rows (pieces 10 bytes) (pieces_made 10 bytes made) none_counted is
+group_counted bytes rows made is = reads_keep group_name (λ row. row.gid) group_row group_text 1 [] rows (pieces 10 bytes) (pieces_made 10 bytes made) none_counted is

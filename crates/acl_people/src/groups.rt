@@ -1,7 +1,7 @@
 //! The rows of group(5), looked up by name and by id.
 
 ghost use Rattle.std.specs.Prelude.{◌≡◌, ◌<◌, [], map, length, slice_set, IfOk};
-ghost use Rattle.acl_text.specs.Told.{Gives};
+ghost use Rattle.acl_text.specs.InTurn.{Gives};
 ghost use Rattle.acl_text.specs.Rows.{group_of};
 ghost use Rattle.acl_people.specs.Rolls.{AreNames, AreCounted};
 ghost use Rattle.acl_people.specs.Entries.{group_entry};

@@ -147,7 +147,7 @@ impl People {
     /// These people with the users of a passwd text. Refused where one was loaded, whatever memory there is,
     /// for the text's first fault, or if memory runs out.
     pub fn load_passwd(&self, alloc: Global, bytes: &[u8]) -> Result<People, LoadFault>
-        ensures told { Loads (λ people. people) result (load_passwd self.now bytes.now) }
+        ensures reported { Loads (λ people. people) result (load_passwd self.now bytes.now) }
         ensures again { self.now.passwd_loaded ≡ true → result ≡ Err AlreadyLoaded }
     {
         if self.passwd_loaded {
@@ -170,7 +170,7 @@ impl People {
     /// These people with the groups of a group text. Refused where one was loaded, whatever memory there is,
     /// for the text's first fault, or if memory runs out.
     pub fn load_group(&self, alloc: Global, bytes: &[u8]) -> Result<People, LoadFault>
-        ensures told { Loads (λ people. people) result (load_group self.now bytes.now) }
+        ensures reported { Loads (λ people. people) result (load_group self.now bytes.now) }
         ensures again { self.now.group_loaded ≡ true → result ≡ Err AlreadyLoaded }
     {
         if self.group_loaded {

@@ -2,7 +2,7 @@
 
 ghost use Rattle.std.specs.Prelude.{◌≡◌, ◌<◌, ◌++◌, ◌∷◌, [], map, length, IfOk};
 ghost use Rattle.std.specs.List.{remove};
-ghost use Rattle.acl_text.specs.Told.{Gives};
+ghost use Rattle.acl_text.specs.InTurn.{Gives};
 ghost use Rattle.acl_text.specs.Rows.{passwd_of};
 ghost use Rattle.acl_people.specs.Rolls.{AreNames, AreCounted};
 ghost use Rattle.acl_people.specs.Entries.{user_entry};

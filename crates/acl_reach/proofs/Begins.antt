@@ -84,7 +84,7 @@ from_values : {A B : Type 0} (g : PathOf × A → B) (p : PathOf) (es : List (Pa
 from_values g p [] h = tt
 from_values g p (e ∷ es) h = (h.0, from_values g p es h.1)
 
--- ---- a table in two parts: what comes before a path, and what is at it or below it, with the rest behind
+-- ---- a table in two parts: what comes before a path, and what is at it or below it, with the rest after it
 
 record Parts {A : Type 0} (top : PathOf) (es : List (PathOf × A)) : Type 0 where
   pub pre : List (PathOf × A)

@@ -70,7 +70,7 @@ within_below (x ∷ p) (y ∷ q) w h =
     ap (λ b. b && is_below p q) parts.0
     ∙ within_below p q parts.1 (ap (λ o. ordering_then o (slice_cmp (slice_cmp nat_cmp) p q)) (sym (equal (slice_cmp nat_cmp x y) parts.0)) ∙ h)
 
--- what stands between a path and one below it lies below it
+-- what is between a path and one below it lies below it
 pub convex_below : (p s t : PathOf) → path_cmp p s ≡ Less → path_cmp s t ≡ Less → is_below p t ≡ true → is_below p s ≡ true
 convex_below p s t ps st h = within_below p s (convex p s t (ap is_gt ps) st (below_within p t h)) ps
 
@@ -127,7 +127,7 @@ first_before : {A : Type 0} (x : PathOf) (es : List (PathOf × A)) (e : PathOf �
 first_before x [] e fs h = less (path_cmp x e.0) (and_parts (is_lt (path_cmp x e.0)) (below_all path_cmp x fs) h).0
 first_before x (d ∷ es) e fs h = first_before x es e fs (and_parts (is_lt (path_cmp x d.0)) (below_all path_cmp x (es ++ e ∷ fs)) h).1
 
--- in path order, what stands before a path comes before it
+-- in path order, what is before a path comes before it
 pub all_before : {A : Type 0} (es : List (PathOf × A)) (e : PathOf × A) (fs : List (PathOf × A)) → IsInOrder (es ++ e ∷ fs) → AllBefore e.0 es
 all_before [] e fs h = tt
 all_before (d ∷ es) e fs h =

@@ -12,7 +12,7 @@ use Rattle.acl_tree.specs.Files.{PathOf, Files, Recorded}
 use Rattle.acl_tree.specs.Changed.{same_label, is_changed, changed_between}
 use Rattle.acl_tree.proofs.Changes.{label_itself}
 use Rattle.acl_people.specs.Registers.{persons}
-use Rattle.acl_tree.specs.Tells.{StagedState}
+use Rattle.acl_tree.specs.Reports.{StagedState}
 use Rattle.acl_tree.specs.declared.moved.UsersMove.{UsersMove}
 use Rattle.acl_tree.specs.declared.moved.UsersMove.TheVariants.{Same, Loaded, Moved, Joined, Left}
 use Rattle.path_map.specs.Entries.{IsInOrder}
@@ -85,10 +85,10 @@ none_changed fs h = same_found (changed_between fs fs) [] (map_filter (is_change
 
 module _ (V : Verdict) (rows : Rows) (t : StagedState) (goes : GoesFrom V rows t) (order : IsInOrder t.state.tree.files) where
   few_changed : length t.changed ≤ length t.state.tree.files
-  few_changed = subst (λ (es : Files). length es ≤ length t.state.tree.files) (sym goes.tells.changed) (few_pass (is_changed goes.state.tree.files) t.state.tree.files)
+  few_changed = subst (λ (es : Files). length es ≤ length t.state.tree.files) (sym goes.reports.changed) (few_pass (is_changed goes.state.tree.files) t.state.tree.files)
 
   no_change : t.state.tree ≡ goes.state.tree → length t.changed ≡ 0
-  no_change same = ap length (goes.tells.changed ∙ ap (λ (r : Recorded). changed_between r.files t.state.tree.files) (sym same) ∙ none_changed t.state.tree.files order)
+  no_change same = ap length (goes.reports.changed ∙ ap (λ (r : Recorded). changed_between r.files t.state.tree.files) (sym same) ∙ none_changed t.state.tree.files order)
 
   with_user : (n : ℕ) → n ≤ length t.state.tree.files → 0 < length t.state.people.users → length t.changed ≡ 0 → length t.changed * length t.state.people.users + n ≤ length t.state.tree.files * length t.state.people.users
   with_user n le some none =

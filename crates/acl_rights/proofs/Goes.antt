@@ -18,7 +18,7 @@ use Rattle.acl_tree.specs.Files.{PathOf, Files, Recorded}
 use Rattle.acl_tree.specs.Changed.{is_changed, changed_between}
 use Rattle.acl_people.specs.Registers.{persons}
 use Rattle.acl_people.specs.Moves.{MovesUser, JoinsUser, LeavesUser}
-use Rattle.acl_tree.specs.Tells.{StagedState, UsersMoved}
+use Rattle.acl_tree.specs.Reports.{StagedState, UsersMoved}
 use Rattle.acl_tree.specs.declared.moved.UsersMove.TheVariants.{Same, Moved, Joined, Left}
 use Rattle.path_map.specs.Entries.{IsInOrder}
 use Rattle.acl_rights.specs.Tables.{Verdict, Rows, cells_of, rows_of}
@@ -37,28 +37,28 @@ module _ (V : Verdict) (rows : Rows) (t : StagedState) (goes : GoesFrom V rows t
 
   module _ (is : t.moved ≡ Same) where
     same_users : persons t.state.people ≡ persons goes.state.people
-    same_users = subst (λ m. UsersMoved goes.state t.state m) is goes.tells.users
+    same_users = subst (λ m. UsersMoved goes.state t.state m) is goes.reports.users
 
     pub puts_order : (puts : Rows) → IsInOrder t.state.tree.files → puts ≡ rows_of V (persons t.state.people) t.changed → IsInOrder puts
     puts_order puts n h =
-        subst IsInOrder (sym (h ∙ ap (rows_of V (persons t.state.people)) goes.tells.changed))
+        subst IsInOrder (sym (h ∙ ap (rows_of V (persons t.state.people)) goes.reports.changed))
         (map_values (λ (e : PathOf × Node). cells_of V (persons t.state.people) e.1) (changed_between goes.state.tree.files t.state.tree.files) (map_filter (is_changed goes.state.tree.files) t.state.tree.files n))
 
     pub gone_order : (gone : Files) → IsInOrder rows → gone ≡ t.gone → IsInOrder gone
-    gone_order gone r h = subst IsInOrder (sym (h ∙ goes.tells.gone)) (map_filter _ goes.state.tree.files (old_order r))
+    gone_order gone r h = subst IsInOrder (sym (h ∙ goes.reports.gone)) (map_filter _ goes.state.tree.files (old_order r))
 
     pub changed_goes : (puts : Rows) (gone : Files) → IsInOrder rows → IsInOrder t.state.tree.files
         → puts ≡ rows_of V (persons t.state.people) t.changed → gone ≡ t.gone → merged puts gone rows ≡ rows_of V (persons t.state.people) t.state.tree.files
     changed_goes puts gone r n puts_are gone_are =
         let us = persons t.state.people in
-        let these = puts_are ∙ ap (rows_of V us) goes.tells.changed in
-        let those = gone_are ∙ goes.tells.gone in
+        let these = puts_are ∙ ap (rows_of V us) goes.reports.changed in
+        let those = gone_are ∙ goes.reports.gone in
         let rows_are = goes.rows_are ∙ ap (λ (l : List Person). rows_of V l goes.state.tree.files) (sym same_users) in
         (λ i. merged (these i) (those i) (rows_are i)) ∙ changed_whole V us goes.state.tree.files t.state.tree.files (old_order r) n
 
   module _ (at : ℕ) (groups : List ℕ) (is : t.moved ≡ Moved at groups) where
     pub moves : (t.state.tree ≡ goes.state.tree) × MovesUser (persons goes.state.people) (persons t.state.people) at groups
-    moves = let u = subst (λ m. UsersMoved goes.state t.state m) is goes.tells.users in (u.0, u.1)
+    moves = let u = subst (λ m. UsersMoved goes.state t.state m) is goes.reports.users in (u.0, u.1)
 
     pub moved_rows_are : rows ≡ rows_of V (persons goes.state.people) t.state.tree.files
     moved_rows_are = goes.rows_are ∙ ap (λ (r : Recorded). rows_of V (persons goes.state.people) r.files) (sym moves.0)
@@ -77,7 +77,7 @@ module _ (V : Verdict) (rows : Rows) (t : StagedState) (goes : GoesFrom V rows t
 
   module _ (is : t.moved ≡ Joined) where
     pub joins : (t.state.tree ≡ goes.state.tree) × JoinsUser (persons goes.state.people) (persons t.state.people)
-    joins = subst (λ m. UsersMoved goes.state t.state m) is goes.tells.users
+    joins = subst (λ m. UsersMoved goes.state t.state m) is goes.reports.users
 
     pub joined_rows_are : rows ≡ rows_of V (persons goes.state.people) t.state.tree.files
     joined_rows_are = goes.rows_are ∙ ap (λ (r : Recorded). rows_of V (persons goes.state.people) r.files) (sym joins.0)
@@ -87,7 +87,7 @@ module _ (V : Verdict) (rows : Rows) (t : StagedState) (goes : GoesFrom V rows t
 
   module _ (at : ℕ) (is : t.moved ≡ Left at) where
     pub leaves : (t.state.tree ≡ goes.state.tree) × LeavesUser (persons goes.state.people) (persons t.state.people) at
-    leaves = subst (λ m. UsersMoved goes.state t.state m) is goes.tells.users
+    leaves = subst (λ m. UsersMoved goes.state t.state m) is goes.reports.users
 
     pub left_wide : AllByRecursion (λ (r : PathOf × List ℕ). at < length r.1) rows
     left_wide = subst (AllByRecursion (λ (r : PathOf × List ℕ). at < length r.1)) (sym goes.rows_are) (wide V (persons goes.state.people) at goes.state.tree.files leaves.1.was)
@@ -146,7 +146,7 @@ module _ (V : Verdict) (rows : Rows) (t : StagedState) (goes : GoesFrom V rows t
       some_same : {X : Type 0} {x y : X} → Some x ≡ Some y → x ≡ y
       some_same e = cc
 
-  -- a row with the moved user judged anew is that of the new users
+  -- a row with the moved user judged again is that of the new users
   pub again_is : (p : PathOf) (n : Node) (x : Person) (new : PathOf × List ℕ) → find path_cmp p t.state.tree.files ≡ Some n → slice_get (persons t.state.people) at ≡ Some x
       → ((m : Node) (cells : List ℕ) → find path_cmp p t.state.tree.files ≡ Some m → find path_cmp p rows ≡ Some cells → new ≡ (p, set cells at (V x m.label)))
       → new ≡ (p, cells_of V (persons t.state.people) n)
@@ -174,7 +174,7 @@ apart_all V us fs (e ∷ gone) h = (below_rows V us e.0 fs ∙ h.0, apart_all V 
 
 pub gone_apart : (V : Verdict) (rows : Rows) (t : StagedState) → GoesFrom V rows t → (us : List Person) (new : Rows) (gone : Files) → new ≡ rows_of V us t.state.tree.files → gone ≡ t.gone → IsApart new gone
 gone_apart V rows t goes us new gone is same =
-    subst (λ r. IsApart r gone) (sym is) (subst (IsApart (rows_of V us t.state.tree.files)) (sym same) (apart_all V us t.state.tree.files t.gone goes.tells.apart))
+    subst (λ r. IsApart r gone) (sym is) (subst (IsApart (rows_of V us t.state.tree.files)) (sym same) (apart_all V us t.state.tree.files t.gone goes.reports.apart))
 
 pub none_apart : (new : Rows) (gone : Files) → gone ≡ [] → IsApart new gone
 none_apart new gone none = subst (IsApart new) (sym none) tt

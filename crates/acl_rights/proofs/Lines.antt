@@ -16,7 +16,7 @@ use Rattle.acl_edit.specs.declared.node.Node.{Node}
 use Rattle.acl_tree.specs.Files.{PathOf, Files}
 use Rattle.acl_tree.specs.Changed.{same_label, changed_between, gone_between}
 use Rattle.acl_people.specs.Moves.{MovesUser, in_just_one}
-use Rattle.acl_tree.proofs.Changes.{label_told}
+use Rattle.acl_tree.proofs.Changes.{label_is_same}
 use Rattle.path_map.specs.Entries.{IsInOrder}
 use Rattle.acl_rights.specs.Tables.{Verdict, cells_of, rows_of}
 use Rattle.acl_rights.specs.Stages.{mentions_one}
@@ -31,7 +31,7 @@ module _ (V : Verdict) (us : List Person) where
   -- a file with another label has another row, at most
   same_row : (o : Option Node) (n : Node) → option_map_or (λ m. not (same_label m.label n.label)) o true ≡ false → option_map (cells_of V us) o ≡ Some (cells_of V us n)
   same_row None n h = cc
-  same_row (Some m) n h = ap (λ (f : Label). Some (map (λ u. V u f) us)) (label_told m.label n.label (yes (same_label m.label n.label) h))
+  same_row (Some m) n h = ap (λ (f : Label). Some (map (λ u. V u f) us)) (label_is_same m.label n.label (yes (same_label m.label n.label) h))
     where
       yes : (b : Bool) → not b ≡ false → b ≡ true
       yes true h = refl

@@ -23,10 +23,10 @@ use Rattle.acl_tree.specs.Files.{PathOf, Files, Recorded}
 use Rattle.acl_people.specs.Registers.{persons}
 use Rattle.acl_people.specs.Moves.{MovesUser}
 use Rattle.acl_tree.specs.Sound.{holds_below}
-use Rattle.acl_tree.specs.Tells.{StagedState, UsersMoved}
+use Rattle.acl_tree.specs.Reports.{StagedState, UsersMoved}
 use Rattle.acl_tree.specs.declared.moved.UsersMove.{UsersMove}
 use Rattle.acl_tree.specs.declared.moved.UsersMove.TheVariants.{Same, Loaded, Moved, Joined, Left}
-use Rattle.acl_tree.proofs.Changes.{label_told}
+use Rattle.acl_tree.proofs.Changes.{label_is_same}
 use Rattle.path_map.proofs.Places.{above}
 use Rattle.path_map.specs.Entries.{IsInOrder}
 use Rattle.acl_rights.specs.Tables.{Verdict, Rows, cells_of, rows_of}
@@ -153,7 +153,7 @@ each_found P t (e ∷ es) q a all is ok = by (is_eq (path_cmp q e.0)) refl is (�
         subst P (sym path) (first (t e) all (ap t (λ i. (back i, value i)) ∙ ok))
     by false other there more = more (rest (t e) all) there
 
--- ---- who passes depends on what stands above alone
+-- ---- who passes depends only on what is above
 
 all_kept : {A : Type 0} (f : A → Bool) (p : PathOf) (es : List (PathOf × A)) → list_all (λ e. not (is_below e.0 p) || f e.1) es ≡ list_all (λ (e : PathOf × Bool). e.1) (map (λ (e : PathOf × A). (e.0, f e.1)) (filter (λ e. is_below e.0 p) es))
 all_kept {A = A} f p [] = refl
@@ -347,8 +347,8 @@ module _ (V : Verdict) (us ws : List Person) (fs gs : Files) (fo : IsInOrder fs)
     labels_kept : (q : PathOf) → is_within q p ≡ true → option_map (λ (m : Node). m.label) (find path_cmp q fs) ≡ option_map (λ (m : Node). m.label) (find path_cmp q gs)
     labels_kept q w = by (find path_cmp q fs) (find path_cmp q gs) refl refl
       where
-        told : (a b : Label) → not (same_label a b) ≡ false → a ≡ b
-        told a b h = label_told a b (yes (same_label a b) h)
+        reported : (a b : Label) → not (same_label a b) ≡ false → a ≡ b
+        reported a b h = label_is_same a b (yes (same_label a b) h)
           where
             yes : (b : Bool) → not b ≡ false → b ≡ true
             yes true h = refl
@@ -361,7 +361,7 @@ module _ (V : Verdict) (us ws : List Person) (fs gs : Files) (fo : IsInOrder fs)
         by None None was is = refl
         by None (Some m) was is = absurd (new_one m was is)
         by (Some k) None was is = absurd (not_gone q k w is was)
-        by (Some k) (Some m) was is = ap Some (told k.label m.label (ap (λ o. option_map_or (λ (k : Node). not (same_label k.label m.label)) o true) (sym was) ∙ not_changed q m w is))
+        by (Some k) (Some m) was is = ap Some (reported k.label m.label (ap (λ o. option_map_or (λ (k : Node). not (same_label k.label m.label)) o true) (sym was) ∙ not_changed q m w is))
 
     verdicts_kept : (u : Person) (q : PathOf) → is_within q p ≡ true → option_map (λ (n : Node). V u n.label) (find path_cmp q fs) ≡ option_map (λ (n : Node). V u n.label) (find path_cmp q gs)
     verdicts_kept u q w = twice (find path_cmp q fs) ∙ ap (option_map (V u)) (labels_kept q w) ∙ sym (twice (find path_cmp q gs))
@@ -402,7 +402,7 @@ module _ (V : Verdict) (us ws : List Person) (fs gs : Files) (fo : IsInOrder fs)
           let first = sum_by-cons (λ e. l) e es in
           omega (arith, first, more, even_more (length es) l)
 
-  -- all users at files that changed, and others at as many as are told
+  -- all users at files that changed, and others at as many as are reported
   module _ (move : UsersMove) (x : PathOf × Node → ℕ) (rest : (e : PathOf × Node) → find path_cmp e.0 gs ≡ Some e.1 → lies_within (changed_between fs gs) e ≡ false → row_missed move e ≤ x e) where
     parts_missed : differing (place_left move) old_reached new_reached ≤ length ws * count_by (lies_within (changed_between fs gs)) gs + sum_by x gs
     parts_missed =
@@ -528,7 +528,7 @@ module _ (V : Verdict) (local : (u w : Person) (f : Label) → AgreeOnMentions u
   fo = old_order V rows t goes ro
 
   alone : AllByRecursion (λ e. holds_below gs e.0 ≡ false) (gone_between fs gs)
-  alone = subst (AllByRecursion (λ e. holds_below gs e.0 ≡ false)) goes.tells.gone goes.tells.apart
+  alone = subst (AllByRecursion (λ e. holds_below gs e.0 ≡ false)) goes.reports.gone goes.reports.apart
 
   abbrev line_missed : UsersMove → ℕ
   line_missed move = differing (place_left move) (reached_rows (rows_of V us fs)) (reached_rows (rows_of V ws gs))
@@ -538,13 +538,13 @@ module _ (V : Verdict) (local : (u w : Person) (f : Label) → AgreeOnMentions u
 
   line_same : t.moved ≡ Same → line_missed Same ≤ at_changed + 0
   line_same is =
-      let people : persons t.state.people ≡ persons goes.state.people = subst (λ m. UsersMoved goes.state t.state m) is goes.tells.users in
+      let people : persons t.state.people ≡ persons goes.state.people = subst (λ m. UsersMoved goes.state t.state m) is goes.reports.users in
       let n = none_moved V us ws fs gs fo go alone Same (λ i w got. ap (λ (l : List Person). slice_get l i) (sym people) ∙ got) in
       omega (arith, n)
 
   line_loaded : t.moved ≡ Loaded → line_missed Loaded ≤ at_changed + 0
   line_loaded is =
-      let none : gs ≡ [] = subst (λ m. UsersMoved goes.state t.state m) is goes.tells.users in
+      let none : gs ≡ [] = subst (λ m. UsersMoved goes.state t.state m) is goes.reports.users in
       let n = all_missed V us ws fs gs fo go Loaded in
       let long : length gs * length ws ≡ 0 = ap (λ (l : Files). length l * length ws) none ∙ nothing (length ws) in
       omega (arith, n, long)
@@ -609,18 +609,18 @@ module _ (V : Verdict) (local : (u w : Person) (f : Label) → AgreeOnMentions u
   line Joined is = line_joined is
   line (Left at) is = line_left at is
 
-  stands : reached_rows rows ≡ reached_rows (rows_of V us fs)
-  stands = ap reached_rows goes.rows_are
+  is_there : reached_rows rows ≡ reached_rows (rows_of V us fs)
+  is_there = ap reached_rows goes.rows_are
 
   pub line_most : differing (place_left t.moved) (reached_rows rows) (reached_rows (rows_of V ws gs)) ≤ most_refreshed t
   line_most =
       let parts = line t.moved refl in
       let all : at_changed ≡ length t.state.people.users * count_by (lies_within t.changed) gs =
-      (let long = length-map t.state.people.users _ in let told = sym goes.tells.changed in λ i. long i * count_by (lies_within (told i)) gs) in
-      subst (λ (r : Rows). differing (place_left t.moved) r (reached_rows (rows_of V ws gs)) ≤ most_refreshed t) (sym stands) (omega (arith, parts, all))
+      (let long = length-map t.state.people.users _ in let reported = sym goes.reports.changed in λ i. long i * count_by (lies_within (reported i)) gs) in
+      subst (λ (r : Rows). differing (place_left t.moved) r (reached_rows (rows_of V ws gs)) ≤ most_refreshed t) (sym is_there) (omega (arith, parts, all))
 
   pub line_fits : length gs * length t.state.people.users < 2 ^ 64 → differing (place_left t.moved) (reached_rows rows) (reached_rows (rows_of V ws gs)) < 2 ^ 64
   line_fits room =
       let n = all_missed V us ws fs gs fo go t.moved in
       let long : length gs * length ws ≡ length gs * length t.state.people.users = ap (λ k. length gs * k) (length-map t.state.people.users _) in
-      subst (λ (r : Rows). differing (place_left t.moved) r (reached_rows (rows_of V ws gs)) < 2 ^ 64) (sym stands) (omega (arith, n, long, room))
+      subst (λ (r : Rows). differing (place_left t.moved) r (reached_rows (rows_of V ws gs)) < 2 ^ 64) (sym is_there) (omega (arith, n, long, room))

@@ -4,7 +4,7 @@ use Rattle.acl_people.specs.Registers.{persons}
 use Rattle.path_map.specs.Merged.{merged, put_all}
 use Rattle.acl_tree.specs.Files.{Files}
 use Rattle.acl_tree.specs.Step.{State}
-use Rattle.acl_tree.specs.Tells.{StagedState, Tells}
+use Rattle.acl_tree.specs.Reports.{StagedState, Reports}
 use Rattle.acl_tree.specs.declared.moved.UsersMove.{UsersMove}
 use Rattle.acl_tree.specs.declared.moved.UsersMove.TheVariants.{Same, Loaded, Moved, Joined, Left}
 use Rattle.acl_rights.specs.Tables.{Verdict, Rows, rows_of}
@@ -13,7 +13,7 @@ use Rattle.acl_rights.specs.Tables.{Verdict, Rows, rows_of}
 pub record GoesFrom (V : Verdict) (rows : Rows) (t : StagedState) : Type 0 where
   pub state : State
   pub rows_are : rows ≡ rows_of V (persons state.people) state.tree.files
-  pub tells : Tells state t
+  pub reports : Reports state t
 
 -- where no user comes or goes, the new rows are the old ones with some put, without those of gone paths
 abbrev pub IsAgain : UsersMove → Rows → Rows → Files → Rows → Type 0

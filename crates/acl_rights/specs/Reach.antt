@@ -11,7 +11,7 @@ use Rattle.acl_people.specs.Registers.{persons}
 use Rattle.acl_load.specs.Below.{is_within, is_below}
 use Rattle.acl_tree.specs.Files.{PathOf, Files}
 use Rattle.acl_tree.specs.Step.{State}
-use Rattle.acl_tree.specs.Tells.{StagedState}
+use Rattle.acl_tree.specs.Reports.{StagedState}
 use Rattle.acl_tree.specs.declared.moved.UsersMove.{UsersMove}
 use Rattle.acl_tree.specs.declared.moved.UsersMove.TheVariants.{Same, Loaded, Moved, Joined, Left}
 pub use Rattle.acl_reach.specs.Reach.{execute, can_search, passes_in, reach_cell, reached_from, reached_rows, reached_at}

@@ -2,7 +2,7 @@
 use Rattle.std.specs.Prelude.{ℕ, ◌+◌, ◌*◌, Bool, true, false, length, count_by}
 use Rattle.acl_tree.specs.Files.{Files}
 use Rattle.acl_tree.specs.Step.{State}
-use Rattle.acl_tree.specs.Tells.{StagedState, Tells}
+use Rattle.acl_tree.specs.Reports.{StagedState, Reports}
 use Rattle.acl_tree.specs.declared.moved.UsersMove.{UsersMove}
 use Rattle.acl_tree.specs.declared.moved.UsersMove.TheVariants.{Same, Loaded, Moved, Joined, Left}
 pub use Rattle.acl_group_files.specs.Groups.{mentions_one, mentioning, sum_mentioning}
@@ -12,7 +12,7 @@ use Rattle.acl_rights.specs.Tables.{Verdict, Table, IsWhole}
 pub record CanStage (V : Verdict) (index : Table) (t : StagedState) : Type 0 where
   pub state : State
   pub whole : IsWhole V state index
-  pub tells : Tells state t
+  pub reports : Reports state t
 
 -- the most verdicts that the users' move costs
 abbrev pub moves_asked : UsersMove → Files → ℕ

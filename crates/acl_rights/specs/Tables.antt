@@ -10,7 +10,7 @@ use Rattle.acl_people.specs.Registers.{persons}
 use Rattle.acl_edit.specs.declared.node.Node.{Node}
 use Rattle.acl_tree.specs.Files.{PathOf, Files}
 use Rattle.acl_tree.specs.Step.{State}
-use Rattle.acl_tree.specs.Tells.{coded_files}
+use Rattle.acl_tree.specs.Reports.{coded_files}
 pub use Rattle.acl_verdicts.specs.Rows.{Verdict, Rows, coded_rows, places_from, who_in, grants_to, may_in}
 
 -- what each user may do with a file

@@ -219,7 +219,7 @@ impl<J: Judge> Index<J> {
         path: &Path,
         request: Perm,
     ) -> Result<Option<Vec<usize>>, AllocError>
-        ensures told { IfOk result (λ found. option_map (λ users. users.items) found ≡ option_map (who_in request) (find path_cmp path.now self.now.rows)) }
+        ensures reported { IfOk result (λ found. option_map (λ users. users.items) found ≡ option_map (who_in request) (find path_cmp path.now self.now.rows)) }
         ensures whole { IfOk result (λ found. (s : step.State) → IsWhole J.verdict_of s self.now → option_map (λ users. users.items) found ≡ users_granted J.verdict_of s path.now request) }
     {
         self.users(alloc, path, request)
@@ -248,7 +248,7 @@ impl<J: Judge> Index<J> {
         user: usize,
         request: Perm,
     ) -> Result<Option<Vec<Rc<Path>>>, AllocError>
-        ensures told { IfOk result (λ found. option_map (λ paths. map (λ p. p.value) paths.items) found ≡ (if nat_lt user self.now.users then Some (may_in request user self.now.rows) else None)) }
+        ensures reported { IfOk result (λ found. option_map (λ paths. map (λ p. p.value) paths.items) found ≡ (if nat_lt user self.now.users then Some (may_in request user self.now.rows) else None)) }
         ensures whole { IfOk result (λ found. (s : step.State) → IsWhole J.verdict_of s self.now → option_map (λ paths. map (λ p. p.value) paths.items) found ≡ files_granted J.verdict_of s user request) }
     {
         self.paths(alloc, user, request)
@@ -293,7 +293,7 @@ impl<J: Judge> Index<J> {
         path: &Path,
         request: Perm,
     ) -> Result<Option<Vec<usize>>, AllocError>
-        ensures told { IfOk result (λ found. option_map (λ users. users.items) found ≡ option_map (who_in request) (find path_cmp path.now (reached_rows self.now.rows))) }
+        ensures reported { IfOk result (λ found. option_map (λ users. users.items) found ≡ option_map (who_in request) (find path_cmp path.now (reached_rows self.now.rows))) }
         ensures whole { IfOk result (λ found. (s : step.State) → IsWhole J.verdict_of s self.now → option_map (λ users. users.items) found ≡ users_reaching J.verdict_of s path.now request) }
     {
         self.reaching(alloc, path, request)
@@ -322,7 +322,7 @@ impl<J: Judge> Index<J> {
         user: usize,
         request: Perm,
     ) -> Result<Option<Vec<Rc<Path>>>, AllocError>
-        ensures told { IfOk result (λ found. option_map (λ paths. map (λ p. p.value) paths.items) found ≡ (if nat_lt user self.now.users then Some (may_in request user (reached_rows self.now.rows)) else None)) }
+        ensures reported { IfOk result (λ found. option_map (λ paths. map (λ p. p.value) paths.items) found ≡ (if nat_lt user self.now.users then Some (may_in request user (reached_rows self.now.rows)) else None)) }
         ensures whole { IfOk result (λ found. (s : step.State) → IsWhole J.verdict_of s self.now → option_map (λ paths. map (λ p. p.value) paths.items) found ≡ files_reached J.verdict_of s user request) }
     {
         self.reached_paths(alloc, user, request)

@@ -110,8 +110,8 @@ fn is_within(costs: &Costs, row: &Row) -> bool {
         && costs.refreshed <= row.refreshed
 }
 
-/// Whether a line costs what its row says, and leaves the verdicts of the row.
-fn is_as_told(alloc: Global, world: &mut World, row: &Row) -> bool
+/// Whether a line costs what its row expects, and leaves the verdicts of the row.
+fn is_as_reported(alloc: Global, world: &mut World, row: &Row) -> bool
     requires { IsWhole rights world.old.state world.old.index }
     ensures { IsWhole rights world.new.state world.new.index }
 {
@@ -126,13 +126,13 @@ fn is_as_told(alloc: Global, world: &mut World, row: &Row) -> bool
         && are_right(alloc, world, row.reach, true)
 }
 
-/// The first of some rows that is not as it says.
+/// The first of some rows that differs from what it expects.
 pub fn first_wrong(alloc: Global, world: &mut World, rows: &[Row]) -> Option<usize>
     requires { IsWhole rights world.old.state world.old.index }
     ensures { IsWhole rights world.new.state world.new.index }
 {
     for at in 0..rows.len() {
-        if !is_as_told(alloc, world, &rows[at]) {
+        if !is_as_reported(alloc, world, &rows[at]) {
             return Some(at);
         }
     }

@@ -10,8 +10,8 @@ use Rattle.std.proofs.lemmas.Slice.Eq.{bytes_eq-Decides}
 use Rattle.acl_names.specs.Pieces.{pieces}
 use Rattle.acl_text.specs.declared.fault.FaultKind.{FaultKind}
 use Rattle.acl_text.specs.declared.fault.TextFault.{TextFault}
-use Rattle.acl_text.specs.Told.{told_from, told}
-use Rattle.acl_text.specs.Rows.{says_nothing, is_repeated, one_line}
+use Rattle.acl_text.specs.InTurn.{read_each_from, read_each}
+use Rattle.acl_text.specs.Rows.{has_no_content, is_repeated, one_line}
 use Rattle.acl_text.proofs.Counted.{or_no}
 use Rattle.acl_text.specs.Firsts.{firsts, AreCounted}
 
@@ -73,11 +73,11 @@ module _ {R : Type 0} (name_of : R → List ℕ) where
     abbrev judge : ℕ → List R → List ℕ → Result (List R) FaultKind
     judge at rows line = one_line name_of row_of rows line
 
-    abbrev told_rows : ℕ → List R → List (List ℕ) → Result (List R) TextFault
-    told_rows at some lines = told_from judge at some lines
+    abbrev reads_rows : ℕ → List R → List (List ℕ) → Result (List R) TextFault
+    reads_rows at some lines = read_each_from judge at some lines
 
     abbrev rows_on : List (List ℕ) → List (Option R)
-    rows_on lines = map (λ line. row_of (pieces 58 line)) (filter (λ line. not (says_nothing line)) lines)
+    rows_on lines = map (λ line. row_of (pieces 58 line)) (filter (λ line. not (has_no_content line)) lines)
 
     -- once some rows are counted, what the other lines add
     record Adds (some all : List R) (lines : List (List ℕ)) (out : List R) : Type 0 where
@@ -87,7 +87,7 @@ module _ {R : Type 0} (name_of : R → List ℕ) where
       few : length out ≤ 65536
 
     -- a line that is not ignored, where the other lines are known
-    module _ (at : ℕ) (some all : List R) (line : List ℕ) (lines : List (List ℕ)) (out : List R) (names : HaveSameNames some all) (says : says_nothing line ≡ false) where
+    module _ (at : ℕ) (some all : List R) (line : List ℕ) (lines : List (List ℕ)) (out : List R) (names : HaveSameNames some all) (means : has_no_content line ≡ false) where
       known_adds : (row : R) → rows_on (line ∷ lines) ≡ Some row ∷ rows_on lines → repeated all row ≡ true → Adds some (all ++ row ∷ []) lines out → Adds some all (line ∷ lines) out
       known_adds row on known more = record {
         rows = row ∷ more.rows;
@@ -104,75 +104,75 @@ module _ {R : Type 0} (name_of : R → List ℕ) where
         few = more.few;
       }
 
-      added_row : (o : Option R) → row_of (pieces 58 line) ≡ o → length some ≤ 65536 → told_rows at some (line ∷ lines) ≡ Ok out
-          → ((more others : List R) → HaveSameNames more others → length more ≤ 65536 → told_rows (at + 1) more lines ≡ Ok out → Adds more others lines out)
+      added_row : (o : Option R) → row_of (pieces 58 line) ≡ o → length some ≤ 65536 → reads_rows at some (line ∷ lines) ≡ Ok out
+          → ((more others : List R) → HaveSameNames more others → length more ≤ 65536 → reads_rows (at + 1) more lines ≡ Ok out → Adds more others lines out)
           → Adds some all (line ∷ lines) out
-      added_row None is few e goes_on = let told = rw (says, is) at e in absurd cc
+      added_row None is few e goes_on = let read_each = rw (means, is) at e in absurd cc
       added_row (Some row) is few e goes_on =
-          let on : rows_on (line ∷ lines) ≡ Some row ∷ rows_on lines = rw (says, is) refl in
+          let on : rows_on (line ∷ lines) ≡ Some row ∷ rows_on lines = rw (means, is) refl in
           elim (cases_Bool (repeated some row)) [
             | inl known ↦
                 let there : repeated all row ≡ true = sym (names.same (name_of row)) ∙ known in
-                known_adds row on there (goes_on some (all ++ row ∷ []) (known_more some all row names there) few (rw (says, is, known) at e))
+                known_adds row on there (goes_on some (all ++ row ∷ []) (known_more some all row names there) few (rw (means, is, known) at e))
             | inr new ↦
                 let absent : repeated all row ≡ false = sym (names.same (name_of row)) ∙ new in
                 elim (cases_Bool (leb 65536 (length some))) [
-                  | inl full ↦ let told = rw (says, is, new, full) at e in absurd cc
+                  | inl full ↦ let read_each = rw (means, is, new, full) at e in absurd cc
                   | inr room ↦
                       let fits : length (some ++ row ∷ []) ≤ 65536 = omega (arith, length-append some (row ∷ []), leb-false 65536 (length some) room) in
-                      new_adds row on absent (goes_on (some ++ row ∷ []) (all ++ row ∷ []) (new_more some all row names) fits (rw (says, is, new, room) at e))
+                      new_adds row on absent (goes_on (some ++ row ∷ []) (all ++ row ∷ []) (new_more some all row names) fits (rw (means, is, new, room) at e))
                 ]
           ]
 
-    added : (at : ℕ) (some all : List R) (lines : List (List ℕ)) (out : List R) → HaveSameNames some all → length some ≤ 65536 → told_rows at some lines ≡ Ok out → Adds some all lines out
+    added : (at : ℕ) (some all : List R) (lines : List (List ℕ)) (out : List R) → HaveSameNames some all → length some ≤ 65536 → reads_rows at some lines ≡ Ok out → Adds some all lines out
     added at some all [] out names few e =
         let same : some ≡ out = cc in
         record { rows = []; well_formed = refl; out_is = sym same ∙ sym (append-nil some); few = rw (← same) few }
     added at some all (line ∷ lines) out names few e =
-        elim (cases_Bool (says_nothing line)) [
+        elim (cases_Bool (has_no_content line)) [
           | inl nothing ↦
               let more = added (at + 1) some all lines out names few (rw nothing at e) in
               record { rows = more.rows; well_formed = rw nothing more.well_formed; out_is = more.out_is; few = more.few }
-          | inr says ↦ added_row at some all line lines out names says (row_of (pieces 58 line)) refl few e (λ more others same room goes. added (at + 1) more others lines out same room goes)
+          | inr means ↦ added_row at some all line lines out names means (row_of (pieces 58 line)) refl few e (λ more others same room goes. added (at + 1) more others lines out same room goes)
         ]
 
     module _ (at : ℕ) (some all : List R) (line : List ℕ) (lines : List (List ℕ)) where
-      told_row : (rows : List R) → HaveSameNames some all → says_nothing line ≡ false → row_of (pieces 58 line) ∷ rows_on lines ≡ map (λ row. Some row) rows
+      reads_row : (rows : List R) → HaveSameNames some all → has_no_content line ≡ false → row_of (pieces 58 line) ∷ rows_on lines ≡ map (λ row. Some row) rows
           → length (some ++ new_rows all rows) ≤ 65536
-          → ((more others rest : List R) → HaveSameNames more others → rows_on lines ≡ map (λ row. Some row) rest → length (more ++ new_rows others rest) ≤ 65536 → told_rows (at + 1) more lines ≡ Ok (more ++ new_rows others rest))
-          → told_rows at some (line ∷ lines) ≡ Ok (some ++ new_rows all rows)
-      told_row [] names says are few goes_on = absurd cc
-      told_row (row ∷ rows) names says are few goes_on =
+          → ((more others rest : List R) → HaveSameNames more others → rows_on lines ≡ map (λ row. Some row) rest → length (more ++ new_rows others rest) ≤ 65536 → reads_rows (at + 1) more lines ≡ Ok (more ++ new_rows others rest))
+          → reads_rows at some (line ∷ lines) ≡ Ok (some ++ new_rows all rows)
+      reads_row [] names means are few goes_on = absurd cc
+      reads_row (row ∷ rows) names means are few goes_on =
           let is : row_of (pieces 58 line) ≡ Some row = cc in
           let others : rows_on lines ≡ map (λ row. Some row) rows = cc in
           elim (cases_Bool (repeated some row)) [
             | inl known ↦
                 let there : repeated all row ≡ true = sym (names.same (name_of row)) ∙ known in
-                rw (says, is, known, there) (goes_on some (all ++ row ∷ []) rows (known_more some all row names there) others (rw there at few))
+                rw (means, is, known, there) (goes_on some (all ++ row ∷ []) rows (known_more some all row names there) others (rw there at few))
             | inr new ↦
                 let absent : repeated all row ≡ false = sym (names.same (name_of row)) ∙ new in
                 let along : some ++ (row ∷ new_rows (all ++ row ∷ []) rows) ≡ (some ++ row ∷ []) ++ new_rows (all ++ row ∷ []) rows = sym (append_assoc some (row ∷ []) (new_rows (all ++ row ∷ []) rows)) in
                 let short : length (some ++ (row ∷ new_rows (all ++ row ∷ []) rows)) ≤ 65536 = rw absent at few in
                 let room : leb 65536 (length some) ≡ false = lt-leb 65536 (length some) (omega (arith, short, length-append some (row ∷ new_rows (all ++ row ∷ []) rows))) in
-                rw (says, is, new, room, absent, along) (goes_on (some ++ row ∷ []) (all ++ row ∷ []) rows (new_more some all row names) others (rw along at short))
+                rw (means, is, new, room, absent, along) (goes_on (some ++ row ∷ []) (all ++ row ∷ []) rows (new_more some all row names) others (rw along at short))
           ]
 
-    told_added : (at : ℕ) (some all : List R) (lines : List (List ℕ)) (rows : List R) → HaveSameNames some all → rows_on lines ≡ map (λ row. Some row) rows
-        → length (some ++ new_rows all rows) ≤ 65536 → told_rows at some lines ≡ Ok (some ++ new_rows all rows)
-    told_added at some all [] [] names are few = ap (λ (rs : List R). Ok rs) (sym (append-nil some))
-    told_added at some all [] (row ∷ rows) names are few = absurd cc
-    told_added at some all (line ∷ lines) rows names are few =
-        elim (cases_Bool (says_nothing line)) [
-          | inl nothing ↦ rw nothing (told_added (at + 1) some all lines rows names (rw nothing at are) few)
-          | inr says ↦ told_row at some all line lines rows names says (rw says at are) few (λ more others rest same goes room. told_added (at + 1) more others lines rest same goes room)
+    reads_added : (at : ℕ) (some all : List R) (lines : List (List ℕ)) (rows : List R) → HaveSameNames some all → rows_on lines ≡ map (λ row. Some row) rows
+        → length (some ++ new_rows all rows) ≤ 65536 → reads_rows at some lines ≡ Ok (some ++ new_rows all rows)
+    reads_added at some all [] [] names are few = ap (λ (rs : List R). Ok rs) (sym (append-nil some))
+    reads_added at some all [] (row ∷ rows) names are few = absurd cc
+    reads_added at some all (line ∷ lines) rows names are few =
+        elim (cases_Bool (has_no_content line)) [
+          | inl nothing ↦ rw nothing (reads_added (at + 1) some all lines rows names (rw nothing at are) few)
+          | inr means ↦ reads_row at some all line lines rows names means (rw means at are) few (λ more others rest same goes room. reads_added (at + 1) more others lines rest same goes room)
         ]
 
-    pub counted_are : (bytes : List ℕ) (out : List R) → (told judge [] (pieces 10 bytes) ≡ Ok out) ↔ AreCounted name_of row_of bytes out
+    pub counted_are : (bytes : List ℕ) (out : List R) → (read_each judge [] (pieces 10 bytes) ≡ Ok out) ↔ AreCounted name_of row_of bytes out
     counted_are bytes out = (
       λ e.
           let more = added 1 [] [] (pieces 10 bytes) out (record { same = λ name. refl }) (omega arith) e in
           record { rows = more.rows; well_formed = more.well_formed; first = more.out_is ∙ sym (firsts_are more.rows); few = more.few },
       λ are.
           let is : out ≡ new_rows [] are.rows = are.first ∙ firsts_are are.rows in
-          told_added 1 [] [] (pieces 10 bytes) are.rows (record { same = λ name. refl }) are.well_formed (rw (← is) are.few) ∙ ap (λ (rs : List R). Ok rs) (sym is),
+          reads_added 1 [] [] (pieces 10 bytes) are.rows (record { same = λ name. refl }) are.well_formed (rw (← is) are.few) ∙ ap (λ (rs : List R). Ok rs) (sym is),
     )

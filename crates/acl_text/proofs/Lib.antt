@@ -8,5 +8,5 @@ pub mod WrittenLists
 pub mod Lowest
 pub mod LowestRows
 pub mod Firsts
-pub mod Says
+pub mod Means
 pub mod InOrder

@@ -12,16 +12,16 @@ use Rattle.acl_text.specs.declared.entries.PermSpec.{PermSpec}
 use Rattle.acl_text.specs.declared.entries.Spec.{Spec}
 use Rattle.acl_text.specs.declared.fields.Tag.{Tag}
 use Rattle.acl_text.specs.declared.fields.Tag.TheVariants as tags
-use Rattle.acl_text.specs.Told.{◌>>=◌, or_fault}
+use Rattle.acl_text.specs.InTurn.{◌>>=◌, or_fault}
 use Rattle.acl_text.specs.Blanks.{trimmed}
 use Rattle.acl_text.specs.Fields.{EntryRow, default_of, entry_fields}
 use Rattle.acl_text.specs.Entries.{tagged, given_perms, no_perms, wanted_perms, allowed_key, content, with_entry, key_of, entry_from, entry_of, one_more}
-use Rattle.acl_text.specs.Lowest.{number, TellsLowest, HasBadTag, HasBadPerms, HasUnknownWord, HasBaseKey, HasNoRoom, FieldsHave, EntryHas, NextEntryHas}
+use Rattle.acl_text.specs.Lowest.{number, ReportsLowest, HasBadTag, HasBadPerms, HasUnknownWord, HasBaseKey, HasNoRoom, FieldsHave, EntryHas, NextEntryHas}
 
 -- ---- one check, and one after another
 
 -- a check that finds exactly the kinds that apply
-pub alone : {A : Type 0} (has : FaultKind → Type 0) (r : Result A FaultKind) → ((k : FaultKind) → has k → r ≡ Err k) → ((k : FaultKind) → r ≡ Err k → has k) → TellsLowest has r
+pub alone : {A : Type 0} (has : FaultKind → Type 0) (r : Result A FaultKind) → ((k : FaultKind) → has k → r ≡ Err k) → ((k : FaultKind) → r ≡ Err k → has k) → ReportsLowest has r
 alone {A} has r found applies = record {
   no_fault = λ x e k h. let both : Ok x ≡ Err k = sym e ∙ found k h in absurd cc;
   lowest = λ k e. record {
@@ -35,7 +35,7 @@ alone {A} has r found applies = record {
 
 -- a check, and then another that finds higher kinds
 pub in_turn : {A B : Type 0} (first second : FaultKind → Type 0) (r : Result A FaultKind) (f : A → Result B FaultKind) → ((j k : FaultKind) → first j → second k → number j ≤ number k)
-    → TellsLowest first r → ((x : A) → r ≡ Ok x → TellsLowest second (f x)) → TellsLowest (λ k. first k ⊎ second k) (r >>= f)
+    → ReportsLowest first r → ((x : A) → r ≡ Ok x → ReportsLowest second (f x)) → ReportsLowest (λ k. first k ⊎ second k) (r >>= f)
 in_turn first second (Ok x) f below one two = record {
   no_fault = λ y e k h. elim h [ inl a ↦ one.no_fault x refl k a | inr b ↦ (two x refl).no_fault y e k b ];
   lowest = λ k e.
@@ -125,23 +125,23 @@ module _ (user_id group_id : List ℕ → Option ℕ) (rules : Rules) (fields : 
   same_row : (a b : EntryRow) → tagged rules fields ≡ Some a → tagged rules fields ≡ Some b → b ≡ a
   same_row a b ea eb = let both : Some b ≡ Some a = sym eb ∙ ea in cc
 
-  tag_check : TellsLowest (HasBadTag user_id group_id rules fields) (or_fault (tagged rules fields) kinds.BadTag)
+  tag_check : ReportsLowest (HasBadTag user_id group_id rules fields) (or_fault (tagged rules fields) kinds.BadTag)
   tag_check = alone (HasBadTag user_id group_id rules fields) (or_fault (tagged rules fields) kinds.BadTag)
       (λ k h. ap (λ o. or_fault o kinds.BadTag) h.no_row ∙ ap (λ j. Err j) (sym h.is))
       (λ k e. record { is = sym (or_fault-kind (tagged rules fields) kinds.BadTag k e); no_row = or_fault-none (tagged rules fields) kinds.BadTag k e })
 
   module _ (row : EntryRow) (is_row : tagged rules fields ≡ Some row) where
-    perms_check : TellsLowest (HasBadPerms user_id group_id rules fields) (wanted_perms rules row.perms)
+    perms_check : ReportsLowest (HasBadPerms user_id group_id rules fields) (wanted_perms rules row.perms)
     perms_check = alone (HasBadPerms user_id group_id rules fields) (wanted_perms rules row.perms)
         (λ k h. ap (λ (r : EntryRow). wanted_perms rules r.perms) (same_row h.row row h.is_row is_row) ∙ h.bad)
         (λ k e. record { row = row; is_row = is_row; bad = e })
 
-    word_check : TellsLowest (HasUnknownWord user_id group_id rules fields) (key_of user_id group_id row.tag row.word)
+    word_check : ReportsLowest (HasUnknownWord user_id group_id rules fields) (key_of user_id group_id row.tag row.word)
     word_check = alone (HasUnknownWord user_id group_id rules fields) (key_of user_id group_id row.tag row.word)
         (λ k h. ap (λ (r : EntryRow). key_of user_id group_id r.tag r.word) (same_row h.row row h.is_row is_row) ∙ h.unknown)
         (λ k e. record { row = row; is_row = is_row; unknown = e })
 
-    base_check : (key : Key) → key_of user_id group_id row.tag row.word ≡ Ok key → TellsLowest (HasBaseKey user_id group_id rules fields) (allowed_key rules key)
+    base_check : (key : Key) → key_of user_id group_id row.tag row.word ≡ Ok key → ReportsLowest (HasBaseKey user_id group_id rules fields) (allowed_key rules key)
     base_check key is_key = alone (HasBaseKey user_id group_id rules fields) (allowed_key rules key)
         (λ k h.
         let here = ap (λ (r : EntryRow). key_of user_id group_id r.tag r.word) (same_row h.row row h.is_row is_row) ∙ h.is_key in
@@ -179,7 +179,7 @@ module _ (user_id group_id : List ℕ → Option ℕ) (rules : Rules) (fields : 
       ]
 
 -- a value that is made of another changes no fault
-pub made : {A B : Type 0} (has : FaultKind → Type 0) (r : Result A FaultKind) (g : A → B) → TellsLowest has r → TellsLowest has (r >>= (λ x. Ok (g x)))
+pub made : {A B : Type 0} (has : FaultKind → Type 0) (r : Result A FaultKind) (g : A → B) → ReportsLowest has r → ReportsLowest has (r >>= (λ x. Ok (g x)))
 made has (Ok x) g one = record { no_fault = λ y e k h. one.no_fault x refl k h; lowest = λ k e. absurd cc }
 made has (Err i) g one = record { no_fault = λ y e k h. absurd cc; lowest = λ k e. let same : i ≡ k = cc in one.lowest k (ap (λ j. Err j) same) }
 
@@ -191,7 +191,7 @@ module _ (user_id group_id : List ℕ → Option ℕ) (rules : Rules) (at : ℕ)
   KeyHas k = HasUnknownWord user_id group_id rules (default_of fs) k ⊎ HasBaseKey user_id group_id rules (default_of fs) k
 
   key_step : (row : EntryRow) → tagged rules (default_of fs) ≡ Some row → (perm : Option PermSpec)
-      → TellsLowest KeyHas (key_of user_id group_id row.tag row.word >>= (λ key. allowed_key rules key >>= (λ allowed. Ok (spec_with perm allowed))))
+      → ReportsLowest KeyHas (key_of user_id group_id row.tag row.word >>= (λ key. allowed_key rules key >>= (λ allowed. Ok (spec_with perm allowed))))
   key_step row is_row perm =
       in_turn (HasUnknownWord user_id group_id rules (default_of fs)) (HasBaseKey user_id group_id rules (default_of fs)) (key_of user_id group_id row.tag row.word)
       (λ key. allowed_key rules key >>= (λ allowed. Ok (spec_with perm allowed)))
@@ -199,14 +199,14 @@ module _ (user_id group_id : List ℕ → Option ℕ) (rules : Rules) (at : ℕ)
       (λ key is_key. made (HasBaseKey user_id group_id rules (default_of fs)) (allowed_key rules key) (spec_with perm) (base_check user_id group_id rules (default_of fs) row is_row key is_key))
 
   perms_step : (row : EntryRow) → tagged rules (default_of fs) ≡ Some row
-      → TellsLowest (λ k. HasBadPerms user_id group_id rules (default_of fs) k ⊎ KeyHas k)
+      → ReportsLowest (λ k. HasBadPerms user_id group_id rules (default_of fs) k ⊎ KeyHas k)
       (wanted_perms rules row.perms >>= (λ perm. key_of user_id group_id row.tag row.word >>= (λ key. allowed_key rules key >>= (λ allowed. Ok (spec_with perm allowed)))))
   perms_step row is_row =
       in_turn (HasBadPerms user_id group_id rules (default_of fs)) KeyHas (wanted_perms rules row.perms)
       (λ perm. key_of user_id group_id row.tag row.word >>= (λ key. allowed_key rules key >>= (λ allowed. Ok (spec_with perm allowed))))
       (perms_below user_id group_id rules (default_of fs)) (perms_check user_id group_id rules (default_of fs) row is_row) (λ perm is. key_step row is_row perm)
 
-  fields_lowest : TellsLowest (FieldsHave user_id group_id rules (default_of fs)) (entry_from user_id group_id rules at fs)
+  fields_lowest : ReportsLowest (FieldsHave user_id group_id rules (default_of fs)) (entry_from user_id group_id rules at fs)
   fields_lowest =
       in_turn (HasBadTag user_id group_id rules (default_of fs)) (λ k. HasBadPerms user_id group_id rules (default_of fs) k ⊎ KeyHas k) (or_fault (tagged rules (default_of fs)) kinds.BadTag)
       (λ row. wanted_perms rules row.perms >>= (λ perm. key_of user_id group_id row.tag row.word >>= (λ key. allowed_key rules key >>= (λ allowed. Ok (spec_with perm allowed)))))
@@ -214,21 +214,21 @@ module _ (user_id group_id : List ℕ → Option ℕ) (rules : Rules) (at : ℕ)
       (λ row is. perms_step row (or_fault-some (tagged rules (default_of fs)) kinds.BadTag row is))
 
 -- an entry by itself
-pub entry_lowest : (user_id group_id : List ℕ → Option ℕ) (rules : Rules) (at : ℕ) (entry : List ℕ) → TellsLowest (EntryHas user_id group_id rules entry) (entry_of user_id group_id rules at entry)
+pub entry_lowest : (user_id group_id : List ℕ → Option ℕ) (rules : Rules) (at : ℕ) (entry : List ℕ) → ReportsLowest (EntryHas user_id group_id rules entry) (entry_of user_id group_id rules at entry)
 entry_lowest user_id group_id rules at entry = fields_lowest user_id group_id rules at (entry_fields entry)
 
-room_lowest : (specs : List Spec) (spec : Spec) → TellsLowest (HasNoRoom specs) (if nat_le 16384 (length specs) then Err kinds.TooMany else Ok (specs ++ spec ∷ []))
+room_lowest : (specs : List Spec) (spec : Spec) → ReportsLowest (HasNoRoom specs) (if nat_le 16384 (length specs) then Err kinds.TooMany else Ok (specs ++ spec ∷ []))
 room_lowest specs spec = alone (HasNoRoom specs) (if nat_le 16384 (length specs) then Err kinds.TooMany else Ok (specs ++ spec ∷ []))
     (λ k h. rw (le-leb 16384 (length specs) h.full) (ap (λ j. Err j) (sym h.is)))
     (λ k e.
     elim (cases_Bool (leb 16384 (length specs))) [
-      | inl full ↦ let told = rw full at e in let same : kinds.TooMany ≡ k = cc in record { is = sym same; full = leb-true 16384 (length specs) full }
-      | inr room ↦ let told = rw room at e in absurd cc
+      | inl full ↦ let read_each = rw full at e in let same : kinds.TooMany ≡ k = cc in record { is = sym same; full = leb-true 16384 (length specs) full }
+      | inr room ↦ let read_each = rw room at e in absurd cc
     ])
 
 -- the next entry of a text
 next_lowest : (user_id group_id : List ℕ → Option ℕ) (rules : Rules) (at : ℕ) (specs : List Spec) (entry : List ℕ)
-    → TellsLowest (NextEntryHas user_id group_id rules specs entry) (with_entry specs (entry_of user_id group_id rules at entry))
+    → ReportsLowest (NextEntryHas user_id group_id rules specs entry) (with_entry specs (entry_of user_id group_id rules at entry))
 next_lowest user_id group_id rules at specs entry =
     in_turn (EntryHas user_id group_id rules entry) (HasNoRoom specs) (entry_of user_id group_id rules at entry)
     (λ spec. if nat_le 16384 (length specs) then Err kinds.TooMany else Ok (specs ++ spec ∷ []))
@@ -237,7 +237,7 @@ next_lowest user_id group_id rules at specs entry =
 
 -- a piece that is not empty
 pub piece_lowest : (user_id group_id : List ℕ → Option ℕ) (sep : Sep) (rules : Rules) (at : ℕ) (specs : List Spec) (piece : List ℕ) → 0 < length (trimmed (content sep piece))
-    → TellsLowest (NextEntryHas user_id group_id rules specs (content sep piece)) (one_more user_id group_id sep rules at specs piece)
+    → ReportsLowest (NextEntryHas user_id group_id rules specs (content sep piece)) (one_more user_id group_id sep rules at specs piece)
 piece_lowest user_id group_id sep rules at specs piece some =
     let full : (length (trimmed (content sep piece)) == 0) ≡ false = ne_eqb (length (trimmed (content sep piece))) 0 (λ zero. omega arith) in
     rw full (next_lowest user_id group_id rules at specs (content sep piece))

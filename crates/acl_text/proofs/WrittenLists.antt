@@ -24,7 +24,7 @@ use Rattle.acl_text.specs.declared.entries.Want.TheVariants.{WithPerms, WithoutP
 use Rattle.acl_text.specs.declared.entries.Spec.{Spec}
 use Rattle.acl_text.specs.declared.form.Form.{Form}
 use Rattle.acl_text.specs.declared.form.Form.TheVariants.{Long, Short}
-use Rattle.acl_text.specs.Told.{at_place, told_from}
+use Rattle.acl_text.specs.InTurn.{at_place, read_each_from}
 use Rattle.acl_text.specs.Blanks.{is_blank, trimmed}
 use Rattle.acl_text.specs.Letters.{perms_of}
 use Rattle.acl_text.specs.Entries.{rules_of, content, entry_from, entry_of, one_more, entries_of}
@@ -167,40 +167,40 @@ module _ (takes_default takes_x : Bool) (user_id group_id : List ℕ → Option 
   HasSmallIds es = AllByRecursion (λ e. id_of e.key < 4294967295) es
 
   abbrev reading : Sep → ℕ → List Spec → List (List ℕ) → Result (List Spec) TextFault
-  reading sep at specs ps = told_from (one_more user_id group_id sep (taking takes_default takes_x)) at specs ps
+  reading sep at specs ps = read_each_from (one_more user_id group_id sep (taking takes_default takes_x)) at specs ps
 
-  pub long_told : (es : List Entry) (at : ℕ) (specs : List Spec) → HasSmallIds es → AreNamed user_id group_id user_name group_name es → length specs + length es ≤ 16384
+  pub long_reads : (es : List Entry) (at : ℕ) (specs : List Spec) → HasSmallIds es → AreNamed user_id group_id user_name group_name es → length specs + length es ≤ 16384
       → reading Line at specs (pieces 10 (long user_name group_name es)) ≡ Ok (specs ++ specs_from at es)
-  long_told [] at specs ids named room = ap (λ (s : List Spec). Ok s) (sym (append-nil specs))
-  long_told (e ∷ es) at specs ids named room =
+  long_reads [] at specs ids named room = ap (λ (s : List Spec). Ok s) (sym (append-nil specs))
+  long_reads (e ∷ es) at specs ids named room =
       let entry = entry_text user_name group_name Long e in
       let first = one_again Line Long at specs e ids.0 named.0 (omega arith) in
-      let rest = long_told es (at + 1) (specs ++ spec_of at e ∷ []) ids.1 named.1 (omega (arith, length-append specs (spec_of at e ∷ []))) in
+      let rest = long_reads es (at + 1) (specs ++ spec_of at e ∷ []) ids.1 named.1 (omega (arith, length-append specs (spec_of at e ∷ []))) in
       let cut : pieces 10 (long user_name group_name (e ∷ es)) ≡ entry ∷ pieces 10 (long user_name group_name es) =
       ap (pieces 10) (append_assoc entry (10 ∷ []) (long user_name group_name es)) ∙ pieces_at 10 entry (long user_name group_name es) (in_entry (λ b. b == 10) plain-line refl Long e ids.0 named.0) in
       ap (reading Line at specs) cut
       ∙ (ap (λ j. at_place at j (λ more. reading Line (at + 1) more (pieces 10 (long user_name group_name es)))) first
       ∙ (rest ∙ ap (λ (s : List Spec). Ok s) (append_assoc specs (spec_of at e ∷ []) (specs_from (at + 1) es))))
 
-  others_told : (e : Entry) (es : List Entry) (at : ℕ) (specs : List Spec) → HasSmallIds (e ∷ es) → AreNamed user_id group_id user_name group_name (e ∷ es) → length specs + length (e ∷ es) ≤ 16384
+  others_read : (e : Entry) (es : List Entry) (at : ℕ) (specs : List Spec) → HasSmallIds (e ∷ es) → AreNamed user_id group_id user_name group_name (e ∷ es) → length specs + length (e ∷ es) ≤ 16384
       → reading Comma at specs (pieces 44 (short user_name group_name (e ∷ es))) ≡ Ok (specs ++ specs_from at (e ∷ es))
-  others_told e [] at specs ids named room =
+  others_read e [] at specs ids named room =
       let entry = entry_text user_name group_name Short e in
       let cut : pieces 44 (entry ++ []) ≡ entry ∷ [] = ap (pieces 44) (append-nil entry) ∙ pieces_none 44 entry (in_entry (λ b. b == 44) plain-comma refl Short e ids.0 named.0) in
       ap (reading Comma at specs) cut ∙ ap (λ j. at_place at j (λ more. reading Comma (at + 1) more [])) (one_again Comma Short at specs e ids.0 named.0 (omega arith))
-  others_told e (f ∷ es) at specs ids named room =
+  others_read e (f ∷ es) at specs ids named room =
       let entry = entry_text user_name group_name Short e in
       let first = one_again Comma Short at specs e ids.0 named.0 (omega arith) in
-      let rest = others_told f es (at + 1) (specs ++ spec_of at e ∷ []) ids.1 named.1 (omega (arith, length-append specs (spec_of at e ∷ []))) in
+      let rest = others_read f es (at + 1) (specs ++ spec_of at e ∷ []) ids.1 named.1 (omega (arith, length-append specs (spec_of at e ∷ []))) in
       let cut : pieces 44 (short user_name group_name (e ∷ f ∷ es)) ≡ entry ∷ pieces 44 (short user_name group_name (f ∷ es)) = pieces_at 44 entry (short user_name group_name (f ∷ es)) (in_entry (λ b. b == 44) plain-comma refl Short e ids.0 named.0) in
       ap (reading Comma at specs) cut
       ∙ (ap (λ j. at_place at j (λ more. reading Comma (at + 1) more (pieces 44 (short user_name group_name (f ∷ es))))) first
       ∙ (rest ∙ ap (λ (s : List Spec). Ok s) (append_assoc specs (spec_of at e ∷ []) (specs_from (at + 1) (f ∷ es)))))
 
-  pub short_told : (es : List Entry) (at : ℕ) (specs : List Spec) → HasSmallIds es → AreNamed user_id group_id user_name group_name es → length specs + length es ≤ 16384
+  pub short_reads : (es : List Entry) (at : ℕ) (specs : List Spec) → HasSmallIds es → AreNamed user_id group_id user_name group_name es → length specs + length es ≤ 16384
       → reading Comma at specs (pieces 44 (short user_name group_name es)) ≡ Ok (specs ++ specs_from at es)
-  short_told [] at specs ids named room = ap (λ (s : List Spec). Ok s) (sym (append-nil specs))
-  short_told (e ∷ es) at specs ids named room = others_told e es at specs ids named room
+  short_reads [] at specs ids named room = ap (λ (s : List Spec). Ok s) (sym (append-nil specs))
+  short_reads (e ∷ es) at specs ids named room = others_read e es at specs ids named room
 
 -- ---- valid lists
 
@@ -220,11 +220,11 @@ module _ (user_id group_id : List ℕ → Option ℕ) (user_name group_name : �
   small = recursion_from_All (λ (e : Entry). id_of e.key < 4294967295) (entries m) ids
 
   pub long_again : (want : Want) → (rules_of want).takes_perms ≡ true → entries_of user_id group_id Line want (long user_name group_name (entries m)) ≡ Ok (specs_from 1 (entries m))
-  long_again WithPerms takes = long_told true true user_id group_id user_name group_name (entries m) 1 [] small named (omega (arith, few m valid))
+  long_again WithPerms takes = long_reads true true user_id group_id user_name group_name (entries m) 1 [] small named (omega (arith, few m valid))
   long_again WithoutPerms takes = absurd cc
-  long_again Plain takes = long_told false false user_id group_id user_name group_name (entries m) 1 [] small named (omega (arith, few m valid))
+  long_again Plain takes = long_reads false false user_id group_id user_name group_name (entries m) 1 [] small named (omega (arith, few m valid))
 
   pub short_again : (want : Want) → (rules_of want).takes_perms ≡ true → entries_of user_id group_id Comma want (short user_name group_name (entries m)) ≡ Ok (specs_from 1 (entries m))
-  short_again WithPerms takes = short_told true true user_id group_id user_name group_name (entries m) 1 [] small named (omega (arith, few m valid))
+  short_again WithPerms takes = short_reads true true user_id group_id user_name group_name (entries m) 1 [] small named (omega (arith, few m valid))
   short_again WithoutPerms takes = absurd cc
-  short_again Plain takes = short_told false false user_id group_id user_name group_name (entries m) 1 [] small named (omega (arith, few m valid))
+  short_again Plain takes = short_reads false false user_id group_id user_name group_name (entries m) 1 [] small named (omega (arith, few m valid))

@@ -17,7 +17,7 @@ use Rattle.acl_text.specs.declared.entries.PermSpec.{PermSpec}
 use Rattle.acl_text.specs.declared.entries.Spec.{Spec}
 use Rattle.acl_text.specs.declared.fields.Tag.{Tag}
 use Rattle.acl_text.specs.declared.fields.Tag.TheVariants as tags
-use Rattle.acl_text.specs.Told.{told, ◌>>=◌, or_fault}
+use Rattle.acl_text.specs.InTurn.{read_each, ◌>>=◌, or_fault}
 use Rattle.acl_text.specs.Blanks.{trimmed}
 use Rattle.acl_text.specs.Words.{word_id}
 use Rattle.acl_text.specs.Fields.{EntryRow, row_of, default_of, entry_fields}
@@ -92,4 +92,4 @@ module _ (user_id group_id : List ℕ → Option ℕ) where
 
   -- the entries of a text, or its first fault
   abbrev pub entries_of : Sep → Want → List ℕ → Result (List Spec) TextFault
-  entries_of sep want bytes = told (one_more sep (rules_of want)) [] (pieces (separator sep) bytes)
+  entries_of sep want bytes = read_each (one_more sep (rules_of want)) [] (pieces (separator sep) bytes)

@@ -1,4 +1,4 @@
-pub mod Told
+pub mod InTurn
 pub mod Blanks
 pub mod Ids
 pub mod Rows
@@ -8,6 +8,6 @@ pub mod Words
 pub mod Fields
 pub mod Letters
 pub mod Entries
-pub mod Says
+pub mod Means
 pub mod Writing
 pub mod Lowest

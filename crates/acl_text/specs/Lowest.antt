@@ -35,7 +35,7 @@ pub record IsLowest (has : FaultKind → Type 0) (kind : FaultKind) : Type 0 whe
   pub least : (other : FaultKind) → has other → number kind ≤ number other
 
 -- a judgement returns the lowest kind of fault that a piece has, and gives a value only where it has none
-pub record TellsLowest {A : Type 0} (has : FaultKind → Type 0) (judgement : Result A FaultKind) : Type 0 where
+pub record ReportsLowest {A : Type 0} (has : FaultKind → Type 0) (judgement : Result A FaultKind) : Type 0 where
   pub no_fault : (value : A) → judgement ≡ Ok value → (kind : FaultKind) → has kind → ⊥
   pub lowest : (kind : FaultKind) → judgement ≡ Err kind → IsLowest has kind
 

@@ -8,7 +8,7 @@ use Rattle.acl_text.specs.declared.fault.FaultKind.TheVariants.{BadRow, TooMany}
 use Rattle.acl_text.specs.declared.fault.TextFault.{TextFault}
 use Rattle.acl_text.specs.declared.rows.PasswdRow.{PasswdRow}
 use Rattle.acl_text.specs.declared.rows.GroupRow.{GroupRow}
-use Rattle.acl_text.specs.Told.{told}
+use Rattle.acl_text.specs.InTurn.{read_each}
 use Rattle.acl_text.specs.Ids.{id_of}
 
 -- passwd(5): name, password, uid, gid, gecos, home, shell
@@ -30,9 +30,9 @@ group_row (name ∷ password ∷ gid ∷ names ∷ []) =
 group_row _ = None
 
 -- an empty line and a line that begins with # are ignored
-abbrev pub says_nothing : List ℕ → Bool
-says_nothing [] = true
-says_nothing (b ∷ bs) = b == 35
+abbrev pub has_no_content : List ℕ → Bool
+has_no_content [] = true
+has_no_content (b ∷ bs) = b == 35
 
 -- a row of this name came before
 abbrev pub is_repeated : {R : Type 0} → (R → List ℕ) → List R → List ℕ → Bool
@@ -47,7 +47,7 @@ counted name_of rows (Some row) =
 
 -- the counted rows, once a line is read too
 abbrev pub one_line : {R : Type 0} → (R → List ℕ) → (List (List ℕ) → Option R) → List R → List ℕ → Result (List R) FaultKind
-one_line name_of row_of rows line = if says_nothing line then Ok rows else counted name_of rows (row_of (pieces 58 line))
+one_line name_of row_of rows line = if has_no_content line then Ok rows else counted name_of rows (row_of (pieces 58 line))
 
 abbrev pub passwd_name : PasswdRow → List ℕ
 passwd_name row = row.name
@@ -57,7 +57,7 @@ passwd_line at rows line = one_line passwd_name passwd_row rows line
 
 -- the counted rows of a passwd text, or its first fault
 abbrev pub passwd_of : List ℕ → Result (List PasswdRow) TextFault
-passwd_of bytes = told passwd_line [] (pieces 10 bytes)
+passwd_of bytes = read_each passwd_line [] (pieces 10 bytes)
 
 abbrev pub group_name : GroupRow → List ℕ
 group_name row = row.name
@@ -67,4 +67,4 @@ group_line at rows line = one_line group_name group_row rows line
 
 -- the counted rows of a group text, or its first fault
 abbrev pub group_of : List ℕ → Result (List GroupRow) TextFault
-group_of bytes = told group_line [] (pieces 10 bytes)
+group_of bytes = read_each group_line [] (pieces 10 bytes)

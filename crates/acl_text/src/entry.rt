@@ -3,7 +3,7 @@
 ghost use Rattle.std.specs.Prelude.{◌≡◌, length};
 ghost use Rattle.std.specs.Option.{option_copied};
 ghost use Rattle.acl_names.specs.Pieces.{pieces};
-ghost use Rattle.acl_text.specs.Told.{Gives, GivesAt, JudgesAt};
+ghost use Rattle.acl_text.specs.InTurn.{Gives, GivesAt, JudgesAt};
 ghost use Rattle.acl_text.specs.Entries.{given_perms, no_perms, wanted_perms, key_of, allowed_key, entry_of, content, one_more, entries_of};
 
 use crate::blanks::trim;
@@ -17,7 +17,7 @@ use acl_names::cut::{find, first_piece};
 use std::alloc::Global;
 
 /// The most entries of one text, empty ones not counted.
-const MOST_ENTRIES: usize = 16384;
+const MAX_TEXT_ENTRIES: usize = 16384;
 
 /// The permissions of a field that has to be there.
 fn given_perms(takes_x: bool, field: Option<&[u8]>) -> Result<Option<PermSpec>, FaultKind>
@@ -160,7 +160,7 @@ fn read_piece<N: Names>(
         return Ok(());
     }
     let spec = entry_of(alloc, names, rules, at, entry)?;
-    if specs.len() >= MOST_ENTRIES {
+    if specs.len() >= MAX_TEXT_ENTRIES {
         return Err(TextFault {
             kind: FaultKind::TooMany,
             at,

@@ -36,7 +36,7 @@ pub enum FaultKind {
 }
 
 impl FaultKind {
-    ghost use Rattle.acl_text.specs.Told.{of_list};
+    ghost use Rattle.acl_text.specs.InTurn.{of_list};
 
     /// What is wrong with a text whose list has this fault.
     pub fn of_list(which: Which, fault: ListFault) -> FaultKind

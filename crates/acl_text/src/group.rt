@@ -2,13 +2,13 @@
 
 ghost use Rattle.std.specs.Prelude.{◌≡◌, ◌+◌, length, OnOk, IfOk, option_map};
 ghost use Rattle.acl_names.specs.Pieces.{pieces};
-ghost use Rattle.acl_text.specs.Told.{Gives, JudgesAt};
+ghost use Rattle.acl_text.specs.InTurn.{Gives, JudgesAt};
 ghost use Rattle.acl_text.specs.Seen.{SeenAre};
 ghost use Rattle.acl_text.specs.Rows.{names_of, group_row, group_name, group_line, group_of};
 
 use crate::fault::{FaultKind, TextFault};
 use crate::id::read_id;
-use crate::line::{MOST_ROWS, says_nothing};
+use crate::line::{MAX_ROWS, has_no_content};
 use crate::rows::{GroupRow, NameList};
 use acl_entry::Id;
 use acl_names::Name;
@@ -61,7 +61,7 @@ fn read_line<'a>(
     ensures judged { JudgesAt at result rows.new.items (group_line at rows.old.items line.now) }
     ensures seen_are { OnOk result (SeenAre group_name seen.new rows.new.items) }
 {
-    if says_nothing(line) {
+    if has_no_content(line) {
         return Ok(());
     }
     let Some((name, gid, field)) = fields(line) else {
@@ -73,7 +73,7 @@ fn read_line<'a>(
     if seen.contains_key(name) {
         return Ok(());
     }
-    if rows.len() >= MOST_ROWS {
+    if rows.len() >= MAX_ROWS {
         return Err(TextFault {
             kind: FaultKind::TooMany,
             at,

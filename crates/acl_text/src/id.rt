@@ -7,7 +7,7 @@ ghost use Rattle.acl_text.specs.Ids.{is_number, id_of};
 
 use acl_entry::Id;
 
-const MOST: u64 = 4294967294;
+const MAX_ID: u64 = 4294967294;
 
 /// Whether a word is digits alone, and so always a number.
 pub fn is_number(word: &[u8]) -> bool
@@ -35,7 +35,7 @@ pub fn read_id(word: &[u8]) -> Option<Id>
             return None;
         }
         number = 10 * number + u64::from(*b - b'0');
-        if number > MOST {
+        if number > MAX_ID {
             return None;
         }
     }

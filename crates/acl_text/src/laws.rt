@@ -6,16 +6,16 @@ ghost use Rattle.acl_text.specs.declared.fault.TextFault.{TextFault};
 ghost use Rattle.acl_text.specs.declared.entries.Sep.{Sep};
 ghost use Rattle.acl_text.specs.declared.entries.Want.{Want};
 ghost use Rattle.acl_text.specs.declared.entries.Rules.{Rules};
-ghost use Rattle.acl_text.specs.Told.{IsFirstFault};
+ghost use Rattle.acl_text.specs.InTurn.{IsFirstFault};
 ghost use Rattle.acl_text.specs.declared.rows.PasswdRow.{PasswdRow};
 ghost use Rattle.acl_text.specs.declared.rows.GroupRow.{GroupRow};
-ghost use Rattle.acl_text.specs.Rows.{says_nothing, passwd_name, passwd_row, passwd_line, passwd_of, group_name, group_row, group_line, group_of};
+ghost use Rattle.acl_text.specs.Rows.{has_no_content, passwd_name, passwd_row, passwd_line, passwd_of, group_name, group_row, group_line, group_of};
 ghost use Rattle.acl_text.specs.Firsts.{AreCounted};
-ghost use Rattle.acl_text.specs.Says.{Says, AreRead};
+ghost use Rattle.acl_text.specs.Means.{Means, AreRead};
 ghost use Rattle.acl_text.specs.Entries.{rules_of, separator, content, entry_of, one_more, entries_of};
 ghost use Rattle.acl_text.specs.declared.entries.Spec.{Spec};
 ghost use Rattle.acl_text.specs.Blanks.{trimmed};
-ghost use Rattle.acl_text.specs.Lowest.{TellsLowest, EntryHas, NextEntryHas, RowHas};
+ghost use Rattle.acl_text.specs.Lowest.{ReportsLowest, EntryHas, NextEntryHas, RowHas};
 
 /// Proof only: a passwd text has these counted rows exactly where each line that is not ignored is a row, they are the
 /// rows whose name no earlier row has, in the order of the text, and they are at most 65,536.
@@ -31,9 +31,9 @@ pub fn group_rows_are_first_of_their_names()
 
 /// Proof only: an entry is read as a spec exactly where it is written as in setfacl(1) and means that spec: of which
 /// list, whom it is for, and which permissions it has, by the rules of any use.
-pub fn entry_says_what_is_read()
+pub fn entry_means_what_is_read()
     ensures { (user_id group_id : List ℕ → Option ℕ) (rules : Rules) (at : ℕ) (entry : List ℕ) (spec : Spec) →
-        (entry_of user_id group_id rules at entry ≡ Ok spec) ↔ Says user_id group_id rules at entry spec }
+        (entry_of user_id group_id rules at entry ≡ Ok spec) ↔ Means user_id group_id rules at entry spec }
 {}
 
 /// Proof only: a text is read as these specs exactly where they are those of its entries, one each, in their order and
@@ -64,7 +64,7 @@ pub fn entries_fault_is_first()
 /// the rules of any use; where it has none, the entry is read.
 pub fn entry_fault_is_lowest()
     ensures { (user_id group_id : List ℕ → Option ℕ) (rules : Rules) (at : ℕ) (entry : List ℕ) →
-        TellsLowest (EntryHas user_id group_id rules entry) (entry_of user_id group_id rules at entry) }
+        ReportsLowest (EntryHas user_id group_id rules entry) (entry_of user_id group_id rules at entry) }
 {}
 
 /// Proof only: the fault of a piece of a text that is not empty is the lowest of the kinds that its entry has in itself
@@ -72,19 +72,19 @@ pub fn entry_fault_is_lowest()
 pub fn piece_fault_is_lowest()
     ensures { (user_id group_id : List ℕ → Option ℕ) (sep : Sep) (rules : Rules) (at : ℕ) (specs : List Spec) (piece : List ℕ) →
         0 < length (trimmed (content sep piece)) →
-        TellsLowest (NextEntryHas user_id group_id rules specs (content sep piece)) (one_more user_id group_id sep rules at specs piece) }
+        ReportsLowest (NextEntryHas user_id group_id rules specs (content sep piece)) (one_more user_id group_id sep rules at specs piece) }
 {}
 
 /// Proof only: the fault of a passwd line that is not ignored is the lowest of the kinds that it has, each looked for
 /// by itself; where it has none, the line is read.
 pub fn passwd_line_fault_is_lowest()
-    ensures { (at : ℕ) (rows : List PasswdRow) (line : List ℕ) → says_nothing line ≡ false →
-        TellsLowest (RowHas passwd_name passwd_row rows line) (passwd_line at rows line) }
+    ensures { (at : ℕ) (rows : List PasswdRow) (line : List ℕ) → has_no_content line ≡ false →
+        ReportsLowest (RowHas passwd_name passwd_row rows line) (passwd_line at rows line) }
 {}
 
 /// Proof only: the fault of a group line that is not ignored is the lowest of the kinds that it has, each looked for
 /// by itself; where it has none, the line is read.
 pub fn group_line_fault_is_lowest()
-    ensures { (at : ℕ) (rows : List GroupRow) (line : List ℕ) → says_nothing line ≡ false →
-        TellsLowest (RowHas group_name group_row rows line) (group_line at rows line) }
+    ensures { (at : ℕ) (rows : List GroupRow) (line : List ℕ) → has_no_content line ≡ false →
+        ReportsLowest (RowHas group_name group_row rows line) (group_line at rows line) }
 {}

@@ -30,7 +30,7 @@ pub use group::read_group;
 pub use id::{is_number, read_id};
 pub use laws::{
     entries_are_read_in_order, entries_fault_is_first, entry_fault_is_lowest,
-    entry_says_what_is_read, group_fault_is_first, group_line_fault_is_lowest,
+    entry_means_what_is_read, group_fault_is_first, group_line_fault_is_lowest,
     group_rows_are_first_of_their_names, passwd_fault_is_first, passwd_line_fault_is_lowest,
     passwd_rows_are_first_of_their_names, piece_fault_is_lowest,
 };

@@ -1,14 +1,14 @@
 //! Lines of passwd(5) and group(5).
 
 ghost use Rattle.std.specs.Prelude.{◌≡◌};
-ghost use Rattle.acl_text.specs.Rows.{says_nothing};
+ghost use Rattle.acl_text.specs.Rows.{has_no_content};
 
 /// The most rows that are counted.
-pub(crate) const MOST_ROWS: usize = 65536;
+pub(crate) const MAX_ROWS: usize = 65536;
 
 /// Empty lines and lines that begin with `#` are ignored.
-pub(crate) fn says_nothing(line: &[u8]) -> bool
-    ensures { result ≡ says_nothing line.now }
+pub(crate) fn has_no_content(line: &[u8]) -> bool
+    ensures { result ≡ has_no_content line.now }
 {
     match line.first() {
         None => true,

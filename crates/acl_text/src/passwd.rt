@@ -2,13 +2,13 @@
 
 ghost use Rattle.std.specs.Prelude.{◌≡◌, ◌+◌, length, OnOk, option_map};
 ghost use Rattle.acl_names.specs.Pieces.{pieces};
-ghost use Rattle.acl_text.specs.Told.{Gives, JudgesAt};
+ghost use Rattle.acl_text.specs.InTurn.{Gives, JudgesAt};
 ghost use Rattle.acl_text.specs.Seen.{SeenAre};
 ghost use Rattle.acl_text.specs.Rows.{passwd_row, passwd_name, passwd_line, passwd_of};
 
 use crate::fault::{FaultKind, TextFault};
 use crate::id::read_id;
-use crate::line::{MOST_ROWS, says_nothing};
+use crate::line::{MAX_ROWS, has_no_content};
 use crate::rows::PasswdRow;
 use acl_entry::Id;
 use acl_names::Name;
@@ -49,7 +49,7 @@ fn read_line<'a>(
     ensures judged { JudgesAt at result rows.new.items (passwd_line at rows.old.items line.now) }
     ensures seen_are { OnOk result (SeenAre passwd_name seen.new rows.new.items) }
 {
-    if says_nothing(line) {
+    if has_no_content(line) {
         return Ok(());
     }
     let Some((name, uid, gid)) = fields(line) else {
@@ -61,7 +61,7 @@ fn read_line<'a>(
     if seen.contains_key(name) {
         return Ok(());
     }
-    if rows.len() >= MOST_ROWS {
+    if rows.len() >= MAX_ROWS {
         return Err(TextFault {
             kind: FaultKind::TooMany,
             at,

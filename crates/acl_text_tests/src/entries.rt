@@ -116,13 +116,13 @@ fn removed_entries(rt: HostRuntime) {
     );
 }
 
-static GREATEST_IDS: [&str; 2] = ["u:4294967294:r", "g:0004294967294:r"];
+static MAX_IDS: [&str; 2] = ["u:4294967294:r", "g:0004294967294:r"];
 
 /// An id, and one more.
 #[test]
 fn greatest_ids(rt: HostRuntime) {
     let alloc = rt.alloc();
-    for text in &GREATEST_IDS {
+    for text in &MAX_IDS {
         let read = read_entries(alloc, text.as_bytes(), Sep::Comma, Want::Plain, &NoNames);
         assert!(rt; read.is_ok(), "{text}");
     }

@@ -8,7 +8,7 @@ use acl_text::{FaultKind, GroupRow, PasswdRow, TextFault, read_group, read_passw
 use std::alloc::Global;
 use std::process::Abort;
 
-const GREATEST_ID: &[u8] = b"4294967294";
+const MAX_ID: &[u8] = b"4294967294";
 
 /// The digits of an id without the zeros in front, where it is one.
 fn id_digits(field: &[u8]) -> Option<&[u8]> {
@@ -27,8 +27,8 @@ fn id_digits(field: &[u8]) -> Option<&[u8]> {
         }
         digits = rest;
     }
-    let shorter = digits.len() < GREATEST_ID.len();
-    if shorter || digits.len() == GREATEST_ID.len() && digits <= GREATEST_ID {
+    let shorter = digits.len() < MAX_ID.len();
+    if shorter || digits.len() == MAX_ID.len() && digits <= MAX_ID {
         Some(digits)
     } else {
         None

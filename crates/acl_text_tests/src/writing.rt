@@ -56,7 +56,7 @@ fn long_form(rt: HostRuntime) {
 }
 
 #[test]
-fn numbers_behind_a_text(rt: HostRuntime) {
+fn numbers_after_a_text(rt: HostRuntime) {
     let acl = list(&rt, rt.alloc());
     let mut text = Vec::new(rt.alloc());
     push(&rt, &mut text, b"f [");

@@ -20,7 +20,7 @@ use Rattle.acl_tree.specs.declared.command.Command.TheVariants.{Restore}
 use Rattle.acl_tree.specs.Files.{PathOf, Files, IsInOrder}
 use Rattle.acl_tree.specs.EditCommand.{unless_missing}
 use Rattle.acl_tree.specs.Edits.{and_others, edit_each, edit_all, with_edits}
-use Rattle.acl_tree.specs.Laws.{Says, IsAsRecorded}
+use Rattle.acl_tree.specs.Laws.{Contains, IsAsRecorded}
 use Rattle.acl_load.specs.Loading.{record_at}
 use Rattle.acl_tree.specs.Operands.{is_file, first_missing, files_meant}
 use Rattle.acl_tree.specs.Restoring.{edit_of, edit_if_some, restore_one, paths_of}
@@ -34,13 +34,13 @@ own_list : (k : Kind) (o : Option KeyMap) → (k ≡ Plain → o ≡ None) → a
 own_list Plain o h = subst (λ z. allowed Plain false z ≡ Ok z) (sym (h refl)) refl
 own_list Directory o h = refl
 
-stays : (n : Node) (r : DumpRecord) → IsSound n → Says r n → edit n (edit_of r) false ≡ Ok n
+stays : (n : Node) (r : DumpRecord) → IsSound n → Contains r n → edit n (edit_of r) false ≡ Ok n
 unfolding restore
-stays n r sound says =
-    (λ i. allowed n.kind false (says.default i) >>= λ d. Ok (record {
+stays n r sound contains =
+    (λ i. allowed n.kind false (contains.default i) >>= λ d. Ok (record {
       kind = n.kind;
-      label = record { owner = says.owner i; group = says.group i; acl = says.access i };
-      flags = says.flags i;
+      label = record { owner = contains.owner i; group = contains.group i; acl = contains.access i };
+      flags = contains.flags i;
       dacl = d;
     }))
     ∙ ap (λ o. o >>= λ d. Ok (record n { dacl = d })) (own_list n.kind n.dacl sound)
@@ -71,7 +71,7 @@ module _ (t : Files) (records : List DumpRecord) (all : AllByRecursion (IsAsReco
       by None out = absurd (true≢false (sym is ∙ out))
       by (Some r) here =
           let same : here.1.node ≡ e.1 = some_eq here.1.node e.1 (sym here.1.recorded ∙ ap (λ q. find path_cmp q t) here.0 ∙ leads) in
-          stays e.1 r sound (subst (λ n. Says r n) same here.1.says)
+          stays e.1 r sound (subst (λ n. Contains r n) same here.1.contains)
 
   each : (es : Files) → Leads t es → ArePlaced t es → edit_each (restore_one records) (files_meant false (paths_of records) es) ≡ Ok (files_meant false (paths_of records) es)
   each [] leads placed = refl

@@ -43,8 +43,8 @@ equal Greater h = cc
 both : (a b : Bool) → a ≡ true → b ≡ true → (a && b) ≡ true
 both a b p q = cc
 
-entry_told : (a b : Entry) → same_entry a b ≡ true → a ≡ b
-entry_told a b h =
+entry_is_same : (a b : Entry) → same_entry a b ≡ true → a ≡ b
+entry_is_same a b h =
     let parts = and_parts (same_key a.key b.key) _ h in
     let keys = exact_keys a.key b.key (equal (key_cmp a.key b.key) parts.0) in
     let perms : a.perm ≡ b.perm = sym (numbered_bools a.perm.read a.perm.write a.perm.execute) ∙ ap numbered (eqb-true (number a.perm) (number b.perm) parts.1) ∙ numbered_bools b.perm.read b.perm.write b.perm.execute in
@@ -53,33 +53,33 @@ entry_told a b h =
 entry_itself : (a : Entry) → same_entry a a ≡ true
 entry_itself a = both _ _ (ap is_eq (tied_itself key_total a.key)) (eq-eqb (number a.perm) (number a.perm) refl)
 
-entries_told : (as' bs : List Entry) → same_entries as' bs ≡ true → as' ≡ bs
-entries_told [] [] h = refl
-entries_told [] (b ∷ bs) h = cc
-entries_told (a ∷ as') [] h = cc
-entries_told (a ∷ as') (b ∷ bs) h =
+entries_are_same : (as' bs : List Entry) → same_entries as' bs ≡ true → as' ≡ bs
+entries_are_same [] [] h = refl
+entries_are_same [] (b ∷ bs) h = cc
+entries_are_same (a ∷ as') [] h = cc
+entries_are_same (a ∷ as') (b ∷ bs) h =
     let parts = and_parts (same_entry a b) (same_entries as' bs) h in
-    ap (λ x. x ∷ as') (entry_told a b parts.0) ∙ ap (λ l. b ∷ l) (entries_told as' bs parts.1)
+    ap (λ x. x ∷ as') (entry_is_same a b parts.0) ∙ ap (λ l. b ∷ l) (entries_are_same as' bs parts.1)
 
 entries_itself : (as' : List Entry) → same_entries as' as' ≡ true
 entries_itself [] = refl
 entries_itself (a ∷ as') = both _ _ (entry_itself a) (entries_itself as')
 
 -- labels that are found to be the same are the same
-pub label_told : (a b : Label) → same_label a b ≡ true → a ≡ b
-label_told a b h =
+pub label_is_same : (a b : Label) → same_label a b ≡ true → a ≡ b
+label_is_same a b h =
     let parts = and_parts (eqb a.owner b.owner) _ h in
     let more = and_parts (eqb a.group b.group) _ parts.1 in
     let owners = eqb-true a.owner b.owner parts.0 in
     let groups = eqb-true a.group b.group more.0 in
-    let lists : a.acl ≡ b.acl = sym (map_of-entries a.acl) ∙ ap map_of (entries_told (entries a.acl) (entries b.acl) more.1) ∙ map_of-entries b.acl in
+    let lists : a.acl ≡ b.acl = sym (map_of-entries a.acl) ∙ ap map_of (entries_are_same (entries a.acl) (entries b.acl) more.1) ∙ map_of-entries b.acl in
     λ i. record { owner = owners i; group = groups i; acl = lists i }
 
 pub label_itself : (a : Label) → same_label a a ≡ true
 label_itself a = both _ _ (eq-eqb a.owner a.owner refl) (both _ _ (eq-eqb a.group a.group refl) (entries_itself (entries a.acl)))
 
 pub label_decides : (a b : Label) → Decides (same_label a b) (a ≡ b)
-label_decides a b = (label_told a b, λ e. subst (λ x. same_label a x ≡ true) e (label_itself a))
+label_decides a b = (label_is_same a b, λ e. subst (λ x. same_label a x ≡ true) e (label_itself a))
 
 -- ---- look-ups
 

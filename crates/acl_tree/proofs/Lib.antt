@@ -14,4 +14,4 @@ pub mod Undone
 pub mod NewUsers
 pub mod AsItIs
 pub mod MasksEach
-pub mod Told
+pub mod Reported

@@ -196,9 +196,9 @@ module _ (edit : PathOf → Node → Result Node EditFault) where
   changed_are (x ∷ xs) all = (λ i. changed_one true (λ _ n. ok_or n (sym all.0 i)) x.0 ++ changed_are xs all.1 i)
 
 -- a fault of a file is the restore's, where no path is missing
-pub fault_told : (records : List DumpRecord) (t : Recorded) (fault : FileFault) → first_missing (paths_of records) t.files ≡ None → (fault ≢ of_files.NoMemory → edit_all (restore_one records) false (paths_of records) t ≡ Err fault)
+pub fault_reported : (records : List DumpRecord) (t : Recorded) (fault : FileFault) → first_missing (paths_of records) t.files ≡ None → (fault ≢ of_files.NoMemory → edit_all (restore_one records) false (paths_of records) t ≡ Err fault)
     → file_fault fault ≢ faults.NoMemory → restored_tree records t ≡ Err (file_fault fault)
-fault_told records t (of_files.Edit p f) there told some =
+fault_reported records t (of_files.Edit p f) there reported some =
     ap (λ o. unless_missing o (edit_all (restore_one records) false (paths_of records) t)) there
-    ∙ ap (λ r. unless_missing None r) (told (λ e. cc))
-fault_told records t of_files.NoMemory there told some = absurd (some refl)
+    ∙ ap (λ r. unless_missing None r) (reported (λ e. cc))
+fault_reported records t of_files.NoMemory there reported some = absurd (some refl)

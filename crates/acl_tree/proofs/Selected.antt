@@ -26,7 +26,7 @@ use Rattle.acl_tree.specs.Sound.{holds_below}
 use Rattle.acl_tree.specs.Found.{found_file, found_in, files_found}
 use Rattle.acl_tree.specs.Inner.{NoneBefore, Ascend}
 use Rattle.acl_load.specs.Inner.{next_file_below}
-use Rattle.acl_load.proofs.Follows.{told_by_next}
+use Rattle.acl_load.proofs.Follows.{known_by_next}
 
 equal : (o : Ordering) → is_eq o ≡ true → o ≡ Equal
 equal Less h = absurd (true≢false (sym h))
@@ -337,4 +337,4 @@ none_meant b p t rest more e order is at out =
 pub next_at_end : (p : PathOf) (t rest more : Files) (e : PathOf × Node) → IsInOrder t → rest ≡ e ∷ more → IsAtEnd p t rest → next_file_below e.0 more ≡ holds_below t e.0
 next_at_end p t rest more e order is at =
     let whole : t ≡ at.seen ++ e ∷ more = at.whole ∙ ap (λ l. at.seen ++ l) is in
-    told_by_next at.seen e more (subst IsInOrder whole order) ∙ ap (λ l. holds_below l e.0) (sym whole)
+    known_by_next at.seen e more (subst IsInOrder whole order) ∙ ap (λ l. holds_below l e.0) (sym whole)

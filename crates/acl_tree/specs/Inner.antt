@@ -21,7 +21,7 @@ use Rattle.acl_tree.specs.Changed.{same_label}
 use Rattle.acl_tree.specs.Restoring.{edit_of}
 use Rattle.acl_tree.specs.Sound.{IsSoundTree}
 use Rattle.acl_tree.specs.Step.{State, Stages}
-use Rattle.acl_tree.specs.Tells.{StagedState, Tells}
+use Rattle.acl_tree.specs.Reports.{StagedState, Reports}
 use Rattle.acl_tree.specs.declared.command.TreeFault.{TreeFault}
 use Rattle.acl_tree.specs.declared.moved.UsersMove.{UsersMove}
 
@@ -31,7 +31,7 @@ use Rattle.acl_tree.specs.declared.moved.UsersMove.{UsersMove}
 pub record Prepares (old : State) (is : Result State TreeFault) (move : UsersMove) (result : Result StagedState TreeFault) : Type 0 where
   pub made : Stages (λ s. s.state) result is
   pub sound : IfOk result (λ staged. IsSoundTree staged.state.tree)
-  pub tells : IfOk result (λ staged. Tells old staged)
+  pub reports : IfOk result (λ staged. Reports old staged)
   pub moved : IfOk result (λ staged. staged.moved ≡ move)
 
 -- ---- operands in path order

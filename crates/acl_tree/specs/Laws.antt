@@ -71,7 +71,7 @@ with_users_loaded s = record s { people = record s.people { passwd_loaded = true
 -- ---- a restore of what is
 
 -- the record contains what the file is: its lists and its flags, and its owner and group where it names them
-pub record Says (r : DumpRecord) (n : Node) : Type 0 where
+pub record Contains (r : DumpRecord) (n : Node) : Type 0 where
   pub access : r.access ≡ n.label.acl
   pub default : r.dacl ≡ n.dacl
   pub owner : unwrap_or r.owner n.label.owner ≡ n.label.owner
@@ -82,4 +82,4 @@ pub record Says (r : DumpRecord) (n : Node) : Type 0 where
 pub record IsAsRecorded (t : Files) (r : DumpRecord) : Type 0 where
   pub node : Node
   pub recorded : find path_cmp r.path t ≡ Some node
-  pub says : Says r node
+  pub contains : Contains r node

@@ -9,7 +9,7 @@ pub mod Sound
 pub mod Found
 pub mod Walks
 pub mod Changed
-pub mod Tells
+pub mod Reports
 pub mod Edits
 pub mod EditCommand
 pub mod Restoring

@@ -3,7 +3,7 @@
 ghost use Rattle.std.specs.Prelude.{◌≡◌, ◌≢◌, [], true, map, IfOk};
 ghost use Rattle.acl_tree.specs.Sound.{IsSoundTree};
 ghost use Rattle.acl_tree.specs.Step.{load_dump, Stages, state_from};
-ghost use Rattle.acl_tree.specs.Tells.{Tells};
+ghost use Rattle.acl_tree.specs.Reports.{Reports};
 ghost use Rattle.acl_tree.specs.declared.moved.UsersMove.TheVariants.{Same};
 
 use crate::command::TreeFault;
@@ -51,7 +51,7 @@ impl Tree {
     ) -> Result<Staged, TreeFault>
         ensures made { Stages (λ s. s.state) result (load_dump (state_from self.now people.now) bytes.now) }
         ensures sound { IfOk result (λ staged. IsSoundTree staged.state.tree) }
-        ensures tells { IfOk result (λ staged. self.now.files ≡ [] → Tells (state_from self.now people.now) staged) }
+        ensures reports { IfOk result (λ staged. self.now.files ≡ [] → Reports (state_from self.now people.now) staged) }
         ensures moved { IfOk result (λ staged. staged.moved ≡ Same) }
     {
         let records = match read_dump(alloc, bytes, DumpUse::Load, people) {

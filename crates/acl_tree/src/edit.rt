@@ -10,7 +10,7 @@ ghost use Rattle.acl_tree.specs.Edits.{KeepsPlace, edit_each, edit_all};
 ghost use Rattle.acl_tree.specs.Inner.{file_of, node_after, changed_one, changed_by};
 ghost use Rattle.acl_tree.specs.Sound.{IsSoundTree};
 ghost use Rattle.acl_tree.specs.Step.{state_from};
-ghost use Rattle.acl_tree.specs.Tells.{Tells};
+ghost use Rattle.acl_tree.specs.Reports.{Reports};
 ghost use Rattle.acl_tree.specs.declared.moved.UsersMove.TheVariants.{Same};
 ghost use Rattle.acl_tree.specs.declared.edit.FileFault.TheVariants.{NoMemory};
 
@@ -95,7 +95,7 @@ pub(crate) fn push_edited(
     node: Node,
 ) -> Result<(), AllocError>
     ensures made { OnOk result (map (λ r. r.value) edits.new.items ≡ map (λ r. r.value) edits.old.items ++ (file.now.0, node) ∷ []) }
-    ensures told { OnOk result (map (λ r. r.value) changed.new.items ≡ map (λ r. r.value) changed.old.items ++ changed_one true (λ _ _. node) file.now) }
+    ensures reported { OnOk result (map (λ r. r.value) changed.new.items ≡ map (λ r. r.value) changed.old.items ++ changed_one true (λ _ _. node) file.now) }
 {
     let is_changed = !is_same_label(file.value(), &node);
     let edited = Rc::new(alloc, Record::new(file.shared_path().clone()?, node))?;
@@ -134,7 +134,7 @@ fn edit_each<E: NodeEdit>(
 ) -> Result<Vec<Rc<Record>>, FileFault>
     ensures made { IfOk result (λ edits. edit_each (E.edited edit.now) (map file_of files.now) ≡ Ok (map (λ r. r.value) edits.items)) }
     ensures fault { IfErr result (λ fault. fault ≢ NoMemory → edit_each (E.edited edit.now) (map file_of files.now) ≡ Err fault) }
-    ensures told { OnOk result (map (λ r. r.value) changed.new.items ≡ map (λ r. r.value) changed.old.items ++ changed_by (λ _. true) (node_after (E.edited edit.now)) (map file_of files.now)) }
+    ensures reported { OnOk result (map (λ r. r.value) changed.new.items ≡ map (λ r. r.value) changed.old.items ++ changed_by (λ _. true) (node_after (E.edited edit.now)) (map file_of files.now)) }
 {
     let mut edits = Vec::with_capacity(alloc, files.len())?;
     let mut rest = files;
@@ -157,7 +157,7 @@ pub(crate) fn edit_files<E: NodeEdit>(
 ) -> Result<Tree, FileFault>
     ensures made { IfOk result (λ new. edit_all (E.edited edit.now) recursive operands.now tree.now ≡ Ok new) }
     ensures fault { IfErr result (λ fault. fault ≢ NoMemory → edit_all (E.edited edit.now) recursive operands.now tree.now ≡ Err fault) }
-    ensures told { IfOk result (λ new. map (λ r. r.value) changed.new.items ≡ map (λ r. r.value) changed.old.items ++ changed_between tree.now.files new.files) }
+    ensures reported { IfOk result (λ new. map (λ r. r.value) changed.new.items ≡ map (λ r. r.value) changed.old.items ++ changed_between tree.now.files new.files) }
     ensures gone { IfOk result (λ new. gone_between tree.now.files new.files ≡ []) }
 {
     edit.keeps_place();
@@ -180,7 +180,7 @@ pub(crate) fn stage_edits<E: NodeEdit>(
     ensures people { IfOk result (λ staged. staged.state.people ≡ people.now) }
     ensures fault { IfErr result (λ fault. fault ≢ NoMemory → edit_all (E.edited edit.now) recursive operands.now tree.now ≡ Err fault) }
     ensures sound { IfOk result (λ staged. IsSoundTree staged.state.tree) }
-    ensures tells { IfOk result (λ staged. Tells (state_from tree.now people.now) staged) }
+    ensures reports { IfOk result (λ staged. Reports (state_from tree.now people.now) staged) }
     ensures moved { IfOk result (λ staged. staged.moved ≡ Same) }
 {
     let mut changed = Vec::new(alloc);

@@ -6,7 +6,7 @@ ghost use Rattle.acl_people.specs.Moves.{ChangesUser};
 ghost use Rattle.acl_tree.specs.Inner.{Prepares};
 ghost use Rattle.acl_tree.specs.Memberships.{membership_changed, gpasswd};
 ghost use Rattle.acl_tree.specs.Step.{with_change, state_from};
-ghost use Rattle.acl_tree.specs.Tells.{change_moves};
+ghost use Rattle.acl_tree.specs.Reports.{change_moves};
 ghost use Rattle.acl_tree.specs.declared.command.TreeFault.TheVariants.{NoMemory};
 
 use crate::command::{Membership, TreeFault};

@@ -6,7 +6,7 @@ ghost use Rattle.acl_tree.specs.Step.{tree_fault, load, is_loaded, state_from};
 ghost use Rattle.acl_tree.specs.declared.command.TreeFault.TheVariants.{AlreadyLoaded, NoMemory};
 ghost use Rattle.acl_tree.specs.Inner.{Prepares};
 ghost use Rattle.acl_tree.specs.Sound.{IsSoundTree};
-ghost use Rattle.acl_tree.specs.Tells.{load_moves, Tells};
+ghost use Rattle.acl_tree.specs.Reports.{load_moves, Reports};
 ghost use Rattle.acl_tree.specs.declared.moved.UsersMove.TheVariants.{Loaded};
 
 use crate::command::{Table, TreeFault};
@@ -58,7 +58,7 @@ impl Tree {
         ensures ok { IfOk loaded (λ people. IfOk result (λ staged. staged ≡ record { state = state_from self.now people; changed = []; gone = []; moved = Loaded })) }
         ensures moved { IfOk result (λ staged. staged.moved ≡ Loaded) }
         ensures sound { IfOk result (λ staged. IsSoundTree staged.state.tree) }
-        ensures tells { IfOk result (λ staged. (people : Register) → self.now.files ≡ [] → Tells (state_from self.now people) staged) }
+        ensures reports { IfOk result (λ staged. (people : Register) → self.now.files ≡ [] → Reports (state_from self.now people) staged) }
         ensures err { IfErr loaded (λ fault. result ≡ Err (tree_fault fault)) }
         ensures memory { OnOk loaded (IfErr result (λ fault. fault ≡ NoMemory)) }
     {

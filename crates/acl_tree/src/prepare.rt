@@ -4,7 +4,7 @@ ghost use Rattle.std.specs.Prelude.{◌≡◌, true, IfOk, Err};
 ghost use Rattle.acl_tree.specs.Step.{loads_again, step, Stages, state_from};
 ghost use Rattle.acl_tree.specs.declared.command.TreeFault.TheVariants.{AlreadyLoaded};
 ghost use Rattle.acl_tree.specs.Sound.{IsSoundTree};
-ghost use Rattle.acl_tree.specs.Tells.{users_move, Tells};
+ghost use Rattle.acl_tree.specs.Reports.{users_move, Reports};
 
 use crate::command::{Command, TreeFault};
 use crate::staged::Staged;
@@ -40,7 +40,7 @@ impl Tree {
         ensures made { Stages (λ s. s.state) result (step (state_from self.now people.now) command.now) }
         ensures loaded { loads_again (state_from self.now people.now) command.now ≡ true → result ≡ Err AlreadyLoaded }
         ensures sound { IfOk result (λ staged. IsSoundTree staged.state.tree) }
-        ensures tells { IfOk result (λ staged. Tells (state_from self.now people.now) staged) }
+        ensures reports { IfOk result (λ staged. Reports (state_from self.now people.now) staged) }
         ensures moved { IfOk result (λ staged. staged.moved ≡ users_move (state_from self.now people.now) command.now) }
     {
         match command {

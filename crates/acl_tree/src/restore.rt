@@ -155,7 +155,7 @@ fn files_of<'a>(
     ensures records { IfOk result (λ found. map (λ x. x.1) found.items ≡ records.now) }
     ensures files { IfOk result (λ found. All (IsFileOf tree.now.files) found.items) }
     ensures there { OnOk result (first_missing (paths_of records.now) tree.now.files ≡ None) }
-    ensures told { IfErr result (λ fault. fault ≢ NoMemory → IsMissing fault (first_missing (paths_of records.now) tree.now.files)) }
+    ensures reported { IfErr result (λ fault. fault ≢ NoMemory → IsMissing fault (first_missing (paths_of records.now) tree.now.files)) }
 {
     let mut found = Vec::with_capacity(alloc, records.len())?;
     let mut rest = records;
@@ -190,7 +190,7 @@ fn restore_each(
 ) -> Result<Vec<Rc<Record>>, FileFault>
     ensures made { IfOk result (λ edits. restore_each found.now ≡ Ok (map (λ r. r.value) edits.items)) }
     ensures fault { IfErr result (λ fault. fault ≢ of_files.NoMemory → restore_each found.now ≡ Err fault) }
-    ensures told { OnOk result (map (λ r. r.value) changed.new.items ≡ map (λ r. r.value) changed.old.items ++ changed_by_records found.now) }
+    ensures reported { OnOk result (map (λ r. r.value) changed.new.items ≡ map (λ r. r.value) changed.old.items ++ changed_by_records found.now) }
 {
     let mut edits = Vec::with_capacity(alloc, found.len())?;
     let mut rest = found;
@@ -212,7 +212,7 @@ impl Tree {
     ) -> Result<Tree, TreeFault>
         ensures made { IfOk result (λ new. restored_tree records.now self.now ≡ Ok new) }
         ensures fault { IfErr result (λ fault. fault ≢ NoMemory → restored_tree records.now self.now ≡ Err fault) }
-        ensures told { IfOk result (λ new. map (λ r. r.value) changed.new.items ≡ map (λ r. r.value) changed.old.items ++ changed_between self.now.files new.files) }
+        ensures reported { IfOk result (λ new. map (λ r. r.value) changed.new.items ≡ map (λ r. r.value) changed.old.items ++ changed_between self.now.files new.files) }
         ensures gone { IfOk result (λ new. gone_between self.now.files new.files ≡ []) }
     {
         self.is_sound();

@@ -127,7 +127,7 @@ pub(crate) fn select(
 /// Whether each operand is recorded; else the first that isn't.
 pub(crate) fn look_up(tree: &Tree, alloc: Global, operands: &[Path]) -> Result<(), TreeFault>
     ensures all { OnOk result (first_missing operands.now tree.now.files ≡ None) }
-    ensures told { IfErr result (λ fault. fault ≢ NoMemory → IsMissing fault (first_missing operands.now tree.now.files)) }
+    ensures reported { IfErr result (λ fault. fault ≢ NoMemory → IsMissing fault (first_missing operands.now tree.now.files)) }
 {
     for path in operands {
         if tree.get(path).is_none() {
@@ -154,7 +154,7 @@ impl Tree {
     ) -> Result<Vec<Found>, TreeFault>
         ensures all { IfOk result (λ files. files.items ≡ files_found recursive paths.now self.now.files) }
         ensures there { OnOk result (first_missing paths.now self.now.files ≡ None) }
-        ensures told { IfErr result (λ fault. fault ≢ NoMemory → IsMissing fault (first_missing paths.now self.now.files)) }
+        ensures reported { IfErr result (λ fault. fault ≢ NoMemory → IsMissing fault (first_missing paths.now self.now.files)) }
     {
         look_up(self, alloc, paths.as_slice())?;
         Ok(select(self, alloc, paths.as_slice(), recursive)?)

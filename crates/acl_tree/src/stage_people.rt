@@ -5,7 +5,7 @@ ghost use Rattle.acl_people.specs.Registers.{Register, persons};
 ghost use Rattle.acl_people.specs.Moves.{ChangesUser, moved_groups};
 ghost use Rattle.acl_tree.specs.Sound.{IsSoundTree};
 ghost use Rattle.acl_tree.specs.Step.{state_from};
-ghost use Rattle.acl_tree.specs.Tells.{move_of, UsersMoved, Tells};
+ghost use Rattle.acl_tree.specs.Reports.{move_of, UsersMoved, Reports};
 
 use crate::moved::{GroupIds, UsersMove};
 use crate::staged::Staged;
@@ -23,7 +23,7 @@ pub(crate) fn stage_people(
 ) -> Result<Staged, AllocError>
     ensures all { IfOk result (λ staged. staged ≡ record { state = state_from tree.now people; changed = []; gone = []; moved = moved }) }
     ensures sound { IfOk result (λ staged. IsSoundTree staged.state.tree) }
-    ensures tells { IfOk result (λ staged. (old : Register) → UsersMoved (state_from tree.now old) (state_from tree.now people) moved → Tells (state_from tree.now old) staged) }
+    ensures reports { IfOk result (λ staged. (old : Register) → UsersMoved (state_from tree.now old) (state_from tree.now people) moved → Reports (state_from tree.now old) staged) }
 {
     tree.is_sound();
     Ok(Staged::of(
@@ -60,7 +60,7 @@ pub(crate) fn stage_user_change(
     requires { ChangesUser (persons people.now) (persons next) user }
     ensures state { IfOk result (λ staged. staged.state ≡ state_from tree.now next) }
     ensures sound { IfOk result (λ staged. IsSoundTree staged.state.tree) }
-    ensures tells { IfOk result (λ staged. Tells (state_from tree.now people.now) staged) }
+    ensures reports { IfOk result (λ staged. Reports (state_from tree.now people.now) staged) }
     ensures moved { IfOk result (λ staged. staged.moved ≡ move_of user (moved_groups people.now next user)) }
 {
     let groups = people.moved_groups(alloc, &next, user)?;

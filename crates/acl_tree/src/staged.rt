@@ -21,7 +21,7 @@ pub struct Staged {
 
 impl Model for Staged {
     ghost use Rattle.std.specs.Prelude.{map};
-    ghost use Rattle.acl_tree.specs.Tells.{StagedState, coded_staged};
+    ghost use Rattle.acl_tree.specs.Reports.{StagedState, coded_staged};
 
     ghost Value = { StagedState };
 

@@ -3,7 +3,7 @@
 ghost use Rattle.std.specs.Prelude.{◌≡◌, true, IfOk, Err};
 ghost use Rattle.acl_tree.specs.Sound.{IsSoundTree};
 ghost use Rattle.acl_tree.specs.Step.{nothing, loads_again, step, Stages};
-ghost use Rattle.acl_tree.specs.Tells.{users_move, Tells};
+ghost use Rattle.acl_tree.specs.Reports.{users_move, Reports};
 ghost use Rattle.acl_tree.specs.declared.command.TreeFault.TheVariants.{AlreadyLoaded};
 
 use crate::command::{Command, TreeFault};
@@ -64,7 +64,7 @@ impl State {
         ensures made { Stages (λ s. s.state) result (step self.now command.now) }
         ensures loaded { loads_again self.now command.now ≡ true → result ≡ Err AlreadyLoaded }
         ensures sound { IfOk result (λ staged. IsSoundTree staged.state.tree) }
-        ensures tells { IfOk result (λ staged. Tells self.now staged) }
+        ensures reports { IfOk result (λ staged. Reports self.now staged) }
         ensures moved { IfOk result (λ staged. staged.moved ≡ users_move self.now command.now) }
     {
         self.tree.prepare(alloc, &self.people, command)

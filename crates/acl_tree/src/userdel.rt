@@ -3,7 +3,7 @@
 ghost use Rattle.acl_tree.specs.Accounts.{userdel};
 ghost use Rattle.acl_tree.specs.Inner.{Prepares};
 ghost use Rattle.acl_tree.specs.Step.{with_change, state_from};
-ghost use Rattle.acl_tree.specs.Tells.{user_left};
+ghost use Rattle.acl_tree.specs.Reports.{user_left};
 
 use crate::command::TreeFault;
 use crate::find_people::find_user;

@@ -3,7 +3,7 @@
 ghost use Rattle.acl_tree.specs.Inner.{Prepares};
 ghost use Rattle.acl_tree.specs.Memberships.{usermod};
 ghost use Rattle.acl_tree.specs.Step.{with_change, state_from};
-ghost use Rattle.acl_tree.specs.Tells.{change_moves};
+ghost use Rattle.acl_tree.specs.Reports.{change_moves};
 
 use crate::command::TreeFault;
 use crate::find_people::{find_group, find_user};

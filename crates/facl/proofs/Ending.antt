@@ -12,18 +12,18 @@ use Rattle.facl.specs.Costs.{all_pairs}
 use Rattle.facl.specs.Units.{answered}
 use Rattle.facl.specs.Runs.{EndsBy}
 
-ended : (fault : ScriptFault) (verdict : Verdict) (begun : Result State RunFault) (start state : State) (asked : ℕ) (remaining remaining' out out' err err' : Option (List ℕ))
-    → begun ≡ Ok start → IfSome remaining (λ script. StopsWith fault (answered verdict) start script state (all_pairs start) asked remaining' out out' err err')
-    → EndsBy (run_fault_of_script fault) verdict begun asked remaining remaining' out out' err err'
-ended Read verdict begun start state asked remaining remaining' out out' err err' e h = record { start = start; starts = e; state = state; stops = h }
-ended Write verdict begun start state asked remaining remaining' out out' err err' e h = record { start = start; starts = e; state = state; stops = h }
-ended TooLong verdict begun start state asked remaining remaining' out out' err err' e h = record { start = start; starts = e; state = state; stops = h }
-ended NoMemory verdict begun start state asked remaining remaining' out out' err err' e h = inr (record { start = start; starts = e; state = state; stops = h })
+end_of_run : (fault : ScriptFault) (verdict : Verdict) (initial_state : Result State RunFault) (start state : State) (asked : ℕ) (remaining remaining' out out' err err' : Option (List ℕ))
+    → initial_state ≡ Ok start → IfSome remaining (λ script. StopsWith fault (answered verdict) start script state (all_pairs start) asked remaining' out out' err err')
+    → EndsBy (run_fault_of_script fault) verdict initial_state asked remaining remaining' out out' err err'
+end_of_run Read verdict initial_state start state asked remaining remaining' out out' err err' e h = record { start = start; starts = e; state = state; stops = h }
+end_of_run Write verdict initial_state start state asked remaining remaining' out out' err err' e h = record { start = start; starts = e; state = state; stops = h }
+end_of_run TooLong verdict initial_state start state asked remaining remaining' out out' err err' e h = record { start = start; starts = e; state = state; stops = h }
+end_of_run NoMemory verdict initial_state start state asked remaining remaining' out out' err err' e h = inr (record { start = start; starts = e; state = state; stops = h })
 
 -- a script that stopped, of which all pairs were asked for by its start
-pub ends_by : (fault : ScriptFault) (verdict : Verdict) (begun : Result State RunFault) (start state : State) (asked asked' : ℕ) (remaining remaining' out out' err err' : Option (List ℕ))
-    → begun ≡ Ok start → asked ≡ all_pairs start → IfSome remaining (λ script. StopsWith fault (answered verdict) start script state asked asked' remaining' out out' err err')
-    → EndsBy (run_fault_of_script fault) verdict begun asked' remaining remaining' out out' err err'
-ends_by fault verdict begun start state asked asked' remaining remaining' out out' err err' e pairs h =
-    ended fault verdict begun start state asked' remaining remaining' out out' err err' e
+pub ends_by : (fault : ScriptFault) (verdict : Verdict) (initial_state : Result State RunFault) (start state : State) (asked asked' : ℕ) (remaining remaining' out out' err err' : Option (List ℕ))
+    → initial_state ≡ Ok start → asked ≡ all_pairs start → IfSome remaining (λ script. StopsWith fault (answered verdict) start script state asked asked' remaining' out out' err err')
+    → EndsBy (run_fault_of_script fault) verdict initial_state asked' remaining remaining' out out' err err'
+ends_by fault verdict initial_state start state asked asked' remaining remaining' out out' err err' e pairs h =
+    end_of_run fault verdict initial_state start state asked' remaining remaining' out out' err err' e
     (subst (λ n. IfSome remaining (λ script. StopsWith fault (answered verdict) start script state n asked' remaining' out out' err err')) pairs h)

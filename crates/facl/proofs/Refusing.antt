@@ -9,25 +9,25 @@ use Rattle.facl_messages.specs.Messages.{message}
 use Rattle.facl_messages.specs.declared.fault.LineFault.{LineFault}
 use Rattle.facl_messages.specs.declared.fault.LineFault.TheVariants.{NoMemory}
 use Rattle.facl.specs.declared.session.Facl.{Facl}
-use Rattle.facl.specs.Sessions.{state_of, out_of, err_of, Says}
-use Rattle.facl.specs.Units.{is_silent, words_said, refused, answer_of_words, unless_wanting, answered_line, answered}
+use Rattle.facl.specs.Sessions.{state_of, out_of, err_of, IsAtAnswer}
+use Rattle.facl.specs.Units.{is_silent, words_of_line, refused, answer_of_words, unless_out_of_memory, answered_line, answered}
 
 -- a line without words is refused as one, unless memory runs out for it
-pub refused_line : {J : Type 0} (V : Verdict) (u : ScriptUnit) (wants : Bool) (number : ℕ) (fault : LineFault) (s : State) (f : Facl J)
-    → u.number ≡ number → (fault ≡ NoMemory → wants ≡ true) → (fault ≢ NoMemory → words_said u.line ≡ Err fault)
-    → Says (unless_wanting wants number s (refused number [] fault s)) f true → Says (answered_line V wants u s) f true
-refused_line V u true number fault s f same memory said h = record {
+pub refused_line : {J : Type 0} (V : Verdict) (u : ScriptUnit) (ran_out : Bool) (number : ℕ) (fault : LineFault) (s : State) (f : Facl J)
+    → u.number ≡ number → (fault ≡ NoMemory → ran_out ≡ true) → (fault ≢ NoMemory → words_of_line u.line ≡ Err fault)
+    → IsAtAnswer (unless_out_of_memory ran_out number s (refused number [] fault s)) f true → IsAtAnswer (answered_line V ran_out u s) f true
+refused_line V u true number fault s f same memory content h = record {
   state = h.state;
   out = h.out;
   err = h.err ∙ ap (λ n. message n [] NoMemory) (sym same);
   refused = h.refused;
 }
-refused_line V u false number fault s f same memory said h =
-    subst (λ a. Says a f true) (ap (λ n. refused n [] fault s) (sym same)
-    ∙ ap (answer_of_words V u s) (sym (said (λ e. true≢false (sym (memory e)))))) h
+refused_line V u false number fault s f same memory content h =
+    subst (λ a. IsAtAnswer a f true) (ap (λ n. refused n [] fault s) (sym same)
+    ∙ ap (answer_of_words V u s) (sym (content (λ e. true≢false (sym (memory e)))))) h
 
 -- what a session returns for an answer, where it asked for no more verdicts than the answer costs
-pub is_answer : {J : Type 0} (a : Answer State) (f : Facl J) (asked asked' : ℕ) (is_refused : Bool) → Says a f is_refused → asked' ≤ asked + a.cost
+pub is_answer : {J : Type 0} (a : Answer State) (f : Facl J) (asked asked' : ℕ) (is_refused : Bool) → IsAtAnswer a f is_refused → asked' ≤ asked + a.cost
     → IsAnswer a (state_of f) asked asked' (out_of f) (err_of f) is_refused
 is_answer a f asked asked' is_refused h le = record {
   state_is = h.state;
@@ -38,6 +38,6 @@ is_answer a f asked asked' is_refused h le = record {
 }
 
 -- a unit whose line is neither blank nor a comment
-pub not_silent : (V : Verdict) (u : ScriptUnit) (wants : Bool) (s : State) → is_silent u.line ≡ false
-    → answered V wants u s ≡ answered_line V wants u s
-not_silent V u wants s e = rw e refl
+pub not_silent : (V : Verdict) (u : ScriptUnit) (ran_out : Bool) (s : State) → is_silent u.line ≡ false
+    → answered V ran_out u s ≡ answered_line V ran_out u s
+not_silent V u ran_out s e = rw e refl

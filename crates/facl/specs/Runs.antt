@@ -30,9 +30,9 @@ pub record Answers (verdict : Verdict) (start : State) (script : List ℕ) (stat
   pub asks : asked ≤ all_pairs start + (session (answered verdict) m script start).cost
 
 -- The run started at this state, and answered the whole script.
-pub record RunsTo (verdict : Verdict) (begun : Result State RunFault) (script : List ℕ) (status : Status) (asked : ℕ) (out out' err err' : Option (List ℕ)) : Type 0 where
+pub record RunsTo (verdict : Verdict) (initial_state : Result State RunFault) (script : List ℕ) (status : Status) (asked : ℕ) (out out' err err' : Option (List ℕ)) : Type 0 where
   pub start : State
-  pub starts : begun ≡ Ok start
+  pub starts : initial_state ≡ Ok start
   pub answers : Answers verdict start script status asked out out' err err'
 
 -- nothing was read and nothing written
@@ -43,18 +43,18 @@ pub record IsUntouched (remaining remaining' out out' err err' : Option (List �
 
 -- The run started at this state, and its script stopped so: no more verdicts were asked for than on every user and
 -- every file at the start, and what each unit costs that was read.
-pub record Stops (fault : ScriptFault) (verdict : Verdict) (begun : Result State RunFault) (asked : ℕ) (remaining remaining' out out' err err' : Option (List ℕ)) : Type 0 where
+pub record Stops (fault : ScriptFault) (verdict : Verdict) (initial_state : Result State RunFault) (asked : ℕ) (remaining remaining' out out' err err' : Option (List ℕ)) : Type 0 where
   pub start : State
-  pub starts : begun ≡ Ok start
+  pub starts : initial_state ≡ Ok start
   pub state : State
   pub stops : IfSome remaining (λ script. StopsWith fault (answered verdict) start script state (all_pairs start) asked remaining' out out' err err')
 
 -- How a run that returns a fault has ended. Before the script nothing is read or written.
 abbrev pub EndsBy : RunFault → Verdict → Result State RunFault → (asked : ℕ) (remaining remaining' out out' err err' : Option (List ℕ)) → Type 0
-EndsBy (Setup which fault) verdict begun asked remaining remaining' out out' err err' =
-    (begun ≡ Err (Setup which fault)) × (asked ≡ 0) × IsUntouched remaining remaining' out out' err err'
-EndsBy NoMemory verdict begun asked remaining remaining' out out' err err' =
-    IsUntouched remaining remaining' out out' err err' ⊎ Stops scripts.NoMemory verdict begun asked remaining remaining' out out' err err'
-EndsBy Read verdict begun asked remaining remaining' out out' err err' = Stops scripts.Read verdict begun asked remaining remaining' out out' err err'
-EndsBy Write verdict begun asked remaining remaining' out out' err err' = Stops scripts.Write verdict begun asked remaining remaining' out out' err err'
-EndsBy ScriptTooLong verdict begun asked remaining remaining' out out' err err' = Stops scripts.TooLong verdict begun asked remaining remaining' out out' err err'
+EndsBy (Setup which fault) verdict initial_state asked remaining remaining' out out' err err' =
+    (initial_state ≡ Err (Setup which fault)) × (asked ≡ 0) × IsUntouched remaining remaining' out out' err err'
+EndsBy NoMemory verdict initial_state asked remaining remaining' out out' err err' =
+    IsUntouched remaining remaining' out out' err err' ⊎ Stops scripts.NoMemory verdict initial_state asked remaining remaining' out out' err err'
+EndsBy Read verdict initial_state asked remaining remaining' out out' err err' = Stops scripts.Read verdict initial_state asked remaining remaining' out out' err err'
+EndsBy Write verdict initial_state asked remaining remaining' out out' err err' = Stops scripts.Write verdict initial_state asked remaining remaining' out out' err err'
+EndsBy ScriptTooLong verdict initial_state asked remaining remaining' out out' err err' = Stops scripts.TooLong verdict initial_state asked remaining remaining' out out' err err'

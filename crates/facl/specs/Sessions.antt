@@ -15,8 +15,8 @@ abbrev pub out_of : {J : Type 0} → Facl J → List ℕ
 out_of f = f.out.items
 
 -- memory ran out for the last line
-abbrev pub wants_memory : {J : Type 0} → Facl J → Bool
-wants_memory f = f.lacks_memory
+abbrev pub ran_out_of_memory : {J : Type 0} → Facl J → Bool
+ran_out_of_memory f = f.lacks_memory
 
 abbrev pub err_of : {J : Type 0} → Facl J → List ℕ
 err_of f = if f.lacks_memory then f.spare else f.err.items
@@ -29,7 +29,7 @@ pub record IsQuiet {J : Type 0} (f : Facl J) : Type 0 where
 
 -- the session is at the state of the answer, with its output and its message; and the line is refused where the answer
 -- is
-pub record Says {J : Type 0} (a : Answer State) (f : Facl J) (is_refused : Bool) : Type 0 where
+pub record IsAtAnswer {J : Type 0} (a : Answer State) (f : Facl J) (is_refused : Bool) : Type 0 where
   pub state : state_of f ≡ a.state
   pub out : out_of f ≡ a.out
   pub err : err_of f ≡ a.err

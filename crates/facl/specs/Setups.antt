@@ -19,7 +19,7 @@ with_text which None s = Ok s
 with_text which (Some text) s = set_up which (load s which text)
 
 -- the state once the texts that are there are loaded one after another, or the first fault
-abbrev pub begun : Setup → Result State RunFault
-begun setup =
+abbrev pub initial_state : Setup → Result State RunFault
+initial_state setup =
     after (with_text Passwd (option_map (λ t. t.now) setup.passwd) nothing)
     (λ s. after (with_text Group (option_map (λ t. t.now) setup.group) s) (λ t. with_text Dump (option_map (λ t. t.now) setup.dump) t))

@@ -2,7 +2,7 @@
 use Rattle.std.specs.Prelude.{ℕ, Bool, true, false, if◌then◌else◌, List, [], ◌∷◌, Option, None, Some, Result, Ok, Err}
 use Rattle.facl_script.specs.Play.{Answer, quiet}
 use Rattle.facl_script.specs.Units.{ScriptUnit, UnitText, none, whole, too_long, unended}
-use Rattle.facl_script.specs.Words.{says_nothing, line_words}
+use Rattle.facl_script.specs.Words.{has_no_words, line_words}
 use Rattle.facl_script.specs.declared.words.SplitFault.{SplitFault}
 use Rattle.facl_words.specs.Forms.{Text}
 use Rattle.facl_words.specs.Tools.{tool_named}
@@ -21,7 +21,7 @@ use Rattle.facl.specs.Costs.{most_between}
 -- a line that is blank or a comment, as far as it is within the limit
 abbrev pub is_silent : Option (List ℕ) → Bool
 is_silent None = false
-is_silent (Some line) = says_nothing line
+is_silent (Some line) = has_no_words line
 
 -- ---- what a line asks for
 
@@ -30,8 +30,8 @@ split (Ok words) = Ok words
 split (Err fault) = Err (line_fault_of_split fault)
 
 -- the words of a line, or what is wrong with it as a line
-abbrev pub words_said : Option (List ℕ) → Result (List Text) LineFault
-words_said line = after (or_fault LineTooLong line) (λ text. split (line_words text))
+abbrev pub words_of_line : Option (List ℕ) → Result (List Text) LineFault
+words_of_line line = after (or_fault LineTooLong line) (λ text. split (line_words text))
 
 -- the tool of a name
 abbrev pub tool_or_fault : Text → Result Tool LineFault
@@ -52,7 +52,7 @@ words_or_fault tool words = or_fault Usage (words_for tool words)
 -- what a tool does at a state with the text and the words after its name
 abbrev pub tool_reply : Verdict → State → UnitText → List Text → Tool → Result Reply LineFault
 tool_reply verdict s text words tool =
-    after (text_or_fault text) (λ said. after (words_or_fault tool words) (λ w. tool_line verdict s tool w said))
+    after (text_or_fault text) (λ content. after (words_or_fault tool words) (λ w. tool_line verdict s tool w content))
 
 -- what the words of a line do at a state: its reply, or its first fault
 abbrev pub reply : Verdict → State → UnitText → List Text → Result Reply LineFault
@@ -86,13 +86,13 @@ answer_of_words verdict u s (Err fault) = refused u.number [] fault s
 
 -- a line that runs out of memory is refused with that message; the verdicts for its change may have been asked for by
 -- then
-abbrev pub unless_wanting : Bool → ℕ → State → Answer State → Answer State
-unless_wanting wants number s a = if wants then record (refused number [] NoMemory s) { cost = a.cost } else a
+abbrev pub unless_out_of_memory : Bool → ℕ → State → Answer State → Answer State
+unless_out_of_memory ran_out number s a = if ran_out then record (refused number [] NoMemory s) { cost = a.cost } else a
 
 -- a line that is neither blank nor a comment is refused with its first fault, or does what it asks for
 abbrev pub answered_line : Verdict → Bool → ScriptUnit → State → Answer State
-answered_line verdict wants u s = unless_wanting wants u.number s (answer_of_words verdict u s (words_said u.line))
+answered_line verdict ran_out u s = unless_out_of_memory ran_out u.number s (answer_of_words verdict u s (words_of_line u.line))
 
 -- what a unit does at a state: nothing where its line is blank or a comment
 abbrev pub answered : Verdict → Bool → ScriptUnit → State → Answer State
-answered verdict wants u s = if is_silent u.line then quiet s else answered_line verdict wants u s
+answered verdict ran_out u s = if is_silent u.line then quiet s else answered_line verdict ran_out u s

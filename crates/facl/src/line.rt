@@ -6,32 +6,32 @@ ghost use Rattle.facl_script.specs.ReadText.{IsTextFound};
 ghost use Rattle.facl_script.specs.ReadUnit.{IsLineFound};
 ghost use Rattle.acl_rights.specs.Tables.{IsWhole};
 ghost use Rattle.facl_replies.specs.Replies.{Gives, IsPrepared, Replies};
-ghost use Rattle.facl.specs.Units.{is_silent, words_said, tool_or_fault, text_or_fault, words_or_fault, tool_reply, reply, tool_word};
+ghost use Rattle.facl.specs.Units.{is_silent, words_of_line, tool_or_fault, text_or_fault, words_or_fault, tool_reply, reply, tool_word};
 
 use crate::world::World;
 use acl_rights::Judge;
 use facl_messages::LineFault;
 use facl_replies::Effect;
-use facl_script::{TextFound, says_nothing, split_words};
+use facl_script::{TextFound, has_no_words, split_words};
 use facl_tools::tool_line;
 use facl_words::{Tool, Words, read_words};
 use std::alloc::Global;
 
 /// Whether a line within the limit is blank or a comment.
 pub(crate) fn is_silent(is_too_long: bool, line: &[u8]) -> bool
-    ensures { (said : Option (List ℕ)) → IsLineFound is_too_long line.now said → result ≡ is_silent said }
+    ensures { (content : Option (List ℕ)) → IsLineFound is_too_long line.now content → result ≡ is_silent content }
 {
-    !is_too_long && says_nothing(line)
+    !is_too_long && has_no_words(line)
 }
 
 /// The words of a line.
-pub(crate) fn words_said(
+pub(crate) fn words_of_line(
     alloc: Global,
     is_too_long: bool,
     line: &[u8],
 ) -> Result<Vec<String>, LineFault>
-    ensures { (said : Option (List ℕ)) → IsLineFound is_too_long line.now said
-        → Gives (λ words. map string_bytes words.items) result (words_said said) }
+    ensures { (content : Option (List ℕ)) → IsLineFound is_too_long line.now content
+        → Gives (λ words. map string_bytes words.items) result (words_of_line content) }
 {
     if is_too_long {
         return Err(LineFault::LineTooLong);
@@ -49,8 +49,8 @@ fn tool_meant(name: &str) -> Result<Tool, LineFault>
 }
 
 /// The text of a line.
-fn text_said(found: TextFound, text: &[u8]) -> Result<&[u8], LineFault>
-    ensures { (said : UnitText) → IsTextFound found text.now said → Gives (λ t. t.now) result (text_or_fault said) }
+fn text_of_unit(found: TextFound, text: &[u8]) -> Result<&[u8], LineFault>
+    ensures { (content : UnitText) → IsTextFound found text.now content → Gives (λ t. t.now) result (text_or_fault content) }
 {
     match found {
         TextFound::Absent => Ok(b""),
@@ -88,11 +88,11 @@ fn tool_reply<J: Judge>(
     tool: Tool,
 ) -> Result<Effect, LineFault>
     requires { IsWhole J.verdict_of world.now.state world.now.index }
-    ensures replies { (said : UnitText) → IsTextFound found text.now said
-        → Replies world.now.state result (tool_reply J.verdict_of world.now.state said (map string_bytes words.now) tool) }
+    ensures replies { (content : UnitText) → IsTextFound found text.now content
+        → Replies world.now.state result (tool_reply J.verdict_of world.now.state content (map string_bytes words.now) tool) }
     ensures prepared { IfOk result (λ effect. IsPrepared world.now.state effect.staged) }
 {
-    let text = text_said(found, text)?;
+    let text = text_of_unit(found, text)?;
     let words = words_meant(alloc, tool, words)?;
     tool_line(alloc, &world.state, &world.index, tool, &words, text)
 }
@@ -106,8 +106,8 @@ pub(crate) fn reply<J: Judge>(
     words: &[String],
 ) -> Result<Effect, LineFault>
     requires { IsWhole J.verdict_of world.now.state world.now.index }
-    ensures replies { (said : UnitText) → IsTextFound found text.now said
-        → Replies world.now.state result (reply J.verdict_of world.now.state said (map string_bytes words.now)) }
+    ensures replies { (content : UnitText) → IsTextFound found text.now content
+        → Replies world.now.state result (reply J.verdict_of world.now.state content (map string_bytes words.now)) }
     ensures prepared { IfOk result (λ effect. IsPrepared world.now.state effect.staged) }
 {
     let [name, words @ ..] = words else {

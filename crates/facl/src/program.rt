@@ -3,7 +3,7 @@
 ghost use Rattle.std.specs.Prelude.{◌≡◌, ◌⊎◌, ℕ, true, false, IfOk, IfErr, IfSome, OnOk, Err};
 ghost use Rattle.std.specs.Io.KnownBytes.{IsAtEnd};
 ghost use Rattle.acl_entry.specs.Check.{rights};
-ghost use Rattle.facl.specs.Setups.{begun};
+ghost use Rattle.facl.specs.Setups.{initial_state};
 ghost use Rattle.facl.specs.Runs.{RunsTo, EndsBy};
 
 use crate::answer::Judged;
@@ -36,10 +36,10 @@ pub fn run_judged<J: Judge, R: Feed, O: Sink, E: Sink>(
     requires err { E.has_failed err.old ≡ false }
 
     ensures ok { IfOk result (λ status. IfSome (R.remaining reader.old) (λ script.
-        RunsTo J.verdict_of (begun setup.now) script status (J.asked_of judge.new)
+        RunsTo J.verdict_of (initial_state setup.now) script status (J.asked_of judge.new)
         (O.contents out.old) (O.contents out.new) (E.contents err.old) (E.contents err.new))) }
     ensures fault { IfErr result (λ fault.
-        EndsBy fault J.verdict_of (begun setup.now) (J.asked_of judge.new) (R.remaining reader.old) (R.remaining reader.new)
+        EndsBy fault J.verdict_of (initial_state setup.now) (J.asked_of judge.new) (R.remaining reader.old) (R.remaining reader.new)
         (O.contents out.old) (O.contents out.new) (E.contents err.old) (E.contents err.new)) }
 
     // A status comes only once the reader is at its end, and where no device has failed.
@@ -84,10 +84,10 @@ pub fn run<R: Feed, O: Sink, E: Sink>(
     requires err { E.has_failed err.old ≡ false }
 
     ensures ok { IfOk result (λ status. IfSome (R.remaining reader.old) (λ script. (asked : ℕ)
-        × RunsTo rights (begun setup.now) script status asked
+        × RunsTo rights (initial_state setup.now) script status asked
         (O.contents out.old) (O.contents out.new) (E.contents err.old) (E.contents err.new))) }
     ensures fault { IfErr result (λ fault. (asked : ℕ)
-        × EndsBy fault rights (begun setup.now) asked (R.remaining reader.old) (R.remaining reader.new)
+        × EndsBy fault rights (initial_state setup.now) asked (R.remaining reader.old) (R.remaining reader.new)
         (O.contents out.old) (O.contents out.new) (E.contents err.old) (E.contents err.new)) }
 
     // A status comes only once the reader is at its end, and where no device has failed.

@@ -5,12 +5,12 @@ ghost use Rattle.facl_script.specs.Units.{ScriptUnit, UnitText};
 ghost use Rattle.facl_script.specs.ReadText.{IsTextFound};
 ghost use Rattle.facl_script.specs.ReadUnit.{IsUnitFound};
 ghost use Rattle.facl_messages.specs.declared.fault.LineFault.TheVariants.{NoMemory};
-ghost use Rattle.facl_replies.specs.Replies.{left, IsPrepared};
+ghost use Rattle.facl_replies.specs.Replies.{reply_of, IsPrepared};
 ghost use Rattle.facl.specs.Costs.{IsReady, IsReadyAfter, all_pairs};
-ghost use Rattle.facl.specs.Units.{accepted, refused, answer_of, reply, tool_word, unless_wanting, warning_if, answered_line};
-ghost use Rattle.facl.specs.Sessions.{state_of, index_of, out_of, err_of, wants_memory, IsQuiet, Says};
+ghost use Rattle.facl.specs.Units.{accepted, refused, answer_of, reply, tool_word, unless_out_of_memory, warning_if, answered_line};
+ghost use Rattle.facl.specs.Sessions.{state_of, index_of, out_of, err_of, ran_out_of_memory, IsQuiet, IsAtAnswer};
 
-use crate::line::{reply, tool_word, words_said};
+use crate::line::{reply, tool_word, words_of_line};
 use crate::world::World;
 use acl_rights::Judge;
 use acl_tree::State;
@@ -74,9 +74,9 @@ impl<J: Judge> Facl<J> {
     /// Refuses a line. The message of a line for which memory ran out is written without an allocation.
     fn refuse(&mut self, number: u64, tool: &[u8], fault: &LineFault)
         requires { IsQuiet self.old }
-        ensures says { Says (unless_wanting (wants_memory self.new) number (state_of self.old)
+        ensures answer { IsAtAnswer (unless_out_of_memory (ran_out_of_memory self.new) number (state_of self.old)
             (refused number tool.now fault.now (state_of self.old))) self.new true }
-        ensures memory { fault.now ≡ NoMemory → wants_memory self.new ≡ true }
+        ensures memory { fault.now ≡ NoMemory → ran_out_of_memory self.new ≡ true }
         ensures world { self.new.world ≡ self.old.world }
     {
         let has_message = !matches!(fault, LineFault::NoMemory)
@@ -93,11 +93,11 @@ impl<J: Judge> Facl<J> {
         requires quiet { IsQuiet self.old }
         requires ready { IsReady J.verdict_of (J.asked_of judge.old) number (state_of self.old) (index_of self.old) }
         requires prepared { IsPrepared (state_of self.old) effect.staged }
-        ensures says { OnOk result (Says (accepted number (state_of self.old) (left (state_of self.old) effect)) self.new false) }
-        ensures memory { wants_memory self.new ≡ false }
+        ensures answer { OnOk result (IsAtAnswer (accepted number (state_of self.old) (reply_of (state_of self.old) effect)) self.new false) }
+        ensures memory { ran_out_of_memory self.new ≡ false }
         ensures quiet { OnErr result (IsQuiet self.new) }
         ensures unchanged { OnErr result (state_of self.new ≡ state_of self.old) }
-        ensures asked { J.asked_of judge.new ≤ J.asked_of judge.old + (accepted number (state_of self.old) (left (state_of self.old) effect)).cost }
+        ensures asked { J.asked_of judge.new ≤ J.asked_of judge.old + (accepted number (state_of self.old) (reply_of (state_of self.old) effect)).cost }
         ensures ready { IsReadyAfter J.verdict_of (J.asked_of judge.new) number (state_of self.new) (index_of self.new) }
     {
         let warning = match warning_if(self.alloc, effect.warns, number) {
@@ -123,9 +123,9 @@ impl<J: Judge> Facl<J> {
         requires quiet { IsQuiet self.old }
         requires ready { IsReady J.verdict_of (J.asked_of judge.old) number (state_of self.old) (index_of self.old) }
         requires prepared { IsPrepared (state_of self.old) effect.staged }
-        ensures says { Says (unless_wanting (wants_memory self.new) number (state_of self.old)
-            (accepted number (state_of self.old) (left (state_of self.old) effect))) self.new result }
-        ensures asked { J.asked_of judge.new ≤ J.asked_of judge.old + (accepted number (state_of self.old) (left (state_of self.old) effect)).cost }
+        ensures answer { IsAtAnswer (unless_out_of_memory (ran_out_of_memory self.new) number (state_of self.old)
+            (accepted number (state_of self.old) (reply_of (state_of self.old) effect))) self.new result }
+        ensures asked { J.asked_of judge.new ≤ J.asked_of judge.old + (accepted number (state_of self.old) (reply_of (state_of self.old) effect)).cost }
         ensures ready { IsReadyAfter J.verdict_of (J.asked_of judge.new) number (state_of self.new) (index_of self.new) }
     {
         let is_refused = self.do_line(judge, number, effect).is_err();
@@ -146,14 +146,14 @@ impl<J: Judge> Facl<J> {
     ) -> bool
         requires quiet { IsQuiet self.old }
         requires ready { IsReady J.verdict_of (J.asked_of judge.old) number (state_of self.old) (index_of self.old) }
-        ensures says { (said : UnitText) → IsTextFound found text.now said
-            → Says (unless_wanting (wants_memory self.new) number (state_of self.old)
+        ensures answer { (content : UnitText) → IsTextFound found text.now content
+            → IsAtAnswer (unless_out_of_memory (ran_out_of_memory self.new) number (state_of self.old)
             (answer_of number (tool_word (map string_bytes words.now)) (state_of self.old)
-            (reply J.verdict_of (state_of self.old) said (map string_bytes words.now)))) self.new result }
-        ensures asked { (said : UnitText) → IsTextFound found text.now said
+            (reply J.verdict_of (state_of self.old) content (map string_bytes words.now)))) self.new result }
+        ensures asked { (content : UnitText) → IsTextFound found text.now content
             → J.asked_of judge.new ≤ J.asked_of judge.old
             + (answer_of number (tool_word (map string_bytes words.now)) (state_of self.old)
-            (reply J.verdict_of (state_of self.old) said (map string_bytes words.now))).cost }
+            (reply J.verdict_of (state_of self.old) content (map string_bytes words.now))).cost }
         ensures ready { IsReadyAfter J.verdict_of (J.asked_of judge.new) number (state_of self.new) (index_of self.new) }
     {
         match reply(self.alloc, &self.world, found, text, words) {
@@ -169,13 +169,13 @@ impl<J: Judge> Facl<J> {
     pub fn answer_line(&mut self, judge: &mut J, unit: &UnitFound, line: &[u8], text: &[u8]) -> bool
         requires quiet { IsQuiet self.old }
         requires ready { IsReady J.verdict_of (J.asked_of judge.old) unit.now.number (state_of self.old) (index_of self.old) }
-        ensures says { (u : ScriptUnit) → IsUnitFound unit.now line.now text.now u
-            → Says (answered_line J.verdict_of (wants_memory self.new) u (state_of self.old)) self.new result }
+        ensures answer { (u : ScriptUnit) → IsUnitFound unit.now line.now text.now u
+            → IsAtAnswer (answered_line J.verdict_of (ran_out_of_memory self.new) u (state_of self.old)) self.new result }
         ensures asked { (u : ScriptUnit) → IsUnitFound unit.now line.now text.now u
-            → J.asked_of judge.new ≤ J.asked_of judge.old + (answered_line J.verdict_of (wants_memory self.new) u (state_of self.old)).cost }
+            → J.asked_of judge.new ≤ J.asked_of judge.old + (answered_line J.verdict_of (ran_out_of_memory self.new) u (state_of self.old)).cost }
         ensures ready { IsReadyAfter J.verdict_of (J.asked_of judge.new) unit.now.number (state_of self.new) (index_of self.new) }
     {
-        match words_said(self.alloc, unit.is_too_long, line) {
+        match words_of_line(self.alloc, unit.is_too_long, line) {
             Ok(words) => self.answer_words(judge, unit.number, unit.text, text, &words),
             Err(fault) => {
                 self.refuse(unit.number, b"", &fault);

@@ -4,7 +4,7 @@ ghost use Rattle.std.specs.Prelude.{◌≡◌, ◌≢◌, Ok, Err, MatchResult, 
 ghost use Rattle.acl_tree.specs.Step.{load};
 ghost use Rattle.acl_tree.specs.declared.command.TreeFault.TheVariants as trees;
 ghost use Rattle.facl_messages.specs.declared.fault.RunFault.TheVariants as runs;
-ghost use Rattle.facl.specs.Setups.{set_up, with_text, begun};
+ghost use Rattle.facl.specs.Setups.{set_up, with_text, initial_state};
 
 use acl_tree::{Command, State, Table, TreeFault};
 use facl_messages::RunFault;
@@ -73,8 +73,8 @@ fn with_text(
 /// The state before the first line.
 pub(crate) fn start(alloc: Global, setup: &Setup<'_>) -> Result<State, RunFault>
     ensures { MatchResult result
-        (λ state. begun setup.now ≡ Ok state)
-        (λ fault. fault ≢ runs.NoMemory → begun setup.now ≡ Err fault) }
+        (λ state. initial_state setup.now ≡ Ok state)
+        (λ fault. fault ≢ runs.NoMemory → initial_state setup.now ≡ Err fault) }
 {
     let state = State::new(alloc)?;
     let state = with_text(alloc, Table::Passwd, setup.passwd, state)?;

@@ -2,7 +2,7 @@
 
 ghost use Rattle.std.specs.Prelude.{◌≡◌, ◌+◌, ◌<◌, ◌≤◌, ◌^◌, IfOk, OnOk, OnErr};
 ghost use Rattle.std.specs.Option.{option_map_or};
-ghost use Rattle.acl_tree.specs.Tells.{Tells};
+ghost use Rattle.acl_tree.specs.Reports.{Reports};
 ghost use Rattle.acl_tree.specs.declared.moved.UsersMove.TheVariants.{Same};
 ghost use Rattle.facl_replies.specs.Replies.{IsPrepared};
 ghost use Rattle.acl_rights.specs.Tables.{IsWhole};
@@ -40,7 +40,7 @@ impl<J: Judge> World<J> {
     pub fn accept(&mut self, alloc: Global, judge: &mut J, staged: Staged) -> Result<(), AllocError>
         requires room { J.asked_of judge.old + most_pairs < 2 ^ 64 }
         requires whole { IsWhole J.verdict_of self.old.state self.old.index }
-        requires tells { Tells self.old.state staged }
+        requires reports { Reports self.old.state staged }
         ensures state { OnOk result (self.new.state ≡ staged.state) }
         ensures unchanged { OnErr result (self.new ≡ self.old) }
         ensures whole { IsWhole J.verdict_of self.new.state self.new.index }

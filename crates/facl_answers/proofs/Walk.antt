@@ -3,7 +3,7 @@ use Rattle.std.proofs.Common.{◌≡◌, ◌++◌, append_assoc, append-nil, Lis
 use Rattle.std.proofs.lemmas.List.{map-append}
 use Rattle.acl_edit.specs.declared.node.Node.{Node}
 use Rattle.acl_load.specs.Inner.{next_file_below}
-use Rattle.acl_load.proofs.Follows.{told_by_next}
+use Rattle.acl_load.proofs.Follows.{known_by_next}
 use Rattle.acl_tree.specs.Files.{PathOf, Files, IsInOrder}
 use Rattle.acl_tree.specs.Found.{FoundFile, found_file, found_in}
 use Rattle.acl_tree.specs.Sound.{holds_below}
@@ -21,7 +21,7 @@ pub walk_more : (t rest more : Files) (e : PathOf × Node) (found new : List Fou
     → IsUpTo t rest found → IsUpTo t more new
 walk_more t rest more e found new file order is made pushed at =
     let whole : t ≡ at.seen ++ e ∷ more = at.whole ∙ ap (λ l. at.seen ++ l) is in
-    let below = told_by_next at.seen e more (subst IsInOrder whole order) ∙ ap (λ l. holds_below l e.0) (sym whole) in
+    let below = known_by_next at.seen e more (subst IsInOrder whole order) ∙ ap (λ l. holds_below l e.0) (sym whole) in
     record {
       seen = at.seen ++ e ∷ [];
       whole = whole ∙ sym (append_assoc at.seen (e ∷ []) more);

@@ -18,9 +18,9 @@ fault_by_words words.Usage = Usage
 fault_by_words words.NoMemory = NoMemory
 
 -- the system ran out of memory
-abbrev pub wants_memory : ErrorKind → Bool
-wants_memory OutOfMemory = true
-wants_memory kind = false
+abbrev pub ran_out_of_memory : ErrorKind → Bool
+ran_out_of_memory OutOfMemory = true
+ran_out_of_memory kind = false
 
 abbrev pub fault_text : ProgramFault → List ℕ
 fault_text Usage = codes "usage"
@@ -46,8 +46,8 @@ is_composed fault = false
 
 -- The fault's line is added. Only where it is composed in an allocated buffer may that of `no memory` be added in its
 -- place.
-abbrev pub IsLineTold : ProgramFault → (err err' : Option (List ℕ)) → Type 0
-IsLineTold fault err err' = Appends err err' (fault_line fault) ⊎ ((is_composed fault ≡ true) × Appends err err' (fault_line NoMemory))
+abbrev pub IsLineReported : ProgramFault → (err err' : Option (List ℕ)) → Type 0
+IsLineReported fault err err' = Appends err err' (fault_line fault) ⊎ ((is_composed fault ≡ true) × Appends err err' (fault_line NoMemory))
 
 -- 1 where a line was refused, 2 at a fault of the program, else 0
 abbrev pub status_of : Result Status ProgramFault → ℕ
@@ -55,6 +55,6 @@ status_of (Ok status) = if has_refused status then 1 else 0
 status_of (Err fault) = 2
 
 -- At a fault its line is added, or the writer has failed; else nothing is.
-abbrev pub IsTold : Result Status ProgramFault → (err err' : Option (List ℕ)) → Bool → Type 0
-IsTold (Ok status) err err' failed = err' ≡ err
-IsTold (Err fault) err err' failed = IsLineTold fault err err' ⊎ (failed ≡ true)
+abbrev pub IsReported : Result Status ProgramFault → (err err' : Option (List ℕ)) → Bool → Type 0
+IsReported (Ok status) err err' failed = err' ≡ err
+IsReported (Err fault) err err' failed = IsLineReported fault err err' ⊎ (failed ≡ true)

@@ -3,7 +3,7 @@ use Rattle.std.specs.Prelude.{◌≡◌, ℕ, List, Option, None, Some, ⊤}
 use Rattle.acl_entry.specs.Check.{rights}
 use Rattle.facl_messages.specs.declared.fault.RunFault.{RunFault}
 use Rattle.facl.specs.Runs.{EndsBy, IsUntouched, RunsTo}
-use Rattle.facl.specs.Setups.{begun}
+use Rattle.facl.specs.Setups.{initial_state}
 use Rattle.facl.specs.declared.setup.Setup.{Setup}
 use Rattle.facl.specs.declared.status.Status.{Status}
 use Rattle.facl_cli.specs.Files.{AreTextsOf, IsFirstUnread, setup_texts}
@@ -36,14 +36,14 @@ pub record Ran (bytes_of : List ℕ → Bytes) (words : List (List ℕ)) (script
   pub setup : Setup
   pub texts : HaveTexts bytes_of words (setup_texts setup)
   pub asked : ℕ
-  pub runs : RunsTo rights (begun setup) script status asked out out' err err'
+  pub runs : RunsTo rights (initial_state setup) script status asked out out' err err'
 
 -- The texts of the files that the words name were there, and then the run ended by a fault.
 pub record Stopped (fault : RunFault) (bytes_of : List ℕ → Bytes) (words : List (List ℕ)) (remaining remaining' out out' err err' : Option (List ℕ)) : Type 0 where
   pub setup : Setup
   pub texts : HaveTexts bytes_of words (setup_texts setup)
   pub asked : ℕ
-  pub ends : EndsBy fault rights (begun setup) asked remaining remaining' out out' err err'
+  pub ends : EndsBy fault rights (initial_state setup) asked remaining remaining' out out' err err'
 
 -- how the program ends by a fault: before the run nothing is read of the script and nothing written
 abbrev pub FailsBy : ProgramFault → (List ℕ → Bytes) → List (List ℕ) → (remaining remaining' out out' err err' : Option (List ℕ)) → Type 0

@@ -3,7 +3,7 @@
 ghost use Rattle.std.specs.Prelude.{◌≡◌, ◌⊎◌, MatchResult, None, Some, map, string_bytes, if◌then◌else◌};
 ghost use Rattle.std.specs.IoError.{error_kind};
 ghost use Rattle.facl_cli.specs.declared.fault.ProgramFault.TheVariants as faults;
-ghost use Rattle.facl_cli.specs.Lines.{wants_memory};
+ghost use Rattle.facl_cli.specs.Lines.{ran_out_of_memory};
 ghost use Rattle.facl_cli.specs.Words.{files_named, names_of};
 
 use crate::fault::ProgramFault;
@@ -15,7 +15,7 @@ use std::{env, io};
 
 /// The fault of words that cannot be read: one of them is not text, or memory ran out.
 fn words_fault(error: &io::Error) -> ProgramFault
-    ensures { result ≡ if wants_memory (error_kind error.now) then faults.NoMemory else faults.Usage }
+    ensures { result ≡ if ran_out_of_memory (error_kind error.now) then faults.NoMemory else faults.Usage }
 {
     match error.kind() {
         ErrorKind::OutOfMemory => ProgramFault::NoMemory,

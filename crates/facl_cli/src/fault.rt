@@ -3,7 +3,7 @@
 ghost use Rattle.std.specs.Prelude.{◌≡◌, true, false, IfOk, IfErr, OnOk, OnErr};
 ghost use Rattle.std.specs.Io.KnownBytes.{Appends};
 ghost use Rattle.facl_cli.specs.declared.fault.ProgramFault.TheVariants as faults;
-ghost use Rattle.facl_cli.specs.Lines.{IsLineTold, fault_by_words, fault_line, unread_line};
+ghost use Rattle.facl_cli.specs.Lines.{IsLineReported, fault_by_words, fault_line, unread_line};
 
 use facl::{RunFault, Sink, WordsFault, append_run_fault};
 use facl_script::{ScriptFault, write_whole};
@@ -42,10 +42,10 @@ impl From<WordsFault> for ProgramFault {
 }
 
 impl From<RunFault> for ProgramFault {
-    ghost from_gives = { λ ended fault. fault ≡ faults.Run ended };
+    ghost from_gives = { λ run_fault fault. fault ≡ faults.Run run_fault };
 
-    fn from(ended: RunFault) -> ProgramFault {
-        ProgramFault::Run(ended)
+    fn from(run_fault: RunFault) -> ProgramFault {
+        ProgramFault::Run(run_fault)
     }
 }
 
@@ -62,7 +62,7 @@ fn setup_line(alloc: Global, fault: &RunFault) -> Result<Vec<u8>, AllocError>
 /// Writes the line of a run's fault.
 fn write_run_fault<E: Sink>(alloc: Global, fault: &RunFault, err: &mut E) -> Result<(), ScriptFault>
     requires { E.has_failed err.old ≡ false }
-    ensures ok { OnOk result (IsLineTold (faults.Run fault.now) (E.contents err.old) (E.contents err.new)) }
+    ensures ok { OnOk result (IsLineReported (faults.Run fault.now) (E.contents err.old) (E.contents err.new)) }
     ensures err { OnErr result (E.has_failed err.new ≡ true) }
     ensures which { IfErr result (λ e. e ≡ ScriptFault.Write) }
 {
@@ -98,7 +98,7 @@ pub fn write_fault<E: Sink>(
     err: &mut E,
 ) -> Result<(), ScriptFault>
     requires { E.has_failed err.old ≡ false }
-    ensures ok { OnOk result (IsLineTold fault.now (E.contents err.old) (E.contents err.new)) }
+    ensures ok { OnOk result (IsLineReported fault.now (E.contents err.old) (E.contents err.new)) }
     ensures err { OnErr result (E.has_failed err.new ≡ true) }
     ensures which { IfErr result (λ e. e ≡ ScriptFault.Write) }
 {

@@ -4,7 +4,7 @@ ghost use Rattle.std.specs.Prelude.{◌≡◌, ◌≢◌, false, IfOk, IfErr, On
 ghost use Rattle.std.specs.IoError.{error_kind};
 ghost use Rattle.facl_cli.specs.declared.files.Unread.TheVariants as unread;
 ghost use Rattle.facl_cli.specs.Words.{names_of};
-ghost use Rattle.facl_cli.specs.Lines.{wants_memory};
+ghost use Rattle.facl_cli.specs.Lines.{ran_out_of_memory};
 ghost use Rattle.facl_cli.specs.Shelves.{HasNoText, IsText};
 ghost use Rattle.facl_cli.specs.Files.{AreTextsOf, IsFirstUnread, IsTextOf, IsUnread, file_limit, setup_texts, texts_of};
 
@@ -40,7 +40,7 @@ impl From<AllocError> for Unread {
 
 /// The system's error where it ran out of memory is `NoMemory`, and every other one is `NoText`.
 impl From<io::Error> for Unread {
-    ghost from_gives = { λ error why. why ≡ (if wants_memory (error_kind error) then unread.NoMemory else unread.NoText) };
+    ghost from_gives = { λ error why. why ≡ (if ran_out_of_memory (error_kind error) then unread.NoMemory else unread.NoText) };
 
     fn from(error: io::Error) -> Unread {
         match error.kind() {

@@ -4,7 +4,7 @@ ghost use Rattle.std.specs.Prelude.{◌≡◌, ◌⊎◌, false, Err, IfErr, IfO
 ghost use Rattle.std.specs.Io.KnownBytes.{IsAtEnd};
 ghost use Rattle.std.specs.Process.{exit_status};
 ghost use Rattle.facl_cli.specs.Files.{texts_of};
-ghost use Rattle.facl_cli.specs.Lines.{IsTold, status_of};
+ghost use Rattle.facl_cli.specs.Lines.{IsReported, status_of};
 ghost use Rattle.facl_cli.specs.Program.{FailsBy, HaveTexts, IsUnloaded, Ran};
 ghost use Rattle.facl_messages.specs.declared.fault.RunFault.TheVariants as runs;
 
@@ -76,7 +76,7 @@ pub fn answer_words<S: Shelf, R: Feed, O: Sink, E: Sink>(
 pub fn end<E: Sink>(alloc: Global, outcome: &Result<Status, ProgramFault>, err: &mut E) -> ExitCode
     requires { E.has_failed err.old ≡ false }
     ensures status { exit_status result ≡ status_of outcome.now }
-    ensures told { IsTold outcome.now (E.contents err.old) (E.contents err.new) (E.has_failed err.new) }
+    ensures reported { IsReported outcome.now (E.contents err.old) (E.contents err.new) (E.has_failed err.new) }
 {
     match outcome {
         Ok(status) => ExitCode::from(status.code()),

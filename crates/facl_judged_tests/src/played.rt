@@ -21,7 +21,7 @@ pub fn play<J: Judge>(alloc: Global, judge: &mut J, setup: &Setup<'_>, script: &
 {
     let mut out = Vec::new(alloc);
     let mut err = Vec::new(alloc);
-    let ended = run_judged(
+    let end_of_run = run_judged(
         alloc,
         setup,
         judge,
@@ -32,7 +32,7 @@ pub fn play<J: Judge>(alloc: Global, judge: &mut J, setup: &Setup<'_>, script: &
     Played {
         out,
         err,
-        status: ended.ok(),
+        status: end_of_run.ok(),
         asked: judge.asked(),
     }
 }

@@ -27,13 +27,13 @@ use Rattle.acl_tree.specs.Operands.{is_file}
 use Rattle.acl_tree.specs.Sound.{holds_below, IsPlaced, ArePlaced}
 use Rattle.acl_tree.specs.Found.{FoundFile, found_in, files_found}
 use Rattle.acl_tree.specs.Step.{State, with_records}
-use Rattle.facl_listings.specs.Listings.{listing, plain, has_slash, flags_told}
+use Rattle.facl_listings.specs.Listings.{listing, plain, has_slash, flags_shown}
 use Rattle.facl_listings.specs.Again.{user_id, group_id, user_name, group_name, IsReadAgain, IsLoadedAs, listing_of, all_paths_listing, root_listing}
 use Rattle.facl_listings.proofs.Rising.{Rising, paths_of, rising, apart, in_order_already}
 
 -- the record that is printed of a file
 abbrev pub record_of : FoundFile → DumpRecord
-record_of f = record { at = 0; path = f.path; slash = has_slash f; owner = Some f.node.label.owner; group = Some f.node.label.group; flags = flags_told f.node.flags; access = f.node.label.acl; dacl = f.node.dacl }
+record_of f = record { at = 0; path = f.path; slash = has_slash f; owner = Some f.node.label.owner; group = Some f.node.label.group; flags = flags_shown f.node.flags; access = f.node.label.acl; dacl = f.node.dacl }
 
 abbrev pub found : Files → PathOf × Node → FoundFile
 found all e = record { path = e.0; node = e.1; has_below = holds_below all e.0 }
@@ -77,7 +77,7 @@ found_root es = ap (λ l. found_in es l) (all_below_root es)
 
 -- ---- one file
 
-pub flags_again : (flags : List Bool) → length flags ≡ 3 → unwrap_or (flags_told flags) (false ∷ false ∷ false ∷ []) ≡ flags
+pub flags_again : (flags : List Bool) → length flags ≡ 3 → unwrap_or (flags_shown flags) (false ∷ false ∷ false ∷ []) ≡ flags
 flags_again [] three = absurd (omega arith)
 flags_again (a ∷ []) three = absurd (omega arith)
 flags_again (a ∷ b ∷ []) three = absurd (omega arith)
@@ -87,29 +87,29 @@ flags_again (false ∷ false ∷ true ∷ []) three = refl
 flags_again (false ∷ false ∷ false ∷ []) three = refl
 flags_again (a ∷ b ∷ c ∷ d ∷ more) three = absurd (omega arith)
 
-three_flags : (flags : List Bool) → length flags ≡ 3 → AreFlags (flags_told flags)
+three_flags : (flags : List Bool) → length flags ≡ 3 → AreFlags (flags_shown flags)
 three_flags flags three = elim (list_any (λ flag. flag) flags) as (λ b. AreFlags (cond b (Some flags) None)) [ true ↦ three | false ↦ tt ]
 
-kind_again : (k : Kind) (told : Bool) → (told ≡ true → k ≡ Directory) → cond ((nodes.is_directory k && not told) || told) Directory Plain ≡ k
+kind_again : (k : Kind) (shown_text : Bool) → (shown_text ≡ true → k ≡ Directory) → cond ((nodes.is_directory k && not shown_text) || shown_text) Directory Plain ≡ k
 kind_again Plain true h = sym (h refl)
 kind_again Plain false h = refl
 kind_again Directory true h = refl
 kind_again Directory false h = refl
 
 -- what shows a directory without a final `/` is right
-told_rightly : (k : Kind) (root below : Bool) (dacl : Option KeyMap) → ((root || below) ≡ true → k ≡ Directory) → (k ≡ Plain → dacl ≡ None) → (root || (is_some dacl || below)) ≡ true → k ≡ Directory
-told_rightly Directory root below dacl placed default told = refl
-told_rightly Plain true below dacl placed default told = placed refl
-told_rightly Plain false true dacl placed default told = placed refl
-told_rightly Plain false false dacl placed default told = absurd (cc (ap (λ (o : Option KeyMap). is_some o || false) (default refl), told))
+shown_rightly : (k : Kind) (root below : Bool) (dacl : Option KeyMap) → ((root || below) ≡ true → k ≡ Directory) → (k ≡ Plain → dacl ≡ None) → (root || (is_some dacl || below)) ≡ true → k ≡ Directory
+shown_rightly Directory root below dacl placed default shown_text = refl
+shown_rightly Plain true below dacl placed default shown_text = placed refl
+shown_rightly Plain false true dacl placed default shown_text = placed refl
+shown_rightly Plain false false dacl placed default shown_text = absurd (cc (ap (λ (o : Option KeyMap). is_some o || false) (default refl), shown_text))
 
 node_again : (all : Files) (e : PathOf × Node) (at : ℕ) → IsPlaced all e → length e.1.flags ≡ 3 → node_of (holds_below all e.0) (record (record_of (found all e)) { at = at }) ≡ e.1
 node_again all e at is three =
     let n = e.1 in
     let below = holds_below all e.0 in
     let root = length e.0 == 0 in
-    ap (λ (k : Kind). let m : Node = record { kind = k; label = n.label; flags = unwrap_or (flags_told n.flags) (false ∷ false ∷ false ∷ []); dacl = n.dacl } in m)
-    (kind_again n.kind (root || (is_some n.dacl || below)) (told_rightly n.kind root below n.dacl is.directory is.default))
+    ap (λ (k : Kind). let m : Node = record { kind = k; label = n.label; flags = unwrap_or (flags_shown n.flags) (false ∷ false ∷ false ∷ []); dacl = n.dacl } in m)
+    (kind_again n.kind (root || (is_some n.dacl || below)) (shown_rightly n.kind root below n.dacl is.directory is.default))
     ∙ ap (λ (flags : List Bool). let m : Node = record { kind = n.kind; label = n.label; flags = flags; dacl = n.dacl } in m) (flags_again n.flags three)
 
 -- ---- all files

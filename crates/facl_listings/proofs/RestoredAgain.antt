@@ -38,7 +38,7 @@ module _ (test : PathOf × Node → Bool) where
 as_recorded : (known : Register) (all es : Files) (at : ℕ) → Leads all es → AllByRecursion (IsReadAgain known) es → AllByRecursion (IsAsRecorded all) (placed at (records_of all es))
 as_recorded known all [] at leads again = tt
 as_recorded known all (e ∷ es) at leads again = (
-  record { node = e.1; recorded = leads.0; says = record { access = refl; default = refl; owner = refl; group = refl; flags = flags_again e.1.flags again.0.flags } },
+  record { node = e.1; recorded = leads.0; contains = record { access = refl; default = refl; owner = refl; group = refl; flags = flags_again e.1.flags again.0.flags } },
   as_recorded known all es (at + line_count (record_of (found all e))) leads.1 again.1,
 )
 

@@ -43,14 +43,14 @@ all_before (d ∷ pre) e es order =
     let parts = and_parts (below_all path_cmp d.0 (pre ++ e ∷ es)) (is_sorted path_cmp (pre ++ e ∷ es)) order in
     (first_below d.0 pre e es parts.0, all_before pre e es parts.1)
 
-rising_behind : (pre es : Files) → IsInOrder (pre ++ es) → Rising (paths_of pre) (paths_of es)
-rising_behind pre [] order = tt
-rising_behind pre (e ∷ es) order =
-    (all_before pre e es order, subst (λ ps. Rising ps (paths_of es)) (map-append (λ (e : PathOf × Node). e.0) pre (e ∷ [])) (rising_behind (pre ++ e ∷ []) es (subst IsInOrder (sym (append_assoc pre (e ∷ []) es)) order)))
+rising_after : (pre es : Files) → IsInOrder (pre ++ es) → Rising (paths_of pre) (paths_of es)
+rising_after pre [] order = tt
+rising_after pre (e ∷ es) order =
+    (all_before pre e es order, subst (λ ps. Rising ps (paths_of es)) (map-append (λ (e : PathOf × Node). e.0) pre (e ∷ [])) (rising_after (pre ++ e ∷ []) es (subst IsInOrder (sym (append_assoc pre (e ∷ []) es)) order)))
 
 -- the paths of files in path order rise
 pub rising : (es : Files) → IsInOrder es → Rising [] (paths_of es)
-rising es order = rising_behind [] es order
+rising es order = rising_after [] es order
 
 not_same : (p : PathOf) (ps : List PathOf) → Before ps p → list_any (same_path p) ps ≡ false
 not_same p [] h = refl

@@ -28,19 +28,19 @@ abbrev pub path_shown : FoundFile → List ℕ
 path_shown file = path_text file.path ++ slash_text (has_slash file)
 
 -- the flags are printed where one of them is set
-abbrev pub flags_told : List Bool → Option (List Bool)
-flags_told flags = if list_any (λ flag. flag) flags then Some flags else None
+abbrev pub flags_shown : List Bool → Option (List Bool)
+flags_shown flags = if list_any (λ flag. flag) flags then Some flags else None
 
 -- the name that an id is printed as; with numbers none is
-abbrev pub name_told : Bool → (ℕ → Option (List ℕ)) → ℕ → Option (List ℕ)
-name_told true name_of id = None
-name_told false name_of id = name_of id
+abbrev pub shown_name : Bool → (ℕ → Option (List ℕ)) → ℕ → Option (List ℕ)
+shown_name true name_of id = None
+shown_name false name_of id = name_of id
 
 module _ (user_name group_name : ℕ → Option (List ℕ)) where
   abbrev pub headers : Options → FoundFile → List ℕ
   headers options file =
       if options.omit_header then []
-      else header_text user_name group_name file.path (has_slash file) (Some file.node.label.owner) (Some file.node.label.group) (flags_told file.node.flags)
+      else header_text user_name group_name file.path (has_slash file) (Some file.node.label.owner) (Some file.node.label.group) (flags_shown file.node.flags)
 
   abbrev pub default_entries : Options → Node → List ℕ
   default_entries options n = if options.access_only then [] else default_text user_name group_name options.effective n.dacl
@@ -57,7 +57,7 @@ module _ (user_name group_name : ℕ → Option (List ℕ)) where
 -- what getfacl prints, where users and groups have these names
 abbrev pub listing : (ℕ → Option (List ℕ)) → (ℕ → Option (List ℕ)) → Options → List FoundFile → List ℕ
 listing user_name group_name options files =
-    files_text (name_told options.numeric user_name) (name_told options.numeric group_name) options files
+    files_text (shown_name options.numeric user_name) (shown_name options.numeric group_name) options files
 
 -- getfacl without options
 abbrev pub plain : Options

@@ -2,7 +2,7 @@
 
 ghost use Rattle.std.specs.Prelude.{◌≡◌, ◌++◌, OnOk, OnErr};
 ghost use Rattle.std.specs.Io.{StartsWith};
-ghost use Rattle.facl_listings.specs.Listings.{has_base_alone, is_listed, has_slash, path_shown, flags_told, headers, default_entries, file_text, files_text, listing};
+ghost use Rattle.facl_listings.specs.Listings.{has_base_alone, is_listed, has_slash, path_shown, flags_shown, headers, default_entries, file_text, files_text, listing};
 
 use crate::options::Options;
 use acl_dump::{append_header, append_list};
@@ -28,10 +28,10 @@ fn is_listed(options: &Options, file: &Found) -> bool
 pub(crate) fn has_slash(file: &Found) -> bool
     ensures { result ≡ has_slash file.now }
 {
-    let is_told = file.path().components().is_empty()
+    let is_shown = file.path().components().is_empty()
         || file.node().dacl.is_some()
         || file.has_below();
-    file.node().kind == Kind::Directory && !is_told
+    file.node().kind == Kind::Directory && !is_shown
 }
 
 /// Adds the path of a file, with the final `/` of a directory that nothing else shows as one. Fails only if memory
@@ -47,8 +47,8 @@ pub fn push_path_shown(text: &mut Vec<u8>, file: &Found) -> Result<(), AllocErro
     Ok(())
 }
 
-fn flags_told(flags: [bool; 3]) -> Option<[bool; 3]>
-    ensures { result ≡ flags_told flags }
+fn flags_shown(flags: [bool; 3]) -> Option<[bool; 3]>
+    ensures { result ≡ flags_shown flags }
 {
     let [setuid, setgid, sticky] = flags;
     if setuid || setgid || sticky {
@@ -77,7 +77,7 @@ fn push_headers<N: Names>(
         has_slash(file),
         &Some(node.label.owner),
         &Some(node.label.group),
-        flags_told(node.flags),
+        flags_shown(node.flags),
         names,
     )
 }

@@ -25,18 +25,18 @@ line_text (Tree fault) = tree_text fault
 line_text NoMemory = codes "no memory"
 
 -- who reports a fault: the tool, once its own words are read, and before that the program
-abbrev pub teller : List ℕ → LineFault → List ℕ
-teller tool LineTooLong = codes "facl"
-teller tool NotUtf8 = codes "facl"
-teller tool OpenQuote = codes "facl"
-teller tool UnknownTool = codes "facl"
-teller tool UnendedText = codes "facl"
-teller tool TextLineTooLong = codes "facl"
-teller tool Usage = tool
-teller tool (Text source fault) = tool
-teller tool (Both at) = tool
-teller tool (Tree fault) = tool
-teller tool NoMemory = codes "facl"
+abbrev pub reporter : List ℕ → LineFault → List ℕ
+reporter tool LineTooLong = codes "facl"
+reporter tool NotUtf8 = codes "facl"
+reporter tool OpenQuote = codes "facl"
+reporter tool UnknownTool = codes "facl"
+reporter tool UnendedText = codes "facl"
+reporter tool TextLineTooLong = codes "facl"
+reporter tool Usage = tool
+reporter tool (Text source fault) = tool
+reporter tool (Both at) = tool
+reporter tool (Tree fault) = tool
+reporter tool NoMemory = codes "facl"
 
 -- `line N: `
 abbrev pub numbered : ℕ → List ℕ
@@ -44,11 +44,11 @@ numbered number = codes "line " ++ decimal number ++ codes ": "
 
 -- `line N: TOOL: `
 abbrev pub head : ℕ → List ℕ → List ℕ
-head number told_by = numbered number ++ told_by ++ codes ": "
+head number reported_by = numbered number ++ reported_by ++ codes ": "
 
 -- `line N: TOOL: TEXT`, and a line feed
 unfoldable pub message : ℕ → List ℕ → LineFault → List ℕ
-message number tool fault = head number (teller tool fault) ++ line_text fault ++ 10 ∷ []
+message number tool fault = head number (reporter tool fault) ++ line_text fault ++ 10 ∷ []
 
 -- what setfacl(1) warns of where `-d` drops default entries, and a line feed
 unfoldable pub warning : ℕ → List ℕ

@@ -2,7 +2,7 @@
 
 ghost use Rattle.std.specs.Prelude.{◌≡◌, ◌++◌, OnOk, OnErr};
 ghost use Rattle.std.specs.Io.{StartsWith};
-ghost use Rattle.facl_messages.specs.Messages.{head, line_text, message, numbered, teller, warning};
+ghost use Rattle.facl_messages.specs.Messages.{head, line_text, message, numbered, reporter, warning};
 
 use crate::fault::LineFault;
 use crate::kinds::push_text_fault;
@@ -12,8 +12,8 @@ use itoa::Buffer;
 use std::alloc::AllocError;
 
 /// Who reports a fault: the tool, once the line has words and a text, and before that the program.
-fn teller<'a>(tool: &'a [u8], fault: &LineFault) -> &'a [u8]
-    ensures { result.now ≡ teller tool.now fault.now }
+fn reporter<'a>(tool: &'a [u8], fault: &LineFault) -> &'a [u8]
+    ensures { result.now ≡ reporter tool.now fault.now }
 {
     match fault {
         LineFault::LineTooLong
@@ -62,12 +62,12 @@ fn push_number(text: &mut Vec<u8>, number: u64) -> Result<(), AllocError>
 }
 
 /// Adds `line N: TOOL: `.
-fn push_head(text: &mut Vec<u8>, number: u64, told_by: &[u8]) -> Result<(), AllocError>
-    ensures ok { OnOk result (text.new.items ≡ text.old.items ++ head number told_by.now) }
+fn push_head(text: &mut Vec<u8>, number: u64, reported_by: &[u8]) -> Result<(), AllocError>
+    ensures ok { OnOk result (text.new.items ≡ text.old.items ++ head number reported_by.now) }
     ensures err { OnErr result (StartsWith text.new.items text.old.items) }
 {
     push_number(text, number)?;
-    text.extend_from_slice(told_by)?;
+    text.extend_from_slice(reported_by)?;
     text.extend_from_slice(b": ")
 }
 
@@ -84,7 +84,7 @@ pub fn append_message(
     ensures ok { OnOk result (text.new.items ≡ text.old.items ++ message number tool.now fault.now) }
     ensures err { OnErr result (StartsWith text.new.items text.old.items) }
 {
-    push_head(text, number, teller(tool, fault))?;
+    push_head(text, number, reporter(tool, fault))?;
     push_line_fault(text, fault)?;
     text.extend_from_slice(b"\n")
 }

@@ -5,5 +5,5 @@ use Rattle.facl_messages.specs.declared.fault.LineFault.{LineFault}
 use Rattle.facl_replies.specs.Replies.{after}
 
 -- these paths, and those that come after them
-abbrev pub behind : List PathOf → Result (List PathOf) LineFault → Result (List PathOf) LineFault
-behind done r = after r (λ paths. Ok (done ++ paths))
+abbrev pub after_those : List PathOf → Result (List PathOf) LineFault → Result (List PathOf) LineFault
+after_those done r = after r (λ paths. Ok (done ++ paths))

@@ -3,7 +3,7 @@ use Rattle.std.specs.Option.{option_map_or}
 use Rattle.std.specs.Prelude.{◌≡◌, ◌≢◌, ℕ, Bool, false, List, [], Option, None, Some, IfSome, Result, Ok, Err, MatchResult}
 use Rattle.acl_tree.specs.Sound.{IsSoundTree}
 use Rattle.acl_tree.specs.Step.{State, step}
-use Rattle.acl_tree.specs.Tells.{StagedState, Tells, users_move}
+use Rattle.acl_tree.specs.Reports.{StagedState, Reports, users_move}
 use Rattle.acl_tree.specs.declared.command.Command.{Command}
 use Rattle.acl_tree.specs.declared.command.TreeFault.{TreeFault}
 use Rattle.acl_tree.specs.declared.moved.UsersMove.{UsersMove}
@@ -47,8 +47,8 @@ printed s out = record { state = s; moved = Same; out = out; warns = false }
 -- ---- what is done to answer a line
 
 -- the reply of a line that does this at a state
-abbrev pub left : State → Effect → Reply
-left s effect = record {
+abbrev pub reply_of : State → Effect → Reply
+reply_of s effect = record {
   state = option_map_or (λ staged. staged.state) effect.staged s;
   moved = option_map_or (λ staged. staged.moved) effect.staged Same;
   out = effect.out.items;
@@ -57,7 +57,7 @@ left s effect = record {
 
 -- a staged state was prepared from this one: it reports what differs, and its tree is sound
 abbrev pub IsPrepared : State → Option StagedState → Type 0
-IsPrepared s staged = IfSome staged (λ new. Tells s new × IsSoundTree new.state.tree)
+IsPrepared s staged = IfSome staged (λ new. Reports s new × IsSoundTree new.state.tree)
 
 -- A call gives what is to be given, or returns exactly the fault, unless memory ran out.
 abbrev pub Gives : {A B : Type 0} → (A → B) → Result A LineFault → Result B LineFault → Type 0
@@ -67,4 +67,4 @@ Gives view result is = MatchResult result (λ a. is ≡ Ok (view a)) (λ fault. 
 -- fault, unless memory ran out.
 abbrev pub Replies : State → Result Effect LineFault → Result Reply LineFault → Type 0
 Replies s result is =
-    MatchResult result (λ effect. (is ≡ Ok (left s effect)) × IsPrepared s effect.staged) (λ fault. fault ≢ NoMemory → is ≡ Err fault)
+    MatchResult result (λ effect. (is ≡ Ok (reply_of s effect)) × IsPrepared s effect.staged) (λ fault. fault ≢ NoMemory → is ≡ Err fault)

@@ -2,7 +2,7 @@
 
 ghost use Rattle.std.specs.Prelude.{◌≡◌, [], false, Some, None};
 ghost use Rattle.acl_tree.specs.Step.{State};
-ghost use Rattle.facl_replies.specs.Replies.{left, printed};
+ghost use Rattle.facl_replies.specs.Replies.{reply_of, printed};
 
 use acl_tree::Staged;
 use std::alloc::Global;
@@ -20,7 +20,7 @@ pub struct Effect {
 impl Effect {
     /// The state stays, and this is printed.
     pub fn prints(out: Vec<u8>) -> Effect
-        ensures left { (s : State) → left s result ≡ printed s out.items }
+        ensures reply_of { (s : State) → reply_of s result ≡ printed s out.items }
         ensures staged { result.staged ≡ None }
     {
         Effect {
@@ -32,7 +32,7 @@ impl Effect {
 
     /// The state becomes this one, and nothing is printed.
     pub fn changes(alloc: Global, staged: Staged) -> Effect
-        ensures left { (s : State) → left s result ≡ record { state = staged.state; moved = staged.moved; out = []; warns = false } }
+        ensures reply_of { (s : State) → reply_of s result ≡ record { state = staged.state; moved = staged.moved; out = []; warns = false } }
         ensures staged { result.staged ≡ Some staged }
     {
         Effect {
@@ -44,7 +44,7 @@ impl Effect {
 
     /// The same, with a warning or without one.
     pub fn warning(mut self, warns: bool) -> Effect
-        ensures left { (s : State) → left s result ≡ record (left s self) { warns = warns } }
+        ensures reply_of { (s : State) → reply_of s result ≡ record (reply_of s self) { warns = warns } }
         ensures staged { result.staged ≡ self.staged }
     {
         self.warns = warns;

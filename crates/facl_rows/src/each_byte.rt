@@ -22,8 +22,8 @@ fn failing_after(alloc: Global, taken: usize, takes_nothing: bool) -> Recovering
 }
 
 /// A run ends by a failed write, or, where nothing failed, with this status.
-fn ends(ended: Result<Status, RunFault>, is_whole: bool, status: Status) -> bool {
-    match ended {
+fn ends(end_of_run: Result<Status, RunFault>, is_whole: bool, status: Status) -> bool {
+    match end_of_run {
         Ok(found) => is_whole && found == status,
         Err(fault) => !is_whole && matches!(fault, RunFault::Write),
     }
@@ -40,7 +40,7 @@ fn expect_taken(rt: &impl Abort, writer: RecoveringWriter, taken: &[u8], all: &[
 fn expect_out_fails(rt: &impl Abort, alloc: Global, taken: &[u8], takes_nothing: bool) {
     let mut out = failing_after(alloc, taken.len(), takes_nothing);
     let mut err = Vec::new(alloc);
-    let ended = run(
+    let end_of_run = run(
         alloc,
         &WHOLE,
         &mut StdFeed::new(LISTS),
@@ -48,7 +48,7 @@ fn expect_out_fails(rt: &impl Abort, alloc: Global, taken: &[u8], takes_nothing:
         &mut StdSink::new(&mut err),
     );
     let is_whole = taken.len() == LISTED.len();
-    assert!(rt; ends(ended, is_whole, Status::Accepted));
+    assert!(rt; ends(end_of_run, is_whole, Status::Accepted));
     assert!(rt; err.is_empty());
     expect_taken(rt, out, taken, LISTED);
 }
@@ -62,7 +62,7 @@ fn out_fails_after_each_byte(rt: HostRuntime) {
 }
 
 /// A script whose second line has a message, and what it prints before that and in all.
-struct Told {
+struct Reported {
     script: &'static [u8],
     before: &'static [u8],
     out: &'static [u8],
@@ -70,15 +70,15 @@ struct Told {
     status: Status,
 }
 
-static TOLD: [Told; 2] = [
-    Told {
+static REPORTED: [Reported; 2] = [
+    Reported {
         script: b"chacl -l f\nfrob\nchacl -l log\n",
         before: b"f [u::rw-,g::r--,o::---]\n",
         out: LISTED,
         err: b"line 2: facl: unknown tool\n",
         status: Status::Refused,
     },
-    Told {
+    Reported {
         script: b"chacl -l f\nsetfacl -d -m u:joe:rw,d:g:adm:r pub\nchacl -l log\n",
         before: b"f [u::rw-,g::r--,o::---]\n",
         out: LISTED,
@@ -87,10 +87,10 @@ static TOLD: [Told; 2] = [
     },
 ];
 
-fn expect_err_fails(rt: &impl Abort, alloc: Global, row: &Told, taken: &[u8], takes_nothing: bool) {
+fn expect_err_fails(rt: &impl Abort, alloc: Global, row: &Reported, taken: &[u8], takes_nothing: bool) {
     let mut out = Vec::new(alloc);
     let mut err = failing_after(alloc, taken.len(), takes_nothing);
-    let ended = run(
+    let end_of_run = run(
         alloc,
         &WHOLE,
         &mut StdFeed::new(row.script),
@@ -98,7 +98,7 @@ fn expect_err_fails(rt: &impl Abort, alloc: Global, row: &Told, taken: &[u8], ta
         &mut StdSink::new(&mut err),
     );
     let is_whole = taken.len() == row.err.len();
-    assert!(rt; ends(ended, is_whole, row.status));
+    assert!(rt; ends(end_of_run, is_whole, row.status));
     let printed = if is_whole { row.out } else { row.before };
     assert!(rt; out.as_slice() == printed);
     expect_taken(rt, err, taken, row.err);
@@ -106,7 +106,7 @@ fn expect_err_fails(rt: &impl Abort, alloc: Global, row: &Told, taken: &[u8], ta
 
 #[test]
 fn err_fails_after_each_byte(rt: HostRuntime) {
-    for row in &TOLD {
+    for row in &REPORTED {
         for place in 0..row.err.len() + 1 {
             expect_err_fails(&rt, rt.alloc(), row, &row.err[..place], false);
             expect_err_fails(&rt, rt.alloc(), row, &row.err[..place], true);
@@ -140,17 +140,17 @@ fn expect_reader_fails(rt: &impl Abort, alloc: Global, given: usize) {
     };
     let mut out = Vec::new(alloc);
     let mut err = Vec::new(alloc);
-    let ended = run(
+    let end_of_run = run(
         alloc,
         &WHOLE,
         &mut StdFeed::new(&mut reader),
         &mut StdSink::new(&mut out),
         &mut StdSink::new(&mut err),
     );
-    assert!(rt; matches!(ended, Err(RunFault::Read)), "at {given}");
-    let (printed, told) = written(given);
+    assert!(rt; matches!(end_of_run, Err(RunFault::Read)), "at {given}");
+    let (printed, reported) = written(given);
     assert!(rt; out.len() == printed && OUT.starts_with(&out), "at {given}");
-    assert!(rt; err.len() == told && ERR.starts_with(&err), "at {given}");
+    assert!(rt; err.len() == reported && ERR.starts_with(&err), "at {given}");
     assert!(rt; reader.calls == given.saturating_add(1), "at {given}");
 }
 

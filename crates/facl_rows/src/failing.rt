@@ -31,18 +31,18 @@ fn stops_where_out_fails(rt: HostRuntime) -> Result<(), Fail> {
             faulty_call: left,
             takes_nothing,
         };
-        let ended = run(
+        let end_of_run = run(
             rt.alloc(),
             &WHOLE,
             &mut StdFeed::new(SCRIPT),
             &mut StdSink::new(&mut out),
             &mut StdSink::new(&mut Vec::new(rt.alloc())),
         );
-        let is_told = match ended {
+        let is_reported = match end_of_run {
             Ok(status) => left == OUT.len() && status == Status::Accepted,
             Err(fault) => left < OUT.len() && matches!(fault, RunFault::Write),
         };
-        assert!(rt; is_told, "at {left}");
+        assert!(rt; is_reported, "at {left}");
         assert!(rt; out.held.as_slice() == &OUT[..left], "at {left}");
         let calls = if left < OUT.len() {
             left + 1
@@ -67,14 +67,14 @@ fn stops_where_err_fails(rt: HostRuntime) -> Result<(), Fail> {
             faulty_call: left,
             takes_nothing: false,
         };
-        let ended = run(
+        let end_of_run = run(
             rt.alloc(),
             &WHOLE,
             &mut StdFeed::new(b"frob\ngetfacl f\n".as_slice()),
             &mut StdSink::new(&mut out),
             &mut StdSink::new(&mut err),
         );
-        assert!(rt; matches!(ended, Err(RunFault::Write)), "at {left}");
+        assert!(rt; matches!(end_of_run, Err(RunFault::Write)), "at {left}");
         assert!(rt; out.is_empty(), "at {left}");
         assert!(rt; err.held.as_slice() == &ERR[..left], "at {left}");
         assert!(rt; err.calls == left.saturating_add(1), "at {left}");
@@ -94,14 +94,14 @@ fn stops_where_the_reader_fails(rt: HostRuntime) -> Result<(), Fail> {
             faulty_call: left,
         };
         let mut out = Vec::new(rt.alloc());
-        let ended = run(
+        let end_of_run = run(
             rt.alloc(),
             &WHOLE,
             &mut StdFeed::new(&mut reader),
             &mut StdSink::new(&mut out),
             &mut StdSink::new(&mut Vec::new(rt.alloc())),
         );
-        assert!(rt; matches!(ended, Err(RunFault::Read)), "at {left}");
+        assert!(rt; matches!(end_of_run, Err(RunFault::Read)), "at {left}");
         assert!(rt; out.as_slice() == &OUT[..printed], "at {left}");
         assert!(rt; reader.calls == left.saturating_add(1), "at {left}");
     }

@@ -1,7 +1,7 @@
 //! Listings.
 
 use crate::rows::{Row, check};
-use crate::texts::{FIRST, GREATEST, MANUAL, SPACED, WHOLE};
+use crate::texts::{FIRST, LARGEST, MANUAL, SPACED, WHOLE};
 use facl::Status;
 use std::test::Fail;
 
@@ -177,7 +177,7 @@ other::---\n\
     },
     Row {
         name: "the greatest id",
-        setup: GREATEST,
+        setup: LARGEST,
         script: b"getfacl a\n",
         out: b"# file: a/\n\
 # owner: 4294967294\n\

@@ -26,9 +26,9 @@ pub fn check(rt: &(impl Abort + AllocGlobal), rows: &[Row]) -> Result<(), Fail> 
             &mut StdSink::new(&mut out),
             &mut StdSink::new(&mut err),
         );
-        let said = (status.ok(), out.as_slice(), err.as_slice());
+        let printed = (status.ok(), out.as_slice(), err.as_slice());
         assert!(rt;
-            said == (Some(row.status), row.out, row.err),
+            printed == (Some(row.status), row.out, row.err),
             "{}",
             row.name
         );

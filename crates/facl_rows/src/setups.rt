@@ -38,17 +38,17 @@ static FAULTS: [FaultRow; 3] = [
 ];
 
 #[test]
-fn tells_the_first_faulty_text(rt: HostRuntime) -> Result<(), Fail> {
+fn reports_the_first_faulty_text(rt: HostRuntime) -> Result<(), Fail> {
     for row in &FAULTS {
         let mut out = Vec::new(rt.alloc());
-        let ended = run(
+        let end_of_run = run(
             rt.alloc(),
             &row.setup,
             &mut StdFeed::new(b"frob\n".as_slice()),
             &mut StdSink::new(&mut out),
             &mut StdSink::new(&mut Vec::new(rt.alloc())),
         );
-        if let Err(fault) = &ended {
+        if let Err(fault) = &end_of_run {
             append_run_fault(&mut out, fault)?;
         }
         assert!(rt; out.as_slice() == row.text);

@@ -96,7 +96,7 @@ user::rw-\n\
 group::r--\n\
 other::---\n";
 
-const GREATEST_DUMP: &[u8] = b"# file: a/\n\
+const LARGEST_DUMP: &[u8] = b"# file: a/\n\
 # owner: 4294967294\n\
 # group: staff\n\
 user::rwx\n\
@@ -237,10 +237,10 @@ pub const SPACED: Setup<'static> = Setup {
 };
 
 /// A file of the greatest id.
-pub const GREATEST: Setup<'static> = Setup {
+pub const LARGEST: Setup<'static> = Setup {
     passwd: Some(PASSWD),
     group: Some(GROUP),
-    dump: Some(GREATEST_DUMP),
+    dump: Some(LARGEST_DUMP),
 };
 
 /// Users with a repeated name, a repeated id, a name of digits and one with a space, and a file.

@@ -3,7 +3,7 @@ use Rattle.std.proofs.Common.{cond, length-append, true≢false, ◌≡◌, ◌<
 use Rattle.facl_script.specs.Lines.{lines_of, HasNoLineFeed, spelled}
 use Rattle.facl_script.specs.Words.{takes_text}
 use Rattle.facl_script.specs.Units.{full_units, ScriptUnit, UnitText, none, unended, within_limit, is_end, ended_text, Open, opened, closed, outside, within, cut, units_of}
-use Rattle.facl_script.proofs.TextLemmas.{begun, text_line, text_end, text_breaks}
+use Rattle.facl_script.proofs.TextLemmas.{so_far, text_line, text_end, text_breaks}
 use Rattle.facl_script.proofs.UnitLemmas.{unit_alone, unit_opens, unit_breaks}
 use Rattle.facl_script.specs.Pieces.{end_line, with_line_feeds, AreTextLines, IsLine, IsLineWithText, IsTextWithoutEnd, IsLineWithoutEnd, IsPiece, line_feeds, AreUnits}
 use Rattle.facl_script.proofs.PieceLemmas.{are_units, feeds_append, feeds_line, feeds_lines, is_end_line, content, content_ended, content_more}
@@ -25,18 +25,18 @@ tail_same false rest m k number last = rw (last refl) refl
 
 -- lines of a text, one after another
 text_lines : (n : ℕ) (line : List ℕ) (lines done : List (List ℕ)) (k : ℕ) (rest : List ℕ) → AreTextLines lines
-    → cut (within (begun n line (content done))) k (lines_of (with_line_feeds lines ++ rest)) ≡ cut (within (begun n line (content (done ++ lines)))) (k + length lines) (lines_of rest)
+    → cut (within (so_far n line (content done))) k (lines_of (with_line_feeds lines ++ rest)) ≡ cut (within (so_far n line (content (done ++ lines)))) (k + length lines) (lines_of rest)
 text_lines n line [] done k rest are = rw (append-nil done, add-zero k) refl
 text_lines n line (l ∷ lines) done k rest are =
-    ap (λ bytes. cut (within (begun n line (content done))) k (lines_of bytes)) (append_assoc (spelled l true) (with_line_feeds lines) rest)
-    ∙ text_line (begun n line (content done)) k l (with_line_feeds lines ++ rest) are.0.0 (end_is_no l are.0.1)
-    ∙ ap (λ c. cut (within (begun n line c)) (k + 1) (lines_of (with_line_feeds lines ++ rest))) (content_more done l)
+    ap (λ bytes. cut (within (so_far n line (content done))) k (lines_of bytes)) (append_assoc (spelled l true) (with_line_feeds lines) rest)
+    ∙ text_line (so_far n line (content done)) k l (with_line_feeds lines ++ rest) are.0.0 (end_is_no l are.0.1)
+    ∙ ap (λ c. cut (within (so_far n line c)) (k + 1) (lines_of (with_line_feeds lines ++ rest))) (content_more done l)
     ∙ text_lines n line lines (done ++ l ∷ []) (k + 1) rest are.1
-    ∙ ap (λ ls. cut (within (begun n line (content ls))) (k + 1 + length lines) (lines_of rest)) (append_assoc done (l ∷ []) lines)
-    ∙ ap (λ m. cut (within (begun n line (content (done ++ l ∷ lines)))) m (lines_of rest)) (omega arith)
+    ∙ ap (λ ls. cut (within (so_far n line (content ls))) (k + 1 + length lines) (lines_of rest)) (append_assoc done (l ∷ []) lines)
+    ∙ ap (λ m. cut (within (so_far n line (content (done ++ l ∷ lines)))) m (lines_of rest)) (omega arith)
 
 text_opens : (n : ℕ) (line : List ℕ) (lines : List (List ℕ)) (rest : List ℕ) → HasNoLineFeed line → takes_text line ≡ true → AreTextLines lines
-    → cut outside n (lines_of (spelled line true ++ (with_line_feeds lines ++ rest))) ≡ cut (within (begun n line (content lines))) (n + 1 + length lines) (lines_of rest)
+    → cut outside n (lines_of (spelled line true ++ (with_line_feeds lines ++ rest))) ≡ cut (within (so_far n line (content lines))) (n + 1 + length lines) (lines_of rest)
 text_opens n line lines rest feed takes are = unit_opens n line (with_line_feeds lines ++ rest) feed takes ∙ text_lines n line lines [] (n + 1) rest are
 
 line_cut : (u : ScriptUnit) (n : ℕ) (piece rest : List ℕ) → IsLine u piece → u.number ≡ n → 0 < length piece → (u.is_full ≡ false → rest ≡ [])
@@ -59,7 +59,7 @@ text_cut u n piece rest is number last =
     ∙ ap (λ l. cut outside n (lines_of l))
     (append_assoc (spelled is.line true) (with_line_feeds is.lines ++ spelled end_line u.is_full) rest ∙ ap (λ l. spelled is.line true ++ l) (append_assoc (with_line_feeds is.lines) (spelled end_line u.is_full) rest))
     ∙ text_opens n is.line is.lines (spelled end_line u.is_full ++ rest) is.no_line_feed is.takes is.lines_are
-    ∙ text_end (begun n is.line (content is.lines)) (n + 1 + length is.lines) u.is_full end_line rest (refl, tt) refl (λ f. (omega arith, last f))
+    ∙ text_end (so_far n is.line (content is.lines)) (n + 1 + length is.lines) u.is_full end_line rest (refl, tt) refl (λ f. (omega arith, last f))
     ∙ ap (λ v. v ∷ cut outside (n + 1 + length is.lines + 1) (lines_of rest))
     (sym (unit_is u n (Some is.line) (ended_text (content is.lines)) u.is_full number is.line_is (is.text_is ∙ sym (content_ended is.lines)) refl))
     ∙ ap (λ us. u ∷ us) (tail_same u.is_full rest (n + 1 + length is.lines + 1) (n + line_feeds piece) counted last)
@@ -92,7 +92,7 @@ unended_cut u n piece rest is number some last =
     alone_cut (inr h) =
         let t = h.1 in
         ap (λ p. cut outside n (lines_of p)) (h.2 ∙ ap (λ l. spelled is.line true ++ l) t.bytes_are) ∙ text_opens n is.line t.lines t.last is.no_line_feed is.takes t.lines_are.1
-        ∙ last_breaks (begun n is.line (content t.lines)) (n + 1 + length t.lines) t.last t.lines_are.0.0 t.lines_are.0.1
+        ∙ last_breaks (so_far n is.line (content t.lines)) (n + 1 + length t.lines) t.last t.lines_are.0.0 t.lines_are.0.1
 
 piece_cut : (u : ScriptUnit) (n : ℕ) (piece rest : List ℕ) → IsPiece u piece → u.number ≡ n → 0 < length piece → (u.is_full ≡ false → rest ≡ [])
     → cut outside n (lines_of (piece ++ rest)) ≡ u ∷ cut outside (n + line_feeds piece) (lines_of rest)

@@ -10,7 +10,7 @@ use Rattle.facl_script.specs.Limits.{line_limit}
 use Rattle.facl_script.specs.Lines.{Line, onto, lines_of, HasNoLineFeed, spelled}
 use Rattle.facl_script.specs.Words.{takes_text}
 use Rattle.facl_script.specs.Units.{whole, too_long, is_end, more_text, ended_text, opened, with_text_line, closed, outside, within, cut, units_of}
-use Rattle.facl_script.proofs.TextLemmas.{begun, spelled_some}
+use Rattle.facl_script.proofs.TextLemmas.{so_far, spelled_some}
 use Rattle.facl_script.proofs.UnitLemmas.{alone}
 use Rattle.facl_script.specs.Pieces.{end_line, with_line_feeds, AreTextLines, text_of, line_feeds, AreUnits}
 
@@ -112,7 +112,7 @@ Outside ls = (k : ℕ) → AreUnits k (cut outside k ls) (all_spelled ls)
 
 Inside : List Line → Type 0
 Inside ls = (n k : ℕ) (line : List ℕ) (lines : List (List ℕ)) → HasNoLineFeed line → takes_text line ≡ true → AreTextLines lines → k ≡ n + (1 + length lines)
-    → AreUnits n (cut (within (begun n line (content lines))) k ls) ((spelled line true ++ with_line_feeds lines) ++ all_spelled ls)
+    → AreUnits n (cut (within (so_far n line (content lines))) k ls) ((spelled line true ++ with_line_feeds lines) ++ all_spelled ls)
 
 inside_end : Inside []
 unfolding Inside
@@ -177,7 +177,7 @@ outside_more text ended ls feed last out inn k = by_test (takes_text text) refl
 
 inside_ends : (n k : ℕ) (line : List ℕ) (lines : List (List ℕ)) (text : List ℕ) (ended : Bool) (ls : List Line) → HasNoLineFeed line → takes_text line ≡ true → AreTextLines lines → k ≡ n + (1 + length lines)
     → text ≡ end_line → (ended ≡ false → ls ≡ []) → Outside ls
-    → AreUnits n (closed (begun n line (content lines)) (ended_text (content lines)) ended ∷ cut outside (k + 1) ls) ((spelled line true ++ with_line_feeds lines) ++ (spelled text ended ++ all_spelled ls))
+    → AreUnits n (closed (so_far n line (content lines)) (ended_text (content lines)) ended ∷ cut outside (k + 1) ls) ((spelled line true ++ with_line_feeds lines) ++ (spelled text ended ++ all_spelled ls))
 unfolding Outside
 inside_ends n k line lines text ended ls feed takes are number e last ih =
     let piece : List ℕ = spelled line true ++ (with_line_feeds lines ++ spelled end_line ended) in (
@@ -201,7 +201,7 @@ inside_ends n k line lines text ended ls feed takes are number e last ih =
 
 inside_goes_on : (n k : ℕ) (line : List ℕ) (lines : List (List ℕ)) (text : List ℕ) (ended : Bool) (ls : List Line) → HasNoLineFeed line → takes_text line ≡ true → AreTextLines lines → k ≡ n + (1 + length lines)
     → HasNoLineFeed text → is_end text ≡ false → (ended ≡ false → (0 < length text) × (ls ≡ [])) → Inside ls
-    → AreUnits n (cut (within (with_text_line (begun n line (content lines)) text)) (k + 1) ls) ((spelled line true ++ with_line_feeds lines) ++ (spelled text ended ++ all_spelled ls))
+    → AreUnits n (cut (within (with_text_line (so_far n line (content lines)) text)) (k + 1) ls) ((spelled line true ++ with_line_feeds lines) ++ (spelled text ended ++ all_spelled ls))
 unfolding Inside
 inside_goes_on n k line lines text true ls feed takes are number text_feed e last ih =
     let h = ih n (k + 1) line (lines ++ text ∷ []) feed takes (more_are lines text are text_feed e) (omega (arith, number, length-append lines (text ∷ []))) in
@@ -234,18 +234,18 @@ unfolding Inside
 inside_more text ended ls text_feed last out inn n k line lines feed takes are number = by_test (is_end text) refl
   where
     by_test : (t : Bool) → is_end text ≡ t
-        → AreUnits n (cond t (closed (begun n line (content lines)) (ended_text (content lines)) ended ∷ cut outside (k + 1) ls) (cut (within (with_text_line (begun n line (content lines)) text)) (k + 1) ls))
+        → AreUnits n (cond t (closed (so_far n line (content lines)) (ended_text (content lines)) ended ∷ cut outside (k + 1) ls) (cut (within (with_text_line (so_far n line (content lines)) text)) (k + 1) ls))
         ((spelled line true ++ with_line_feeds lines) ++ (spelled text ended ++ all_spelled ls))
     by_test true e = inside_ends n k line lines text ended ls feed takes are number (is_end_line text e) (λ f. (last f).1) out
     by_test false e = inside_goes_on n k line lines text ended ls feed takes are number text_feed e last inn
 
-standing : (ls : List Line) → AreLines ls → Outside ls × Inside ls
+outside_and_inside : (ls : List Line) → AreLines ls → Outside ls × Inside ls
 unfolding Outside
-standing [] h = ((λ k. refl), inside_end)
-standing (l ∷ ls) h =
-    let ih = standing ls h.2 in
+outside_and_inside [] h = ((λ k. refl), inside_end)
+outside_and_inside (l ∷ ls) h =
+    let ih = outside_and_inside ls h.2 in
     (outside_more l.bytes l.ended ls h.0 h.1 ih.0 ih.1, inside_more l.bytes l.ended ls h.0 h.1 ih.0 ih.1)
 
 pub are_units : (script : List ℕ) → AreUnits 1 (units_of script) script
 unfolding Outside
-are_units script = subst (λ (bytes : List ℕ). AreUnits 1 (units_of script) bytes) (lines_spell script) ((standing (lines_of script) (lines_are script)).0 1)
+are_units script = subst (λ (bytes : List ℕ). AreUnits 1 (units_of script) bytes) (lines_spell script) ((outside_and_inside (lines_of script) (lines_are script)).0 1)

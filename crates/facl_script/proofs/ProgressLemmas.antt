@@ -56,18 +56,18 @@ pub begins : {S : Type 0} (answered : Bool → ScriptUnit → S → Answer S) (s
 begins answered start = record { done = []; m = λ _. false; splits = λ rest h. refl; full = λ h. refl; plays = λ m' h. refl }
 
 -- one more unit is answered
-pub plays_more : {S : Type 0} (answered : Bool → ScriptUnit → S → Answer S) (start : S) (done : List ScriptUnit) (m : ℕ → Bool) (told : Answer S) (u : ScriptUnit) (b : Bool)
-    → play answered m done start ≡ told → m u.number ≡ b → play answered m (done ++ u ∷ []) start ≡ joined told (answered b u told.state)
-plays_more answered start done m told u b h e =
+pub plays_more : {S : Type 0} (answered : Bool → ScriptUnit → S → Answer S) (start : S) (done : List ScriptUnit) (m : ℕ → Bool) (answer_so_far : Answer S) (u : ScriptUnit) (b : Bool)
+    → play answered m done start ≡ answer_so_far → m u.number ≡ b → play answered m (done ++ u ∷ []) start ≡ joined answer_so_far (answered b u answer_so_far.state)
+plays_more answered start done m answer_so_far u b h e =
     play-append answered m done (u ∷ []) start ∙ ap (λ a. joined a (play answered m (u ∷ []) a.state)) h
-    ∙ ap (λ w. joined told (joined (answered w u told.state) (quiet (answered w u told.state).state))) e
-    ∙ ap (joined told) (joined-quiet (answered b u told.state))
+    ∙ ap (λ w. joined answer_so_far (joined (answered w u answer_so_far.state) (quiet (answered w u answer_so_far.state).state))) e
+    ∙ ap (joined answer_so_far) (joined-quiet (answered b u answer_so_far.state))
 
 -- the units of what was handed out and of the piece after it
-pub next_splits : {S : Type 0} (answered : Bool → ScriptUnit → S → Answer S) (start : S) (taken : List ℕ) (number number' : ℕ) (told : Answer S) (p : Progress answered start taken number false told)
+pub next_splits : {S : Type 0} (answered : Bool → ScriptUnit → S → Answer S) (start : S) (taken : List ℕ) (number number' : ℕ) (answer_so_far : Answer S) (p : Progress answered start taken number false answer_so_far)
     (before after : Option (List ℕ)) (old new : ℕ) (piece : List ℕ) (u : ScriptUnit) (next : IsNextUnit before after old new number number' piece u) (rest : List ℕ) → (u.is_full ≡ false → rest ≡ [])
     → units_of ((taken ++ piece) ++ rest) ≡ (p.done ++ u ∷ []) ++ cut outside number' (lines_of rest)
-next_splits answered start taken number number' told p before after old new piece u next rest last =
+next_splits answered start taken number number' answer_so_far p before after old new piece u next rest last =
     ap units_of (append_assoc taken piece rest) ∙ p.splits (piece ++ rest) (λ e. absurd (true≢false (sym e)))
     ∙ ap (λ us. p.done ++ us) (next.splits rest last) ∙ sym (append_assoc p.done (u ∷ []) (cut outside number' (lines_of rest)))
 
@@ -81,22 +81,22 @@ full_of false e = sym e
 full_last : (u : ScriptUnit) → u.is_full ≡ true → full_units (u ∷ []) ≡ u ∷ []
 full_last u e = rw e refl
 
-pub goes_on : {S : Type 0} (answered : Bool → ScriptUnit → S → Answer S) (start : S) (taken : List ℕ) (number number' : ℕ) (told : Answer S) (p : Progress answered start taken number false told)
-    (before after : Option (List ℕ)) (old new : ℕ) (piece : List ℕ) (u : ScriptUnit) (next : IsNextUnit before after old new number number' piece u) (wants : Bool)
-    → Progress answered start (taken ++ piece) number' (not u.is_full) (joined told (answered wants u told.state))
-goes_on answered start taken number number' told p before after old new piece u next wants = record {
+pub goes_on : {S : Type 0} (answered : Bool → ScriptUnit → S → Answer S) (start : S) (taken : List ℕ) (number number' : ℕ) (answer_so_far : Answer S) (p : Progress answered start taken number false answer_so_far)
+    (before after : Option (List ℕ)) (old new : ℕ) (piece : List ℕ) (u : ScriptUnit) (next : IsNextUnit before after old new number number' piece u) (ran_out : Bool)
+    → Progress answered start (taken ++ piece) number' (not u.is_full) (joined answer_so_far (answered ran_out u answer_so_far.state))
+goes_on answered start taken number number' answer_so_far p before after old new piece u next ran_out = record {
   done = p.done ++ u ∷ [];
-  m = updated number wants p.m;
-  splits = λ rest h. next_splits answered start taken number number' told p before after old new piece u next rest (λ e. h (not_true u.is_full e));
+  m = updated number ran_out p.m;
+  splits = λ rest h. next_splits answered start taken number number' answer_so_far p before after old new piece u next rest (λ e. h (not_true u.is_full e));
   full = λ e. filter-append (λ (v : ScriptUnit). v.is_full) p.done (u ∷ []) ∙ ap (λ l. l ++ full_units (u ∷ [])) (p.full refl) ∙ ap (λ l. p.done ++ l) (full_last u (full_of u.is_full e));
-  plays = λ m' agrees. plays_more answered start p.done m' told u wants (p.plays m' (below_before number number' wants p.m m' next.grows agrees))
-      (ap m' next.numbered ∙ below_at number number' wants p.m m' next.grows agrees);
+  plays = λ m' agrees. plays_more answered start p.done m' answer_so_far u ran_out (p.plays m' (below_before number number' ran_out p.m m' next.grows agrees))
+      (ap m' next.numbered ∙ below_at number number' ran_out p.m m' next.grows agrees);
 }
 
 -- the answer to the units done, where the rest that was handed out has none
-pub told_full : {S : Type 0} (answered : Bool → ScriptUnit → S → Answer S) (start : S) (taken : List ℕ) (number : ℕ) (told : Answer S) (p : Progress answered start taken number false told) (tail : List ℕ)
-    → HasNoUnit tail → play answered p.m (full_units (units_of (taken ++ tail))) start ≡ told
-told_full answered start taken number told p tail none =
+pub full_answer : {S : Type 0} (answered : Bool → ScriptUnit → S → Answer S) (start : S) (taken : List ℕ) (number : ℕ) (answer_so_far : Answer S) (p : Progress answered start taken number false answer_so_far) (tail : List ℕ)
+    → HasNoUnit tail → play answered p.m (full_units (units_of (taken ++ tail))) start ≡ answer_so_far
+full_answer answered start taken number answer_so_far p tail none =
     ap (λ us. play answered p.m us start) (ap full_units (p.splits tail (λ e. absurd (true≢false (sym e)))) ∙ filter-append (λ (u : ScriptUnit). u.is_full) p.done (cut outside number (lines_of tail))
     ∙ ap (λ l. full_units p.done ++ l) (none number) ∙ append-nil (full_units p.done) ∙ p.full refl)
     ∙ p.plays p.m (λ k lt. refl)

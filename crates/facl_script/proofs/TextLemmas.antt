@@ -73,5 +73,5 @@ pub more_text_short : (text line : List ℕ) → length line ≤ 65536 → more_
 more_text_short text line h = rw (le-leb (length line) 65536 h) refl
 
 -- the unit with this text so far
-abbrev pub begun : ℕ → List ℕ → Option (List ℕ) → Open
-begun number line text = record { number = number; line = line; text = text }
+abbrev pub so_far : ℕ → List ℕ → Option (List ℕ) → Open
+so_far number line text = record { number = number; line = line; text = text }

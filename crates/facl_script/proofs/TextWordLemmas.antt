@@ -6,7 +6,7 @@ use Rattle.std.specs.Str.{bytes_eq}
 use Rattle.std.proofs.lemmas.Bool.{le-leb}
 use Rattle.facl_script.specs.declared.place.Place.TheVariants.{Within}
 use Rattle.facl_script.proofs.WordLemmas.{IsSeen, seen_within}
-use Rattle.facl_script.specs.Words.{asks_for_text, ask_for_text, takes_text, words_of, says_nothing}
+use Rattle.facl_script.specs.Words.{asks_for_text, ask_for_text, takes_text, words_of, has_no_words}
 use Rattle.std.specs.Option.{option_map_or}
 
 -- a short text differs from a word in the word's first bytes
@@ -61,10 +61,10 @@ take_grows (suc n) [] b = refl
 take_grows (suc n) (x ∷ word) b = ap (λ l. x ∷ l) (take_grows n word b)
 
 -- a line within the limit that is not blank or a comment takes a text where its words ask for one
-pub takes_text_words : (line : List ℕ) → length line ≤ 65536 → says_nothing line ≡ false → takes_text line ≡ option_map_or ask_for_text (words_of line) false
-takes_text_words line short says = rw (le-leb (length line) 65536 short, says) refl
+pub takes_text_words : (line : List ℕ) → length line ≤ 65536 → has_no_words line ≡ false → takes_text line ≡ option_map_or ask_for_text (words_of line) false
+takes_text_words line short has_none = rw (le-leb (length line) 65536 short, has_none) refl
 
-pub takes_text_within : (line : List ℕ) (done : List (List ℕ)) (word : List ℕ) → length line ≤ 65536 → says_nothing line ≡ false → IsSeen line done word Within []
+pub takes_text_within : (line : List ℕ) (done : List (List ℕ)) (word : List ℕ) → length line ≤ 65536 → has_no_words line ≡ false → IsSeen line done word Within []
     → takes_text line ≡ (ask_for_text done || asks_for_text (none_done done) word)
-takes_text_within line done word short says h =
-    takes_text_words line short says ∙ ap (λ o. option_map_or ask_for_text o false) (seen_within line done word h) ∙ ask_more done word
+takes_text_within line done word short has_none h =
+    takes_text_words line short has_none ∙ ap (λ o. option_map_or ask_for_text o false) (seen_within line done word h) ∙ ask_more done word

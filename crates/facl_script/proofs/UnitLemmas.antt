@@ -5,7 +5,7 @@ use Rattle.std.specs.Option.{option_map_or}
 use Rattle.std.proofs.lemmas.Bool.{le-leb, leb-true}
 use Rattle.std.proofs.lemmas.Bool.Decides.{nat_tests}
 use Rattle.facl_script.specs.Lines.{lines_of, HasNoLineFeed, spelled, Held}
-use Rattle.facl_script.specs.Words.{takes_text, says_nothing, words_of, ask_for_text}
+use Rattle.facl_script.specs.Words.{takes_text, has_no_words, words_of, ask_for_text}
 use Rattle.facl_script.specs.Units.{ScriptUnit, within, outside, none, unended, cut, within_limit, opened, closed, HasNoUnit, full_units}
 use Rattle.facl_script.specs.ReadUnit.{IsLineFound}
 use Rattle.facl_script.proofs.LineLemmas.{lines_of-ended, lines_of-rest}
@@ -58,7 +58,7 @@ left_true true b c h = refl
 left_true false b c h = absurd (true≢false (sym h))
 
 takes_text_short : (line : List ℕ) → takes_text line ≡ true → length line ≤ 65536
-takes_text_short line h = leb-true (length line) 65536 (left_true (nat_le (length line) 65536) (not (says_nothing line)) (option_map_or ask_for_text (words_of line) false) h)
+takes_text_short line h = leb-true (length line) 65536 (left_true (nat_le (length line) 65536) (not (has_no_words line)) (option_map_or ask_for_text (words_of line) false) h)
 
 -- a line that takes a text is held
 pub takes_held : (long : Bool) (held line : List ℕ) → Held long held line → takes_text line ≡ true → Some line ≡ Some held

@@ -36,7 +36,7 @@ pub record Ends {S : Type 0} (answered : Bool → ScriptUnit → S → Answer S)
   pub refused_is : refused ≡ (session answered m script start).refused
 
 -- These units were answered, and no other.
-pub record Told {S : Type 0} (answered : Bool → ScriptUnit → S → Answer S) (start : S) (units : List ScriptUnit) (state : S) (spent spent' : ℕ) (out out' err err' : Option (List ℕ)) : Type 0 where
+pub record IsAnswered {S : Type 0} (answered : Bool → ScriptUnit → S → Answer S) (start : S) (units : List ScriptUnit) (state : S) (spent spent' : ℕ) (out out' err err' : Option (List ℕ)) : Type 0 where
   pub m : ℕ → Bool
   pub gives : Gives (play answered m units start) state spent spent' out out' err err'
 
@@ -55,19 +55,19 @@ pub record FailsAt {S : Type 0} (answered : Bool → ScriptUnit → S → Answer
   pub out_now : Option (List ℕ)
   pub err_now : Option (List ℕ)
   pub spent_now : ℕ
-  pub told_spends : spent_now ≤ spent + (play answered m before start).cost
-  pub told : Writes out out_now err err_now (play answered m before start).out (play answered m before start).err
+  pub spends_so_far : spent_now ≤ spent + (play answered m before start).cost
+  pub answer_so_far : Writes out out_now err err_now (play answered m before start).out (play answered m before start).err
   pub breaks : Breaks (answered (m unit.number) unit (play answered m before start).state) state spent_now spent' out_now out' err_now err'
 
 -- The run over a script stopped with this fault: what the reader has left, and what was answered by then.
 abbrev pub StopsWith : {S : Type 0} → ScriptFault → (Bool → ScriptUnit → S → Answer S) → S → List ℕ → S → (spent spent' : ℕ) (remaining out out' err err' : Option (List ℕ)) → Type 0
 -- the units whose last LF was read
 StopsWith Read answered start script state spent spent' remaining out out' err err' =
-    (read : List ℕ) × Consumes (Some script) remaining read × Told answered start (full_units (units_of read)) state spent spent' out out' err err'
+    (read : List ℕ) × Consumes (Some script) remaining read × IsAnswered answered start (full_units (units_of read)) state spent spent' out out' err err'
 -- the units whose last LF is within the limit, past which one byte was read
 StopsWith TooLong answered start script state spent spent' remaining out out' err err' =
-    (more : List ℕ) × (length more ≡ 1) × Consumes (Some script) remaining (take script_limit script ++ more) × (script_limit < length script) × Told answered start (full_units (units_of (take script_limit script))) state spent spent' out out' err err'
+    (more : List ℕ) × (length more ≡ 1) × Consumes (Some script) remaining (take script_limit script ++ more) × (script_limit < length script) × IsAnswered answered start (full_units (units_of (take script_limit script))) state spent spent' out out' err err'
 -- the units whose last LF came before the line that found no room; past what was looked at then, at most a chunk was read
 StopsWith NoMemory answered start script state spent spent' remaining out out' err err' =
-    (read : List ℕ) × (pending : List ℕ) × Consumes (Some script) remaining (read ++ pending) × (length pending ≤ chunk_limit) × Told answered start (full_units (units_of read)) state spent spent' out out' err err'
+    (read : List ℕ) × (pending : List ℕ) × Consumes (Some script) remaining (read ++ pending) × (length pending ≤ chunk_limit) × IsAnswered answered start (full_units (units_of read)) state spent spent' out out' err err'
 StopsWith Write answered start script state spent spent' remaining out out' err err' = FailsAt answered start script state spent spent' remaining out out' err err'

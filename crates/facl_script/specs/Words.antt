@@ -18,9 +18,9 @@ abbrev pub is_quote : ℕ → Bool
 is_quote b = b == 39
 
 -- a line that is blank, or a comment: its first byte after white space is `#`
-abbrev pub says_nothing : List ℕ → Bool
-says_nothing [] = true
-says_nothing (b ∷ bs) = if is_white b then says_nothing bs else b == 35
+abbrev pub has_no_words : List ℕ → Bool
+has_no_words [] = true
+has_no_words (b ∷ bs) = if is_white b then has_no_words bs else b == 35
 
 -- the byte goes to the front of the first word
 abbrev pub onto_word : ℕ → List (List ℕ) → List (List ℕ)
@@ -51,7 +51,7 @@ words_or_open (Some words) = Ok words
 -- What a line within the limit means: its words, or what is wrong with it as a line.
 -- A blank line or comment has no words, whatever bytes it has. That bytes are not UTF-8 is found before an open quote.
 abbrev pub line_words : List ℕ → Result (List (List ℕ)) SplitFault
-line_words line = if says_nothing line then Ok [] else if is_utf8 line then words_or_open (words_of line) else Err NotUtf8
+line_words line = if has_no_words line then Ok [] else if is_utf8 line then words_or_open (words_of line) else Err NotUtf8
 
 -- one word asks for a text: the first where it is `load`, a later one where it names standard input
 abbrev pub asks_for_text : Bool → List ℕ → Bool
@@ -65,4 +65,4 @@ ask_for_text (tool ∷ words) = asks_for_text true tool || list_any (asks_for_te
 
 -- The lines after this one are its text. No line takes a text that is over the limit, blank, a comment, or has an open quote.
 abbrev pub takes_text : List ℕ → Bool
-takes_text line = nat_le (length line) line_limit && not (says_nothing line) && option_map_or ask_for_text (words_of line) false
+takes_text line = nat_le (length line) line_limit && not (has_no_words line) && option_map_or ask_for_text (words_of line) false

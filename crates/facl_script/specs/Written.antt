@@ -14,9 +14,9 @@ written (bare bytes) = bytes
 written (quoted bytes) = 39 ∷ (bytes ++ 39 ∷ [])
 
 -- what it means
-abbrev pub said : Part → List ℕ
-said (bare bytes) = bytes
-said (quoted bytes) = bytes
+abbrev pub part_text : Part → List ℕ
+part_text (bare bytes) = bytes
+part_text (quoted bytes) = bytes
 
 -- Bare bytes are one or more, without white space or a quote. Between quotes there is no quote.
 abbrev pub IsPart : Part → Type 0
@@ -35,8 +35,8 @@ pub record Word : Type 0 where
 abbrev pub word_written : Word → List ℕ
 word_written w = (written w.part ++ flat_map written w.parts) ++ w.gap
 
-abbrev pub word_said : Word → List ℕ
-word_said w = said w.part ++ flat_map said w.parts
+abbrev pub word_text : Word → List ℕ
+word_text w = part_text w.part ++ flat_map part_text w.parts
 
 -- only after the last word there may be no white space
 abbrev pub AreWords : List Word → Type 0
@@ -50,4 +50,4 @@ pub record Spells (line : List ℕ) (words : List (List ℕ)) : Type 0 where
   pub front_is : IsWhiteSpace front
   pub words_are : AreWords spelled
   pub line_is : line ≡ front ++ flat_map word_written spelled
-  pub said_is : words ≡ map word_said spelled
+  pub words_are_texts : words ≡ map word_text spelled

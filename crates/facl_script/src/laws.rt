@@ -5,7 +5,7 @@ ghost use Rattle.std.specs.List.{AllByRecursion, join_with_byte};
 ghost use Rattle.facl_script.specs.Words.{is_quote, words_of};
 ghost use Rattle.facl_script.specs.Units.{ScriptUnit, units_of, full_units};
 ghost use Rattle.facl_script.specs.Pieces.{AreUnits};
-ghost use Rattle.facl_script.specs.Written.{Part, IsPart, written, said, Spells};
+ghost use Rattle.facl_script.specs.Written.{Part, IsPart, written, part_text, Spells};
 
 /// Proof only: a line has these words exactly if it spells them: white space, and then words that are each written in parts, as they are
 /// or between two quotes, with white space between each two.
@@ -15,7 +15,7 @@ pub fn line_has_words_as_written()
 
 /// Proof only: words that each are as they are or between two quotes, with one space between each two, are split into just these.
 pub fn words_joined_by_spaces_are_split_again()
-    ensures { (words : List Part) → AllByRecursion IsPart words → words_of (join_with_byte 32 (map written words)) ≡ Some (map said words) }
+    ensures { (words : List Part) → AllByRecursion IsPart words → words_of (join_with_byte 32 (map written words)) ≡ Some (map part_text words) }
 {}
 
 /// Proof only: a quote is left open exactly if the quotes of the line are odd in number.

@@ -24,5 +24,5 @@ pub use source::{LINE_LIMIT, SCRIPT_LIMIT};
 pub use text::TextFound;
 pub use text_words::{is_text_word, takes_text};
 pub use unit::{Script, UnitFound};
-pub use words::{SplitFault, says_nothing, split_words};
-pub use write::{say, write_whole};
+pub use words::{SplitFault, has_no_words, split_words};
+pub use write::{write_answer, write_whole};

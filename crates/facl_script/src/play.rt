@@ -11,7 +11,7 @@ ghost use Rattle.facl_script.specs.Run.{IsAnswer, Gives, Breaks, Ends, StopsWith
 use crate::devices::{Feed, Sink};
 use crate::fault::ScriptFault;
 use crate::unit::{Script, UnitFound};
-use crate::write::say;
+use crate::write::write_answer;
 use std::alloc::Global;
 
 /// What answers the units of a script: it has a state, which each unit may change, and the answer to the last unit.
@@ -31,7 +31,7 @@ pub trait Session {
     /// What has to be true of a session before the line with a number is answered, so that its counts fit.
     ghost is_ready: { ℕ → Self → Type 0 } = { λ _ _. Unit {0} };
 
-    /// The name of the reference that a session holds to what it spends from, if it holds one: whoever lent it knows it
+    /// The name of the reference that a session holds to what it spends from, if it holds one: whoever borrowed it to the session knows it
     /// again by that name.
     ghost held: { Self → ℕ } = { λ _. 0 };
 
@@ -46,8 +46,8 @@ pub trait Session {
     fn answer(&mut self, unit: &UnitFound, line: &[u8], text: &[u8]) -> bool
         requires { is_ready unit.now.number self.old }
         ensures answers { (u : ScriptUnit) → IsUnitFound unit.now line.now text.now u
-            → (wants : Bool)
-            × IsAnswer (answered wants u (state self.old)) (state self.new) (spent self.old) (spent self.new)
+            → (ran_out : Bool)
+            × IsAnswer (answered ran_out u (state self.old)) (state self.new) (spent self.old) (spent self.new)
             (to_out self.new) (to_err self.new) result }
         ensures ready { (n : ℕ) → unit.now.number < n → n ≤ script_limit + 1 → is_ready n self.new }
         ensures held { held self.new ≡ held self.old };
@@ -74,16 +74,16 @@ fn answer_unit<S: Session, O: Sink, E: Sink>(
     requires err_works { E.has_failed err.old ≡ false }
     ensures ok { IfOk result (λ refused. (u : ScriptUnit)
         → IsUnitFound unit.now (line_held script.now) (text_held script.now) u
-        → (wants : Bool)
-        × Gives (S.answered wants u (S.state session.old)) (S.state session.new)
+        → (ran_out : Bool)
+        × Gives (S.answered ran_out u (S.state session.old)) (S.state session.new)
         (S.spent session.old) (S.spent session.new)
         (O.contents out.old) (O.contents out.new) (E.contents err.old) (E.contents err.new)
-        × (refused ≡ (S.answered wants u (S.state session.old)).refused)) }
+        × (refused ≡ (S.answered ran_out u (S.state session.old)).refused)) }
     ensures works { OnOk result ((O.has_failed out.new ≡ false) × (E.has_failed err.new ≡ false)) }
     ensures part { OnErr result ((u : ScriptUnit)
         → IsUnitFound unit.now (line_held script.now) (text_held script.now) u
-        → (wants : Bool)
-        × Breaks (S.answered wants u (S.state session.old)) (S.state session.new)
+        → (ran_out : Bool)
+        × Breaks (S.answered ran_out u (S.state session.old)) (S.state session.new)
         (S.spent session.old) (S.spent session.new)
         (O.contents out.old) (O.contents out.new) (E.contents err.old) (E.contents err.new)) }
     ensures failed { OnErr result ((O.has_failed out.new ≡ true) ⊎ (E.has_failed err.new ≡ true)) }
@@ -92,7 +92,7 @@ fn answer_unit<S: Session, O: Sink, E: Sink>(
     ensures held { S.held session.new ≡ S.held session.old }
 {
     let is_refused = session.answer(unit, script.line(), script.text());
-    say(out, err, session.out(), session.err())?;
+    write_answer(out, err, session.out(), session.err())?;
     Ok(is_refused)
 }
 

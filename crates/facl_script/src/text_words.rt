@@ -6,7 +6,7 @@ ghost use Rattle.facl_script.specs.declared.text_words.TheConstants.{BEGINNING};
 
 use crate::place::{Effect, Place};
 use crate::source::LINE_LIMIT;
-use crate::words::says_nothing;
+use crate::words::has_no_words;
 
 /// Whether a word of a tool line names standard input as a file of entries or as a dump, as setfacl(1) spells it:
 /// `-`, `-M-`, `-X-`, `--modify-file=-`, `--remove-file=-`, `--set-file=-` or `--restore=-`.
@@ -78,7 +78,7 @@ impl Beginning {
 pub fn takes_text(line: &[u8]) -> bool
     ensures { result ≡ takes_text_after line.now }
 {
-    if line.len() > LINE_LIMIT || says_nothing(line) {
+    if line.len() > LINE_LIMIT || has_no_words(line) {
         return false;
     }
     let mut place = Place::Between;

@@ -1,6 +1,6 @@
 //! The words of a line.
 ghost use Rattle.std.specs.Prelude.{◌≡◌, ◌≤◌, ◌⊎◌, length, map, string_bytes, Option, None, Some, MatchResult, Ok, Err};
-ghost use Rattle.facl_script.specs.Words.{line_words, words_of, says_nothing as is_silent};
+ghost use Rattle.facl_script.specs.Words.{line_words, words_of, has_no_words as is_silent};
 
 use crate::place::{Effect, Place};
 use std::alloc::{AllocError, AllocFailed, Global};
@@ -37,7 +37,7 @@ impl<T: Drop> From<AllocFailed<T>> for SplitFault {
 }
 
 /// Whether a line is blank or a comment: whether its first byte after spaces and tabs is `#`, or there is none.
-pub fn says_nothing(line: &[u8]) -> bool
+pub fn has_no_words(line: &[u8]) -> bool
     ensures { result ≡ is_silent line.now }
 {
     for b in line {
@@ -86,7 +86,7 @@ pub fn split_words(alloc: Global, line: &[u8]) -> Result<Vec<String>, SplitFault
         (λ words. line_words line.now ≡ Ok (map string_bytes words.items))
         (λ fault. (fault ≡ SplitFault.NoMemory) ⊎ (line_words line.now ≡ Err fault)) }
 {
-    if says_nothing(line) {
+    if has_no_words(line) {
         return Ok(Vec::new(alloc));
     }
     match str::from_utf8(line) {

@@ -29,7 +29,7 @@ pub fn write_whole<W: Sink>(sink: &mut W, bytes: &[u8]) -> Result<(), ScriptFaul
 }
 
 /// Writes the answer of a unit: all of its output, and then its messages.
-pub fn say<O: Sink, E: Sink>(
+pub fn write_answer<O: Sink, E: Sink>(
     out: &mut O,
     err: &mut E,
     to_out: &[u8],

@@ -1,7 +1,7 @@
 -- A session that gives back each line and its text. Its state is whether it has refused a unit.
 use Rattle.std.specs.Prelude.{ℕ, Bool, true, false, if◌then◌else◌, List, [], ◌∷◌, ◌++◌, codes, Option, None, Some}
 use Rattle.facl_script.specs.Units.{ScriptUnit, UnitText, none, whole, too_long, unended}
-use Rattle.facl_script.specs.Words.{says_nothing}
+use Rattle.facl_script.specs.Words.{has_no_words}
 use Rattle.facl_script.specs.Play.{Answer, quiet}
 
 abbrev pub refusal : List ℕ → Answer Bool
@@ -22,11 +22,11 @@ echo_line (Some line) text state = echo_text line text state
 
 abbrev pub is_silent : Option (List ℕ) → Bool
 is_silent None = false
-is_silent (Some line) = says_nothing line
+is_silent (Some line) = has_no_words line
 
 -- a unit for which memory runs out is refused without a message
 abbrev pub echoed : Bool → ScriptUnit → Bool → Answer Bool
-echoed wants u state = if is_silent u.line then quiet state else if wants then refusal [] else echo_line u.line u.text state
+echoed ran_out u state = if is_silent u.line then quiet state else if ran_out then refusal [] else echo_line u.line u.text state
 
 abbrev pub echoed_there : ScriptUnit → Bool → Answer Bool
 echoed_there u state = echo_line u.line u.text state

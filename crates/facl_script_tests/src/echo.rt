@@ -4,7 +4,7 @@ ghost use Rattle.facl_script.specs.Units.{ScriptUnit};
 ghost use Rattle.facl_script.specs.ReadUnit.{IsUnitFound};
 ghost use Rattle.facl_script_tests.specs.Echo.{echoed, echoed_there};
 
-use facl_script::{Session, TextFound, UnitFound, says_nothing};
+use facl_script::{Session, TextFound, UnitFound, has_no_words};
 use std::alloc::{AllocError, Global};
 
 /// The answer to a unit.
@@ -87,7 +87,7 @@ impl Session for Echo {
     fn answer(&mut self, unit: &UnitFound, line: &[u8], text: &[u8]) -> bool {
         self.out.clear();
         self.err.clear();
-        if !unit.is_too_long && says_nothing(line) {
+        if !unit.is_too_long && has_no_words(line) {
             return false;
         }
         match compose(&mut self.out, &mut self.err, unit, line, text) {

@@ -1,5 +1,5 @@
 //! Tests of the words of lines, and of which lines take a text.
-use facl_script::{SplitFault, is_text_word, says_nothing, split_words, takes_text};
+use facl_script::{SplitFault, is_text_word, has_no_words, split_words, takes_text};
 use std::alloc::Global;
 use std::process::Abort;
 
@@ -32,9 +32,9 @@ fn expect_words(rt: &impl Abort, alloc: Global, line: &[u8], want: &str) {
 fn splits_words(rt: HostRuntime) {
     for (line, words) in &WORDS {
         expect_words(&rt, rt.alloc(), line, words);
-        assert!(rt; says_nothing(line) == words.is_empty());
+        assert!(rt; has_no_words(line) == words.is_empty());
     }
-    assert!(rt; !says_nothing(b"\r"));
+    assert!(rt; !has_no_words(b"\r"));
 }
 
 fn expect_fault(rt: &impl Abort, alloc: Global, line: &[u8], want: SplitFault) {

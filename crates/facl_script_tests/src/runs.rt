@@ -3,7 +3,7 @@ use crate::devices::{CommentReader, EndingReader, FailingReader, FailingWriter};
 use crate::echo::Echo;
 use crate::ran::{echo, expect_echo};
 use facl_script::{
-    Feed, SCRIPT_LIMIT, ScriptFault, Sink, StdFeed, StdSink, run_session, say, write_whole,
+    Feed, SCRIPT_LIMIT, ScriptFault, Sink, StdFeed, StdSink, run_session, write_answer, write_whole,
 };
 use std::alloc::Global;
 use std::process::Abort;
@@ -107,7 +107,7 @@ fn stops_where_err_fails(rt: HostRuntime) {
 }
 
 /// How many bytes of the output come of the units whose last LF is among the first `j` bytes of the script.
-fn told(j: usize) -> usize {
+fn answer_so_far(j: usize) -> usize {
     match j {
         0..3 => 0,
         3..19 => 3,
@@ -127,7 +127,7 @@ fn expect_reader_fails(rt: &impl Abort, alloc: Global, given: usize) {
     let mut err = Vec::new(alloc);
     let found = echo(alloc, &mut reader, &mut out, &mut err);
     assert_eq!(rt; found, Err(ScriptFault::Read), "at {given}");
-    assert!(rt; out.len() == told(given) && err.is_empty(), "at {given}");
+    assert!(rt; out.len() == answer_so_far(given) && err.is_empty(), "at {given}");
 }
 
 #[test]
@@ -245,7 +245,7 @@ fn writes(rt: HostRuntime) {
     let mut err = Vec::new(rt.alloc());
     let mut out = StdSink::new(&mut held);
     assert!(rt; write_whole(&mut out, b"ab").is_ok());
-    assert!(rt; say(&mut out, &mut StdSink::new(&mut err), b"c", b"d").is_ok());
+    assert!(rt; write_answer(&mut out, &mut StdSink::new(&mut err), b"c", b"d").is_ok());
     assert!(rt; !out.failed());
     assert!(rt; held.as_slice() == b"abc".as_slice());
     assert!(rt; err.as_slice() == b"d".as_slice());

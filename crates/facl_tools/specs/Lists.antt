@@ -5,7 +5,7 @@ use Rattle.acl_entry.specs.Lists.{KeyMap, fault, map_of}
 use Rattle.acl_entry.specs.Perms.{none}
 use Rattle.acl_entry.specs.declared.entry.Entry.{Entry}
 use Rattle.acl_text.specs.Entries.{entries_of}
-use Rattle.acl_text.specs.Told.{of_list}
+use Rattle.acl_text.specs.InTurn.{of_list}
 use Rattle.acl_text.specs.declared.entries.Sep.TheVariants.{Comma}
 use Rattle.acl_text.specs.declared.entries.Spec.{Spec}
 use Rattle.acl_text.specs.declared.entries.Want.TheVariants.{Plain}

@@ -37,14 +37,14 @@ use Rattle.facl_tools.specs.declared.setfacl_entries.Given.{Given}
 -- ---- entry texts
 
 -- what a text contains, or the line's fault with this source
-abbrev pub said_in : {A : Type 0} → Source → Result A TextFault → Result A LineFault
-said_in source (Ok a) = Ok a
-said_in source (Err fault) = Err (line_fault_of_text source fault)
+abbrev pub at_source : {A : Type 0} → Source → Result A TextFault → Result A LineFault
+at_source source (Ok a) = Ok a
+at_source source (Err fault) = Err (line_fault_of_text source fault)
 
 -- the entries of a text, where there is one
 abbrev pub entries_given : Register → Want → Option EntryText → Result (List Spec) LineFault
 entries_given known want None = Ok []
-entries_given known want (Some t) = said_in Entry (entries_of (λ name. id_named name (users_of known)) (λ name. id_named name (groups_of known)) t.sep want t.bytes)
+entries_given known want (Some t) = at_source Entry (entries_of (λ name. id_named name (users_of known)) (λ name. id_named name (groups_of known)) t.sep want t.bytes)
 
 -- the entries of a line: the first fault is that of the removed ones, then of the modified ones, then of the set ones
 abbrev pub given : Register → Asked → Result Given LineFault
@@ -132,7 +132,7 @@ change_line s line =
 
 -- the records of a dump, of which none needs an owner or a group
 unfoldable pub records_or_fault : Register → List ℕ → Result (List DumpRecord) LineFault
-records_or_fault known text = said_in TextLine (dump_of (λ name. id_named name (users_of known)) (λ name. id_named name (groups_of known)) uses.Restore text)
+records_or_fault known text = at_source TextLine (dump_of (λ name. id_named name (users_of known)) (λ name. id_named name (groups_of known)) uses.Restore text)
 
 abbrev pub restore_line : State → Bool → List ℕ → Result Reply LineFault
 restore_line s test text = after (records_or_fault s.people text) (λ records. done_or_tested test s (Restore records))

@@ -12,7 +12,7 @@ use Rattle.acl_people.specs.Registers.{Register, users_of, groups_of}
 use Rattle.acl_people.specs.Rolls.{name_shown}
 use Rattle.acl_tree.specs.Found.{FoundFile, files_found}
 use Rattle.acl_tree.specs.Step.{State, load}
-use Rattle.acl_tree.specs.Tells.{load_moves}
+use Rattle.acl_tree.specs.Reports.{load_moves}
 use Rattle.facl_usage.specs.Forms.{Text}
 use Rattle.facl_usage.specs.Places.{has, operand, operands_from}
 use Rattle.facl_usage.specs.declared.tool.Tool.{Tool}

@@ -30,15 +30,15 @@ pub id_read : {E : Type 0} (t : List ℕ) (r : Result ℕ E) (n : ℕ) → Parse
     → r ≡ Ok n → nat_le n 4294967294 ≡ is_id t
 id_read {E} t r n h e is =
     let P : Result ℕ E → Type 0 = λ q. OkIff q ((0 < length t) × (number_of t < 2 ^ 32)) (number_of t) in
-    let told = subst P is (read_as t r h e) in
-    rw (e, told.1) refl
+    let reported = subst P is (read_as t r h e) in
+    rw (e, reported.1) refl
 
 pub id_refused : {E : Type 0} (t : List ℕ) (r : Result ℕ E) (x : E) → ParsesUnsigned 32 10 t r → is_digits t ≡ true
     → r ≡ Err x → false ≡ is_id t
 id_refused {E} t r x h e is =
     let P : Result ℕ E → Type 0 = λ q. OkIff q ((0 < length t) × (number_of t < 2 ^ 32)) (number_of t) in
-    let told = subst P is (read_as t r h e) in
+    let reported = subst P is (read_as t r h e) in
     elim (cases_Bool (nat_le (number_of t) 4294967294)) [
-      | inl small ↦ absurd (told (not_empty t e, grind (arith, small)))
+      | inl small ↦ absurd (reported (not_empty t e, grind (arith, small)))
       | inr great ↦ rw (e, great) refl
     ]

@@ -44,14 +44,14 @@ reads_input w = reads_input_alone w (codes "modify-file")
     && reads_input_alone w (codes "restore")
 
 -- a flag determines how lists are changed
-abbrev pub says_how : Words → Bool
-says_how w = sets_flag w (codes "no-mask") || sets_flag w (codes "mask")
+abbrev pub has_edit_flag : Words → Bool
+has_edit_flag w = sets_flag w (codes "no-mask") || sets_flag w (codes "mask")
     || sets_flag w (codes "default") || sets_flag w (codes "recursive")
 
 -- a dump is put back, with nothing else but `--test`; or lists of some file are changed or replaced
 abbrev pub has_one_task : Words → Bool
 has_one_task w = if restores w
-    then (not (changes_entries w || replaces_lists w || says_how w) && is_empty w.operands)
+    then (not (changes_entries w || replaces_lists w || has_edit_flag w) && is_empty w.operands)
     else ((changes_entries w || replaces_lists w) && not (changes_entries w && replaces_lists w)
     && not (is_empty w.operands))
 

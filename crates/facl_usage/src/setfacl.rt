@@ -3,7 +3,7 @@ ghost use Rattle.std.specs.Prelude.{◌≡◌, codes};
 ghost use Rattle.facl_usage.specs.Places.{value_place};
 ghost use Rattle.facl_usage.specs.Setfacl.{changes_entries, contradicts_itself, fits_setfacl};
 ghost use Rattle.facl_usage.specs.Setfacl.{has_one_task, inputs_wanted, reads_input};
-ghost use Rattle.facl_usage.specs.Setfacl.{replaces_lists, restores, says_how};
+ghost use Rattle.facl_usage.specs.Setfacl.{replaces_lists, restores, has_edit_flag};
 ghost use Rattle.std.specs.Prelude.{None, true};
 ghost use Rattle.std.specs.List.{slice_index_or};
 ghost use Rattle.std.specs.Option.{option_map_or};
@@ -66,8 +66,8 @@ fn reads_input(words: &Words) -> bool
         && reads_input_alone(words, RESTORE)
 }
 
-fn says_how(words: &Words) -> bool
-    ensures { result ≡ says_how words.now }
+fn has_edit_flag(words: &Words) -> bool
+    ensures { result ≡ has_edit_flag words.now }
 {
     words.flags.has(NO_MASK)
         || words.flags.has(MASK)
@@ -82,7 +82,7 @@ fn has_one_task(words: &Words) -> bool
     let replaces = replaces_lists(words);
     let has_files = !words.operands.as_slice().is_empty();
     if restores(words) {
-        !(changes || replaces || says_how(words)) && !has_files
+        !(changes || replaces || has_edit_flag(words)) && !has_files
     } else {
         (changes || replaces) && !(changes && replaces) && has_files
     }

@@ -12,6 +12,6 @@ mod reading;
 #[cfg(test)]
 mod setfacl;
 #[cfg(test)]
-mod told;
+mod expected;
 #[cfg(test)]
 mod tools;

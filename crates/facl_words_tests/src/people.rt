@@ -1,5 +1,5 @@
 //! The lines of gpasswd(1), usermod(8), useradd(8) and userdel(8).
-use crate::told::expect_lines;
+use crate::expected::expect_lines;
 
 static LINES: [(&str, &str); 49] = [
     // One user joins, or one leaves.

@@ -1,5 +1,5 @@
 //! The program's own words, and the names of the tools.
-use crate::told::words_of;
+use crate::expected::words_of;
 use facl_words::{Tool, WordsFault, read_args};
 use std::alloc::Global;
 use std::process::Abort;

@@ -1,5 +1,5 @@
 //! The lines of `attr`, `setattr`, `can`, `who`, `may` and `index`.
-use crate::told::expect_lines;
+use crate::expected::expect_lines;
 
 static LINES: [(&str, &str); 69] = [
     ("attr f", ": f"),

@@ -1,5 +1,5 @@
 //! How words are cut into flags, options and operands: getfacl(1)'s lines.
-use crate::told::expect_lines;
+use crate::expected::expect_lines;
 
 static LINES: [(&str, &str); 38] = [
     ("getfacl f", ": f"),

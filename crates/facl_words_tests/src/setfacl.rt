@@ -1,5 +1,5 @@
 //! setfacl(1)'s lines.
-use crate::told::expect_lines;
+use crate::expected::expect_lines;
 
 static LINES: [(&str, &str); 94] = [
     // An option's value, attached and apart.

@@ -1,5 +1,5 @@
 //! The lines of `load`, chacl(1), chmod(1), `creat` and rm(1).
-use crate::told::expect_lines;
+use crate::expected::expect_lines;
 
 static LINES: [(&str, &str); 77] = [
     // The three texts.

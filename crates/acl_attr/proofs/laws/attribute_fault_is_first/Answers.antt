@@ -3,5 +3,5 @@ use Rattle.acl_attr.proofs.laws.attribute_fault_is_first.Goals as goal
 
 pub returns : goal.returns
 returns c = λ bytes fault e.
-    let told = faulty_where bytes fault e in
-    (told.kind, told.place)
+    let read_each = faulty_where bytes fault e in
+    (read_each.kind, read_each.place)

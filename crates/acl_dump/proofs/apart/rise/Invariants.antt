@@ -4,7 +4,7 @@ use Rattle.acl_dump.proofs.apart.rise.Given as goal
 
 abbrev pub invariant-loop-place : goal.invariant-loop-place
 invariant-loop-place l = record {
-  begun : 1 ≤ l.place;
+  opened_draft : 1 ≤ l.place;
   rising : (k : ℕ) (d : _) → k + 1 < l.place → k + 1 < length l.all → path_cmp (get_or l.all k d).now (get_or l.all (k + 1) d).now ≡ Less;
 }
 

@@ -1,7 +1,7 @@
 use Rattle.std.proofs.Common.{◌≡◌, suc, ◌+◌, cond, ◌∷◌, length, drop, filter, sym, ap, ◌∙◌, add-one, arith}
 use Rattle.std.specs.FinMap as maps
 use Rattle.std.proofs.Math.Seq.{drop-cons}
-use Rattle.acl_edit.specs.Parts.{speaks_of}
+use Rattle.acl_edit.specs.Parts.{is_for}
 use Rattle.acl_edit.specs.Rooms.{size}
 use Rattle.acl_edit.specs.Steps.{modify}
 use Rattle.acl_edit.proofs.Sizes.{size-insert}
@@ -13,7 +13,7 @@ loop-spec-preserved c =
     let es = c.args.specs.now in
     let i = c.loop-spec.spec-index in
     let s = c.spec-item.result in
-    let p = speaks_of c.args.scope.as_default c.args.scope.which in
+    let p = is_for c.args.scope.as_default c.args.scope.which in
     let rest = filter p (drop (i + 1) es) in
     let left : drop i es ≡ s ∷ drop (i + 1) es =
     drop-cons es i s c.loop-spec-test.true ∙ ap (λ x. x ∷ drop (suc i) es) (sym c.spec-item.is) ∙ ap (λ n. s ∷ drop n es) (sym (add-one i)) in

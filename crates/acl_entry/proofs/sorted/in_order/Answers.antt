@@ -10,7 +10,7 @@ use Rattle.acl_entry.specs.Lists.{pairs, IsInOrder, HasIds, IsAt, IsGapFor}
 use Rattle.acl_entry.proofs.Ids.{HasIds-insert}
 use Rattle.acl_entry.proofs.Maps.{in_order-insert, find-insert}
 use Rattle.acl_entry.proofs.Placed.{find_gap}
-use Rattle.acl_entry.proofs.Faults.{next_entries, told_here, told_later, find-next, among_at, apart_gap}
+use Rattle.acl_entry.proofs.Faults.{next_entries, repeated_here, repeated_later, find-next, among_at, apart_gap}
 use Rattle.acl_entry.proofs.sorted.in_order.Goals as goal
 
 pub returns-in-Ok-clause-err : goal.returns-in-Ok-clause-err
@@ -20,7 +20,7 @@ returns-in-Ok-clause-err c =
     let e = c.index-entries-i.result in
     let at : IsAt c.loop-i.sorted.items e.key c.in-Ok.field-0 = subst (λ l. IsAt l e.key c.in-Ok.field-0) c.deref.ensures c.in-Ok.ensures.found in
     let before = among_at (take c.loop-i.i es) c.loop-i.sorted.items inv.in_order e.key (inv.same e.key) c.in-Ok.field-0 at e in
-    λ _. ap (option_map Repeated) (sym inv.once ∙ told_here es c.loop-i.i e c.loop-i-test.true c.index-entries-i.is before)
+    λ _. ap (option_map Repeated) (sym inv.once ∙ repeated_here es c.loop-i.i e c.loop-i-test.true c.index-entries-i.is before)
 
 pub loop-i-preserved : goal.loop-i-preserved
 loop-i-preserved c =
@@ -46,7 +46,7 @@ loop-i-preserved c =
           ∙ ap (cond (same_key k e.key) (Some e.perm)) (inv.same k)
           ∙ sym (find-next es i e in_range is none k);
       room = omega (arith, inv.room, c.in_ok-insert-in-Err.ensures.capacity);
-      once = told_later es i e in_range is apart ∙ inv.once;
+      once = repeated_later es i e in_range is apart ∙ inv.once;
     }
 
 -- a short list goes in inline

@@ -5,17 +5,17 @@ use Rattle.acl_entry.specs.declared.key.Key.TheVariants.{Owner, Other}
 use Rattle.acl_entry.specs.Lists.{keys, is_among, fault_of_keys, map_of, group_digit_key}
 use Rattle.acl_entry.proofs.Ids.{HasIds-keys}
 use Rattle.acl_entry.proofs.Maps.{in_order-put, map_of-put}
-use Rattle.acl_entry.proofs.Faults.{group_stands}
+use Rattle.acl_entry.proofs.Faults.{group_has_entry}
 use Rattle.acl_entry.proofs.sorted.set_mode.Goals as goal
 
 pub set_perm-requires-2-clause-in_order : goal.set_perm-requires-2-clause-in_order
 set_perm-requires-2-clause-in_order c = in_order-put c.args.entries.now _ c.requires.list.in_order Owner c.args.owner c.set_perm.ensures.put
 
-pub set_perm-requires-2-clause-stands : goal.set_perm-requires-2-clause-stands
-set_perm-requires-2-clause-stands c =
+pub set_perm-requires-2-clause-has_entry : goal.set_perm-requires-2-clause-has_entry
+set_perm-requires-2-clause-has_entry c =
     ap (is_among c.args.group.now) c.set_perm.ensures.keys
     ∙ ap (λ k. is_among k (keys c.args.entries.now)) c.requires.group
-    ∙ group_stands c.args.entries.now c.requires.list.no_fault (grind (arith, common_steps))
+    ∙ group_has_entry c.args.entries.now c.requires.list.no_fault (grind (arith, common_steps))
 
 pub set_perm-requires-3-clause-in_order : goal.set_perm-requires-3-clause-in_order
 set_perm-requires-3-clause-in_order c =

@@ -13,4 +13,4 @@ returns-in-Ok c = record {
 pub returns-in_default : goal.returns-in_default
 returns-in_default c =
     let es = c.args.entries.now in
-    absurd (false≢true (sym (apart_gap es es c.requires.in_order c.args.key.now refl c.in_default.field-0 c.in_default.ensures.absent) ∙ c.requires.stands))
+    absurd (false≢true (sym (apart_gap es es c.requires.in_order c.args.key.now refl c.in_default.field-0 c.in_default.ensures.absent) ∙ c.requires.has_entry))

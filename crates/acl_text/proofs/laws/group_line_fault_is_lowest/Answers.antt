@@ -3,4 +3,4 @@ use Rattle.acl_text.proofs.LowestRows.{line_lowest}
 use Rattle.acl_text.proofs.laws.group_line_fault_is_lowest.Goals as goal
 
 pub returns : goal.returns
-returns c = λ at rows line says. line_lowest group_name group_row rows line says
+returns c = λ at rows line means. line_lowest group_name group_row rows line means

@@ -6,7 +6,7 @@ use Rattle.acl_tree.proofs.edit.edit_each.Given as goal
 abbrev pub invariant-loop-rest : goal.invariant-loop-rest
 invariant-loop-rest g l = record {
   made : edit_each (g.E.NodeEdit.edited l.edit) (map file_of l.files) ≡ after_edits (map (λ r. r.value) l.edits.items) (edit_each (g.E.NodeEdit.edited l.edit) (map file_of l.rest));
-  told : map (λ r. r.value) l.changed.items ++ changed_by (λ _. true) (node_after (g.E.NodeEdit.edited l.edit)) (map file_of l.rest)
+  reported : map (λ r. r.value) l.changed.items ++ changed_by (λ _. true) (node_after (g.E.NodeEdit.edited l.edit)) (map file_of l.rest)
       ≡ map (λ r. r.value) l.fn.changed.items ++ changed_by (λ _. true) (node_after (g.E.NodeEdit.edited l.edit)) (map file_of l.files);
 }
 

@@ -49,8 +49,8 @@ returns-clause-made g c =
     in
     ap (λ r. with_edits c.args.tree.now r) made ∙ ap (λ (t : Recorded). Ok t) (sym (c.of.ensures ∙ (λ i. record { files = new i; loaded = c.is_loaded.ensures i })))
 
-pub returns-clause-told : goal.returns-clause-told
-returns-clause-told g c =
+pub returns-clause-reported : goal.returns-clause-reported
+returns-clause-reported g c =
     let t : Files = c.args.tree.now.files in
     let edit = g.E.NodeEdit.edited c.args.edit.now in
     let test = is_file c.args.recursive c.args.operands.now in
@@ -61,7 +61,7 @@ returns-clause-told g c =
     let new : c.in_ok-by_path.by_path ≡ edit_files test (node_after edit) t =
     c.in_ok-by_path.ensures ∙ (λ i. put_all (map (λ r. r.value) (c.deref-2.ensures.value i)) (c.files_by_path.ensures.all i)) ∙ put_edits edit c.args.recursive c.args.operands.now t ns c.files_by_path.ensures.sound.order made
     in
-    c.in_ok-edits.ensures.told
+    c.in_ok-edits.ensures.reported
     ∙ ap (λ l. map (λ r. r.value) c.args.changed.now.items ++ l)
     (ap (λ es. changed_by (λ _. true) (node_after edit) es) seen
     ∙ changed-all test (node_after edit) t

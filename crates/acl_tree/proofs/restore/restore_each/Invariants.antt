@@ -5,7 +5,7 @@ use Rattle.acl_tree.proofs.restore.restore_each.Given as goal
 abbrev pub invariant-loop-rest : goal.invariant-loop-rest
 invariant-loop-rest l = record {
   made : restore_each l.found ≡ after_edits (map (λ r. r.value) l.edits.items) (restore_each l.rest);
-  told : map (λ r. r.value) l.changed.items ++ changed_by_records l.rest ≡ map (λ r. r.value) l.fn.changed.items ++ changed_by_records l.found;
+  reported : map (λ r. r.value) l.changed.items ++ changed_by_records l.rest ≡ map (λ r. r.value) l.fn.changed.items ++ changed_by_records l.found;
 }
 
 abbrev pub decreases-loop-rest : goal.decreases-loop-rest

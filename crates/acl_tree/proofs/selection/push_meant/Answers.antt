@@ -40,13 +40,13 @@ loop-file-preserved c =
     let in_it : means c.args.recursive p e.0 ≡ true =
     ap (λ q. means c.args.recursive p q) (sym (c.path.ensures ∙ ap (λ e. e.0) c.deref.ensures)) ∙ sym c.means.ensures ∙ c.if-not-means.false
     in
-    let told : c.is_next_below-has_below.result ≡ holds_below t e.0 =
+    let reported : c.is_next_below-has_below.result ≡ holds_below t e.0 =
     c.is_next_below-has_below.ensures
     ∙ ap (λ q. next_file_below q more) (c.path-in-Some.ensures ∙ ap (λ e. e.0) c.deref-in-Some.ensures)
     ∙ next_at_end p t c.loop-file.rest more e c.is_sound.ensures.order c.in-Some.ensures c.loop-file.invariant.at_end
     in
     let pushed : c.new.result ≡ found_file (holds_below t e.0) e =
-    c.new.ensures ∙ (λ i. found_file (told i) (c.in_ok-clone.ensures.cases i))
+    c.new.ensures ∙ (λ i. found_file (reported i) (c.in_ok-clone.ensures.cases i))
     in
     let after : Files = filter (λ e. means c.args.recursive p e.0) more in
     record {

@@ -1,13 +1,13 @@
 use Rattle.std.proofs.Common.{map, ap, sym, subst, ◌∙◌}
 use Rattle.acl_tree.specs.Step.{State, state_from}
-use Rattle.acl_tree.specs.Tells.{StagedState, UsersMoved}
-use Rattle.acl_tree.proofs.Told.{told_people}
+use Rattle.acl_tree.specs.Reports.{StagedState, UsersMoved}
+use Rattle.acl_tree.proofs.Reported.{reported_people}
 use Rattle.acl_tree.proofs.stage_people.stage_people.Goals as goal
 
-pub returns-clause-tells : goal.returns-clause-tells
-returns-clause-tells c = λ old users.
+pub returns-clause-reports : goal.returns-clause-reports
+returns-clause-reports c = λ old users.
     let new : State = state_from c.args.tree.now c.args.people in
-    told_people (state_from c.args.tree.now old) c.of.result c.is_sound.ensures.order
+    reported_people (state_from c.args.tree.now old) c.of.result c.is_sound.ensures.order
     (ap (λ s. s.state.tree) c.of.ensures.all ∙ c.in_ok-share.ensures)
     (ap (λ s. s.changed) c.of.ensures.all ∙ ap (λ l. map (λ r. r.value) l) c.new.ensures.items)
     (ap (λ s. s.gone) c.of.ensures.all ∙ ap (λ l. map (λ r. r.value) l) c.new-2.ensures.items)

@@ -1,13 +1,13 @@
 use Rattle.std.proofs.Common.{sym, subst}
 use Rattle.acl_tree.specs.Step.{state_from}
-use Rattle.acl_tree.specs.Tells.{UsersMoved}
-use Rattle.acl_tree.proofs.Told.{user_moved}
+use Rattle.acl_tree.specs.Reports.{UsersMoved}
+use Rattle.acl_tree.proofs.Reported.{user_moved}
 use Rattle.acl_tree.proofs.stage_people.stage_user_change.Goals as goal
 
-pub returns-clause-tells : goal.returns-clause-tells
-returns-clause-tells c =
+pub returns-clause-reports : goal.returns-clause-reports
+returns-clause-reports c =
     let tree = c.args.tree.now in
     let known = c.args.people.now in
-    c.in_ok-staged.ensures.tells known
+    c.in_ok-staged.ensures.reports known
     (subst (λ m. UsersMoved (state_from tree known) (state_from tree c.args.next) m) (sym c.move_of.ensures)
     (user_moved tree known c.args.next c.args.user c.in_ok-groups.groups.items c.in_ok-groups.ensures.moved c.in_ok-groups.ensures.none))

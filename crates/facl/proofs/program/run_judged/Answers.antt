@@ -5,7 +5,7 @@ use Rattle.facl_messages.specs.Faults.{run_fault_of_script}
 use Rattle.facl.specs.Runs.{EndsBy}
 use Rattle.facl.specs.Sessions.{state_of}
 use Rattle.facl.specs.Costs.{all_pairs}
-use Rattle.facl.specs.Setups.{begun}
+use Rattle.facl.specs.Setups.{initial_state}
 use Rattle.facl.proofs.Ending.{ends_by}
 use Rattle.facl.proofs.program.run_judged.Goals as goal
 
@@ -16,10 +16,10 @@ returns-in_err-is_refused-clause-fault g c =
     let started = c.in_ok-state.ensures ∙ ap (λ (s : State). Ok s) (sym c.in_ok-session.ensures.state) in
     let asked = g.J.Judge.asked_of c.run_session.new.session.judge.now in
     let pairs = c.in_ok-session.ensures.asked ∙ ap (λ s. all_pairs s) (sym c.in_ok-session.ensures.state) in
-    let ends = ends_by c.in_err-is_refused.field-0.0 V (begun c.args.setup.now) (state_of c.in_ok-session.session) (state_of c.run_session.new.session.session) _ asked
+    let ends = ends_by c.in_err-is_refused.field-0.0 V (initial_state c.args.setup.now) (state_of c.in_ok-session.session) (state_of c.run_session.new.session.session) _ asked
     (g.R.Feed.remaining c.args.reader.now) (g.R.Feed.remaining c.run_session.new.reader) (g.O.Sink.contents c.args.out.now) (g.O.Sink.contents c.run_session.new.out)
     (g.E.Sink.contents c.args.err.now) (g.E.Sink.contents c.run_session.new.err) started pairs c.in_err-is_refused.ensures.fault in
     rw (p.1, p.2)
-    (subst (λ (n : ℕ). EndsBy (run_fault_of_script c.in_err-is_refused.field-0.0) V (begun c.args.setup.now) n
+    (subst (λ (n : ℕ). EndsBy (run_fault_of_script c.in_err-is_refused.field-0.0) V (initial_state c.args.setup.now) n
     (g.R.Feed.remaining c.args.reader.now) (g.R.Feed.remaining c.run_session.new.reader) (g.O.Sink.contents c.args.out.now) (g.O.Sink.contents c.run_session.new.out)
     (g.E.Sink.contents c.args.err.now) (g.E.Sink.contents c.run_session.new.err)) (ap g.J.Judge.asked_of (sym c.drop-judged.ensures ∙ search rules)) ends)

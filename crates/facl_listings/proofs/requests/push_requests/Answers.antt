@@ -12,8 +12,8 @@ numbers = 1 ∷ 2 ∷ 3 ∷ 4 ∷ 5 ∷ 6 ∷ 7 ∷ []
 
 pub returns-in_err-push_request-clause-err : goal.returns-in_err-push_request-clause-err
 returns-in_err-push_request-clause-err c =
-    let told = spaced (among c.args.granted (take c.loop-number.number-index numbers)) in
-    let begins = still_begins c.args.text.now.items told c.loop-number.text.items c.push_request.new.text.items c.loop-number.invariant.text c.in_err-push_request.ensures.err in
+    let shown_text = spaced (among c.args.granted (take c.loop-number.number-index numbers)) in
+    let begins = still_begins c.args.text.now.items shown_text c.loop-number.text.items c.push_request.new.text.items c.loop-number.invariant.text c.in_err-push_request.ensures.err in
     grind (arith, common_steps, begins)
 
 pub loop-number-preserved : goal.loop-number-preserved

@@ -13,13 +13,13 @@ invariant-loop-script g l = record {
   out_works : g.O.Sink.has_failed l.out ≡ false;
   err_works : g.E.Sink.has_failed l.err ≡ false;
   taken : List ℕ;
-  told : Answer g.row.S-State.Denot;
-  progress : Progress g.S.Session.answered (g.S.Session.state l.fn.session) taken (next_number l.script) (is_over l.script) told;
+  answer_so_far : Answer g.row.S-State.Denot;
+  progress : Progress g.S.Session.answered (g.S.Session.state l.fn.session) taken (next_number l.script) (is_over l.script) answer_so_far;
   consumes : Consumes (g.R.Feed.remaining l.fn.reader) (script_left l.script (g.R.Feed.remaining l.reader)) taken;
   last : is_over l.script ≡ true → IsAtEnd (script_left l.script (g.R.Feed.remaining l.reader));
   ready : g.S.Session.is_ready (next_number l.script) l.session;
-  gives : Gives told (g.S.Session.state l.session) (g.S.Session.spent l.fn.session) (g.S.Session.spent l.session) (g.O.Sink.contents l.fn.out) (g.O.Sink.contents l.out) (g.E.Sink.contents l.fn.err) (g.E.Sink.contents l.err);
-  refused : l.is_refused ≡ told.refused;
+  gives : Gives answer_so_far (g.S.Session.state l.session) (g.S.Session.spent l.fn.session) (g.S.Session.spent l.session) (g.O.Sink.contents l.fn.out) (g.O.Sink.contents l.out) (g.E.Sink.contents l.fn.err) (g.E.Sink.contents l.err);
+  refused : l.is_refused ≡ answer_so_far.refused;
   count : script_taken l.script ≡ length taken;
   held : g.S.Session.held l.session ≡ g.S.Session.held l.fn.session;
 }

@@ -5,7 +5,7 @@ use Rattle.facl_script.specs.Lines.{lines_of}
 use Rattle.facl_script.specs.Source.{unread, taken_count}
 use Rattle.facl_script.specs.Units.{opened, within, cut}
 use Rattle.facl_script.specs.ReadText.{HoldsText}
-use Rattle.facl_script.proofs.TextLemmas.{begun}
+use Rattle.facl_script.proofs.TextLemmas.{so_far}
 use Rattle.facl_script.proofs.text.read_text.Given as goal
 
 abbrev pub invariant-loop-found : goal.invariant-loop-found
@@ -14,7 +14,7 @@ invariant-loop-found g l = record {
   piece : List ℕ;
   content : Option (List ℕ);
   consumes : Consumes (unread l.fn.source (g.R.Feed.remaining l.fn.reader)) (unread l.source (g.R.Feed.remaining l.reader)) piece;
-  splits : (number : ℕ) (line : List ℕ) (n : ℕ) (rest : List ℕ) → cut (within (opened number line)) n (lines_of (piece ++ rest)) ≡ cut (within (begun number line content)) (n + l.lines) (lines_of rest);
+  splits : (number : ℕ) (line : List ℕ) (n : ℕ) (rest : List ℕ) → cut (within (opened number line)) n (lines_of (piece ++ rest)) ≡ cut (within (so_far number line content)) (n + l.lines) (lines_of rest);
   holds : HoldsText l.held l.text.items content;
   count : taken_count l.source ≡ taken_count l.fn.source + length piece;
   lines : l.lines ≤ length piece;

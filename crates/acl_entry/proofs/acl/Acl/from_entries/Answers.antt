@@ -8,8 +8,8 @@ use Rattle.acl_entry.proofs.Maps.{map_of-from_finds}
 use Rattle.acl_entry.proofs.Faults.{fault_once, fault-in_order, is_among-moved, missing_base-moved}
 use Rattle.acl_entry.proofs.acl.Acl.from_entries.Goals as goal
 
-pub returns-in-Some-clause-told : goal.returns-in-Some-clause-told
-returns-in-Some-clause-told c =
+pub returns-in-Some-clause-reported : goal.returns-in-Some-clause-reported
+returns-in-Some-clause-reported c =
     let es = c.args.entries.now in
     let sorted = c.in_ok-sorted.ensures in
     let moved = IsPermutation-map (λ (e : Entry). e.key) es c.in_ok-sorted.sorted.items sorted.permutation in
@@ -19,10 +19,10 @@ returns-in-Some-clause-told c =
 pub unmasked-requires-clause-mask : goal.unmasked-requires-clause-mask
 unmasked-requires-clause-mask c =
     let moved = IsPermutation-map (λ (e : Entry). e.key) c.args.entries.now c.in_ok-sorted.sorted.items c.in_ok-sorted.ensures.permutation in
-    c.stands.ensures ∙ ap (λ l. is_among Mask (keys l)) c.deref-2.ensures ∙ sym (is_among-moved _ _ moved Mask)
+    c.has_entry.ensures ∙ ap (λ l. is_among Mask (keys l)) c.deref-2.ensures ∙ sym (is_among-moved _ _ moved Mask)
 
-pub returns-in-Some-unmasked-clause-told : goal.returns-in-Some-unmasked-clause-told
-returns-in-Some-unmasked-clause-told c =
+pub returns-in-Some-unmasked-clause-reported : goal.returns-in-Some-unmasked-clause-reported
+returns-in-Some-unmasked-clause-reported c =
     let es = c.args.entries.now in
     let sorted = c.in_ok-sorted.ensures in
     let moved = IsPermutation-map (λ (e : Entry). e.key) es c.in_ok-sorted.sorted.items sorted.permutation in

@@ -7,9 +7,9 @@ use Rattle.acl_entry.proofs.acl.Acl.same.Goals as goal
 
 pub returns : goal.returns
 returns c =
-    let told = slice_eq-Decides entry_decided c.entries.result.now c.entries-2.result.now c.eq.result c.eq.ensures in
+    let reported = slice_eq-Decides entry_decided c.entries.result.now c.entries-2.result.now c.eq.result c.eq.ensures in
     let mine = c.entries.ensures.all in
     let theirs = c.entries-2.ensures.all in (
-      λ yes. sym (map_of-entries c.args.self.now) ∙ ap map_of (sym mine ∙ told.0 yes ∙ theirs) ∙ map_of-entries c.args.other.now,
-      λ same. told.1 (mine ∙ ap entries same ∙ sym theirs),
+      λ yes. sym (map_of-entries c.args.self.now) ∙ ap map_of (sym mine ∙ reported.0 yes ∙ theirs) ∙ map_of-entries c.args.other.now,
+      λ same. reported.1 (mine ∙ ap entries same ∙ sym theirs),
     )

@@ -12,8 +12,8 @@ use Rattle.acl_entry.proofs.Faults.{among_at}
 use Rattle.acl_entry.proofs.draft.Draft.insert.Goals as goal
 
 -- the key is present
-pub set_perm-requires-clause-stands : goal.set_perm-requires-clause-stands
-set_perm-requires-clause-stands c =
+pub set_perm-requires-clause-has_entry : goal.set_perm-requires-clause-has_entry
+set_perm-requires-clause-has_entry c =
     let es = c.self.inside.entries.items in
     let at : IsAt es c.args.key c.in-Ok.field-0 = subst (λ l. IsAt l c.args.key c.in-Ok.field-0) c.deref.ensures c.in-Ok.ensures.found in
     ap (λ l. is_among c.args.key (keys l)) c.deref_mut.ensures.value ∙ among_at es es c.self.invariant.in_order c.args.key refl c.in-Ok.field-0 at (record { key = c.args.key; perm = c.args.perm })
@@ -60,10 +60,10 @@ returns-in_err-insert-in-Err-clause-inline c short =
     absurd (false≢true (c.in_err-insert-in-Err.ensures.succeeds (omega (arith, c.capacity-capacity.ensures.at_least_inline, c.capacity-capacity.ensures.value))))
 
 -- the key is absent
-pub returns-in_err-insert-in-Err-clause-stands : goal.returns-in_err-insert-in-Err-clause-stands
-returns-in_err-insert-in-Err-clause-stands c stands =
+pub returns-in_err-insert-in-Err-clause-has_entry : goal.returns-in_err-insert-in-Err-clause-has_entry
+returns-in_err-insert-in-Err-clause-has_entry c has_entry =
     let es = c.self.inside.entries.items in
     let gap : IsGapFor es c.args.key c.in-Err.at = subst (λ l. IsGapFor l c.args.key c.in-Err.at) c.deref.ensures c.in-Err.ensures.absent in
     let apart : maps.contains_key c.args.self.now c.args.key ≡ false =
     ap (λ m. maps.contains_key m c.args.key) (sym c.self.view_is) ∙ ap is_some (get-map_of es c.args.key ∙ find_gap es c.args.key c.in-Err.at gap) in
-    absurd (false≢true (sym apart ∙ stands))
+    absurd (false≢true (sym apart ∙ has_entry))

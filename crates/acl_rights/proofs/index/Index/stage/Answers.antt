@@ -11,28 +11,28 @@ pub staged_rows-requires-clause-room : goal.staged_rows-requires-clause-room
 staged_rows-requires-clause-room g c =
     let V = g.J.Judge.verdict_of in
     let t = c.args.staged.now in
-    let goes : GoesFrom V c.args.self.now.rows t = record { state = c.requires.goes.state; rows_are = c.requires.goes.whole.rows; tells = c.requires.goes.tells } in
+    let goes : GoesFrom V c.args.self.now.rows t = record { state = c.requires.goes.state; rows_are = c.requires.goes.whole.rows; reports = c.requires.goes.reports } in
     omega (arith, most_le V c.args.self.now.rows t goes (subst (λ (r : Recorded). IsInOrder r.files) c.tree.ensures c.is_sound.ensures.order), c.requires.room)
 
 pub returns-in_err-new-clause-bounded : goal.returns-in_err-new-clause-bounded
 returns-in_err-new-clause-bounded g c =
     let V = g.J.Judge.verdict_of in
     let t = c.args.staged.now in
-    let goes : GoesFrom V c.args.self.now.rows t = record { state = c.requires.goes.state; rows_are = c.requires.goes.whole.rows; tells = c.requires.goes.tells } in
+    let goes : GoesFrom V c.args.self.now.rows t = record { state = c.requires.goes.state; rows_are = c.requires.goes.whole.rows; reports = c.requires.goes.reports } in
     omega (arith, most_le V c.args.self.now.rows t goes (subst (λ (r : Recorded). IsInOrder r.files) c.tree.ensures c.is_sound.ensures.order), c.staged_rows.ensures.at_most)
 
 pub returns-in_err-along-clause-bounded : goal.returns-in_err-along-clause-bounded
 returns-in_err-along-clause-bounded g c =
     let V = g.J.Judge.verdict_of in
     let t = c.args.staged.now in
-    let goes : GoesFrom V c.args.self.now.rows t = record { state = c.requires.goes.state; rows_are = c.requires.goes.whole.rows; tells = c.requires.goes.tells } in
+    let goes : GoesFrom V c.args.self.now.rows t = record { state = c.requires.goes.state; rows_are = c.requires.goes.whole.rows; reports = c.requires.goes.reports } in
     omega (arith, most_le V c.args.self.now.rows t goes (subst (λ (r : Recorded). IsInOrder r.files) c.tree.ensures c.is_sound.ensures.order), c.staged_rows.ensures.at_most)
 
 pub returns-clause-bounded : goal.returns-clause-bounded
 returns-clause-bounded g c =
     let V = g.J.Judge.verdict_of in
     let t = c.args.staged.now in
-    let goes : GoesFrom V c.args.self.now.rows t = record { state = c.requires.goes.state; rows_are = c.requires.goes.whole.rows; tells = c.requires.goes.tells } in
+    let goes : GoesFrom V c.args.self.now.rows t = record { state = c.requires.goes.state; rows_are = c.requires.goes.whole.rows; reports = c.requires.goes.reports } in
     omega (arith, most_le V c.args.self.now.rows t goes (subst (λ (r : Recorded). IsInOrder r.files) c.tree.ensures c.is_sound.ensures.order), c.staged_rows.ensures.at_most)
 
 pub returns-clause-refreshed_least : goal.returns-clause-refreshed_least

@@ -6,7 +6,7 @@ use Rattle.acl_tree.specs.Sound.{IsSoundTree}
 use Rattle.acl_tree.specs.Operands.{first_missing}
 use Rattle.acl_tree.specs.Changed.{changed_between}
 use Rattle.acl_tree.specs.Step.{State, chmod_all, or_missing}
-use Rattle.acl_tree.proofs.Told.{told_change}
+use Rattle.acl_tree.proofs.Reported.{reported_change}
 use Rattle.acl_tree.proofs.Edits.{never_fails}
 use Rattle.acl_tree.proofs.tree.Tree.chmod.Goals as goal
 
@@ -29,10 +29,10 @@ returns-in_ok-share-in-Ok c =
           ap (λ missing. or_missing missing staged) (ap (λ ps. first_missing ps c.args.self.now.files) (sym c.as_slice.ensures) ∙ c.in_ok-look_up.ensures.all)
           ∙ ap (λ s. Ok s) (sym is);
       sound = subst (λ (t : Recorded). IsSoundTree t) (sym (ap (λ s. s.state.tree) c.of.ensures.all)) c.of.ensures.sound;
-      tells =
-          told_change old c.of.result c.in-Ok.tree.files
+      reports =
+          reported_change old c.of.result c.in-Ok.tree.files
           (ap (λ s. s.state.tree.files) c.of.ensures.all)
-          (ap (λ s. s.changed) c.of.ensures.all ∙ c.in-Ok.ensures.told ∙ ap (λ l. map (λ r. r.value) l ++ changed_between c.args.self.now.files c.in-Ok.tree.files) c.new-changed.ensures.items)
+          (ap (λ s. s.changed) c.of.ensures.all ∙ c.in-Ok.ensures.reported ∙ ap (λ l. map (λ r. r.value) l ++ changed_between c.args.self.now.files c.in-Ok.tree.files) c.new-changed.ensures.items)
           (ap (λ s. s.gone) c.of.ensures.all ∙ ap (λ l. map (λ r. r.value) l) c.new.ensures.items)
           c.in-Ok.ensures.gone
           (ap (λ s. s.moved) c.of.ensures.all)

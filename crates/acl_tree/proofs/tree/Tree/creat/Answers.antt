@@ -8,7 +8,7 @@ use Rattle.acl_tree.specs.Sound.{IsSoundTree}
 use Rattle.acl_tree.specs.Creat.{creat_by}
 use Rattle.acl_tree.specs.Step.{State, with_tree}
 use Rattle.acl_tree.proofs.NewFiles.{sound_with, changed_with, gone_with}
-use Rattle.acl_tree.proofs.Told.{told_change}
+use Rattle.acl_tree.proofs.Reported.{reported_change}
 use Rattle.acl_tree.proofs.tree.Tree.creat.Goals as goal
 
 pub of-requires : goal.of-requires
@@ -45,8 +45,8 @@ returns c =
           ∙ ap (λ r. with_tree old r) c.in_ok-file.ensures.made
           ∙ ap (λ (s : State). Ok s) (sym is);
       sound = subst (λ (t : Recorded). IsSoundTree t) (sym (ap (λ s. s.state.tree) c.of-2.ensures.all)) c.of-2.ensures.sound;
-      tells =
-          told_change old c.of-2.result (put path_cmp e.0 e.1 t)
+      reports =
+          reported_change old c.of-2.result (put path_cmp e.0 e.1 t)
           (ap (λ s. s.tree.files) is)
           (ap (λ s. s.changed) c.of-2.ensures.all ∙ pushed ∙ sym (changed_with c.args.self.now sound e c.in_ok-file.ensures.fits))
           (ap (λ s. s.gone) c.of-2.ensures.all ∙ ap (λ l. map (λ r. r.value) l) c.new.ensures.items)

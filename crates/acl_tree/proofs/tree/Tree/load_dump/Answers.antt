@@ -3,7 +3,7 @@ use Rattle.acl_tree.specs.Files.{Files}
 use Rattle.acl_tree.specs.Sound.{IsSoundTree}
 use Rattle.acl_tree.specs.Step.{State}
 use Rattle.acl_tree.proofs.Kept.{loaded_sound}
-use Rattle.acl_tree.proofs.Told.{told_load}
+use Rattle.acl_tree.proofs.Reported.{reported_load}
 use Rattle.acl_tree.proofs.tree.Tree.load_dump.Goals as goal
 
 pub tree_of-requires : goal.tree_of-requires
@@ -11,10 +11,10 @@ tree_of-requires c =
     subst (λ (files : Files). IsSoundTree (record { files = files; loaded = true })) (sym (ap (λ l. map (λ r. r.value) l) c.deref.ensures.value ∙ c.in_ok-files.ensures))
     (loaded_sound c.in-Ok.records.items (omega arith))
 
-pub returns-clause-tells : goal.returns-clause-tells
-returns-clause-tells c = λ none.
+pub returns-clause-reports : goal.returns-clause-reports
+returns-clause-reports c = λ none.
     let old : State = record { tree = c.args.self.now; people = c.args.people.now } in
-    told_load old c.of.result none
+    reported_load old c.of.result none
     (ap (λ s. s.changed) c.of.ensures.all ∙ sym (ap (λ s. s.state.tree.files) c.of.ensures.all ∙ ap (λ t. t.files) c.in_ok-tree.ensures ∙ ap (λ l. map (λ r. r.value) l) c.deref.ensures.value))
     (ap (λ s. s.gone) c.of.ensures.all ∙ ap (λ l. map (λ r. r.value) l) c.new.ensures.items)
     (ap (λ s. s.moved) c.of.ensures.all)

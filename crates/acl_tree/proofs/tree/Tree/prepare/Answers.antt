@@ -1,7 +1,7 @@
 use Rattle.std.proofs.Common.{◌≡◌, sym, subst}
 use Rattle.std.specs.Prelude.{IfOk}
 use Rattle.acl_tree.specs.Step.{State, step, Stages}
-use Rattle.acl_tree.specs.Tells.{users_move}
+use Rattle.acl_tree.specs.Reports.{users_move}
 use Rattle.acl_tree.proofs.tree.Tree.prepare.Goals as goal
 
 pub returns-in-Chmod-clause-made : goal.returns-in-Chmod-clause-made

@@ -20,7 +20,7 @@ use Rattle.acl_tree.proofs.Kept.{edited_sound}
 use Rattle.acl_tree.proofs.Changes.{changed-all, changed-edited, gone-edited}
 use Rattle.acl_tree.proofs.Edits.{keeps_after, put_edits, in_order-edits}
 use Rattle.acl_tree.proofs.Placed.{restore_keeps}
-use Rattle.acl_tree.proofs.Restored.{files_are, each_by_record, restored_are, changed_are, fault_told}
+use Rattle.acl_tree.proofs.Restored.{files_are, each_by_record, restored_are, changed_are, fault_reported}
 use Rattle.acl_tree.proofs.tree.Tree.restored.Goals as goal
 
 pub in_path_order-sorted-requires : goal.in_path_order-sorted-requires
@@ -92,8 +92,8 @@ returns-clause-made c =
     ∙ ap (λ r. unless_missing None (with_edits c.args.self.now r)) made
     ∙ ap (λ (t : Recorded). Ok t) (sym (c.of.ensures ∙ (λ i. record { files = new i; loaded = c.is_loaded.ensures i })))
 
-pub returns-clause-told : goal.returns-clause-told
-returns-clause-told c =
+pub returns-clause-reported : goal.returns-clause-reported
+returns-clause-reported c =
     let t : Files = c.args.self.now.files in
     let records : List DumpRecord = c.args.records.now in
     let xs : List RestoredFile = c.deref.result.now in
@@ -111,7 +111,7 @@ returns-clause-told c =
     let new : c.in_ok-by_path.by_path ≡ edit_files test (node_after edit) t =
     c.in_ok-by_path.ensures ∙ (λ i. put_all (map (λ r. r.value) (c.deref-2.ensures.value i)) (c.files_by_path.ensures.all i)) ∙ put_edits edit false (paths_of records) t ns c.is_sound.ensures.order made
     in
-    c.in_ok-edits.ensures.told
+    c.in_ok-edits.ensures.reported
     ∙ ap (λ l. map (λ r. r.value) c.args.changed.now.items ++ l)
     (changed_are edit xs by_record
     ∙ ap (λ es. changed_by (λ _. true) (node_after edit) es) seen
@@ -157,4 +157,4 @@ returns-in_err-edits-clause-fault c =
     let there : first_missing (paths_of records) t ≡ None = ap (λ rs. first_missing (paths_of rs) t) (sym c.as_slice.ensures.all) ∙ c.in_ok-found.ensures.there in
     let each : restore_each xs ≡ edit_each edit meant = restored_are edit xs by_record ∙ ap (λ es. edit_each edit es) seen in
     let p = err_from_is_err_and c.from_residual-in_err-edits.result c.from_residual-in_err-edits.ensures.1 in
-    rw (p.1, p.2) (fault_told records c.args.self.now c.in_err-edits.field-0.0 there (λ some. ap (λ r. with_edits c.args.self.now r) (sym each ∙ c.in_err-edits.ensures.fault some)))
+    rw (p.1, p.2) (fault_reported records c.args.self.now c.in_err-edits.field-0.0 there (λ some. ap (λ r. with_edits c.args.self.now r) (sym each ∙ c.in_err-edits.ensures.fault some)))

@@ -11,7 +11,7 @@ use Rattle.acl_tree.specs.Sound.{holds_below, IsSoundTree}
 use Rattle.acl_tree.specs.Step.{State, with_tree}
 use Rattle.acl_tree.proofs.Edits.{files_seen}
 use Rattle.acl_tree.proofs.Removals.{left_where, gone_from, none_changed, sound_left, apart_all}
-use Rattle.acl_tree.proofs.Told.{told_removal}
+use Rattle.acl_tree.proofs.Reported.{reported_removal}
 use Rattle.acl_tree.proofs.tree.Tree.rm.Goals as goal
 
 pub without_all-requires : goal.without_all-requires
@@ -70,8 +70,8 @@ returns c =
           ∙ ap (λ o. with_tree old (or_refused o tree)) may
           ∙ ap (λ (s : State). Ok s) (sym is);
       sound = subst (λ (t : Recorded). IsSoundTree t) (sym (ap (λ s. s.state.tree) c.of-2.ensures.all)) c.of-2.ensures.sound;
-      tells =
-          told_removal old c.of-2.result
+      reports =
+          reported_removal old c.of-2.result
           (ap (λ s. s.changed) c.of-2.ensures.all ∙ ap (λ l. map (λ r. r.value) l) c.new.ensures.items ∙ sym (ap (λ es. changed_between t es) files ∙ none_changed (is_file r paths) t order))
           (is_gone ∙ sym (ap (λ es. gone_between t es) files ∙ gone_from (is_file r paths) t order))
           (subst (λ (es : Files). AllByRecursion (λ e. holds_below es e.0 ≡ false) c.of-2.result.gone) (sym files)

@@ -2,10 +2,10 @@ use Rattle.std.proofs.Common.{◌≡◌, ◌-◌, ℕ, List, [], take, drop, Opt
 use Rattle.std.specs.Io.KnownBytes.{Consumes, prepend_known}
 use Rattle.facl_script.proofs.source.Source.fill.Goals as goal
 
-consumes_behind : (none : List ℕ) (a b : Option (List ℕ)) (bs : List ℕ) → none ≡ [] → Consumes a b bs → Consumes (prepend_known none a) b bs
-consumes_behind none None b bs e h = tt
-consumes_behind none (Some x) None bs e h = absurd h
-consumes_behind none (Some x) (Some y) bs e h = rw e h
+consumes_after : (none : List ℕ) (a b : Option (List ℕ)) (bs : List ℕ) → none ≡ [] → Consumes a b bs → Consumes (prepend_known none a) b bs
+consumes_after none None b bs e h = tt
+consumes_after none (Some x) None bs e h = absurd h
+consumes_after none (Some x) (Some y) bs e h = rw e h
 
 pub returns-else-n-eq0-clause-err : goal.returns-else-n-eq0-clause-err
 returns-else-n-eq0-clause-err g c =
@@ -17,7 +17,7 @@ returns-else-n-eq0-clause-err g c =
       (
         take n c.read_some.new.chunk,
         omega (arith, len, length-take n c.read_some.new.chunk),
-        consumes_behind (take (s.end - s.start) (drop s.start s.chunk)) _ _ _ (rw none refl) h.bytes,
+        consumes_after (take (s.end - s.start) (drop s.start s.chunk)) _ _ _ (rw none refl) h.bytes,
       ),
       refl,
       omega (arith, s.within),

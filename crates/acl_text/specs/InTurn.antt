@@ -18,18 +18,18 @@ of_list which faults.TooLong = kinds.List which faults.TooLong
 
 -- a judgement of the piece at a place, and the result for the pieces after it
 abbrev pub at_place : {S T : Type 0} → ℕ → Result S FaultKind → (S → Result T TextFault) → Result T TextFault
-at_place at (Ok said) more = more said
+at_place at (Ok state) more = more state
 at_place at (Err kind) more = Err (record { kind = kind; at = at })
 
 -- A judge gives the value once the piece at a place is read too, or the lowest kind of fault of that piece.
 -- The value of all pieces is the last one; else the fault of the first faulty piece is returned.
-abbrev pub told_from : {S P : Type 0} → (ℕ → S → P → Result S FaultKind) → ℕ → S → List P → Result S TextFault
-told_from judge at said [] = Ok said
-told_from judge at said (p ∷ ps) = at_place at (judge at said p) (λ more. told_from judge (at + 1) more ps)
+abbrev pub read_each_from : {S P : Type 0} → (ℕ → S → P → Result S FaultKind) → ℕ → S → List P → Result S TextFault
+read_each_from judge at state [] = Ok state
+read_each_from judge at state (p ∷ ps) = at_place at (judge at state p) (λ more. read_each_from judge (at + 1) more ps)
 
 -- what a text means, whose pieces count from 1
-abbrev pub told : {S P : Type 0} → (ℕ → S → P → Result S FaultKind) → S → List P → Result S TextFault
-told judge start ps = told_from judge 1 start ps
+abbrev pub read_each : {S P : Type 0} → (ℕ → S → P → Result S FaultKind) → S → List P → Result S TextFault
+read_each judge start ps = read_each_from judge 1 start ps
 
 -- the kinds of fault of one piece are looked for in their order, so the lowest is returned
 infixl 10 ◌>>=◌
@@ -49,9 +49,9 @@ pub record IsFirstFault {S P : Type 0} (judge : ℕ → S → P → Result S Fau
   pub after : List P
   pub parts : ps ≡ before ++ piece ∷ after
   pub place : fault.at ≡ from + length before
-  pub said : S
-  pub no_fault_before : told_from judge from start before ≡ Ok said
-  pub faulty : judge fault.at said piece ≡ Err fault.kind
+  pub state : S
+  pub no_fault_before : read_each_from judge from start before ≡ Ok state
+  pub faulty : judge fault.at state piece ≡ Err fault.kind
 
 -- A call gives the value, seen by view, or exactly the fault, unless memory ran out.
 abbrev pub Gives : {X Y : Type 0} → (X → Y) → Result X TextFault → Result Y TextFault → Type 0

@@ -135,7 +135,7 @@ HasPerms false takes_x field (Some perm) = ⊥
 -- ---- an entry
 
 -- what an entry at a place means, by the rules of its use
-pub record Says (user_id group_id : List ℕ → Option ℕ) (rules : Rules) (at : ℕ) (entry : List ℕ) (spec : Spec) : Type 0 where
+pub record Means (user_id group_id : List ℕ → Option ℕ) (rules : Rules) (at : ℕ) (entry : List ℕ) (spec : Spec) : Type 0 where
   pub place : spec.at ≡ at
   pub fields : List (List ℕ)
   pub of_list : IsOfList rules (entry_fields entry) spec.dflt fields

@@ -1,7 +1,7 @@
 use Rattle.std.proofs.Common.{[], take, refl, inl, inr}
 use Rattle.std.proofs.KnownBytes.{Appends-nil}
 use Rattle.std.proofs.lemmas.Result.{err_from_is_err_and}
-use Rattle.facl_script.proofs.write.say.Goals as goal
+use Rattle.facl_script.proofs.write.write_answer.Goals as goal
 
 pub returns-in_err-write_whole-clause-part : goal.returns-in_err-write_whole-clause-part
 returns-in_err-write_whole-clause-part g c =

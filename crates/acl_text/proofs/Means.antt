@@ -16,12 +16,12 @@ use Rattle.acl_text.specs.declared.fault.FaultKind.{FaultKind}
 use Rattle.acl_text.specs.declared.fault.FaultKind.TheVariants as kinds
 use Rattle.acl_text.specs.declared.fields.Tag.{Tag}
 use Rattle.acl_text.specs.declared.fields.Tag.TheVariants as tags
-use Rattle.acl_text.specs.Told.{◌>>=◌, or_fault}
+use Rattle.acl_text.specs.InTurn.{◌>>=◌, or_fault}
 use Rattle.acl_text.specs.Words.{word_id}
 use Rattle.acl_text.specs.Letters.{is_letter, is_digit, letter_set, holds, letters_of, perms_of}
 use Rattle.acl_text.specs.Fields.{EntryRow, tag_named, one_field, two_fields, three_fields, row_of, is_default_word, default_of, entry_fields}
 use Rattle.acl_text.specs.Entries.{tagged, given_perms, no_perms, wanted_perms, key_of, allowed_key, entry_of}
-use Rattle.acl_text.specs.Says.{IsWordFor, IsDefaultWord, last, WaysOf, IsWritten, IsOfList, IsFor, AreLetters, Grants, HasPerms, Says}
+use Rattle.acl_text.specs.Means.{IsWordFor, IsDefaultWord, last, WaysOf, IsWritten, IsOfList, IsFor, AreLetters, Grants, HasPerms, Means}
 use Rattle.acl_text.proofs.FieldCounts.{default_taken}
 use Rattle.acl_text.proofs.Lowest.{or_fault-some}
 
@@ -179,7 +179,7 @@ split_default rules first second more row is e =
         of_list = record { taken = takes; word = first; for_default = one_of first (codes "d") (codes "default") is; more = omega arith; are = refl };
         row_is = rw takes at e;
       }
-      | inr none ↦ let told = rw none at e in absurd cc
+      | inr none ↦ let read_each = rw none at e in absurd cc
     ]
 
 is_split : (rules : Rules) (all : List (List ℕ)) (row : EntryRow) → tagged rules (default_of all) ≡ Some row → IsSplit rules all (default_of all).0 row
@@ -230,12 +230,12 @@ module _ (user_id group_id : List ℕ → Option ℕ) where
   same_key a b e = cc
 
   for_user : (b : ℕ) (bs : List ℕ) (key : Key) (o : Option ℕ) → word_id user_id (b ∷ bs) ≡ o → key_of user_id group_id tags.User (b ∷ bs) ≡ Ok key → IsFor user_id group_id key tags.User (b ∷ bs)
-  for_user b bs key None is e = let told = rw is at e in absurd cc
-  for_user b bs key (Some id) is e = let told = rw is at e in rw (← same_key _ key told) (refl, omega arith, is)
+  for_user b bs key None is e = let read_each = rw is at e in absurd cc
+  for_user b bs key (Some id) is e = let read_each = rw is at e in rw (← same_key _ key read_each) (refl, omega arith, is)
 
   for_group : (b : ℕ) (bs : List ℕ) (key : Key) (o : Option ℕ) → word_id group_id (b ∷ bs) ≡ o → key_of user_id group_id tags.Group (b ∷ bs) ≡ Ok key → IsFor user_id group_id key tags.Group (b ∷ bs)
-  for_group b bs key None is e = let told = rw is at e in absurd cc
-  for_group b bs key (Some id) is e = let told = rw is at e in rw (← same_key _ key told) (refl, omega arith, is)
+  for_group b bs key None is e = let read_each = rw is at e in absurd cc
+  for_group b bs key (Some id) is e = let read_each = rw is at e in rw (← same_key _ key read_each) (refl, omega arith, is)
 
   is_for : (tag : Tag) (word : List ℕ) (key : Key) → key_of user_id group_id tag word ≡ Ok key → IsFor user_id group_id key tag word
   is_for tags.User [] key e = rw (← same_key _ key e) (refl, refl)
@@ -261,7 +261,7 @@ letters_are : (takes_x : Bool) (field : List ℕ) (perm : PermSpec) → letters_
 letters_are takes_x field perm e =
     elim (cases_Bool (list_all (is_letter takes_x) field)) [
       | inl all ↦
-          let told = rw all at e in
+          let read_each = rw all at e in
           let same : record { fixed = letter_set field; cond_x = holds 88 field } ≡ perm = cc in
           record {
             letters = all;
@@ -270,7 +270,7 @@ letters_are takes_x field perm e =
             execute = ap (λ (p : PermSpec). p.fixed.execute) (sym same);
             cond_x = ap (λ (p : PermSpec). p.cond_x) (sym same);
           }
-      | inr other ↦ let told = rw other at e in absurd cc
+      | inr other ↦ let read_each = rw other at e in absurd cc
     ]
 
 digit_is : (b : ℕ) → is_digit b ≡ true → (48 ≤ b) × (b ≤ 55)
@@ -283,7 +283,7 @@ grants takes_x (b ∷ []) perm e =
     elim (cases_Bool (is_digit b)) [
       | inl is ↦
           let range = digit_is b is in
-          let told = rw is at e in
+          let read_each = rw is at e in
           let same : record { fixed = numbered (b - 48); cond_x = false } ≡ perm = cc in
           let whole : b ≡ 48 + (b - 48) = omega arith in
           inl (record {
@@ -336,10 +336,10 @@ abbrev perms_by : Bool → Bool → Option (List ℕ) → Result (Option PermSpe
 perms_by takes_perms takes_x field = if takes_perms then given_perms takes_x field else no_perms field
 
 given : (takes_x : Bool) (field : List ℕ) (perm : Option PermSpec) (o : Option PermSpec) → perms_of takes_x field ≡ o → given_perms takes_x (Some field) ≡ Ok perm → HasPerms true takes_x (Some field) perm
-given takes_x field perm None is e = let told = rw is at e in absurd cc
-given takes_x field None (Some p) is e = let told = rw is at e in absurd cc
+given takes_x field perm None is e = let read_each = rw is at e in absurd cc
+given takes_x field None (Some p) is e = let read_each = rw is at e in absurd cc
 given takes_x field (Some q) (Some p) is e =
-    let told = rw is at e in
+    let read_each = rw is at e in
     let same : p ≡ q = cc in
     grants takes_x field q (is ∙ ap (λ (x : PermSpec). Some x) same)
 
@@ -364,9 +364,9 @@ perms_had false takes_x field (Some perm) h = absurd h
 base_allowed : (rules : Rules) (key allowed : Key) → allowed_key rules key ≡ Ok allowed → (key ≡ allowed) × (rules.takes_perms ≡ false → is_base key ≡ false)
 base_allowed rules key allowed e =
     elim (cases_Bool (not rules.takes_perms && is_base key)) [
-      | inl is ↦ let told = rw is at e in absurd cc
+      | inl is ↦ let read_each = rw is at e in absurd cc
       | inr isnt ↦
-          let told = rw isnt at e in
+          let read_each = rw isnt at e in
           (cc, λ none. rw none at isnt)
     ]
 
@@ -395,8 +395,8 @@ module _ (user_id group_id : List ℕ → Option ℕ) (rules : Rules) (at : ℕ)
   abbrev spec_with : Option PermSpec → Key → Spec
   spec_with perm key = record { at = at; dflt = (default_of all).0; key = key; perm = perm }
 
-  says : entry_of user_id group_id rules at entry ≡ Ok spec → Says user_id group_id rules at entry spec
-  says e =
+  means : entry_of user_id group_id rules at entry ≡ Ok spec → Means user_id group_id rules at entry spec
+  means e =
       let tag = bound (or_fault (tagged rules (default_of all)) kinds.BadTag) (λ row. wanted_perms rules row.perms >>= (λ perm. key_of user_id group_id row.tag row.word >>= (λ key. allowed_key rules key >>= (λ allowed. Ok (spec_with perm allowed))))) spec e in
       let row = tag.value in
       let perms = bound (wanted_perms rules row.perms) (λ perm. key_of user_id group_id row.tag row.word >>= (λ key. allowed_key rules key >>= (λ allowed. Ok (spec_with perm allowed)))) spec tag.after in
@@ -416,8 +416,8 @@ module _ (user_id group_id : List ℕ → Option ℕ) (rules : Rules) (at : ℕ)
         no_base = rw (← allowed.0) allowed.1;
       })
 
-  said : Says user_id group_id rules at entry spec → entry_of user_id group_id rules at entry ≡ Ok spec
-  said h =
+  state : Means user_id group_id rules at entry spec → entry_of user_id group_id rules at entry ≡ Ok spec
+  state h =
       let split = split_is rules all h.fields spec.dflt h.of_list in
       let row : tagged rules (spec.dflt, h.fields) ≡ Some h.row = tagged_is rules all h.fields spec.dflt h.of_list ∙ row_from h.fields h.row.tag h.row.word h.row.perms h.written in
       let perms = perms_had rules.takes_perms rules.takes_x h.row.perms spec.perm h.perms in
@@ -425,5 +425,5 @@ module _ (user_id group_id : List ℕ → Option ℕ) (rules : Rules) (at : ℕ)
       let base = allowed_from rules spec.key h.no_base in
       rw (split, row, perms, key, base) (λ i. Ok (record { at = sym h.place i; dflt = spec.dflt; key = spec.key; perm = spec.perm }))
 
-  pub says_spec : (entry_of user_id group_id rules at entry ≡ Ok spec) ↔ Says user_id group_id rules at entry spec
-  says_spec = (says, said)
+  pub means_spec : (entry_of user_id group_id rules at entry ≡ Ok spec) ↔ Means user_id group_id rules at entry spec
+  means_spec = (means, state)

@@ -77,7 +77,7 @@ UsersMoved old new Joined = (new.tree ≡ old.tree) × JoinsUser (persons old.pe
 UsersMoved old new (Left user) = (new.tree ≡ old.tree) × LeavesUser (persons old.people) (persons new.people) user
 
 -- exactly what differs between the state before and the one that is staged; no file is left below one that is gone
-pub record Tells (old : State) (staged : StagedState) : Type 0 where
+pub record Reports (old : State) (staged : StagedState) : Type 0 where
   pub changed : staged.changed ≡ changed_between old.tree.files staged.state.tree.files
   pub gone : staged.gone ≡ gone_between old.tree.files staged.state.tree.files
   pub apart : AllByRecursion (λ e. holds_below staged.state.tree.files e.0 ≡ false) staged.gone

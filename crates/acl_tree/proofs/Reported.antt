@@ -8,7 +8,7 @@ use Rattle.acl_tree.specs.Files.{Files, Recorded, IsInOrder}
 use Rattle.acl_tree.specs.Changed.{changed_between, gone_between}
 use Rattle.acl_tree.specs.Sound.{holds_below}
 use Rattle.acl_tree.specs.Step.{State, state_from}
-use Rattle.acl_tree.specs.Tells.{StagedState, move_of, UsersMoved, Tells}
+use Rattle.acl_tree.specs.Reports.{StagedState, move_of, UsersMoved, Reports}
 use Rattle.acl_tree.proofs.Changes.{all_changed}
 use Rattle.acl_tree.proofs.Removals.{gone_from, none_changed}
 
@@ -20,8 +20,8 @@ module _ (old : State) (s : StagedState) where
   none_apart none = subst (AllByRecursion (λ e. holds_below s.state.tree.files e.0 ≡ false)) (sym none) tt
 
   -- after a load of files, where there was none
-  pub told_load : old.tree.files ≡ [] → s.changed ≡ s.state.tree.files → s.gone ≡ [] → s.moved ≡ Same → s.state.people ≡ old.people → Tells old s
-  told_load none all gone moved people = record {
+  pub reported_load : old.tree.files ≡ [] → s.changed ≡ s.state.tree.files → s.gone ≡ [] → s.moved ≡ Same → s.state.people ≡ old.people → Reports old s
+  reported_load none all gone moved people = record {
     changed = all ∙ sym (ap (λ es. changed_between es s.state.tree.files) none ∙ all_changed s.state.tree.files);
     gone = gone ∙ sym (ap (λ es. gone_between es s.state.tree.files) none);
     apart = none_apart gone;
@@ -29,12 +29,12 @@ module _ (old : State) (s : StagedState) where
   }
 
   -- after files are removed
-  pub told_removal : s.changed ≡ changed_between old.tree.files s.state.tree.files → s.gone ≡ gone_between old.tree.files s.state.tree.files → AllByRecursion (λ e. holds_below s.state.tree.files e.0 ≡ false) s.gone → s.moved ≡ Same → s.state.people ≡ old.people → Tells old s
-  told_removal changed gone apart moved people = record { changed = changed; gone = gone; apart = apart; users = same_users moved people }
+  pub reported_removal : s.changed ≡ changed_between old.tree.files s.state.tree.files → s.gone ≡ gone_between old.tree.files s.state.tree.files → AllByRecursion (λ e. holds_below s.state.tree.files e.0 ≡ false) s.gone → s.moved ≡ Same → s.state.people ≡ old.people → Reports old s
+  reported_removal changed gone apart moved people = record { changed = changed; gone = gone; apart = apart; users = same_users moved people }
 
   -- after a change of files of which none is gone
-  pub told_change : (new : Files) → s.state.tree.files ≡ new → s.changed ≡ changed_between old.tree.files new → s.gone ≡ [] → gone_between old.tree.files new ≡ [] → s.moved ≡ Same → s.state.people ≡ old.people → Tells old s
-  told_change new is changed gone kept moved people = record {
+  pub reported_change : (new : Files) → s.state.tree.files ≡ new → s.changed ≡ changed_between old.tree.files new → s.gone ≡ [] → gone_between old.tree.files new ≡ [] → s.moved ≡ Same → s.state.people ≡ old.people → Reports old s
+  reported_change new is changed gone kept moved people = record {
     changed = changed ∙ ap (λ es. changed_between old.tree.files es) (sym is);
     gone = gone ∙ sym (ap (λ es. gone_between old.tree.files es) is ∙ kept);
     apart = none_apart gone;
@@ -52,8 +52,8 @@ none_kept [] = refl
 none_kept (e ∷ t) = none_kept t
 
 -- after a change of people
-pub told_people : (old : State) (s : StagedState) → IsInOrder old.tree.files → s.state.tree ≡ old.tree → s.changed ≡ [] → s.gone ≡ [] → UsersMoved old s.state s.moved → Tells old s
-told_people old s order same changed gone users =
+pub reported_people : (old : State) (s : StagedState) → IsInOrder old.tree.files → s.state.tree ≡ old.tree → s.changed ≡ [] → s.gone ≡ [] → UsersMoved old s.state s.moved → Reports old s
+reported_people old s order same changed gone users =
     let t : Files = old.tree.files in
     let files : s.state.tree.files ≡ t = ap (λ (tree : Recorded). tree.files) same in
     record {

@@ -14,18 +14,18 @@ IsIdOf None n = Unit {0}
 IsIdOf (Some id) n = (n ≡ id) × (id < 4294967295)
 
 -- eight bytes read as an entry's tag, its permissions and its id
-pub record Says (bytes : List ℕ) (e : Entry) : Type 0 where
+pub record Encodes (bytes : List ℕ) (e : Entry) : Type 0 where
   pub eight : length bytes ≡ 8
   pub tag : little_number 2 bytes ≡ tag_of e.key
   pub perm : little_number 2 (drop 2 bytes) ≡ number e.perm
   pub id : IsIdOf (named_id e.key) (little_number 4 (drop 4 bytes))
 
 -- each piece is the entry at its place
-abbrev pub SayEach : List (List ℕ) → List Entry → Type 0
-SayEach [] [] = Unit {0}
-SayEach (piece ∷ pieces) (e ∷ es) = Says piece e × SayEach pieces es
-SayEach [] (e ∷ es) = ⊥
-SayEach (piece ∷ pieces) [] = ⊥
+abbrev pub EncodeEach : List (List ℕ) → List Entry → Type 0
+EncodeEach [] [] = Unit {0}
+EncodeEach (piece ∷ pieces) (e ∷ es) = Encodes piece e × EncodeEach pieces es
+EncodeEach [] (e ∷ es) = ⊥
+EncodeEach (piece ∷ pieces) [] = ⊥
 
 -- tags never fall, from a tag on
 abbrev pub TagsRise : ℕ → List Entry → Type 0
@@ -34,7 +34,7 @@ TagsRise tag (e ∷ es) = (tag ≤ tag_of e.key) × TagsRise (tag_of e.key) es
 
 -- Pieces in turn are entries: their tags never fall, and no key comes twice.
 pub record Read (pieces : List (List ℕ)) (entries : List Entry) : Type 0 where
-  pub said : SayEach pieces entries
+  pub encoded : EncodeEach pieces entries
   pub few : length entries ≤ 4096
   pub tags : TagsRise 0 entries
   pub once : repeated (keys entries) ≡ None

@@ -1,9 +1,9 @@
 //! The content of a line: what it gives the record that it belongs to.
 
 ghost use Rattle.std.specs.Prelude.{◌≡◌};
-ghost use Rattle.acl_text.specs.Told.{GivesAt, or_fault};
+ghost use Rattle.acl_text.specs.InTurn.{GivesAt, or_fault};
 ghost use Rattle.acl_text.specs.declared.fault.FaultKind.TheVariants.{BadHeader, UnknownUser, UnknownGroup};
-ghost use Rattle.acl_dump.specs.Records.{rules, perm_said, entry_said, flag_of, flags_of, named, said_by};
+ghost use Rattle.acl_dump.specs.Records.{rules, perm_of_spec, entry_item, flag_of, flags_of, named, item_of};
 
 use crate::line::LineKind;
 use acl_entry::{Entry, Id, Perm};
@@ -14,7 +14,7 @@ use std::alloc::Global;
 
 /// The content of a line that begins no record.
 #[derive(Clone, Copy, Debug)]
-pub(crate) enum Said {
+pub(crate) enum Item {
     Owner(Id),
     OwningGroup(Id),
     /// Set user ID, set group ID, sticky.
@@ -63,8 +63,8 @@ fn rules() -> Rules
 }
 
 /// The permissions of an entry's field, which a dump gives without `X`.
-fn perm_said(perm: Option<PermSpec>) -> Perm
-    ensures { result ≡ perm_said perm }
+fn perm_of_spec(perm: Option<PermSpec>) -> Perm
+    ensures { result ≡ perm_of_spec perm }
 {
     match perm {
         None => Perm::none(),
@@ -73,14 +73,14 @@ fn perm_said(perm: Option<PermSpec>) -> Perm
 }
 
 /// The content of an entry's line.
-fn entry_said(spec: Spec) -> Said
-    ensures { result ≡ entry_said spec }
+fn entry_item(spec: Spec) -> Item
+    ensures { result ≡ entry_item spec }
 {
-    Said::Entry(
+    Item::Entry(
         spec.dflt,
         Entry {
             key: spec.key,
-            perm: perm_said(spec.perm),
+            perm: perm_of_spec(spec.perm),
         },
     )
 }
@@ -135,20 +135,20 @@ pub(crate) fn bad_header(at: usize) -> TextFault
 }
 
 /// The content of a line that begins no record, or the lowest kind of fault that it has in itself.
-pub(crate) fn said_by<N: Names>(
+pub(crate) fn item_of<N: Names>(
     alloc: Global,
     names: &N,
     at: usize,
     kind: LineKind,
     value: &[u8],
-) -> Result<Option<Said>, TextFault>
-    ensures { GivesAt at (λ said. said) result (said_by (N.user_id names.now) (N.group_id names.now) at kind value.now) }
+) -> Result<Option<Item>, TextFault>
+    ensures { GivesAt at (λ item. item) result (item_of (N.user_id names.now) (N.group_id names.now) at kind value.now) }
 {
     match kind {
         LineKind::Nothing | LineKind::File => Ok(None),
-        LineKind::Owner => Ok(Some(Said::Owner(read_owner(alloc, names, at, value)?))),
-        LineKind::OwningGroup => Ok(Some(Said::OwningGroup(read_group(alloc, names, at, value)?))),
-        LineKind::Flags => Ok(Some(Said::Flags(read_flags(at, value)?))),
-        LineKind::Entry => Ok(Some(entry_said(entry_of(alloc, names, rules(), at, value)?))),
+        LineKind::Owner => Ok(Some(Item::Owner(read_owner(alloc, names, at, value)?))),
+        LineKind::OwningGroup => Ok(Some(Item::OwningGroup(read_group(alloc, names, at, value)?))),
+        LineKind::Flags => Ok(Some(Item::Flags(read_flags(at, value)?))),
+        LineKind::Entry => Ok(Some(entry_item(entry_of(alloc, names, rules(), at, value)?))),
     }
 }
