@@ -182,7 +182,7 @@ def entries_of_texts(checks):
             b"line 1: setfacl: entry 16385: too many\n")
         empty = [b"", b" \t", b"# x"]
         checks.expect("empty ones beside", text_of(line, [*empty, *[entry] * TEXT_ENTRIES, *empty]) + b"chacl -l f\n", out)
-        checks.expect("one more behind them", text_of(line, [*empty, *[entry] * (TEXT_ENTRIES + 1)]),
+        checks.expect("one more after them", text_of(line, [*empty, *[entry] * (TEXT_ENTRIES + 1)]),
             err=b"line 1: setfacl: entry 16388: too many\n")
         checks.expect("one more, which is bad", text_of(line, [*[entry] * TEXT_ENTRIES, b"u:joe:q:"]),
             err=b"line 1: setfacl: entry 16385: bad tag\n")
@@ -292,7 +292,7 @@ def lengths_of_lines(checks):
     checks.expect("a longer one", text_of(line, [comment + b" ", b"o:r"]) + b"chacl -l f\n", LISTED, reported)
     checks.expect("one without an end", line + b"\n" + comment + b" ", err=b"line 1: facl: text without end\n")
     checks.expect("one that is longer by far", text_of(line, [comment * 100]) + b"chacl -l f\n", LISTED, reported)
-    checks.expect("a dot behind blanks is a text line", line + b"\n. \n.\n", err=b"line 1: setfacl: entry 1: permissions missing\n")
+    checks.expect("a dot after blanks is a text line", line + b"\n. \n.\n", err=b"line 1: setfacl: entry 1: permissions missing\n")
 
 
 def lengths_of_scripts(checks):

@@ -64,10 +64,10 @@ class Session:
         before, self.spent = self.spent, None
         self.program.stdin.write(script)
         self.program.stdin.flush()
-        said = self.program.stderr.readline().decode()
-        if not said.endswith(": facl: unknown tool\n"):
+        message = self.program.stderr.readline().decode()
+        if not message.endswith(": facl: unknown tool\n"):
             self.program.kill()
-            sys.exit(f"measure.py: {said.strip() or 'the program ended'}")
+            sys.exit(f"measure.py: {message.strip() or 'the program ended'}")
         self.spent = self.time()
         return self.spent - before
 
