@@ -8,7 +8,7 @@ use Rattle.acl_text.specs.declared.fault.Which.{Which}
 use Rattle.acl_text.specs.declared.fault.Which.TheVariants.{Access, Default}
 use Rattle.acl_edit.specs.declared.edit.Change.{Change}
 
--- the entry speaks of this list: under -d plain entries are default ones, and default ones are dropped
+-- the entry is for this list: under -d plain entries are default ones, and default ones are dropped
 abbrev pub is_for : Bool → Which → Spec → Bool
 is_for as_default Access s = not (as_default || s.dflt)
 is_for as_default Default s = if as_default then not s.dflt else s.dflt

@@ -8,7 +8,7 @@ use crate::Change;
 use acl_entry::Key;
 use acl_text::{Spec, Which};
 
-/// The entries that speak of one list.
+/// The entries for one list.
 #[derive(Clone, Copy)]
 pub(crate) struct Scope {
     pub which: Which,
@@ -17,7 +17,7 @@ pub(crate) struct Scope {
 }
 
 impl Scope {
-    /// Whether the entry speaks of the list.
+    /// Whether the entry is for the list.
     pub fn takes(self, spec: &Spec) -> bool
         ensures { result ≡ is_for self.as_default self.which spec.now }
     {
@@ -27,7 +27,7 @@ impl Scope {
         }
     }
 
-    /// Whether an entry speaks of the list.
+    /// Whether an entry is for the list.
     pub fn takes_some(self, specs: &[Spec]) -> bool
         ensures { result ≡ is_given (filter (is_for self.as_default self.which) specs.now) }
     {
@@ -60,7 +60,7 @@ pub(crate) fn is_mask(key: &Key) -> bool
 }
 
 impl Change {
-    /// The entries that speak of this list.
+    /// The entries for this list.
     pub(crate) fn scope(&self, which: Which) -> Scope
         ensures { result ≡ record { which = which; as_default = self.now.as_default } }
     {

@@ -144,7 +144,7 @@ fn by_groups(
     if is_matched { Some(all) } else { None }
 }
 
-/// Whether an entry of the key speaks of one of the user's groups.
+/// Whether an entry of the key is for one of the user's groups.
 fn is_for(subject: &Subject, owning: Id, key: &Key) -> bool
     ensures { result ≡ option_map_or (sets.contains subject.now.groups) (group_of owning key.now) false }
 {

@@ -1,4 +1,4 @@
-//! Who an entry speaks of: acl(5), "ACL ENTRIES".
+//! Whom an entry is for: acl(5), "ACL ENTRIES".
 ghost use Rattle.std.specs.Prelude.{◌≡◌, ◌<◌, SomeIff};
 ghost use Rattle.acl_entry.specs.Keys.{key_cmp, named_id, id_of, is_named, is_class, is_base};
 
