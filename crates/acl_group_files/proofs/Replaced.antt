@@ -15,7 +15,7 @@ use Rattle.std.proofs.lemmas.List.Folds.{list_any-append, list_any_more}
 use Rattle.acl_edit.specs.declared.node.Node.{Node}
 use Rattle.acl_tree.specs.Files.{PathOf, Files}
 use Rattle.acl_tree.specs.Changed.{same_label, is_changed, changed_between, gone_between}
-use Rattle.acl_tree.proofs.Changes.{label_is_same}
+use Rattle.acl_files.proofs.Changes.{label_is_same}
 use Rattle.path_map.specs.Entries.{IsInOrder}
 use Rattle.path_map.specs.Merged.{has, merged, without_all}
 use Rattle.path_map.proofs.Merges.{in_order-merged, in_order-without}

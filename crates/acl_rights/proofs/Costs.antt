@@ -10,7 +10,7 @@ use Rattle.acl_edit.specs.declared.node.Node.{Node}
 use Rattle.acl_people.specs.Registers.{Register}
 use Rattle.acl_tree.specs.Files.{PathOf, Files, Recorded}
 use Rattle.acl_tree.specs.Changed.{same_label, is_changed, changed_between}
-use Rattle.acl_tree.proofs.Changes.{label_itself}
+use Rattle.acl_files.proofs.Changes.{label_itself}
 use Rattle.acl_people.specs.Registers.{persons}
 use Rattle.acl_tree.specs.Reports.{StagedState}
 use Rattle.acl_tree.specs.declared.moved.UsersMove.{UsersMove}

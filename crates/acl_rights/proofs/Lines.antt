@@ -16,7 +16,7 @@ use Rattle.acl_edit.specs.declared.node.Node.{Node}
 use Rattle.acl_tree.specs.Files.{PathOf, Files}
 use Rattle.acl_tree.specs.Changed.{same_label, changed_between, gone_between}
 use Rattle.acl_people.specs.Moves.{MovesUser, in_just_one}
-use Rattle.acl_tree.proofs.Changes.{label_is_same}
+use Rattle.acl_files.proofs.Changes.{label_is_same}
 use Rattle.path_map.specs.Entries.{IsInOrder}
 use Rattle.acl_rights.specs.Tables.{Verdict, cells_of, rows_of}
 use Rattle.acl_rights.specs.Stages.{mentions_one}

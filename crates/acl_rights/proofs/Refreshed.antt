@@ -26,7 +26,7 @@ use Rattle.acl_tree.specs.Sound.{holds_below}
 use Rattle.acl_tree.specs.Reports.{StagedState, UsersMoved}
 use Rattle.acl_tree.specs.declared.moved.UsersMove.{UsersMove}
 use Rattle.acl_tree.specs.declared.moved.UsersMove.TheVariants.{Same, Loaded, Moved, Joined, Left}
-use Rattle.acl_tree.proofs.Changes.{label_is_same}
+use Rattle.acl_files.proofs.Changes.{label_is_same}
 use Rattle.path_map.proofs.Places.{above}
 use Rattle.path_map.specs.Entries.{IsInOrder}
 use Rattle.acl_rights.specs.Tables.{Verdict, Rows, cells_of, rows_of}

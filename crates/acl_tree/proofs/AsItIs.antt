@@ -17,16 +17,16 @@ use Rattle.path_map.specs.Merged.{put_all}
 pub use Rattle.path_map.proofs.Differences.{Leads, leads_all}
 use Rattle.path_map.proofs.Edits.{put_edited}
 use Rattle.acl_tree.specs.declared.command.Command.TheVariants.{Restore}
-use Rattle.acl_tree.specs.Files.{PathOf, Files, IsInOrder}
-use Rattle.acl_tree.specs.EditCommand.{unless_missing}
-use Rattle.acl_tree.specs.Edits.{and_others, edit_each, edit_all, with_edits}
+use Rattle.acl_files.specs.Files.{PathOf, Files, IsInOrder}
+use Rattle.acl_files.specs.Edits.{unless_missing}
+use Rattle.acl_files.specs.Edits.{and_others, edit_each, edit_all, with_edits}
 use Rattle.acl_tree.specs.Laws.{Contains, IsAsRecorded}
 use Rattle.acl_load.specs.Loading.{record_at}
-use Rattle.acl_tree.specs.Operands.{is_file, first_missing, files_meant}
-use Rattle.acl_tree.specs.Restoring.{edit_of, edit_if_some, restore_one, paths_of}
-use Rattle.acl_tree.specs.Sound.{ArePlaced, IsSoundTree}
+use Rattle.acl_files.specs.Operands.{is_file, first_missing, files_meant}
+use Rattle.acl_files.specs.Restoring.{edit_of, edit_if_some, restore_one, paths_of}
+use Rattle.acl_files.specs.Sound.{ArePlaced, IsSoundTree}
 use Rattle.acl_tree.specs.Step.{State, step, with_tree}
-use Rattle.acl_tree.proofs.Selected.{same_path}
+use Rattle.acl_files.proofs.Selected.{same_path}
 
 -- ---- one file
 

@@ -1,14 +1,7 @@
-pub mod Edited
-pub mod Kept
-pub mod Changes
-pub mod Selected
-pub mod Edits
 pub mod Placed
-pub mod Restored
 pub mod NewFiles
 pub mod Each
 pub mod Removals
-pub mod Ancestors
 pub mod Unnamed
 pub mod Undone
 pub mod NewUsers

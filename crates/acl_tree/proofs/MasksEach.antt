@@ -10,7 +10,7 @@ use Rattle.acl_edit.specs.declared.edit.EditFault.{EditFault}
 use Rattle.acl_edit.specs.declared.edit.EditFault.TheVariants.{DefaultOnFile}
 use Rattle.acl_edit.specs.declared.node.Node.{Node}
 use Rattle.acl_edit.proofs.Lines.{makes_mask, shows_recalculated, bounds_recalculated}
-use Rattle.acl_tree.specs.Files.{PathOf, Recorded, IsInOrder}
+use Rattle.acl_files.specs.Files.{PathOf, Recorded, IsInOrder}
 use Rattle.acl_tree.specs.EditCommand.{edited_tree}
 use Rattle.acl_tree.specs.Laws.{KeepsMaskRules, MasksEach}
 use Rattle.acl_tree.proofs.Each.{edit_each_file}

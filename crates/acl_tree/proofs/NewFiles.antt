@@ -20,16 +20,16 @@ use Rattle.acl_edit.specs.declared.node.Kind.TheVariants.{Plain, Directory}
 use Rattle.path_map.specs.Merged.{has}
 use Rattle.path_map.proofs.Convex.{not_before}
 use Rattle.path_map.proofs.Differences.{Fail, put_passes, Leads, leads_all, has_put_all}
-use Rattle.acl_tree.specs.Files.{PathOf, Files, Recorded, max_files}
+use Rattle.acl_files.specs.Files.{PathOf, Files, Recorded, max_files}
 use Rattle.acl_load.specs.Below.{is_below, is_within}
-use Rattle.acl_tree.specs.Changed.{same_label, is_changed, changed_between, gone_between}
+use Rattle.acl_files.specs.Changed.{same_label, is_changed, changed_between, gone_between}
 use Rattle.acl_tree.specs.Creat.{exists, parent, only_directory, directory_at, creat_in, creat_by}
 use Rattle.acl_tree.specs.declared.command.NewFile.{NewFile}
-use Rattle.acl_tree.specs.declared.command.TreeFault.{TreeFault}
-use Rattle.acl_tree.specs.declared.command.TreeFault.TheVariants.{NotDirectory, Exists, TooMany}
+use Rattle.acl_files.specs.declared.fault.TreeFault.{TreeFault}
+use Rattle.acl_files.specs.declared.fault.TreeFault.TheVariants.{NotDirectory, Exists, TooMany}
 use Rattle.acl_tree.specs.Inner.{IsNewIn}
-use Rattle.acl_tree.specs.Sound.{holds_below, IsPlaced, ArePlaced, IsSoundTree}
-use Rattle.acl_tree.proofs.Changes.{label_itself}
+use Rattle.acl_files.specs.Sound.{holds_below, IsPlaced, ArePlaced, IsSoundTree}
+use Rattle.acl_files.proofs.Changes.{label_itself}
 use Rattle.acl_load.proofs.Follows.{below_within, within_below, not_below_itself}
 use Rattle.acl_load.proofs.Shared.{in_order-put}
 

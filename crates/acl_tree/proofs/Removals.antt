@@ -10,17 +10,17 @@ use Rattle.acl_edit.specs.declared.node.Node.{Node}
 use Rattle.path_map.specs.Merged.{has, without_all}
 use Rattle.path_map.proofs.Differences.{Leads, leads_all, has_where}
 pub use Rattle.path_map.proofs.Rows.{in_order-filter}
-use Rattle.acl_tree.specs.declared.command.TreeFault.{TreeFault}
-use Rattle.acl_tree.specs.declared.command.TreeFault.TheVariants.{IsDirectory}
-use Rattle.acl_tree.specs.Files.{PathOf, Files, Recorded, IsInOrder}
+use Rattle.acl_files.specs.declared.fault.TreeFault.{TreeFault}
+use Rattle.acl_files.specs.declared.fault.TreeFault.TheVariants.{IsDirectory}
+use Rattle.acl_files.specs.Files.{PathOf, Files, Recorded, IsInOrder}
 use Rattle.acl_load.specs.Below.{is_below, is_within}
-use Rattle.acl_tree.specs.Changed.{same_label, is_changed, changed_between, gone_between}
-use Rattle.acl_tree.specs.Operands.{is_file, files_meant}
+use Rattle.acl_files.specs.Changed.{same_label, is_changed, changed_between, gone_between}
+use Rattle.acl_files.specs.Operands.{is_file, files_meant}
 use Rattle.acl_tree.specs.Rm.{refusal, first_refused, without_files}
-use Rattle.acl_tree.specs.Sound.{holds_below, IsPlaced, ArePlaced, IsSoundTree}
-use Rattle.acl_tree.proofs.Changes.{label_itself}
+use Rattle.acl_files.specs.Sound.{holds_below, IsPlaced, ArePlaced, IsSoundTree}
+use Rattle.acl_files.proofs.Changes.{label_itself}
 use Rattle.acl_load.proofs.Follows.{below_within}
-use Rattle.acl_tree.proofs.Selected.{within_trans, same_path}
+use Rattle.acl_files.proofs.Selected.{within_trans, same_path}
 
 and_true : (a b : Bool) → b ≡ true → (a && b) ≡ a
 and_true true b h = h

@@ -4,12 +4,12 @@ use Rattle.std.specs.List.{AllByRecursion}
 use Rattle.acl_people.specs.Registers.{Register, persons}
 use Rattle.acl_people.specs.Moves.{MovesUser}
 use Rattle.acl_tree.specs.declared.moved.UsersMove.TheVariants.{Same}
-use Rattle.acl_tree.specs.Files.{Files, Recorded, IsInOrder}
-use Rattle.acl_tree.specs.Changed.{changed_between, gone_between}
-use Rattle.acl_tree.specs.Sound.{holds_below}
+use Rattle.acl_files.specs.Files.{Files, Recorded, IsInOrder}
+use Rattle.acl_files.specs.Changed.{changed_between, gone_between}
+use Rattle.acl_files.specs.Sound.{holds_below}
 use Rattle.acl_tree.specs.Step.{State, state_from}
 use Rattle.acl_tree.specs.Reports.{StagedState, move_of, UsersMoved, Reports}
-use Rattle.acl_tree.proofs.Changes.{all_changed}
+use Rattle.acl_files.proofs.Changes.{all_changed}
 use Rattle.acl_tree.proofs.Removals.{gone_from, none_changed}
 
 module _ (old : State) (s : StagedState) where

@@ -15,16 +15,16 @@ use Rattle.acl_tree.specs.declared.command.Command.{Command}
 use Rattle.acl_tree.specs.declared.command.Command.TheVariants.{Load, Chmod, Edit, Restore, Creat, Rm, Gpasswd, Usermod, Useradd, Userdel}
 use Rattle.acl_tree.specs.declared.command.NewFile.{NewFile}
 use Rattle.acl_tree.specs.declared.command.Table.TheVariants.{Passwd, Group, Dump}
-use Rattle.acl_tree.specs.declared.command.TreeFault.{TreeFault}
-use Rattle.acl_tree.specs.declared.command.TreeFault.TheVariants.{Exists, TooMany, AlreadyLoaded}
-use Rattle.acl_tree.specs.Files.{PathOf, Files, Recorded, IsInOrder, max_files}
+use Rattle.acl_files.specs.declared.fault.TreeFault.{TreeFault}
+use Rattle.acl_files.specs.declared.fault.TreeFault.TheVariants.{Exists, TooMany, AlreadyLoaded}
+use Rattle.acl_files.specs.Files.{PathOf, Files, Recorded, IsInOrder, max_files}
 use Rattle.acl_tree.specs.Creat.{row_of, exists, parent, directory_at, creat_in, creat_by, creat}
 use Rattle.acl_tree.specs.EditCommand.{edited_tree}
 use Rattle.acl_tree.specs.Accounts.{useradd, userdel}
 use Rattle.acl_tree.specs.Laws.{LeavesUnnamed}
 use Rattle.acl_tree.specs.Memberships.{UserChange, gpasswd, usermod}
-use Rattle.acl_tree.specs.Operands.{is_file, first_missing}
-use Rattle.acl_tree.specs.Restoring.{restored_tree}
+use Rattle.acl_files.specs.Operands.{is_file, first_missing}
+use Rattle.acl_files.specs.Restoring.{restored_tree}
 use Rattle.acl_tree.specs.Rm.{first_refused, without_files, or_refused, rm}
 use Rattle.acl_tree.specs.Step.{State, step, with_tree, with_change, with_people, or_missing, chmod_all}
 use Rattle.acl_tree.proofs.Each.{same, find-edited, edit_each_file, restore_each_file}

@@ -4,8 +4,8 @@ use Rattle.acl_people.specs.Rolls.{has_name, has_id}
 use Rattle.acl_people.specs.Registers.{Register, users_of}
 use Rattle.acl_people.specs.Changes.{with_user, without_user}
 use Rattle.acl_tree.specs.declared.command.NewUser.{NewUser}
-use Rattle.acl_tree.specs.declared.command.TreeFault.{TreeFault}
-use Rattle.acl_tree.specs.declared.command.TreeFault.TheVariants.{UserExists, UidExists, TooManyUsers}
+use Rattle.acl_files.specs.declared.fault.TreeFault.{TreeFault}
+use Rattle.acl_files.specs.declared.fault.TreeFault.TheVariants.{UserExists, UidExists, TooManyUsers}
 use Rattle.acl_tree.specs.Memberships.{UserChange, user_at, group_at}
 
 -- one user more in a group, if there is room

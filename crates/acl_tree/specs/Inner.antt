@@ -1,28 +1,16 @@
 -- For inner functions: no public contract names these definitions.
-use Rattle.std.specs.Prelude.{◌≡◌, ◌≢◌, ◌<◌, ⊤, List, length, Some, [], ◌∷◌, ◌++◌, Bool, true, false, ◌&&◌, not, if◌then◌else◌, Result, Ok, Err, IfOk}
-use Rattle.std.specs.Coded.{Coded, coded×, coded_ℕ, coded_list}
+use Rattle.std.specs.Prelude.{◌≡◌, ◌<◌, length, Some, false, Result, IfOk}
 use Rattle.std.specs.FinMap.{find}
-use Rattle.std.specs.declared.cmp.Ordering.TheVariants.{Greater}
 use Rattle.acl_names.specs.Paths.{path_cmp}
-use Rattle.acl_dump.specs.declared.record.DumpRecord.{DumpRecord}
-use Rattle.acl_dump.specs.contracts.record.DumpRecord as record_contracts
-use Rattle.acl_edit.specs.Edits.{edit}
-use Rattle.acl_edit.specs.declared.edit.EditFault.{EditFault}
 use Rattle.acl_edit.specs.Nodes as nodes
 use Rattle.acl_edit.specs.declared.node.Node.{Node}
-use Rattle.acl_edit.specs.contracts.node.Node as node_contracts
 use Rattle.acl_edit.specs.declared.node.Kind.TheVariants.{Directory}
-use Rattle.acl_tree.specs.declared.edit.FileFault.{FileFault}
-use Rattle.acl_tree.specs.Files.{PathOf, Files, max_files}
+use Rattle.acl_files.specs.Files.{PathOf, Files, max_files}
+use Rattle.acl_files.specs.Sound.{IsSoundTree}
+use Rattle.acl_files.specs.declared.fault.TreeFault.{TreeFault}
 use Rattle.acl_tree.specs.Creat.{exists, parent}
-use Rattle.acl_tree.specs.Edits.{and_others}
-use Rattle.acl_tree.specs.Found.{FoundFile}
-use Rattle.acl_tree.specs.Changed.{same_label}
-use Rattle.acl_tree.specs.Restoring.{edit_of}
-use Rattle.acl_tree.specs.Sound.{IsSoundTree}
 use Rattle.acl_tree.specs.Step.{State, Stages}
 use Rattle.acl_tree.specs.Reports.{StagedState, Reports}
-use Rattle.acl_tree.specs.declared.command.TreeFault.{TreeFault}
 use Rattle.acl_tree.specs.declared.moved.UsersMove.{UsersMove}
 
 -- ---- a command
@@ -33,78 +21,6 @@ pub record Prepares (old : State) (is : Result State TreeFault) (move : UsersMov
   pub sound : IfOk result (λ staged. IsSoundTree staged.state.tree)
   pub reports : IfOk result (λ staged. Reports old staged)
   pub moved : IfOk result (λ staged. staged.moved ≡ move)
-
--- ---- operands in path order
-
--- none of them is before a path
-abbrev pub NoneBefore : PathOf → List PathOf → Type 0
-NoneBefore p [] = ⊤
-NoneBefore p (q ∷ qs) = (path_cmp p q ≢ Greater) × NoneBefore p qs
-
--- no path is before an earlier one
-abbrev pub Ascend : List PathOf → Type 0
-Ascend [] = ⊤
-Ascend (p ∷ ps) = NoneBefore p ps × Ascend ps
-
--- ---- edits
-
-abbrev pub file_of : FoundFile → PathOf × Node
-file_of f = (f.path, f.node)
-
--- the node after an edit that succeeds
-abbrev pub ok_or : Node → Result Node EditFault → Node
-ok_or n (Ok m) = m
-ok_or n (Err fault) = n
-
-abbrev pub node_after : (PathOf → Node → Result Node EditFault) → PathOf → Node → Node
-node_after edit p n = ok_or n (edit p n)
-
--- files edited, before others
-abbrev pub after_edits : Files → Result Files FileFault → Result Files FileFault
-after_edits edits (Ok es) = Ok (edits ++ es)
-after_edits edits (Err fault) = Err fault
-
--- ---- what an edit changes
-
--- a file as an edit leaves it, if that changes it
-abbrev pub changed_one : Bool → (PathOf → Node → Node) → PathOf × Node → Files
-changed_one edited edit e = if edited && not (same_label e.1.label (edit e.0 e.1).label) then (e.0, edit e.0 e.1) ∷ [] else []
-
--- the files that an edit of those that pass a test changes
-abbrev pub changed_by : (PathOf → Bool) → (PathOf → Node → Node) → Files → Files
-changed_by test edit [] = []
-changed_by test edit (e ∷ es) = changed_one (test e.0) edit e ++ changed_by test edit es
-
--- ---- restored files
-
--- a file, and the record that it is restored from
-abbrev pub RestoredFile : Type 0
-RestoredFile = (PathOf × Node) × DumpRecord
-
-abbrev pub coded_restored : Coded RestoredFile
-coded_restored = coded× (coded× (coded_list (coded_list coded_ℕ)) node_contracts.the_row.coded) record_contracts.the_row.coded
-
--- it is the file of the record's path
-abbrev pub IsFileOf : Files → RestoredFile → Type 0
-IsFileOf t x = (x.0.0 ≡ x.1.path) × (find path_cmp x.1.path t ≡ Some x.0.1)
-
--- a node restored from a record: this is not a recursion
-abbrev pub restored_by : DumpRecord → Node → Result Node EditFault
-restored_by r n = edit n (edit_of r) false
-
--- the file's node after the restore
-abbrev pub restored : RestoredFile → Result Node EditFault
-restored x = restored_by x.1 x.0.1
-
--- each file restored, or the first fault with its path
-abbrev pub restore_each : List RestoredFile → Result Files FileFault
-restore_each [] = Ok []
-restore_each (x ∷ xs) = and_others x.0.0 (restored x) (restore_each xs)
-
--- the files whose label that changes
-abbrev pub changed_by_records : List RestoredFile → Files
-changed_by_records [] = []
-changed_by_records (x ∷ xs) = changed_one true (λ _ n. ok_or n (restored x)) x.0 ++ changed_by_records xs
 
 -- ---- a new file
 

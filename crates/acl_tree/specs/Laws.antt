@@ -13,9 +13,9 @@ use Rattle.acl_tree.specs.declared.command.Command.{Command}
 use Rattle.acl_tree.specs.declared.command.Command.TheVariants.{Load, Chmod, Edit, Restore, Creat, Rm, Gpasswd, Usermod, Useradd, Userdel}
 use Rattle.acl_tree.specs.declared.command.Table.{Table}
 use Rattle.acl_tree.specs.declared.command.Table.TheVariants.{Passwd, Group, Dump}
-use Rattle.acl_tree.specs.Files.{PathOf, Files, Recorded}
-use Rattle.acl_tree.specs.Operands.{is_file}
-use Rattle.acl_tree.specs.Restoring.{paths_of}
+use Rattle.acl_files.specs.Files.{PathOf, Files, Recorded}
+use Rattle.acl_files.specs.Operands.{is_file}
+use Rattle.acl_files.specs.Restoring.{paths_of}
 use Rattle.acl_tree.specs.Step.{State}
 
 -- ---- each file of an edit

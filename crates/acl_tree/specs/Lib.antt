@@ -7,10 +7,8 @@ pub mod Accounts
 pub mod Step
 pub mod Sound
 pub mod Found
-pub mod Walks
 pub mod Changed
 pub mod Reports
-pub mod Edits
 pub mod EditCommand
 pub mod Restoring
 pub mod Inner

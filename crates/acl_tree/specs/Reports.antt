@@ -12,10 +12,10 @@ use Rattle.acl_tree.specs.declared.command.Command.{Command}
 use Rattle.acl_tree.specs.declared.command.Command.TheVariants.{Load, Chmod, Edit, Restore, Creat, Rm, Gpasswd, Usermod, Useradd, Userdel}
 use Rattle.acl_tree.specs.declared.command.Table.{Table}
 use Rattle.acl_tree.specs.declared.command.Table.TheVariants.{Passwd, Group, Dump}
-use Rattle.acl_tree.specs.declared.command.TreeFault.{TreeFault}
-use Rattle.acl_tree.specs.Files.{Files}
-use Rattle.acl_tree.specs.Changed.{changed_between, gone_between}
-use Rattle.acl_tree.specs.Sound.{holds_below}
+use Rattle.acl_files.specs.declared.fault.TreeFault.{TreeFault}
+use Rattle.acl_files.specs.Files.{Files}
+use Rattle.acl_files.specs.Changed.{changed_between, gone_between}
+use Rattle.acl_files.specs.Sound.{holds_below}
 use Rattle.acl_tree.specs.Step.{State, coded_state}
 use Rattle.acl_tree.specs.Memberships.{UserChange, gpasswd, usermod}
 use Rattle.acl_tree.specs.Accounts.{userdel}

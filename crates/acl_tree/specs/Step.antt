@@ -15,17 +15,17 @@ use Rattle.acl_tree.specs.declared.command.Command.{Command}
 use Rattle.acl_tree.specs.declared.command.Command.TheVariants.{Load, Chmod, Edit, Restore, Creat, Rm, Gpasswd, Usermod, Useradd, Userdel}
 use Rattle.acl_tree.specs.declared.command.Table.{Table}
 use Rattle.acl_tree.specs.declared.command.Table.TheVariants.{Passwd, Group, Dump}
-use Rattle.acl_tree.specs.declared.command.TreeFault.{TreeFault}
-use Rattle.acl_tree.specs.declared.command.TreeFault.TheVariants.{NoSuchFile, TooMany, AlreadyLoaded, Text, NoMemory}
-use Rattle.acl_tree.specs.Files.{PathOf, Recorded, coded_recorded, no_files, max_files}
+use Rattle.acl_files.specs.declared.fault.TreeFault.{TreeFault}
+use Rattle.acl_files.specs.declared.fault.TreeFault.TheVariants.{NoSuchFile, TooMany, AlreadyLoaded, Text, NoMemory}
+use Rattle.acl_files.specs.Files.{PathOf, Recorded, coded_recorded, no_files, max_files}
 use Rattle.acl_load.specs.Loading.{files_of}
 use Rattle.acl_tree.specs.Creat.{creat}
 use Rattle.acl_tree.specs.Rm.{rm}
 use Rattle.acl_tree.specs.Memberships.{UserChange, gpasswd, usermod}
 use Rattle.acl_tree.specs.Accounts.{useradd, userdel}
-use Rattle.acl_tree.specs.Operands.{is_file, first_missing, edit_files}
+use Rattle.acl_files.specs.Operands.{is_file, first_missing, edit_files}
 use Rattle.acl_tree.specs.EditCommand.{edited_tree}
-use Rattle.acl_tree.specs.Restoring.{restored_tree}
+use Rattle.acl_files.specs.Restoring.{restored_tree}
 
 -- the recorded files, and the users and groups
 pub record State : Type 0 where

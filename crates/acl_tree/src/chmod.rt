@@ -1,17 +1,14 @@
 //! chmod(1): a mode is put into files.
 
 ghost use Rattle.acl_tree.specs.Inner.{Prepares};
-ghost use Rattle.acl_tree.specs.Operands.{first_missing};
+ghost use Rattle.acl_files.specs.Operands.{first_missing};
 ghost use Rattle.acl_tree.specs.Step.{chmod_all, or_missing, state_from};
 ghost use Rattle.acl_tree.specs.declared.moved.UsersMove.TheVariants.{Same};
 
-use crate::command::{Paths, TreeFault};
-use crate::edit::{NodeEdit, edit_files};
 use crate::moved::UsersMove;
-use crate::selection::look_up;
 use crate::staged::Staged;
-use crate::tree::Tree;
 use acl_edit::{EditFault, Node, chmod};
+use acl_files::{NodeEdit, Paths, Tree, TreeFault, edit_files, look_up};
 use acl_names::Path;
 use acl_people::People;
 use std::alloc::Global;
@@ -37,37 +34,36 @@ impl NodeEdit for Mode {
     fn keeps_place(&self) {}
 }
 
-impl Tree {
-    pub(crate) fn chmod(
-        &self,
-        alloc: Global,
-        people: &People,
-        paths: &Paths,
-        mode: u16,
-        recursive: bool,
-    ) -> Result<Staged, TreeFault>
-        ensures { Prepares (state_from self.now people.now) (or_missing (first_missing paths.now self.now.files) (state_from (chmod_all recursive paths.now mode self.now) people.now)) Same result }
-    {
-        self.is_sound();
-        look_up(self, alloc, paths.as_slice())?;
-        let mut changed = Vec::new(alloc);
-        let edit = Mode { bits: mode };
-        match edit_files(
-            self,
-            alloc,
-            &mut changed,
-            paths.as_slice(),
-            recursive,
-            &edit,
-        ) {
-            Ok(tree) => Ok(Staged::of(
-                tree,
-                people.share()?,
-                changed,
-                Vec::new(alloc),
-                UsersMove::Same,
-            )),
-            Err(_) => Err(TreeFault::NoMemory),
-        }
+/// Puts a mode into the files of a command.
+pub(crate) fn prepare_chmod(
+    tree: &Tree,
+    alloc: Global,
+    people: &People,
+    paths: &Paths,
+    mode: u16,
+    recursive: bool,
+) -> Result<Staged, TreeFault>
+    ensures { Prepares (state_from tree.now people.now) (or_missing (first_missing paths.now tree.now.files) (state_from (chmod_all recursive paths.now mode tree.now) people.now)) Same result }
+{
+    tree.is_sound();
+    look_up(tree, alloc, paths.as_slice())?;
+    let mut changed = Vec::new(alloc);
+    let edit = Mode { bits: mode };
+    match edit_files(
+        tree,
+        alloc,
+        &mut changed,
+        paths.as_slice(),
+        recursive,
+        &edit,
+    ) {
+        Ok(edited) => Ok(Staged::of(
+            edited,
+            people.share()?,
+            changed,
+            Vec::new(alloc),
+            UsersMove::Same,
+        )),
+        Err(_) => Err(TreeFault::NoMemory),
     }
 }

@@ -1,16 +1,10 @@
-//! Commands, and why one is refused.
+//! Commands.
 
-ghost use Rattle.std.specs.Prelude.{◌≡◌};
-ghost use Rattle.acl_tree.specs.declared.command.TreeFault.TheVariants.{NoMemory};
-
-use crate::restore::DumpRecords;
-use acl_edit::{Edit, EditFault, Kind};
+use acl_edit::{Edit, Kind};
 use acl_entry::Id;
+use acl_files::{DumpRecords, Paths};
 use acl_names::{Name, Path};
 use acl_people::UserName;
-use acl_text::TextFault;
-use std::alloc::{AllocError, AllocFailed};
-use std::marker::Model;
 
 /// What a text is loaded as.
 #[derive(Clone, Copy, Debug, PartialEq, Eq)]
@@ -21,36 +15,6 @@ pub enum Table {
     Group,
     /// The files: a dump as getfacl(1) writes it.
     Dump,
-}
-
-/// The operands of a command.
-#[derive(Debug, Drop)]
-pub struct Paths {
-    list: Vec<Path>,
-}
-
-impl Model for Paths {
-    ghost use Rattle.std.specs.Prelude.{List, ℕ};
-
-    ghost Value = { List (List (List ℕ)) };
-
-    ghost view = { λ p. p.list.items };
-}
-
-impl Paths {
-    /// The operands, in their order.
-    pub fn new(list: Vec<Path>) -> Paths
-        ensures { result ≡ list.items }
-    {
-        Paths { list }
-    }
-
-    /// The operands, in their order.
-    pub fn as_slice(&self) -> &[Path]
-        ensures { result.now ≡ self.now }
-    {
-        &self.list
-    }
 }
 
 /// A new file: see [`Command::Creat`].
@@ -133,55 +97,4 @@ pub enum Command<'a> {
     Userdel {
         user: Name,
     },
-}
-
-/// Why a command is refused. A refused command changes nothing.
-#[derive(Debug, Drop)]
-pub enum TreeFault {
-    /// The first operand that is not recorded, or the parent of a new file.
-    NoSuchFile { path: Path },
-    /// The parent of a new file is not a directory.
-    NotDirectory { path: Path },
-    /// A new file has the path of a recorded one, or a recorded file is below it.
-    Exists { path: Path },
-    /// The first operand of a removal that is a directory.
-    IsDirectory { path: Path },
-    /// No row of this user.
-    NoSuchUser { name: Name },
-    /// No row of this group.
-    NoSuchGroup { name: Name },
-    /// The row of the group does not name the user.
-    NotMember,
-    /// The first file in path order whose edit is refused, for a fault that is not `NoMemory`.
-    Edit { path: Path, fault: EditFault },
-    /// More than 1,048,576 files.
-    TooMany,
-    /// A text of this kind was loaded before, or a dump.
-    AlreadyLoaded,
-    /// The text's first fault, which is not `NoMemory`.
-    Text(TextFault),
-    /// A new user has the name of another one.
-    UserExists { name: Name },
-    /// A new user has the id of another one.
-    UidExists { id: Id },
-    /// There are 65,536 users.
-    TooManyUsers,
-    /// Memory ran out.
-    NoMemory,
-}
-
-impl From<AllocError> for TreeFault {
-    ghost from_gives = { λ _ fault. fault ≡ NoMemory };
-
-    fn from(_: AllocError) -> TreeFault {
-        TreeFault::NoMemory
-    }
-}
-
-impl<T: Drop> From<AllocFailed<T>> for TreeFault {
-    ghost from_gives = { λ _ fault. fault ≡ NoMemory };
-
-    fn from(_: AllocFailed<T>) -> TreeFault {
-        TreeFault::NoMemory
-    }
 }

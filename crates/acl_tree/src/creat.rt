@@ -8,15 +8,15 @@ ghost use Rattle.acl_edit.specs.Nodes.{IsSound};
 ghost use Rattle.acl_tree.specs.Creat.{row_of, exists, parent, directory_at, creat_by, creat};
 ghost use Rattle.acl_tree.specs.Inner.{Prepares, IsNewIn};
 ghost use Rattle.acl_tree.specs.Step.{with_tree, state_from};
-ghost use Rattle.acl_tree.specs.declared.command.TreeFault.TheVariants.{NoMemory, NoSuchUser};
+ghost use Rattle.acl_files.specs.declared.fault.TreeFault.TheVariants.{NoMemory, NoSuchUser};
 ghost use Rattle.acl_tree.specs.declared.moved.UsersMove.TheVariants.{Same};
 
-use crate::command::{NewFile, TreeFault};
+use crate::command::NewFile;
 use crate::dump::MAX_FILES;
 use crate::moved::UsersMove;
 use crate::staged::Staged;
-use crate::tree::{Record, Tree};
 use acl_edit::{Kind, Node, create};
+use acl_files::{Record, Tree, TreeFault};
 use acl_names::{Name, Path};
 use acl_people::People;
 use acl_text::PasswdRow;
@@ -118,27 +118,25 @@ fn new_file(
     Ok(Rc::new(alloc, Record::new(path, node))?)
 }
 
-impl Tree {
-    /// Makes a file.
-    pub(crate) fn creat(
-        &self,
-        alloc: Global,
-        people: &People,
-        new: &NewFile,
-    ) -> Result<Staged, TreeFault>
-        ensures { Prepares (state_from self.now people.now) (with_tree (state_from self.now people.now) (creat new.now people.now self.now)) Same result }
-    {
-        let owner = row_of(alloc, people, &new.user)?;
-        let file = new_file(self, alloc, new, owner)?;
-        let mut changed = Vec::new(alloc);
-        changed.push(file)?;
-        let files = self.files_by_path().put_all(alloc, &changed)?;
-        Ok(Staged::of(
-            Tree::of(files, self.is_loaded()),
-            people.share()?,
-            changed,
-            Vec::new(alloc),
-            UsersMove::Same,
-        ))
-    }
+/// Makes a file.
+pub(crate) fn prepare_creat(
+    tree: &Tree,
+    alloc: Global,
+    people: &People,
+    new: &NewFile,
+) -> Result<Staged, TreeFault>
+    ensures { Prepares (state_from tree.now people.now) (with_tree (state_from tree.now people.now) (creat new.now people.now tree.now)) Same result }
+{
+    let owner = row_of(alloc, people, &new.user)?;
+    let file = new_file(tree, alloc, new, owner)?;
+    let mut changed = Vec::new(alloc);
+    changed.push(file)?;
+    let files = tree.files_by_path().put_all(alloc, &changed)?;
+    Ok(Staged::of(
+        Tree::of(files, tree.is_loaded()),
+        people.share()?,
+        changed,
+        Vec::new(alloc),
+        UsersMove::Same,
+    ))
 }

@@ -1,16 +1,15 @@
 //! A dump as a tree.
 
 ghost use Rattle.std.specs.Prelude.{◌≡◌, ◌≢◌, [], true, map, IfOk};
-ghost use Rattle.acl_tree.specs.Sound.{IsSoundTree};
+ghost use Rattle.acl_files.specs.Sound.{IsSoundTree};
 ghost use Rattle.acl_tree.specs.Step.{load_dump, Stages, state_from};
 ghost use Rattle.acl_tree.specs.Reports.{Reports};
 ghost use Rattle.acl_tree.specs.declared.moved.UsersMove.TheVariants.{Same};
 
-use crate::command::TreeFault;
 use crate::moved::UsersMove;
 use crate::staged::Staged;
-use crate::tree::{Record, Tree};
 use acl_dump::{DumpUse, read_dump};
+use acl_files::{Record, Tree, TreeFault};
 use acl_load::files_of;
 use acl_people::People;
 use acl_text::{FaultKind, TextFault};
@@ -41,34 +40,32 @@ fn tree_of(alloc: Global, files: &[Rc<Record>]) -> Result<Tree, AllocError>
     Ok(Tree::of(PathMap::from_sorted(alloc, files)?, true))
 }
 
-impl Tree {
-    /// Loads the files of a dump. None is loaded yet.
-    pub(crate) fn load_dump(
-        &self,
-        alloc: Global,
-        people: &People,
-        bytes: &[u8],
-    ) -> Result<Staged, TreeFault>
-        ensures made { Stages (λ s. s.state) result (load_dump (state_from self.now people.now) bytes.now) }
-        ensures sound { IfOk result (λ staged. IsSoundTree staged.state.tree) }
-        ensures reports { IfOk result (λ staged. self.now.files ≡ [] → Reports (state_from self.now people.now) staged) }
-        ensures moved { IfOk result (λ staged. staged.moved ≡ Same) }
-    {
-        let records = match read_dump(alloc, bytes, DumpUse::Load, people) {
-            Ok(records) => records,
-            Err(fault) => return Err(text_fault(fault)),
-        };
-        if records.len() > MAX_FILES {
-            return Err(TreeFault::TooMany);
-        }
-        let files = files_of(alloc, records)?;
-        let tree = tree_of(alloc, &files)?;
-        Ok(Staged::of(
-            tree,
-            people.share()?,
-            files,
-            Vec::new(alloc),
-            UsersMove::Same,
-        ))
+/// Loads the files of a dump. None is loaded yet.
+pub(crate) fn prepare_dump(
+    tree: &Tree,
+    alloc: Global,
+    people: &People,
+    bytes: &[u8],
+) -> Result<Staged, TreeFault>
+    ensures made { Stages (λ s. s.state) result (load_dump (state_from tree.now people.now) bytes.now) }
+    ensures sound { IfOk result (λ staged. IsSoundTree staged.state.tree) }
+    ensures reports { IfOk result (λ staged. tree.now.files ≡ [] → Reports (state_from tree.now people.now) staged) }
+    ensures moved { IfOk result (λ staged. staged.moved ≡ Same) }
+{
+    let records = match read_dump(alloc, bytes, DumpUse::Load, people) {
+        Ok(records) => records,
+        Err(fault) => return Err(text_fault(fault)),
+    };
+    if records.len() > MAX_FILES {
+        return Err(TreeFault::TooMany);
     }
+    let files = files_of(alloc, records)?;
+    let loaded = tree_of(alloc, &files)?;
+    Ok(Staged::of(
+        loaded,
+        people.share()?,
+        files,
+        Vec::new(alloc),
+        UsersMove::Same,
+    ))
 }

@@ -1,16 +1,19 @@
 //! setfacl(1) and chacl(1): files are edited.
 
+ghost use Rattle.std.specs.Prelude.{◌≡◌, ◌≢◌, Ok, Err, IfOk, IfErr};
+ghost use Rattle.acl_files.specs.Edits.{edit_all};
+ghost use Rattle.acl_files.specs.Sound.{IsSoundTree};
+ghost use Rattle.acl_files.specs.declared.edit.FileFault.TheVariants.{NoMemory};
 ghost use Rattle.acl_tree.specs.EditCommand.{edited_tree};
 ghost use Rattle.acl_tree.specs.Inner.{Prepares};
 ghost use Rattle.acl_tree.specs.Step.{with_tree, state_from};
+ghost use Rattle.acl_tree.specs.Reports.{Reports};
 ghost use Rattle.acl_tree.specs.declared.moved.UsersMove.TheVariants.{Same};
 
-use crate::command::{Paths, TreeFault};
-use crate::edit::{NodeEdit, stage_edits};
-use crate::selection::look_up;
+use crate::moved::UsersMove;
 use crate::staged::Staged;
-use crate::tree::Tree;
 use acl_edit::{Edit, EditFault, Node, apply};
+use acl_files::{FileFault, NodeEdit, Paths, Tree, TreeFault, edit_files, look_up};
 use acl_names::Path;
 use acl_people::People;
 use std::alloc::Global;
@@ -34,19 +37,45 @@ impl NodeEdit for EachFile<'_> {
     fn keeps_place(&self) {}
 }
 
-impl Tree {
-    pub(crate) fn edit(
-        &self,
-        alloc: Global,
-        people: &People,
-        paths: &Paths,
-        edit: &Edit,
-        recursive: bool,
-    ) -> Result<Staged, TreeFault>
-        ensures { Prepares (state_from self.now people.now) (with_tree (state_from self.now people.now) (edited_tree recursive paths.now edit.now self.now)) Same result }
-    {
-        look_up(self, alloc, paths.as_slice())?;
-        let each = EachFile { edit, recursive };
-        Ok(stage_edits(self, alloc, people, paths.as_slice(), recursive, &each)?)
-    }
+/// The state with the files of a command edited. The people stay as they are.
+fn stage_edits<E: NodeEdit>(
+    tree: &Tree,
+    alloc: Global,
+    people: &People,
+    operands: &[Path],
+    recursive: bool,
+    edit: &E,
+) -> Result<Staged, FileFault>
+    ensures made { IfOk result (λ staged. edit_all (E.edited edit.now) recursive operands.now tree.now ≡ Ok staged.state.tree) }
+    ensures people { IfOk result (λ staged. staged.state.people ≡ people.now) }
+    ensures fault { IfErr result (λ fault. fault ≢ NoMemory → edit_all (E.edited edit.now) recursive operands.now tree.now ≡ Err fault) }
+    ensures sound { IfOk result (λ staged. IsSoundTree staged.state.tree) }
+    ensures reports { IfOk result (λ staged. Reports (state_from tree.now people.now) staged) }
+    ensures moved { IfOk result (λ staged. staged.moved ≡ Same) }
+{
+    let mut changed = Vec::new(alloc);
+    let edited = edit_files(tree, alloc, &mut changed, operands, recursive, edit)?;
+    Ok(Staged::of(
+        edited,
+        people.share()?,
+        changed,
+        Vec::new(alloc),
+        UsersMove::Same,
+    ))
+}
+
+/// Edits the files of a command.
+pub(crate) fn prepare_edit(
+    tree: &Tree,
+    alloc: Global,
+    people: &People,
+    paths: &Paths,
+    edit: &Edit,
+    recursive: bool,
+) -> Result<Staged, TreeFault>
+    ensures { Prepares (state_from tree.now people.now) (with_tree (state_from tree.now people.now) (edited_tree recursive paths.now edit.now tree.now)) Same result }
+{
+    look_up(tree, alloc, paths.as_slice())?;
+    let each = EachFile { edit, recursive };
+    Ok(stage_edits(tree, alloc, people, paths.as_slice(), recursive, &each)?)
 }

@@ -2,9 +2,9 @@
 
 ghost use Rattle.std.specs.Prelude.{◌≡◌, ◌≢◌, ◌<◌, length, Ok, Err, IfOk, IfErr};
 ghost use Rattle.acl_tree.specs.Memberships.{user_at, group_at};
-ghost use Rattle.acl_tree.specs.declared.command.TreeFault.TheVariants.{NoMemory};
+ghost use Rattle.acl_files.specs.declared.fault.TreeFault.TheVariants.{NoMemory};
 
-use crate::command::TreeFault;
+use acl_files::TreeFault;
 use acl_names::Name;
 use acl_people::People;
 use std::alloc::Global;

@@ -7,13 +7,13 @@ ghost use Rattle.acl_tree.specs.Inner.{Prepares};
 ghost use Rattle.acl_tree.specs.Memberships.{membership_changed, gpasswd};
 ghost use Rattle.acl_tree.specs.Step.{with_change, state_from};
 ghost use Rattle.acl_tree.specs.Reports.{change_moves};
-ghost use Rattle.acl_tree.specs.declared.command.TreeFault.TheVariants.{NoMemory};
+ghost use Rattle.acl_files.specs.declared.fault.TreeFault.TheVariants.{NoMemory};
 
-use crate::command::{Membership, TreeFault};
+use crate::command::Membership;
 use crate::find_people::{find_group, find_user};
 use crate::stage_people::stage_user_change;
 use crate::staged::Staged;
-use crate::tree::Tree;
+use acl_files::{Tree, TreeFault};
 use acl_names::Name;
 use acl_people::People;
 use std::alloc::Global;
@@ -47,21 +47,20 @@ fn change_membership(
     }
 }
 
-impl Tree {
-    pub(crate) fn gpasswd(
-        &self,
-        alloc: Global,
-        people: &People,
-        user: &Name,
-        group: &Name,
-        change: Membership,
-    ) -> Result<Staged, TreeFault>
-        ensures { Prepares (state_from self.now people.now) (with_change (state_from self.now people.now) (gpasswd user.now group.now change people.now)) (change_moves people.now (gpasswd user.now group.now change people.now)) result }
-    {
-        let user = find_user(alloc, people, user)?;
-        let group = find_group(alloc, people, group)?;
-        let next = change_membership(alloc, people, user, group, change)?;
-        let staged = stage_user_change(self, alloc, people, next, user)?;
-        Ok(staged)
-    }
+/// Changes the membership of a user.
+pub(crate) fn prepare_gpasswd(
+    tree: &Tree,
+    alloc: Global,
+    people: &People,
+    user: &Name,
+    group: &Name,
+    change: Membership,
+) -> Result<Staged, TreeFault>
+    ensures { Prepares (state_from tree.now people.now) (with_change (state_from tree.now people.now) (gpasswd user.now group.now change people.now)) (change_moves people.now (gpasswd user.now group.now change people.now)) result }
+{
+    let user = find_user(alloc, people, user)?;
+    let group = find_group(alloc, people, group)?;
+    let next = change_membership(alloc, people, user, group, change)?;
+    let staged = stage_user_change(tree, alloc, people, next, user)?;
+    Ok(staged)
 }

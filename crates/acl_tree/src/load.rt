@@ -3,17 +3,18 @@
 ghost use Rattle.std.specs.Prelude.{◌≡◌, [], true, IfOk, IfErr, OnOk, Err};
 ghost use Rattle.acl_people.specs.Registers.{Register};
 ghost use Rattle.acl_tree.specs.Step.{tree_fault, load, is_loaded, state_from};
-ghost use Rattle.acl_tree.specs.declared.command.TreeFault.TheVariants.{AlreadyLoaded, NoMemory};
+ghost use Rattle.acl_files.specs.declared.fault.TreeFault.TheVariants.{AlreadyLoaded, NoMemory};
 ghost use Rattle.acl_tree.specs.Inner.{Prepares};
-ghost use Rattle.acl_tree.specs.Sound.{IsSoundTree};
+ghost use Rattle.acl_files.specs.Sound.{IsSoundTree};
 ghost use Rattle.acl_tree.specs.Reports.{load_moves, Reports};
 ghost use Rattle.acl_tree.specs.declared.moved.UsersMove.TheVariants.{Loaded};
 
-use crate::command::{Table, TreeFault};
+use crate::command::Table;
+use crate::dump::prepare_dump;
 use crate::moved::UsersMove;
 use crate::stage_people::stage_people;
 use crate::staged::Staged;
-use crate::tree::Tree;
+use acl_files::{Tree, TreeFault};
 use acl_people::{LoadFault, People};
 use std::alloc::Global;
 
@@ -27,47 +28,45 @@ fn load_fault(fault: LoadFault) -> TreeFault
     }
 }
 
-impl Tree {
-    /// Loads a text: users and groups before a dump, each once.
-    pub(crate) fn load(
-        &self,
-        alloc: Global,
-        people: &People,
-        which: Table,
-        bytes: &[u8],
-    ) -> Result<Staged, TreeFault>
-        ensures prepares { Prepares (state_from self.now people.now) (load (state_from self.now people.now) which bytes.now) (load_moves which) result }
-        ensures loaded { is_loaded (state_from self.now people.now) which ≡ true → result ≡ Err AlreadyLoaded }
-    {
-        self.is_sound();
-        if self.is_loaded() {
-            return Err(TreeFault::AlreadyLoaded);
-        }
-        match which {
-            Table::Passwd => self.with_people(alloc, people.load_passwd(alloc, bytes)),
-            Table::Group => self.with_people(alloc, people.load_group(alloc, bytes)),
-            Table::Dump => self.load_dump(alloc, people, bytes),
-        }
+/// Loads a text: users and groups before a dump, each once.
+pub(crate) fn prepare_load(
+    tree: &Tree,
+    alloc: Global,
+    people: &People,
+    which: Table,
+    bytes: &[u8],
+) -> Result<Staged, TreeFault>
+    ensures prepares { Prepares (state_from tree.now people.now) (load (state_from tree.now people.now) which bytes.now) (load_moves which) result }
+    ensures loaded { is_loaded (state_from tree.now people.now) which ≡ true → result ≡ Err AlreadyLoaded }
+{
+    tree.is_sound();
+    if tree.is_loaded() {
+        return Err(TreeFault::AlreadyLoaded);
     }
+    match which {
+        Table::Passwd => with_people(tree, alloc, people.load_passwd(alloc, bytes)),
+        Table::Group => with_people(tree, alloc, people.load_group(alloc, bytes)),
+        Table::Dump => prepare_dump(tree, alloc, people, bytes),
+    }
+}
 
-    fn with_people(
-        &self,
-        alloc: Global,
-        loaded: Result<People, LoadFault>,
-    ) -> Result<Staged, TreeFault>
-        ensures ok { IfOk loaded (λ people. IfOk result (λ staged. staged ≡ record { state = state_from self.now people; changed = []; gone = []; moved = Loaded })) }
-        ensures moved { IfOk result (λ staged. staged.moved ≡ Loaded) }
-        ensures sound { IfOk result (λ staged. IsSoundTree staged.state.tree) }
-        ensures reports { IfOk result (λ staged. (people : Register) → self.now.files ≡ [] → Reports (state_from self.now people) staged) }
-        ensures err { IfErr loaded (λ fault. result ≡ Err (tree_fault fault)) }
-        ensures memory { OnOk loaded (IfErr result (λ fault. fault ≡ NoMemory)) }
-    {
-        match loaded {
-            Ok(people) => {
-                let staged = stage_people(self, alloc, people, UsersMove::Loaded)?;
-                Ok(staged)
-            }
-            Err(fault) => Err(load_fault(fault)),
+fn with_people(
+    tree: &Tree,
+    alloc: Global,
+    loaded: Result<People, LoadFault>,
+) -> Result<Staged, TreeFault>
+    ensures ok { IfOk loaded (λ people. IfOk result (λ staged. staged ≡ record { state = state_from tree.now people; changed = []; gone = []; moved = Loaded })) }
+    ensures moved { IfOk result (λ staged. staged.moved ≡ Loaded) }
+    ensures sound { IfOk result (λ staged. IsSoundTree staged.state.tree) }
+    ensures reports { IfOk result (λ staged. (people : Register) → tree.now.files ≡ [] → Reports (state_from tree.now people) staged) }
+    ensures err { IfErr loaded (λ fault. result ≡ Err (tree_fault fault)) }
+    ensures memory { OnOk loaded (IfErr result (λ fault. fault ≡ NoMemory)) }
+{
+    match loaded {
+        Ok(people) => {
+            let staged = stage_people(tree, alloc, people, UsersMove::Loaded)?;
+            Ok(staged)
         }
+        Err(fault) => Err(load_fault(fault)),
     }
 }

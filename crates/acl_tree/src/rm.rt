@@ -3,19 +3,17 @@
 ghost use Rattle.std.specs.Prelude.{◌≡◌, ◌≢◌, None, Some, map, IfOk, IfErr, OnOk};
 ghost use Rattle.std.specs.FinMap.{find};
 ghost use Rattle.acl_names.specs.Paths.{path_cmp};
-ghost use Rattle.acl_tree.specs.Inner.{Prepares, file_of};
+ghost use Rattle.acl_tree.specs.Inner.{Prepares};
+ghost use Rattle.acl_files.specs.Inner.{file_of};
 ghost use Rattle.acl_tree.specs.Rm.{refusal, first_refused, rm};
 ghost use Rattle.acl_tree.specs.Step.{with_tree, state_from};
-ghost use Rattle.acl_tree.specs.declared.command.TreeFault.TheVariants.{NoMemory};
+ghost use Rattle.acl_files.specs.declared.fault.TreeFault.TheVariants.{NoMemory};
 ghost use Rattle.acl_tree.specs.declared.moved.UsersMove.TheVariants.{Same};
 
-use crate::command::{Paths, TreeFault};
-use crate::found::Found;
 use crate::moved::UsersMove;
-use crate::selection::select;
 use crate::staged::Staged;
-use crate::tree::{Record, Tree};
 use acl_edit::Kind;
+use acl_files::{Found, Paths, Record, Tree, TreeFault, select};
 use acl_names::Path;
 use acl_people::People;
 use std::alloc::{AllocError, Global};
@@ -68,27 +66,25 @@ fn records(alloc: Global, files: &[Found]) -> Result<Vec<Rc<Record>>, AllocError
     Ok(all)
 }
 
-impl Tree {
-    /// Removes files.
-    pub(crate) fn rm(
-        &self,
-        alloc: Global,
-        people: &People,
-        paths: &Paths,
-        recursive: bool,
-    ) -> Result<Staged, TreeFault>
-        ensures { Prepares (state_from self.now people.now) (with_tree (state_from self.now people.now) (rm recursive paths.now self.now)) Same result }
-    {
-        check_all(self, alloc, recursive, paths.as_slice())?;
-        let files = select(self, alloc, paths.as_slice(), recursive)?;
-        let gone = records(alloc, &files)?;
-        let by_path = self.files_by_path().without_all(alloc, &gone)?;
-        Ok(Staged::of(
-            Tree::of(by_path, self.is_loaded()),
-            people.share()?,
-            Vec::new(alloc),
-            gone,
-            UsersMove::Same,
-        ))
-    }
+/// Removes files.
+pub(crate) fn prepare_rm(
+    tree: &Tree,
+    alloc: Global,
+    people: &People,
+    paths: &Paths,
+    recursive: bool,
+) -> Result<Staged, TreeFault>
+    ensures { Prepares (state_from tree.now people.now) (with_tree (state_from tree.now people.now) (rm recursive paths.now tree.now)) Same result }
+{
+    check_all(tree, alloc, recursive, paths.as_slice())?;
+    let files = select(tree, alloc, paths.as_slice(), recursive)?;
+    let gone = records(alloc, &files)?;
+    let by_path = tree.files_by_path().without_all(alloc, &gone)?;
+    Ok(Staged::of(
+        Tree::of(by_path, tree.is_loaded()),
+        people.share()?,
+        Vec::new(alloc),
+        gone,
+        UsersMove::Same,
+    ))
 }

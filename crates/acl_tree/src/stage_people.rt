@@ -3,14 +3,14 @@
 ghost use Rattle.std.specs.Prelude.{◌≡◌, [], IfOk};
 ghost use Rattle.acl_people.specs.Registers.{Register, persons};
 ghost use Rattle.acl_people.specs.Moves.{ChangesUser, moved_groups};
-ghost use Rattle.acl_tree.specs.Sound.{IsSoundTree};
+ghost use Rattle.acl_files.specs.Sound.{IsSoundTree};
 ghost use Rattle.acl_tree.specs.Step.{state_from};
 ghost use Rattle.acl_tree.specs.Reports.{move_of, UsersMoved, Reports};
 
 use crate::moved::{GroupIds, UsersMove};
 use crate::staged::Staged;
-use crate::tree::Tree;
 use acl_entry::Id;
+use acl_files::Tree;
 use acl_people::People;
 use std::alloc::{AllocError, Global};
 

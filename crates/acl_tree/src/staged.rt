@@ -1,15 +1,15 @@
 //! A prepared command: the state after it, before it is put in place.
 
 ghost use Rattle.std.specs.Prelude.{◌≡◌, map};
-ghost use Rattle.acl_tree.specs.Sound.{IsSoundTree};
+ghost use Rattle.acl_files.specs.Sound.{IsSoundTree};
 
 use crate::moved::UsersMove;
-use crate::tree::{Record, Tree};
+use acl_files::{Record, Tree};
 use acl_people::People;
 use std::marker::Model;
 use std::rc::Rc;
 
-/// The whole state after a command, and what it changes. It is put in place by [`Tree::commit`], or discarded:
+/// The whole state after a command, and what it changes. It is put in place by [`crate::State::commit`], or discarded:
 /// one of these has to be done with it.
 pub struct Staged {
     tree: Tree,
@@ -99,20 +99,18 @@ impl Staged {
     }
 }
 
-impl Tree {
-    /// Puts the state after a command in place of the present one. It allocates nothing and succeeds.
-    pub fn commit(&mut self, people: &mut People, staged: Staged)
-        ensures tree { self.new ≡ staged.state.tree }
-        ensures people { people.new ≡ staged.state.people }
-    {
-        let Staged {
-            tree,
-            people: next_people,
-            changed: _changed,
-            gone: _gone,
-            moved: _moved,
-        } = staged;
-        *self = tree;
-        *people = next_people;
-    }
+/// Puts the state after a command in place of the present one. It allocates nothing and succeeds.
+pub(crate) fn commit(tree: &mut Tree, people: &mut People, staged: Staged)
+    ensures tree { tree.new ≡ staged.state.tree }
+    ensures people { people.new ≡ staged.state.people }
+{
+    let Staged {
+        tree: next_tree,
+        people: next_people,
+        changed: _changed,
+        gone: _gone,
+        moved: _moved,
+    } = staged;
+    *tree = next_tree;
+    *people = next_people;
 }

@@ -1,14 +1,15 @@
 //! The whole state: the recorded files, and the users and groups.
 
 ghost use Rattle.std.specs.Prelude.{◌≡◌, true, IfOk, Err};
-ghost use Rattle.acl_tree.specs.Sound.{IsSoundTree};
+ghost use Rattle.acl_files.specs.Sound.{IsSoundTree};
 ghost use Rattle.acl_tree.specs.Step.{nothing, loads_again, step, Stages};
 ghost use Rattle.acl_tree.specs.Reports.{users_move, Reports};
-ghost use Rattle.acl_tree.specs.declared.command.TreeFault.TheVariants.{AlreadyLoaded};
+ghost use Rattle.acl_files.specs.declared.fault.TreeFault.TheVariants.{AlreadyLoaded};
 
-use crate::command::{Command, TreeFault};
-use crate::staged::Staged;
-use crate::tree::Tree;
+use crate::command::Command;
+use crate::prepare::prepare;
+use crate::staged::{Staged, commit};
+use acl_files::{Tree, TreeFault};
 use acl_people::People;
 use std::alloc::{AllocError, Global};
 use std::marker::Model;
@@ -55,11 +56,24 @@ impl State {
         &self.people
     }
 
-    /// The state after a command: see [`Tree::prepare`].
+    /// The state after a command. This state stays as it is: a refused command changes
+    /// nothing.
     ///
     /// # Errors
     ///
-    /// Those of [`Tree::prepare`].
+    /// The command's first fault, in this order:
+    ///
+    /// - a load: `AlreadyLoaded`, before any look at the text and whatever memory there is; `Text` with the
+    ///   text's first fault; `TooMany`;
+    /// - a chmod, an edit, a restore: `NoSuchFile` of the first operand that is not recorded; an edit and a
+    ///   restore then `Edit` of the first file in path order whose edit is refused;
+    /// - a creat: `NoSuchUser`; `Exists`; `NoSuchFile` or `NotDirectory` of the parent; `TooMany`;
+    /// - an rm: `NoSuchFile` or `IsDirectory` of the first operand that has one of them;
+    /// - a gpasswd, a usermod: `NoSuchUser`; `NoSuchGroup`; `NotMember` where there is nothing to remove;
+    /// - a useradd: `UserExists`; `UidExists`; `NoSuchGroup`; `TooManyUsers`;
+    /// - a userdel: `NoSuchUser`.
+    ///
+    /// Or `NoMemory`.
     pub fn prepare(&self, alloc: Global, command: &Command<'_>) -> Result<Staged, TreeFault>
         ensures made { Stages (λ s. s.state) result (step self.now command.now) }
         ensures loaded { loads_again self.now command.now ≡ true → result ≡ Err AlreadyLoaded }
@@ -67,13 +81,13 @@ impl State {
         ensures reports { IfOk result (λ staged. Reports self.now staged) }
         ensures moved { IfOk result (λ staged. staged.moved ≡ users_move self.now command.now) }
     {
-        self.tree.prepare(alloc, &self.people, command)
+        prepare(&self.tree, alloc, &self.people, command)
     }
 
     /// Puts a prepared state in place of this one. Allocates nothing.
     pub fn commit(&mut self, staged: Staged)
         ensures { self.new ≡ staged.state }
     {
-        self.tree.commit(&mut self.people, staged);
+        commit(&mut self.tree, &mut self.people, staged);
     }
 }

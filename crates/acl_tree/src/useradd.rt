@@ -6,15 +6,15 @@ ghost use Rattle.acl_people.specs.Moves.{JoinsUser};
 ghost use Rattle.acl_tree.specs.Accounts.{useradd};
 ghost use Rattle.acl_tree.specs.Inner.{Prepares};
 ghost use Rattle.acl_tree.specs.Step.{with_change, state_from};
-ghost use Rattle.acl_tree.specs.declared.command.TreeFault.TheVariants.{NoMemory};
+ghost use Rattle.acl_files.specs.declared.fault.TreeFault.TheVariants.{NoMemory};
 ghost use Rattle.acl_tree.specs.declared.moved.UsersMove.TheVariants.{Joined};
 
-use crate::command::{NewUser, TreeFault};
+use crate::command::NewUser;
 use crate::find_people::find_group;
 use crate::moved::UsersMove;
 use crate::stage_people::stage_people;
 use crate::staged::Staged;
-use crate::tree::Tree;
+use acl_files::{Tree, TreeFault};
 use acl_people::People;
 use std::alloc::Global;
 
@@ -40,17 +40,16 @@ fn add_user(alloc: Global, people: &People, new: &NewUser) -> Result<People, Tre
     Ok(next)
 }
 
-impl Tree {
-    pub(crate) fn useradd(
-        &self,
-        alloc: Global,
-        people: &People,
-        new: &NewUser,
-    ) -> Result<Staged, TreeFault>
-        ensures { Prepares (state_from self.now people.now) (with_change (state_from self.now people.now) (useradd new.now people.now)) Joined result }
-    {
-        let next = add_user(alloc, people, new)?;
-        let staged = stage_people(self, alloc, next, UsersMove::Joined)?;
-        Ok(staged)
-    }
+/// Adds a user.
+pub(crate) fn prepare_useradd(
+    tree: &Tree,
+    alloc: Global,
+    people: &People,
+    new: &NewUser,
+) -> Result<Staged, TreeFault>
+    ensures { Prepares (state_from tree.now people.now) (with_change (state_from tree.now people.now) (useradd new.now people.now)) Joined result }
+{
+    let next = add_user(alloc, people, new)?;
+    let staged = stage_people(tree, alloc, next, UsersMove::Joined)?;
+    Ok(staged)
 }

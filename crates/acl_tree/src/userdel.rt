@@ -5,28 +5,26 @@ ghost use Rattle.acl_tree.specs.Inner.{Prepares};
 ghost use Rattle.acl_tree.specs.Step.{with_change, state_from};
 ghost use Rattle.acl_tree.specs.Reports.{user_left};
 
-use crate::command::TreeFault;
 use crate::find_people::find_user;
 use crate::moved::UsersMove;
 use crate::stage_people::stage_people;
 use crate::staged::Staged;
-use crate::tree::Tree;
+use acl_files::{Tree, TreeFault};
 use acl_names::Name;
 use acl_people::People;
 use std::alloc::Global;
 
-impl Tree {
-    pub(crate) fn userdel(
-        &self,
-        alloc: Global,
-        people: &People,
-        user: &Name,
-    ) -> Result<Staged, TreeFault>
-        ensures { Prepares (state_from self.now people.now) (with_change (state_from self.now people.now) (userdel user.now people.now)) (user_left (userdel user.now people.now)) result }
-    {
-        let user = find_user(alloc, people, user)?;
-        let next = people.without_user(alloc, user)?;
-        let staged = stage_people(self, alloc, next, UsersMove::Left { user })?;
-        Ok(staged)
-    }
+/// Removes a user.
+pub(crate) fn prepare_userdel(
+    tree: &Tree,
+    alloc: Global,
+    people: &People,
+    user: &Name,
+) -> Result<Staged, TreeFault>
+    ensures { Prepares (state_from tree.now people.now) (with_change (state_from tree.now people.now) (userdel user.now people.now)) (user_left (userdel user.now people.now)) result }
+{
+    let user = find_user(alloc, people, user)?;
+    let next = people.without_user(alloc, user)?;
+    let staged = stage_people(tree, alloc, next, UsersMove::Left { user })?;
+    Ok(staged)
 }

@@ -5,29 +5,27 @@ ghost use Rattle.acl_tree.specs.Memberships.{usermod};
 ghost use Rattle.acl_tree.specs.Step.{with_change, state_from};
 ghost use Rattle.acl_tree.specs.Reports.{change_moves};
 
-use crate::command::TreeFault;
 use crate::find_people::{find_group, find_user};
 use crate::stage_people::stage_user_change;
 use crate::staged::Staged;
-use crate::tree::Tree;
+use acl_files::{Tree, TreeFault};
 use acl_names::Name;
 use acl_people::People;
 use std::alloc::Global;
 
-impl Tree {
-    pub(crate) fn usermod(
-        &self,
-        alloc: Global,
-        people: &People,
-        user: &Name,
-        group: &Name,
-    ) -> Result<Staged, TreeFault>
-        ensures { Prepares (state_from self.now people.now) (with_change (state_from self.now people.now) (usermod user.now group.now people.now)) (change_moves people.now (usermod user.now group.now people.now)) result }
-    {
-        let user = find_user(alloc, people, user)?;
-        let group = find_group(alloc, people, group)?;
-        let next = people.with_primary_group(alloc, user, group)?;
-        let staged = stage_user_change(self, alloc, people, next, user)?;
-        Ok(staged)
-    }
+/// Changes the primary group of a user.
+pub(crate) fn prepare_usermod(
+    tree: &Tree,
+    alloc: Global,
+    people: &People,
+    user: &Name,
+    group: &Name,
+) -> Result<Staged, TreeFault>
+    ensures { Prepares (state_from tree.now people.now) (with_change (state_from tree.now people.now) (usermod user.now group.now people.now)) (change_moves people.now (usermod user.now group.now people.now)) result }
+{
+    let user = find_user(alloc, people, user)?;
+    let group = find_group(alloc, people, group)?;
+    let next = people.with_primary_group(alloc, user, group)?;
+    let staged = stage_user_change(tree, alloc, people, next, user)?;
+    Ok(staged)
 }

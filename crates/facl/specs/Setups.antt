@@ -2,7 +2,7 @@
 use Rattle.std.specs.Prelude.{ℕ, List, Option, None, Some, option_map, Result, Ok, Err}
 use Rattle.acl_tree.specs.declared.command.Table.{Table}
 use Rattle.acl_tree.specs.declared.command.Table.TheVariants.{Passwd, Group, Dump}
-use Rattle.acl_tree.specs.declared.command.TreeFault.{TreeFault}
+use Rattle.acl_files.specs.declared.fault.TreeFault.{TreeFault}
 use Rattle.acl_tree.specs.Step.{State, nothing, load}
 use Rattle.facl_messages.specs.declared.fault.RunFault.{RunFault}
 use Rattle.facl_messages.specs.declared.fault.RunFault.TheVariants as runs

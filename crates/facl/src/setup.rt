@@ -2,7 +2,7 @@
 
 ghost use Rattle.std.specs.Prelude.{◌≡◌, ◌≢◌, Ok, Err, MatchResult, option_map};
 ghost use Rattle.acl_tree.specs.Step.{load};
-ghost use Rattle.acl_tree.specs.declared.command.TreeFault.TheVariants as trees;
+ghost use Rattle.acl_files.specs.declared.fault.TreeFault.TheVariants as trees;
 ghost use Rattle.facl_messages.specs.declared.fault.RunFault.TheVariants as runs;
 ghost use Rattle.facl.specs.Setups.{set_up, with_text, initial_state};
 

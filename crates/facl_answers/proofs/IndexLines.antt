@@ -13,7 +13,7 @@ use Rattle.acl_tree.specs.Files.{Files, IsInOrder}
 use Rattle.acl_tree.specs.Found.{FoundFile, found_file, found_in}
 use Rattle.acl_tree.specs.Sound.{holds_below}
 use Rattle.acl_tree.specs.Step.{State}
-use Rattle.acl_tree.proofs.Changes.{find_it}
+use Rattle.acl_files.proofs.Changes.{find_it}
 use Rattle.acl_rights.specs.Tables.{Verdict, Table, IsWhole, cells_of}
 use Rattle.acl_rights.proofs.Asked.{row_is}
 use Rattle.facl_listings.specs.Listings.{path_shown}

@@ -18,8 +18,8 @@ use Rattle.acl_dump.specs.declared.record.DumpUse.TheVariants.{Load, Restore}
 use Rattle.acl_dump.specs.Writing.{record_text}
 use Rattle.acl_dump.specs.Again.{AreApart, AreFlags, IsReadable, HasHeaders, paths, placed, dump_text, line_count}
 use Rattle.acl_dump.proofs.WrittenRecords.{dump_again}
-use Rattle.acl_tree.specs.declared.command.TreeFault.{TreeFault}
-use Rattle.acl_tree.specs.declared.command.TreeFault.TheVariants.{TooMany}
+use Rattle.acl_files.specs.declared.fault.TreeFault.{TreeFault}
+use Rattle.acl_files.specs.declared.fault.TreeFault.TheVariants.{TooMany}
 use Rattle.acl_tree.specs.Files.{PathOf, Files, IsInOrder, no_files}
 use Rattle.acl_load.specs.Below.{is_below}
 use Rattle.acl_load.specs.Loading.{node_of, has_below, as_files, files_of}

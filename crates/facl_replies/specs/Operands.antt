@@ -6,7 +6,7 @@ use Rattle.acl_text.specs.Blanks.{trimmed}
 use Rattle.acl_text.specs.declared.fault.FaultKind.TheVariants.{BadPath}
 use Rattle.acl_people.specs.Registers.{Register, users_of}
 use Rattle.acl_people.specs.Rolls.{place_of_word}
-use Rattle.acl_tree.specs.declared.command.TreeFault.TheVariants.{NoSuchFile, NoSuchUser}
+use Rattle.acl_files.specs.declared.fault.TreeFault.TheVariants.{NoSuchFile, NoSuchUser}
 use Rattle.acl_tree.specs.Files.{PathOf}
 use Rattle.facl_usage.specs.Forms.{Text}
 use Rattle.facl_messages.specs.declared.fault.LineFault.{LineFault}

@@ -5,7 +5,7 @@ use Rattle.acl_tree.specs.Sound.{IsSoundTree}
 use Rattle.acl_tree.specs.Step.{State, step}
 use Rattle.acl_tree.specs.Reports.{StagedState, Reports, users_move}
 use Rattle.acl_tree.specs.declared.command.Command.{Command}
-use Rattle.acl_tree.specs.declared.command.TreeFault.{TreeFault}
+use Rattle.acl_files.specs.declared.fault.TreeFault.{TreeFault}
 use Rattle.acl_tree.specs.declared.moved.UsersMove.{UsersMove}
 use Rattle.acl_tree.specs.declared.moved.UsersMove.TheVariants.{Same}
 use Rattle.facl_messages.specs.declared.fault.LineFault.{LineFault}

@@ -12,15 +12,15 @@ use Rattle.acl_edit.specs.declared.edit.Edit.{Edit}
 use Rattle.acl_edit.specs.declared.edit.EditFault.{EditFault}
 use Rattle.acl_edit.specs.declared.node.Node.{Node}
 use Rattle.acl_load.specs.Below.{is_within}
-use Rattle.acl_tree.specs.EditCommand.{edit_one, edited_tree, unless_missing}
-use Rattle.acl_tree.specs.Edits.{edit_all}
+use Rattle.acl_tree.specs.EditCommand.{edit_one, edited_tree}
+use Rattle.acl_files.specs.Edits.{edit_all, unless_missing}
 use Rattle.acl_tree.specs.Files.{PathOf, Recorded, IsInOrder}
 use Rattle.acl_tree.specs.Laws.{EditsEach}
 use Rattle.acl_tree.specs.Operands.{means, is_file, first_missing}
 use Rattle.acl_tree.specs.Restoring.{restore_one, paths_of, restored_tree}
 use Rattle.acl_tree.specs.Step.{State, step, with_tree}
 use Rattle.acl_tree.specs.declared.command.Command.TheVariants.{Edit as EditFiles, Restore}
-use Rattle.acl_tree.specs.declared.command.TreeFault.{TreeFault}
+use Rattle.acl_files.specs.declared.fault.TreeFault.{TreeFault}
 use Rattle.facl_messages.specs.declared.fault.LineFault.{LineFault}
 
 false_is_not_true : false ≡ true → ⊥

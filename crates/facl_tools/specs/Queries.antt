@@ -4,7 +4,7 @@ use Rattle.acl_entry.specs.Perms.{Perms}
 use Rattle.acl_text.specs.Letters.{perms_of}
 use Rattle.acl_people.specs.Registers.{users_of}
 use Rattle.acl_people.specs.Rolls.{place_of_word}
-use Rattle.acl_tree.specs.declared.command.TreeFault.TheVariants.{NoSuchFile, NoSuchUser}
+use Rattle.acl_files.specs.declared.fault.TreeFault.TheVariants.{NoSuchFile, NoSuchUser}
 use Rattle.acl_tree.specs.Files.{PathOf}
 use Rattle.acl_tree.specs.Step.{State}
 use Rattle.acl_verdicts.specs.Rows.{Verdict}

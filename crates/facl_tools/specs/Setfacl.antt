@@ -21,7 +21,7 @@ use Rattle.acl_tree.specs.Restoring.{paths_of}
 use Rattle.acl_tree.specs.Step.{State, step}
 use Rattle.acl_tree.specs.declared.command.Command.{Command}
 use Rattle.acl_tree.specs.declared.command.Command.TheVariants.{Edit, Restore}
-use Rattle.acl_tree.specs.declared.command.TreeFault.{TreeFault}
+use Rattle.acl_files.specs.declared.fault.TreeFault.{TreeFault}
 use Rattle.facl_usage.specs.declared.words.Words.{Words}
 use Rattle.facl_messages.specs.Faults.{line_fault_of_text, line_fault_of_tree}
 use Rattle.facl_messages.specs.declared.fault.LineFault.{LineFault}

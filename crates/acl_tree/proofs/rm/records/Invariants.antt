@@ -1,5 +1,5 @@
 use Rattle.std.proofs.Common.{◌≡◌, map, take}
-use Rattle.acl_tree.specs.Inner.{file_of}
+use Rattle.acl_files.specs.Inner.{file_of}
 use Rattle.acl_tree.proofs.rm.records.Given as goal
 
 abbrev pub invariant-loop-file : goal.invariant-loop-file

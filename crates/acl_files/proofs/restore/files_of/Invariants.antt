@@ -1,0 +1,16 @@
+use Rattle.std.proofs.Common.{◌≡◌, ◌++◌, map, length}
+use Rattle.std.specs.List.{All}
+use Rattle.acl_files.specs.Operands.{first_missing}
+use Rattle.acl_files.specs.Restoring.{paths_of}
+use Rattle.acl_files.specs.Inner.{IsFileOf}
+use Rattle.acl_files.proofs.restore.files_of.Given as goal
+
+abbrev pub invariant-loop-rest : goal.invariant-loop-rest
+invariant-loop-rest l = record {
+  records : map (λ x. x.1) l.found.items ++ l.rest ≡ l.records;
+  files : All (IsFileOf l.tree.files) l.found.items;
+  there : first_missing (paths_of l.rest) l.tree.files ≡ first_missing (paths_of l.records) l.tree.files;
+}
+
+abbrev pub decreases-loop-rest : goal.decreases-loop-rest
+decreases-loop-rest l = length l.rest

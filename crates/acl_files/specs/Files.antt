@@ -1,0 +1,21 @@
+-- The files of a tree: their paths and nodes, in path order.
+use Rattle.std.specs.Prelude.{ℕ, [], Bool, false, refl}
+use Rattle.std.specs.Coded.{Coded, code_by, coded×, coded_ℕ, coded_list, coded_bool}
+use Rattle.acl_edit.specs.contracts.node.Node as node_contracts
+pub use Rattle.acl_load.specs.Files.{PathOf, Files, IsInOrder}
+
+-- the largest number of files of a tree
+abbrev pub max_files : ℕ
+max_files = 1048576
+
+-- the recorded files, and whether a dump is loaded
+pub record Recorded : Type 0 where
+  pub files : Files
+  pub loaded : Bool
+
+abbrev pub coded_recorded : Coded Recorded
+coded_recorded =
+    code_by (Files × Bool) (coded× (coded_list (coded× (coded_list (coded_list coded_ℕ)) node_contracts.the_row.coded)) coded_bool) (λ t. (t.files, t.loaded)) (λ p. record { files = p.0; loaded = p.1 }) (λ _. refl)
+
+abbrev pub no_files : Recorded
+no_files = record { files = []; loaded = false }

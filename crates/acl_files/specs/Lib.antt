@@ -1,0 +1,9 @@
+pub mod Files
+pub mod Operands
+pub mod Sound
+pub mod Found
+pub mod Walks
+pub mod Changed
+pub mod Edits
+pub mod Restoring
+pub mod Inner

@@ -1,0 +1,12 @@
+-- The recorded files around a path: at it or below it, and above it.
+use Rattle.std.specs.Prelude.{List, map, filter}
+use Rattle.acl_files.specs.Files.{PathOf, Files}
+use Rattle.acl_load.specs.Below.{is_within, is_below}
+
+-- the paths of the files at or below a path, in path order
+abbrev pub within : PathOf → Files → List PathOf
+within p t = map (λ e. e.0) (filter (λ e. is_within p e.0) t)
+
+-- the paths of the files that a path is below, in path order: parents first
+abbrev pub ancestors : PathOf → Files → List PathOf
+ancestors p t = map (λ e. e.0) (filter (λ e. is_below e.0 p) t)

@@ -1,0 +1,163 @@
+//! The files that the operands of a command mean, found by search.
+
+ghost use Rattle.std.specs.Prelude.{◌≡◌, ◌≢◌, ◌++◌, Bool, false, map, filter, None, IfOk, IfErr, OnOk};
+ghost use Rattle.std.specs.Option.{option_map_or};
+ghost use Rattle.acl_files.specs.Files.{PathOf};
+ghost use Rattle.acl_files.specs.Found.{files_found, found_in};
+ghost use Rattle.acl_files.specs.Inner.{Ascend};
+ghost use Rattle.acl_load.specs.Inner.{next_file_below};
+ghost use Rattle.acl_files.specs.Operands.{means, is_file, first_missing, IsMissing};
+ghost use Rattle.acl_files.specs.declared.fault.TreeFault.TheVariants.{NoMemory};
+
+use crate::fault::TreeFault;
+use crate::found::Found;
+use crate::paths::Paths;
+use crate::tree::{Files, Tree};
+use acl_load::is_below;
+use acl_names::Path;
+use path_map::is_within;
+use std::alloc::{AllocError, Global};
+use std::cmp::Ordering;
+
+/// Whether an operand means a file.
+fn means(recursive: bool, operand: &Path, path: &Path) -> bool
+    ensures { result ≡ means recursive operand.now path.now }
+{
+    if recursive {
+        is_within(operand, path)
+    } else {
+        path.order(operand) == Ordering::Equal
+    }
+}
+
+/// Whether an operand, if there is one, means a file.
+fn is_meant(recursive: bool, operand: Option<&Path>, path: &Path) -> bool
+    ensures { result ≡ option_map_or (λ p. means recursive p.now path.now) operand.entry false }
+{
+    match operand {
+        Some(operand) => means(recursive, operand, path),
+        None => false,
+    }
+}
+
+/// The operands, borrowed one by one.
+fn all_operands<'a>(alloc: Global, operands: &'a [Path]) -> Result<Vec<&'a Path>, AllocError>
+    ensures { IfOk result (λ all. map (λ p. p.now) all.items ≡ operands.now) }
+{
+    operands.iter().collect(alloc)
+}
+
+/// The operands in path order.
+fn in_order<'a>(alloc: Global, operands: &'a [Path]) -> Result<Vec<&'a Path>, AllocError>
+    ensures same { IfOk result (λ sorted. (recursive : Bool) (q : PathOf) → is_file recursive (map (λ p. p.now) sorted.items) q ≡ is_file recursive operands.now q) }
+    ensures sorted { IfOk result (λ sorted. Ascend (map (λ p. p.now) sorted.items)) }
+{
+    let mut sorted = all_operands(alloc, operands)?;
+    sorted.sort_unstable_by(|a, b| a.order(b));
+    Ok(sorted)
+}
+
+/// Whether the next file is below a path.
+fn is_next_below(path: &Path, rest: &Files<'_>) -> bool
+    ensures { result ≡ next_file_below path.now rest.now }
+{
+    match rest.peek() {
+        Some(next) => is_below(path, next.path()),
+        None => false,
+    }
+}
+
+/// Adds the files that one operand means.
+fn push_meant(
+    files: &mut Vec<Found>,
+    tree: &Tree,
+    recursive: bool,
+    operand: &Path,
+) -> Result<(), AllocError>
+    ensures { OnOk result (files.new.items ≡ files.old.items ++ found_in tree.now.files (filter (λ e. means recursive operand.now e.0) tree.now.files)) }
+{
+    tree.is_sound();
+    let mut rest = tree.files_by_path().from(operand);
+    while let Some(file) = rest.next() {
+        if !means(recursive, operand, file.path()) {
+            return Ok(());
+        }
+        let has_below = is_next_below(file.path(), &rest);
+        files.push(Found::new(file.clone()?, has_below))?;
+    }
+    Ok(())
+}
+
+/// The files that operands in path order mean. What an operand means is either all meant by the one before it,
+/// or comes after all of that.
+fn select_in_order(
+    tree: &Tree,
+    alloc: Global,
+    operands: &[&Path],
+    recursive: bool,
+) -> Result<Vec<Found>, AllocError>
+    requires { Ascend (map (λ p. p.now) operands.now) }
+    ensures { IfOk result (λ files. files.items ≡ files_found recursive (map (λ p. p.now) operands.now) tree.now.files) }
+{
+    tree.is_sound();
+    let mut files = Vec::new(alloc);
+    let mut last: Option<&Path> = None;
+    for operand in operands {
+        if is_meant(recursive, last, operand) {
+            continue;
+        }
+        push_meant(&mut files, tree, recursive, operand)?;
+        last = Some(*operand);
+    }
+    Ok(files)
+}
+
+/// The files that operands mean.
+pub fn select(
+    tree: &Tree,
+    alloc: Global,
+    operands: &[Path],
+    recursive: bool,
+) -> Result<Vec<Found>, AllocError>
+    ensures { IfOk result (λ files. files.items ≡ files_found recursive operands.now tree.now.files) }
+{
+    let sorted = in_order(alloc, operands)?;
+    select_in_order(tree, alloc, &sorted, recursive)
+}
+
+/// Whether each operand is recorded; else the first that isn't.
+pub fn look_up(tree: &Tree, alloc: Global, operands: &[Path]) -> Result<(), TreeFault>
+    ensures all { OnOk result (first_missing operands.now tree.now.files ≡ None) }
+    ensures reported { IfErr result (λ fault. fault ≢ NoMemory → IsMissing fault (first_missing operands.now tree.now.files)) }
+{
+    for path in operands {
+        if tree.get(path).is_none() {
+            return Err(TreeFault::NoSuchFile {
+                path: path.try_clone(alloc)?,
+            });
+        }
+    }
+    Ok(())
+}
+
+impl Tree {
+    /// The files of a command: its operands, and with `recursive` all files below them, each once, in path
+    /// order, each with whether another recorded file is below it.
+    ///
+    /// # Errors
+    ///
+    /// `NoSuchFile` of the first operand that is not recorded, or `NoMemory`.
+    pub fn files(
+        &self,
+        alloc: Global,
+        paths: &Paths,
+        recursive: bool,
+    ) -> Result<Vec<Found>, TreeFault>
+        ensures all { IfOk result (λ files. files.items ≡ files_found recursive paths.now self.now.files) }
+        ensures there { OnOk result (first_missing paths.now self.now.files ≡ None) }
+        ensures reported { IfErr result (λ fault. fault ≢ NoMemory → IsMissing fault (first_missing paths.now self.now.files)) }
+    {
+        look_up(self, alloc, paths.as_slice())?;
+        Ok(select(self, alloc, paths.as_slice(), recursive)?)
+    }
+}
