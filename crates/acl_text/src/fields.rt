@@ -1,7 +1,8 @@
 //! The fields of an entry (setfacl(1), "ACL entries").
 
-ghost use Rattle.std.specs.Prelude.{◌≡◌, option_map, Some};
+ghost use Rattle.std.specs.Prelude.{◌≡◌, ◌||◌, option_map, Some};
 ghost use Rattle.std.specs.Option.{option_copied};
+ghost use Rattle.std.specs.Str.{bytes_eq};
 ghost use Rattle.acl_text.specs.Fields.{row_view, tag_named, one_field, two_fields, three_fields, row_of, is_default_word, default_of, entry_fields};
 
 use crate::blanks::trim;
@@ -24,17 +25,24 @@ pub(crate) struct Row<'a> {
     pub perms: Option<&'a [u8]>,
 }
 
+/// Whether a word is one of two.
+fn is_one_of(word: &[u8], short: &[u8], long: &[u8]) -> bool
+    ensures { result ≡ bytes_eq word.now short.now || bytes_eq word.now long.now }
+{
+    word == short || word == long
+}
+
 /// The tag that a word names.
 fn tag_named(word: &[u8]) -> Option<Tag>
     ensures { result ≡ tag_named word.now }
 {
-    if word == b"u".as_slice() || word == b"user".as_slice() {
+    if is_one_of(word, b"u", b"user") {
         Some(Tag::User)
-    } else if word == b"g".as_slice() || word == b"group".as_slice() {
+    } else if is_one_of(word, b"g", b"group") {
         Some(Tag::Group)
-    } else if word == b"m".as_slice() || word == b"mask".as_slice() {
+    } else if is_one_of(word, b"m", b"mask") {
         Some(Tag::Mask)
-    } else if word == b"o".as_slice() || word == b"other".as_slice() {
+    } else if is_one_of(word, b"o", b"other") {
         Some(Tag::Other)
     } else {
         None
@@ -45,7 +53,7 @@ fn tag_named(word: &[u8]) -> Option<Tag>
 fn is_default_word(word: &[u8]) -> bool
     ensures { result ≡ is_default_word word.now }
 {
-    word == b"d".as_slice() || word == b"default".as_slice()
+    is_one_of(word, b"d", b"default")
 }
 
 /// A row of these parts.

@@ -1,6 +1,6 @@
 //! Reading group(5).
 
-ghost use Rattle.std.specs.Prelude.{◌≡◌, ◌+◌, length, OnOk, IfOk, option_map};
+ghost use Rattle.std.specs.Prelude.{◌≡◌, ◌+◌, [], ◌∷◌, ◌++◌, length, OnOk, IfOk, option_map};
 ghost use Rattle.acl_names.specs.Pieces.{pieces};
 ghost use Rattle.acl_text.specs.InTurn.{Gives, JudgesAt};
 ghost use Rattle.acl_text.specs.Seen.{SeenAre};
@@ -49,6 +49,30 @@ fn names_of(alloc: Global, field: &[u8]) -> Result<NameList, AllocError>
     Ok(NameList::new(names))
 }
 
+/// Adds a row, and its name to those that were seen.
+fn add_row<'a>(
+    alloc: Global,
+    rows: &mut Vec<GroupRow>,
+    seen: &mut BTreeMap<&'a [u8], ()>,
+    name: &'a [u8],
+    gid: Id,
+    field: &[u8],
+) -> Result<(), AllocError>
+    requires { SeenAre group_name seen.old rows.old.items }
+    ensures row { OnOk result (rows.new.items ≡ rows.old.items ++ record { name = name.entry.now; gid = gid; names = names_of field.now } ∷ []) }
+    ensures seen_are { OnOk result (SeenAre group_name seen.new rows.new.items) }
+{
+    let name_kept = Name::from_bytes(alloc, name)?;
+    let names = names_of(alloc, field)?;
+    seen.insert(name, ())?;
+    rows.push(GroupRow {
+        name: name_kept,
+        gid,
+        names,
+    })?;
+    Ok(())
+}
+
 /// Adds the row of the line with a number, if it counts.
 fn read_line<'a>(
     alloc: Global,
@@ -79,14 +103,7 @@ fn read_line<'a>(
             at,
         });
     }
-    let name_kept = Name::from_bytes(alloc, name)?;
-    let names = names_of(alloc, field)?;
-    seen.insert(name, ())?;
-    rows.push(GroupRow {
-        name: name_kept,
-        gid,
-        names,
-    })?;
+    add_row(alloc, rows, seen, name, gid, field)?;
     Ok(())
 }
 

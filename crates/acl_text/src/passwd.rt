@@ -1,6 +1,6 @@
 //! Reading passwd(5).
 
-ghost use Rattle.std.specs.Prelude.{◌≡◌, ◌+◌, length, OnOk, option_map};
+ghost use Rattle.std.specs.Prelude.{◌≡◌, ◌+◌, [], ◌∷◌, ◌++◌, length, OnOk, option_map};
 ghost use Rattle.acl_names.specs.Pieces.{pieces};
 ghost use Rattle.acl_text.specs.InTurn.{Gives, JudgesAt};
 ghost use Rattle.acl_text.specs.Seen.{SeenAre};
@@ -13,7 +13,7 @@ use crate::rows::PasswdRow;
 use acl_entry::Id;
 use acl_names::Name;
 use acl_names::cut::{cut, first_piece};
-use std::alloc::Global;
+use std::alloc::{AllocError, Global};
 use std::collections::BTreeMap;
 
 /// The name and the two ids of a row of seven fields.
@@ -35,6 +35,29 @@ fn fields(line: &[u8]) -> Option<(&[u8], Id, Id)>
     let uid = read_id(uid)?;
     let gid = read_id(gid)?;
     Some((name, uid, gid))
+}
+
+/// Adds a row, and its name to those that were seen.
+fn add_row<'a>(
+    alloc: Global,
+    rows: &mut Vec<PasswdRow>,
+    seen: &mut BTreeMap<&'a [u8], ()>,
+    name: &'a [u8],
+    uid: Id,
+    gid: Id,
+) -> Result<(), AllocError>
+    requires { SeenAre passwd_name seen.old rows.old.items }
+    ensures row { OnOk result (rows.new.items ≡ rows.old.items ++ record { name = name.entry.now; uid = uid; gid = gid } ∷ []) }
+    ensures seen_are { OnOk result (SeenAre passwd_name seen.new rows.new.items) }
+{
+    let name_kept = Name::from_bytes(alloc, name)?;
+    seen.insert(name, ())?;
+    rows.push(PasswdRow {
+        name: name_kept,
+        uid,
+        gid,
+    })?;
+    Ok(())
 }
 
 /// Adds the row of the line with a number, if it counts.
@@ -67,13 +90,7 @@ fn read_line<'a>(
             at,
         });
     }
-    let name_kept = Name::from_bytes(alloc, name)?;
-    seen.insert(name, ())?;
-    rows.push(PasswdRow {
-        name: name_kept,
-        uid,
-        gid,
-    })?;
+    add_row(alloc, rows, seen, name, uid, gid)?;
     Ok(())
 }
 

@@ -1,8 +1,7 @@
-use Rattle.std.proofs.Common.{Some, sym, ◌∙◌, refl, arith}
+use Rattle.std.proofs.Common.{sym, ◌∙◌, refl, arith}
 use Rattle.std.proofs.lemmas.Grind.{common_steps}
-use Rattle.std.proofs.lemmas.Map.Text.{btree_map_updates_str}
 use Rattle.acl_text.specs.Rows.{passwd_name, passwd_row}
-use Rattle.acl_text.proofs.Counted.{line_known, line_full, line_new, seen_more}
+use Rattle.acl_text.proofs.Counted.{line_known, line_full, line_new}
 use Rattle.acl_text.proofs.passwd.read_line.Goals as goal
 
 pub returns-then-contains_key-clause-judged : goal.returns-then-contains_key-clause-judged
@@ -21,8 +20,3 @@ pub returns-clause-judged : goal.returns-clause-judged
 returns-clause-judged c =
     let new = line_new passwd_name passwd_row c.args.rows.now.items c.args.line.now (record { name = c.in-Some.name.now; uid = c.in-Some.uid; gid = c.in-Some.gid }) (sym c.if-has_no_content.ensures) c.in-Some.ensures (sym (c.requires c.in-Some.name.now) ∙ sym c.if-contains_key.ensures) (omega (arith, c.len.ensures)) in
     grind (arith, common_steps, new)
-
-pub returns-clause-seen_are : goal.returns-clause-seen_are
-returns-clause-seen_are c =
-    let more = seen_more passwd_name c.args.seen.now c.insert.new.self c.args.rows.now.items (record { name = c.in-Some.name.now; uid = c.in-Some.uid; gid = c.in-Some.gid }) c.requires (btree_map_updates_str c.in-Some.name.now c.args.seen.now c.insert.new.self (Some tt) c.in_ok-insert.ensures.updates) in
-    λ name. grind (arith, common_steps, more name)
