@@ -60,31 +60,65 @@ pub fn judged_tree<J: Judge>(
     Ok(all)
 }
 
-/// The last of some rows, where the file of that row has the label of another.
+/// At most how many labels are kept with their rows.
+const KEPT: usize = 8;
+
+/// The row at a place, where the file of that row has the label of another.
+fn row_at<'a>(
+    file: &Record,
+    before: &[Rc<Record>],
+    rows: &'a [Rc<Entry<Cells>>],
+    place: usize,
+) -> Option<&'a Cells>
+    ensures { IfSome result (λ cells. (V : Verdict) (us : List Person) → map (λ r. r.value) rows.now ≡ rows_of V us (map (λ r. r.value) before.now) → cells.now ≡ cells_of V us file.now.1) }
+{
+    if place >= rows.len() {
+        return None;
+    }
+    if place >= before.len() {
+        return None;
+    }
+    if !before[place].value().same_label(file.value()) {
+        return None;
+    }
+    Some(rows[place].value())
+}
+
+/// The first of the rows at some places whose file has the label of another.
 fn row_of_label<'a>(
     file: &Record,
     before: &[Rc<Record>],
     rows: &'a [Rc<Entry<Cells>>],
+    places: &[usize],
 ) -> Option<&'a Cells>
     ensures { IfSome result (λ cells. (V : Verdict) (us : List Person) → map (λ r. r.value) rows.now ≡ rows_of V us (map (λ r. r.value) before.now) → cells.now ≡ cells_of V us file.now.1) }
 {
-    if rows.is_empty() || before.len() != rows.len() {
-        return None;
+    for place in places {
+        if let Some(cells) = row_at(file, before, rows, *place) {
+            return Some(cells);
+        }
     }
-    let at = rows.len() - 1;
-    if !before[at].value().same_label(file.value()) {
-        return None;
-    }
-    Some(rows[at].value())
+    None
 }
 
-/// The row of a file after those of other files: the last row's verdicts where its file has the same label.
+/// Puts a place before those that are kept, and drops the last one where there are too many.
+fn keep_place(places: &mut Vec<usize>, place: usize) -> Result<(), AllocError> {
+    if places.len() >= KEPT {
+        places.pop();
+    }
+    places.insert(0, place)?;
+    Ok(())
+}
+
+/// The row of a file after those of other files: the verdicts of a row whose place is kept, where its file has
+/// the same label. Where none has it, all verdicts are asked for, and the new row's place is kept.
 fn next_row<J: Judge>(
     alloc: Global,
     judge: &mut J,
     file: &Record,
     before: &[Rc<Record>],
     rows: &[Rc<Entry<Cells>>],
+    places: &mut Vec<usize>,
     users: &[Rc<Subject>],
 ) -> Result<Rc<Entry<Cells>>, AllocError>
     requires room { J.asked_of judge.old + length users.now < 2 ^ 64 }
@@ -92,17 +126,18 @@ fn next_row<J: Judge>(
     ensures row { IfOk result (λ row. row.value ≡ (file.now.0, cells_of J.verdict_of (map (λ s. s.value) users.now) file.now.1)) }
     ensures at_most { J.asked_of judge.new ≤ J.asked_of judge.old + length users.now }
 {
-    if let Some(cells) = row_of_label(file, before, rows) {
+    if let Some(cells) = row_of_label(file, before, rows, places) {
         let path = file.shared_path().clone()?;
         let row = Rc::new(alloc, Entry::new(path, cells.share()?))?;
         return Ok(row);
     }
+    keep_place(places, rows.len())?;
     let row = judged_row(alloc, judge, file, users, last_row(rows))?;
     Ok(row)
 }
 
-/// A row for each of some files. Verdicts are asked for once where files that follow one another have the same
-/// label.
+/// A row for each of some files. Files share the verdicts of one of the last few labels that were judged, where
+/// they have it.
 pub fn judged_records<J: Judge>(
     alloc: Global,
     judge: &mut J,
@@ -114,8 +149,10 @@ pub fn judged_records<J: Judge>(
     ensures at_most { J.asked_of judge.new ≤ J.asked_of judge.old + length files.now * length users.now }
 {
     let mut rows = Vec::with_capacity(alloc, files.len())?;
+    let mut places = Vec::new(alloc);
     for at in 0..files.len() {
-        let row = next_row(alloc, judge, &files[at], &files[..at], &rows, users)?;
+        let before = &files[..at];
+        let row = next_row(alloc, judge, &files[at], before, &rows, &mut places, users)?;
         rows.push(row)?;
     }
     Ok(rows)
