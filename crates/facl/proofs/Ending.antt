@@ -5,6 +5,7 @@ use Rattle.acl_tree.specs.Step.{State}
 use Rattle.facl_script.specs.Run.{StopsWith}
 use Rattle.facl_script.specs.declared.fault.ScriptFault.{ScriptFault}
 use Rattle.facl_script.specs.declared.fault.ScriptFault.TheVariants.{Read, Write, TooLong, NoMemory}
+use Rattle.facl_usage.specs.TextWords.{line_asks}
 use Rattle.facl_messages.specs.Faults.{run_fault_of_script}
 use Rattle.facl_messages.specs.declared.fault.RunFault.{RunFault}
 use Rattle.facl_tools.specs.Tools.{Verdict}
@@ -13,7 +14,7 @@ use Rattle.facl.specs.Units.{answered}
 use Rattle.facl.specs.Runs.{EndsBy}
 
 end_of_run : (fault : ScriptFault) (verdict : Verdict) (initial_state : Result State RunFault) (start state : State) (asked : ℕ) (remaining remaining' out out' err err' : Option (List ℕ))
-    → initial_state ≡ Ok start → IfSome remaining (λ script. StopsWith fault (answered verdict) start script state (all_pairs start) asked remaining' out out' err err')
+    → initial_state ≡ Ok start → IfSome remaining (λ script. StopsWith line_asks fault (answered verdict) start script state (all_pairs start) asked remaining' out out' err err')
     → EndsBy (run_fault_of_script fault) verdict initial_state asked remaining remaining' out out' err err'
 end_of_run Read verdict initial_state start state asked remaining remaining' out out' err err' e h = record { start = start; starts = e; state = state; stops = h }
 end_of_run Write verdict initial_state start state asked remaining remaining' out out' err err' e h = record { start = start; starts = e; state = state; stops = h }
@@ -22,8 +23,8 @@ end_of_run NoMemory verdict initial_state start state asked remaining remaining'
 
 -- a script that stopped, of which all pairs were asked for by its start
 pub ends_by : (fault : ScriptFault) (verdict : Verdict) (initial_state : Result State RunFault) (start state : State) (asked asked' : ℕ) (remaining remaining' out out' err err' : Option (List ℕ))
-    → initial_state ≡ Ok start → asked ≡ all_pairs start → IfSome remaining (λ script. StopsWith fault (answered verdict) start script state asked asked' remaining' out out' err err')
+    → initial_state ≡ Ok start → asked ≡ all_pairs start → IfSome remaining (λ script. StopsWith line_asks fault (answered verdict) start script state asked asked' remaining' out out' err err')
     → EndsBy (run_fault_of_script fault) verdict initial_state asked' remaining remaining' out out' err err'
 ends_by fault verdict initial_state start state asked asked' remaining remaining' out out' err err' e pairs h =
     end_of_run fault verdict initial_state start state asked' remaining remaining' out out' err err' e
-    (subst (λ n. IfSome remaining (λ script. StopsWith fault (answered verdict) start script state n asked' remaining' out out' err err')) pairs h)
+    (subst (λ n. IfSome remaining (λ script. StopsWith line_asks fault (answered verdict) start script state n asked' remaining' out out' err err')) pairs h)

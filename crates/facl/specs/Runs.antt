@@ -7,6 +7,7 @@ use Rattle.facl_script.specs.Run.{StopsWith}
 use Rattle.facl_script.specs.Write.{Writes}
 use Rattle.facl_script.specs.declared.fault.ScriptFault.{ScriptFault}
 use Rattle.facl_script.specs.declared.fault.ScriptFault.TheVariants as scripts
+use Rattle.facl_usage.specs.TextWords.{line_asks}
 use Rattle.facl_messages.specs.declared.fault.RunFault.{RunFault}
 use Rattle.facl_messages.specs.declared.fault.RunFault.TheVariants.{Read, Write, Setup, ScriptTooLong, NoMemory}
 use Rattle.facl.specs.declared.status.Status.{Status}
@@ -25,9 +26,9 @@ has_refused Refused = true
 pub record Answers (verdict : Verdict) (start : State) (script : List ℕ) (status : Status) (asked : ℕ) (out out' err err' : Option (List ℕ)) : Type 0 where
   pub m : ℕ → Bool
   pub within : length script ≤ script_limit
-  pub writes : Writes out out' err err' (session (answered verdict) m script start).out (session (answered verdict) m script start).err
-  pub status_is : has_refused status ≡ (session (answered verdict) m script start).refused
-  pub asks : asked ≤ all_pairs start + (session (answered verdict) m script start).cost
+  pub writes : Writes out out' err err' (session line_asks (answered verdict) m script start).out (session line_asks (answered verdict) m script start).err
+  pub status_is : has_refused status ≡ (session line_asks (answered verdict) m script start).refused
+  pub asks : asked ≤ all_pairs start + (session line_asks (answered verdict) m script start).cost
 
 -- The run started at this state, and answered the whole script.
 pub record RunsTo (verdict : Verdict) (initial_state : Result State RunFault) (script : List ℕ) (status : Status) (asked : ℕ) (out out' err err' : Option (List ℕ)) : Type 0 where
@@ -47,7 +48,7 @@ pub record Stops (fault : ScriptFault) (verdict : Verdict) (initial_state : Resu
   pub start : State
   pub starts : initial_state ≡ Ok start
   pub state : State
-  pub stops : IfSome remaining (λ script. StopsWith fault (answered verdict) start script state (all_pairs start) asked remaining' out out' err err')
+  pub stops : IfSome remaining (λ script. StopsWith line_asks fault (answered verdict) start script state (all_pairs start) asked remaining' out out' err err')
 
 -- How a run that returns a fault has ended. Before the script nothing is read or written.
 abbrev pub EndsBy : RunFault → Verdict → Result State RunFault → (asked : ℕ) (remaining remaining' out out' err err' : Option (List ℕ)) → Type 0

@@ -1,6 +1,7 @@
 //! Lines are answered one by one.
 
 ghost use Rattle.std.specs.Prelude.{◌≡◌};
+ghost use Rattle.facl_usage.specs.TextWords.{line_asks};
 ghost use Rattle.facl.specs.Costs.{IsReady};
 ghost use Rattle.facl.specs.Units.{answered};
 ghost use Rattle.facl.specs.Sessions.{state_of, index_of, out_of, err_of};
@@ -10,6 +11,7 @@ use crate::session::Facl;
 use acl_rights::Judge;
 use acl_tree::State;
 use facl_script::{Session, UnitFound};
+use facl_usage::asks_for_text;
 
 /// A session with the judge that it asks, who is borrowed for the whole script. The session is a type parameter so that
 /// the owner of the borrowed judge learns what became of it.
@@ -34,6 +36,8 @@ impl<'a, J: Judge> Session for Judged<'a, J, Facl<J>> {
 
     ghost state = { λ f. state_of f.session };
 
+    ghost asks = { line_asks };
+
     ghost answered = { answered J.verdict_of };
 
     ghost spent = { λ f. J.asked_of f.judge.now };
@@ -45,6 +49,10 @@ impl<'a, J: Judge> Session for Judged<'a, J, Facl<J>> {
     ghost to_out = { λ f. out_of f.session };
 
     ghost to_err = { λ f. err_of f.session };
+
+    fn asks_for_text(line: &[u8]) -> bool {
+        asks_for_text(line)
+    }
 
     fn answer(&mut self, unit: &UnitFound, line: &[u8], text: &[u8]) -> bool {
         self.session.fall_silent();

@@ -4,6 +4,7 @@ ghost use Rattle.std.specs.Prelude.{◌≡◌, ◌+◌, ◌≤◌, ℕ, [], true
 ghost use Rattle.facl_script.specs.Units.{ScriptUnit, UnitText};
 ghost use Rattle.facl_script.specs.ReadText.{IsTextFound};
 ghost use Rattle.facl_script.specs.ReadUnit.{IsUnitFound};
+ghost use Rattle.facl_usage.specs.TextWords.{line_asks};
 ghost use Rattle.facl_messages.specs.declared.fault.LineFault.TheVariants.{NoMemory};
 ghost use Rattle.facl_replies.specs.Replies.{reply_of, IsPrepared};
 ghost use Rattle.facl.specs.Costs.{IsReady, IsReadyAfter, all_pairs};
@@ -169,9 +170,9 @@ impl<J: Judge> Facl<J> {
     pub fn answer_line(&mut self, judge: &mut J, unit: &UnitFound, line: &[u8], text: &[u8]) -> bool
         requires quiet { IsQuiet self.old }
         requires ready { IsReady J.verdict_of (J.asked_of judge.old) unit.now.number (state_of self.old) (index_of self.old) }
-        ensures answer { (u : ScriptUnit) → IsUnitFound unit.now line.now text.now u
+        ensures answer { (u : ScriptUnit) → IsUnitFound line_asks unit.now line.now text.now u
             → IsAtAnswer (answered_line J.verdict_of (ran_out_of_memory self.new) u (state_of self.old)) self.new result }
-        ensures asked { (u : ScriptUnit) → IsUnitFound unit.now line.now text.now u
+        ensures asked { (u : ScriptUnit) → IsUnitFound line_asks unit.now line.now text.now u
             → J.asked_of judge.new ≤ J.asked_of judge.old + (answered_line J.verdict_of (ran_out_of_memory self.new) u (state_of self.old)).cost }
         ensures ready { IsReadyAfter J.verdict_of (J.asked_of judge.new) unit.now.number (state_of self.new) (index_of self.new) }
     {

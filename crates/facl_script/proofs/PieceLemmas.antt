@@ -8,8 +8,7 @@ use Rattle.std.proofs.lemmas.List.Folds.{list_all-append}
 use Rattle.std.proofs.lemmas.Grind.{flat_map-append}
 use Rattle.facl_script.specs.Limits.{line_limit}
 use Rattle.facl_script.specs.Lines.{Line, onto, lines_of, HasNoLineFeed, spelled}
-use Rattle.facl_script.specs.Words.{takes_text}
-use Rattle.facl_script.specs.Units.{whole, too_long, is_end, more_text, ended_text, opened, with_text_line, closed, outside, within, cut, units_of}
+use Rattle.facl_script.specs.Units.{takes_text, whole, too_long, is_end, more_text, ended_text, opened, with_text_line, closed, outside, within, cut, units_of}
 use Rattle.facl_script.proofs.TextLemmas.{so_far, spelled_some}
 use Rattle.facl_script.proofs.UnitLemmas.{alone}
 use Rattle.facl_script.specs.Pieces.{end_line, with_line_feeds, AreTextLines, text_of, line_feeds, AreUnits}
@@ -102,21 +101,21 @@ more_are [] line h feed e = ((feed, no_end_line line e), tt)
 more_are (l ∷ lines) line h feed e = (h.0, more_are lines line h.1 feed e)
 
 -- After the last LF nothing comes.
-rest_units : (ended : Bool) (ls : List Line) (m k : ℕ) → (ended ≡ true → m ≡ k) → (ended ≡ false → ls ≡ []) → AreUnits k (cut outside k ls) (all_spelled ls) → AreUnits m (cut outside k ls) (all_spelled ls)
-rest_units true ls m k number last h = rw (number refl) h
-rest_units false ls m k number last h = rw (last refl) refl
+rest_units : (asks : List ℕ → Bool) (ended : Bool) (ls : List Line) (m k : ℕ) → (ended ≡ true → m ≡ k) → (ended ≡ false → ls ≡ []) → AreUnits asks k (cut asks outside k ls) (all_spelled ls) → AreUnits asks m (cut asks outside k ls) (all_spelled ls)
+rest_units asks true ls m k number last h = rw (number refl) h
+rest_units asks false ls m k number last h = rw (last refl) refl
 
 -- Lines that begin with a unit's line, and lines in a unit's text, of which these came before.
-Outside : List Line → Type 0
-Outside ls = (k : ℕ) → AreUnits k (cut outside k ls) (all_spelled ls)
+Outside : (asks : List ℕ → Bool) → List Line → Type 0
+Outside asks ls = (k : ℕ) → AreUnits asks k (cut asks outside k ls) (all_spelled ls)
 
-Inside : List Line → Type 0
-Inside ls = (n k : ℕ) (line : List ℕ) (lines : List (List ℕ)) → HasNoLineFeed line → takes_text line ≡ true → AreTextLines lines → k ≡ n + (1 + length lines)
-    → AreUnits n (cut (within (so_far n line (content lines))) k ls) ((spelled line true ++ with_line_feeds lines) ++ all_spelled ls)
+Inside : (asks : List ℕ → Bool) → List Line → Type 0
+Inside asks ls = (n k : ℕ) (line : List ℕ) (lines : List (List ℕ)) → HasNoLineFeed line → takes_text asks line ≡ true → AreTextLines lines → k ≡ n + (1 + length lines)
+    → AreUnits asks n (cut asks (within (so_far n line (content lines))) k ls) ((spelled line true ++ with_line_feeds lines) ++ all_spelled ls)
 
-inside_end : Inside []
+inside_end : (asks : List ℕ → Bool) → Inside asks []
 unfolding Inside
-inside_end n k line lines feed takes are number = (
+inside_end asks n k line lines feed takes are number = (
   spelled line true ++ with_line_feeds lines,
   [],
   refl,
@@ -135,10 +134,10 @@ inside_end n k line lines feed takes are number = (
   refl,
 )
 
-outside_line : (text : List ℕ) (ended : Bool) (ls : List Line) → HasNoLineFeed text → (ended ≡ false → (0 < length text) × (ls ≡ [])) → takes_text text ≡ false → Outside ls → (k : ℕ)
-    → AreUnits k (alone k text ended ∷ cut outside (k + 1) ls) (spelled text ended ++ all_spelled ls)
+outside_line : (asks : List ℕ → Bool) (text : List ℕ) (ended : Bool) (ls : List Line) → HasNoLineFeed text → (ended ≡ false → (0 < length text) × (ls ≡ [])) → takes_text asks text ≡ false → Outside asks ls → (k : ℕ)
+    → AreUnits asks k (alone k text ended ∷ cut asks outside (k + 1) ls) (spelled text ended ++ all_spelled ls)
 unfolding Outside
-outside_line text ended ls feed last takes ih k = (
+outside_line asks text ended ls feed last takes ih k = (
   spelled text ended,
   all_spelled ls,
   refl,
@@ -146,16 +145,16 @@ outside_line text ended ls feed last takes ih k = (
   (λ f. ap all_spelled (last f).1),
   refl,
   inl (record { line = text; no_line_feed = feed; takes = takes; line_is = refl; text_is = refl; piece_is = refl }),
-  rest_units ended ls (k + line_feeds (spelled text ended)) (k + 1) (λ t. rw t (ap (λ m. k + m) (feeds_line text feed))) (λ f. (last f).1) (ih (k + 1)),
+  rest_units asks ended ls (k + line_feeds (spelled text ended)) (k + 1) (λ t. rw t (ap (λ m. k + m) (feeds_line text feed))) (λ f. (last f).1) (ih (k + 1)),
 )
 
-outside_opens : (text : List ℕ) (ended : Bool) (ls : List Line) → HasNoLineFeed text → (ended ≡ false → (0 < length text) × (ls ≡ [])) → takes_text text ≡ true → Inside ls → (k : ℕ)
-    → AreUnits k (cut (within (opened k text)) (k + 1) ls) (spelled text ended ++ all_spelled ls)
+outside_opens : (asks : List ℕ → Bool) (text : List ℕ) (ended : Bool) (ls : List Line) → HasNoLineFeed text → (ended ≡ false → (0 < length text) × (ls ≡ [])) → takes_text asks text ≡ true → Inside asks ls → (k : ℕ)
+    → AreUnits asks k (cut asks (within (opened k text)) (k + 1) ls) (spelled text ended ++ all_spelled ls)
 unfolding Inside
-outside_opens text true ls feed last takes ih k =
-    let h : AreUnits k (cut (within (opened k text)) (k + 1) ls) ((spelled text true ++ []) ++ all_spelled ls) = ih k (k + 1) text [] feed takes tt (omega arith) in
-    subst (λ (bytes : List ℕ). AreUnits k (cut (within (opened k text)) (k + 1) ls) (bytes ++ all_spelled ls)) (append-nil (spelled text true)) h
-outside_opens text false ls feed last takes ih k =
+outside_opens asks text true ls feed last takes ih k =
+    let h : AreUnits asks k (cut asks (within (opened k text)) (k + 1) ls) ((spelled text true ++ []) ++ all_spelled ls) = ih k (k + 1) text [] feed takes tt (omega arith) in
+    subst (λ (bytes : List ℕ). AreUnits asks k (cut asks (within (opened k text)) (k + 1) ls) (bytes ++ all_spelled ls)) (append-nil (spelled text true)) h
+outside_opens asks text false ls feed last takes ih k =
     rw (last refl).1 (
       text,
       [],
@@ -167,19 +166,19 @@ outside_opens text false ls feed last takes ih k =
       refl,
     )
 
-outside_more : (text : List ℕ) (ended : Bool) (ls : List Line) → HasNoLineFeed text → (ended ≡ false → (0 < length text) × (ls ≡ [])) → Outside ls → Inside ls → Outside (record { bytes = text; ended = ended } ∷ ls)
+outside_more : (asks : List ℕ → Bool) (text : List ℕ) (ended : Bool) (ls : List Line) → HasNoLineFeed text → (ended ≡ false → (0 < length text) × (ls ≡ [])) → Outside asks ls → Inside asks ls → Outside asks (record { bytes = text; ended = ended } ∷ ls)
 unfolding Outside
-outside_more text ended ls feed last out inn k = by_test (takes_text text) refl
+outside_more asks text ended ls feed last out inn k = by_test (takes_text asks text) refl
   where
-    by_test : (t : Bool) → takes_text text ≡ t → AreUnits k (cond t (cut (within (opened k text)) (k + 1) ls) (alone k text ended ∷ cut outside (k + 1) ls)) (spelled text ended ++ all_spelled ls)
-    by_test true e = outside_opens text ended ls feed last e inn k
-    by_test false e = outside_line text ended ls feed last e out k
+    by_test : (t : Bool) → takes_text asks text ≡ t → AreUnits asks k (cond t (cut asks (within (opened k text)) (k + 1) ls) (alone k text ended ∷ cut asks outside (k + 1) ls)) (spelled text ended ++ all_spelled ls)
+    by_test true e = outside_opens asks text ended ls feed last e inn k
+    by_test false e = outside_line asks text ended ls feed last e out k
 
-inside_ends : (n k : ℕ) (line : List ℕ) (lines : List (List ℕ)) (text : List ℕ) (ended : Bool) (ls : List Line) → HasNoLineFeed line → takes_text line ≡ true → AreTextLines lines → k ≡ n + (1 + length lines)
-    → text ≡ end_line → (ended ≡ false → ls ≡ []) → Outside ls
-    → AreUnits n (closed (so_far n line (content lines)) (ended_text (content lines)) ended ∷ cut outside (k + 1) ls) ((spelled line true ++ with_line_feeds lines) ++ (spelled text ended ++ all_spelled ls))
+inside_ends : (asks : List ℕ → Bool) (n k : ℕ) (line : List ℕ) (lines : List (List ℕ)) (text : List ℕ) (ended : Bool) (ls : List Line) → HasNoLineFeed line → takes_text asks line ≡ true → AreTextLines lines → k ≡ n + (1 + length lines)
+    → text ≡ end_line → (ended ≡ false → ls ≡ []) → Outside asks ls
+    → AreUnits asks n (closed (so_far n line (content lines)) (ended_text (content lines)) ended ∷ cut asks outside (k + 1) ls) ((spelled line true ++ with_line_feeds lines) ++ (spelled text ended ++ all_spelled ls))
 unfolding Outside
-inside_ends n k line lines text ended ls feed takes are number e last ih =
+inside_ends asks n k line lines text ended ls feed takes are number e last ih =
     let piece : List ℕ = spelled line true ++ (with_line_feeds lines ++ spelled end_line ended) in (
       piece,
       all_spelled ls,
@@ -191,7 +190,7 @@ inside_ends n k line lines text ended ls feed takes are number e last ih =
       (λ f. ap all_spelled (last f)),
       refl,
       inr (inl (record { line = line; lines = lines; no_line_feed = feed; takes = takes; lines_are = are; line_is = refl; text_is = content_ended lines; piece_is = refl })),
-      rest_units ended ls (n + line_feeds piece) (k + 1) (counted ended) last (ih (k + 1)),
+      rest_units asks ended ls (n + line_feeds piece) (k + 1) (counted ended) last (ih (k + 1)),
     )
   where
     counted : (b : Bool) → b ≡ true → n + line_feeds (spelled line true ++ (with_line_feeds lines ++ spelled end_line b)) ≡ k + 1
@@ -199,17 +198,17 @@ inside_ends n k line lines text ended ls feed takes are number e last ih =
         omega (arith, number, feeds_append (spelled line true) (with_line_feeds lines ++ spelled end_line true), feeds_append (with_line_feeds lines) (spelled end_line true), feeds_line line feed, feeds_lines lines are, feeds_line end_line (refl, tt))
     counted false t = absurd (true≢false (sym t))
 
-inside_goes_on : (n k : ℕ) (line : List ℕ) (lines : List (List ℕ)) (text : List ℕ) (ended : Bool) (ls : List Line) → HasNoLineFeed line → takes_text line ≡ true → AreTextLines lines → k ≡ n + (1 + length lines)
-    → HasNoLineFeed text → is_end text ≡ false → (ended ≡ false → (0 < length text) × (ls ≡ [])) → Inside ls
-    → AreUnits n (cut (within (with_text_line (so_far n line (content lines)) text)) (k + 1) ls) ((spelled line true ++ with_line_feeds lines) ++ (spelled text ended ++ all_spelled ls))
+inside_goes_on : (asks : List ℕ → Bool) (n k : ℕ) (line : List ℕ) (lines : List (List ℕ)) (text : List ℕ) (ended : Bool) (ls : List Line) → HasNoLineFeed line → takes_text asks line ≡ true → AreTextLines lines → k ≡ n + (1 + length lines)
+    → HasNoLineFeed text → is_end text ≡ false → (ended ≡ false → (0 < length text) × (ls ≡ [])) → Inside asks ls
+    → AreUnits asks n (cut asks (within (with_text_line (so_far n line (content lines)) text)) (k + 1) ls) ((spelled line true ++ with_line_feeds lines) ++ (spelled text ended ++ all_spelled ls))
 unfolding Inside
-inside_goes_on n k line lines text true ls feed takes are number text_feed e last ih =
+inside_goes_on asks n k line lines text true ls feed takes are number text_feed e last ih =
     let h = ih n (k + 1) line (lines ++ text ∷ []) feed takes (more_are lines text are text_feed e) (omega (arith, number, length-append lines (text ∷ []))) in
     let same : (spelled line true ++ with_line_feeds (lines ++ text ∷ [])) ++ all_spelled ls ≡ (spelled line true ++ with_line_feeds lines) ++ (spelled text true ++ all_spelled ls) =
     ap (λ l. (spelled line true ++ l) ++ all_spelled ls) (more_lines lines text) ∙ ap (λ l. l ++ all_spelled ls) (sym (append_assoc (spelled line true) (with_line_feeds lines) (spelled text true)))
     ∙ append_assoc (spelled line true ++ with_line_feeds lines) (spelled text true) (all_spelled ls) in
     rw (content_more lines text, sym same) h
-inside_goes_on n k line lines text false ls feed takes are number text_feed e last ih =
+inside_goes_on asks n k line lines text false ls feed takes are number text_feed e last ih =
     rw (last refl).1 (
       spelled line true ++ (with_line_feeds lines ++ text),
       [],
@@ -229,23 +228,23 @@ inside_goes_on n k line lines text false ls feed takes are number text_feed e la
       refl,
     )
 
-inside_more : (text : List ℕ) (ended : Bool) (ls : List Line) → HasNoLineFeed text → (ended ≡ false → (0 < length text) × (ls ≡ [])) → Outside ls → Inside ls → Inside (record { bytes = text; ended = ended } ∷ ls)
+inside_more : (asks : List ℕ → Bool) (text : List ℕ) (ended : Bool) (ls : List Line) → HasNoLineFeed text → (ended ≡ false → (0 < length text) × (ls ≡ [])) → Outside asks ls → Inside asks ls → Inside asks (record { bytes = text; ended = ended } ∷ ls)
 unfolding Inside
-inside_more text ended ls text_feed last out inn n k line lines feed takes are number = by_test (is_end text) refl
+inside_more asks text ended ls text_feed last out inn n k line lines feed takes are number = by_test (is_end text) refl
   where
     by_test : (t : Bool) → is_end text ≡ t
-        → AreUnits n (cond t (closed (so_far n line (content lines)) (ended_text (content lines)) ended ∷ cut outside (k + 1) ls) (cut (within (with_text_line (so_far n line (content lines)) text)) (k + 1) ls))
+        → AreUnits asks n (cond t (closed (so_far n line (content lines)) (ended_text (content lines)) ended ∷ cut asks outside (k + 1) ls) (cut asks (within (with_text_line (so_far n line (content lines)) text)) (k + 1) ls))
         ((spelled line true ++ with_line_feeds lines) ++ (spelled text ended ++ all_spelled ls))
-    by_test true e = inside_ends n k line lines text ended ls feed takes are number (is_end_line text e) (λ f. (last f).1) out
-    by_test false e = inside_goes_on n k line lines text ended ls feed takes are number text_feed e last inn
+    by_test true e = inside_ends asks n k line lines text ended ls feed takes are number (is_end_line text e) (λ f. (last f).1) out
+    by_test false e = inside_goes_on asks n k line lines text ended ls feed takes are number text_feed e last inn
 
-outside_and_inside : (ls : List Line) → AreLines ls → Outside ls × Inside ls
+outside_and_inside : (asks : List ℕ → Bool) (ls : List Line) → AreLines ls → Outside asks ls × Inside asks ls
 unfolding Outside
-outside_and_inside [] h = ((λ k. refl), inside_end)
-outside_and_inside (l ∷ ls) h =
-    let ih = outside_and_inside ls h.2 in
-    (outside_more l.bytes l.ended ls h.0 h.1 ih.0 ih.1, inside_more l.bytes l.ended ls h.0 h.1 ih.0 ih.1)
+outside_and_inside asks [] h = ((λ k. refl), inside_end asks)
+outside_and_inside asks (l ∷ ls) h =
+    let ih = outside_and_inside asks ls h.2 in
+    (outside_more asks l.bytes l.ended ls h.0 h.1 ih.0 ih.1, inside_more asks l.bytes l.ended ls h.0 h.1 ih.0 ih.1)
 
-pub are_units : (script : List ℕ) → AreUnits 1 (units_of script) script
+pub are_units : (asks : List ℕ → Bool) (script : List ℕ) → AreUnits asks 1 (units_of asks script) script
 unfolding Outside
-are_units script = subst (λ (bytes : List ℕ). AreUnits 1 (units_of script) bytes) (lines_spell script) ((outside_and_inside (lines_of script) (lines_are script)).0 1)
+are_units asks script = subst (λ (bytes : List ℕ). AreUnits asks 1 (units_of asks script) bytes) (lines_spell script) ((outside_and_inside asks (lines_of script) (lines_are script)).0 1)

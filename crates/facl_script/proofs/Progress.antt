@@ -10,9 +10,9 @@ AgreesBelow n m m' = (k : ℕ) → k < n → m' k ≡ m k
 
 -- What was handed out are these units, whatever comes after it, and this was their answer. The next line has this number.
 -- Where the end was met nothing comes after it.
-pub record Progress {S : Type 0} (answered : Bool → ScriptUnit → S → Answer S) (start : S) (taken : List ℕ) (number : ℕ) (over : Bool) (answer_so_far : Answer S) : Type 0 where
+pub record Progress {S : Type 0} (asks : List ℕ → Bool) (answered : Bool → ScriptUnit → S → Answer S) (start : S) (taken : List ℕ) (number : ℕ) (over : Bool) (answer_so_far : Answer S) : Type 0 where
   pub done : List ScriptUnit
   pub m : ℕ → Bool
-  pub splits : (rest : List ℕ) → (over ≡ true → rest ≡ []) → units_of (taken ++ rest) ≡ done ++ cut outside number (lines_of rest)
+  pub splits : (rest : List ℕ) → (over ≡ true → rest ≡ []) → units_of asks (taken ++ rest) ≡ done ++ cut asks outside number (lines_of rest)
   pub full : over ≡ false → full_units done ≡ done
   pub plays : (m' : ℕ → Bool) → AgreesBelow number m m' → play answered m' done start ≡ answer_so_far

@@ -52,8 +52,8 @@ below_at : (n n' : ℕ) (b : Bool) (m m' : ℕ → Bool) → n < n' → AgreesBe
 below_at n n' b m m' grows h = h n grows ∙ updated_at n b m
 
 -- nothing is handed out
-pub begins : {S : Type 0} (answered : Bool → ScriptUnit → S → Answer S) (start : S) → Progress answered start [] 1 false (quiet start)
-begins answered start = record { done = []; m = λ _. false; splits = λ rest h. refl; full = λ h. refl; plays = λ m' h. refl }
+pub begins : {S : Type 0} (asks : List ℕ → Bool) (answered : Bool → ScriptUnit → S → Answer S) (start : S) → Progress asks answered start [] 1 false (quiet start)
+begins asks answered start = record { done = []; m = λ _. false; splits = λ rest h. refl; full = λ h. refl; plays = λ m' h. refl }
 
 -- one more unit is answered
 pub plays_more : {S : Type 0} (answered : Bool → ScriptUnit → S → Answer S) (start : S) (done : List ScriptUnit) (m : ℕ → Bool) (answer_so_far : Answer S) (u : ScriptUnit) (b : Bool)
@@ -64,12 +64,12 @@ plays_more answered start done m answer_so_far u b h e =
     ∙ ap (joined answer_so_far) (joined-quiet (answered b u answer_so_far.state))
 
 -- the units of what was handed out and of the piece after it
-pub next_splits : {S : Type 0} (answered : Bool → ScriptUnit → S → Answer S) (start : S) (taken : List ℕ) (number number' : ℕ) (answer_so_far : Answer S) (p : Progress answered start taken number false answer_so_far)
-    (before after : Option (List ℕ)) (old new : ℕ) (piece : List ℕ) (u : ScriptUnit) (next : IsNextUnit before after old new number number' piece u) (rest : List ℕ) → (u.is_full ≡ false → rest ≡ [])
-    → units_of ((taken ++ piece) ++ rest) ≡ (p.done ++ u ∷ []) ++ cut outside number' (lines_of rest)
-next_splits answered start taken number number' answer_so_far p before after old new piece u next rest last =
-    ap units_of (append_assoc taken piece rest) ∙ p.splits (piece ++ rest) (λ e. absurd (true≢false (sym e)))
-    ∙ ap (λ us. p.done ++ us) (next.splits rest last) ∙ sym (append_assoc p.done (u ∷ []) (cut outside number' (lines_of rest)))
+pub next_splits : {S : Type 0} (asks : List ℕ → Bool) (answered : Bool → ScriptUnit → S → Answer S) (start : S) (taken : List ℕ) (number number' : ℕ) (answer_so_far : Answer S) (p : Progress asks answered start taken number false answer_so_far)
+    (before after : Option (List ℕ)) (old new : ℕ) (piece : List ℕ) (u : ScriptUnit) (next : IsNextUnit asks before after old new number number' piece u) (rest : List ℕ) → (u.is_full ≡ false → rest ≡ [])
+    → units_of asks ((taken ++ piece) ++ rest) ≡ (p.done ++ u ∷ []) ++ cut asks outside number' (lines_of rest)
+next_splits asks answered start taken number number' answer_so_far p before after old new piece u next rest last =
+    ap (units_of asks) (append_assoc taken piece rest) ∙ p.splits (piece ++ rest) (λ e. absurd (true≢false (sym e)))
+    ∙ ap (λ us. p.done ++ us) (next.splits rest last) ∙ sym (append_assoc p.done (u ∷ []) (cut asks outside number' (lines_of rest)))
 
 not_true : (b : Bool) → b ≡ false → not b ≡ true
 not_true b e = ap not e
@@ -81,22 +81,22 @@ full_of false e = sym e
 full_last : (u : ScriptUnit) → u.is_full ≡ true → full_units (u ∷ []) ≡ u ∷ []
 full_last u e = rw e refl
 
-pub goes_on : {S : Type 0} (answered : Bool → ScriptUnit → S → Answer S) (start : S) (taken : List ℕ) (number number' : ℕ) (answer_so_far : Answer S) (p : Progress answered start taken number false answer_so_far)
-    (before after : Option (List ℕ)) (old new : ℕ) (piece : List ℕ) (u : ScriptUnit) (next : IsNextUnit before after old new number number' piece u) (ran_out : Bool)
-    → Progress answered start (taken ++ piece) number' (not u.is_full) (joined answer_so_far (answered ran_out u answer_so_far.state))
-goes_on answered start taken number number' answer_so_far p before after old new piece u next ran_out = record {
+pub goes_on : {S : Type 0} (asks : List ℕ → Bool) (answered : Bool → ScriptUnit → S → Answer S) (start : S) (taken : List ℕ) (number number' : ℕ) (answer_so_far : Answer S) (p : Progress asks answered start taken number false answer_so_far)
+    (before after : Option (List ℕ)) (old new : ℕ) (piece : List ℕ) (u : ScriptUnit) (next : IsNextUnit asks before after old new number number' piece u) (ran_out : Bool)
+    → Progress asks answered start (taken ++ piece) number' (not u.is_full) (joined answer_so_far (answered ran_out u answer_so_far.state))
+goes_on asks answered start taken number number' answer_so_far p before after old new piece u next ran_out = record {
   done = p.done ++ u ∷ [];
   m = updated number ran_out p.m;
-  splits = λ rest h. next_splits answered start taken number number' answer_so_far p before after old new piece u next rest (λ e. h (not_true u.is_full e));
+  splits = λ rest h. next_splits asks answered start taken number number' answer_so_far p before after old new piece u next rest (λ e. h (not_true u.is_full e));
   full = λ e. filter-append (λ (v : ScriptUnit). v.is_full) p.done (u ∷ []) ∙ ap (λ l. l ++ full_units (u ∷ [])) (p.full refl) ∙ ap (λ l. p.done ++ l) (full_last u (full_of u.is_full e));
   plays = λ m' agrees. plays_more answered start p.done m' answer_so_far u ran_out (p.plays m' (below_before number number' ran_out p.m m' next.grows agrees))
       (ap m' next.numbered ∙ below_at number number' ran_out p.m m' next.grows agrees);
 }
 
 -- the answer to the units done, where the rest that was handed out has none
-pub full_answer : {S : Type 0} (answered : Bool → ScriptUnit → S → Answer S) (start : S) (taken : List ℕ) (number : ℕ) (answer_so_far : Answer S) (p : Progress answered start taken number false answer_so_far) (tail : List ℕ)
-    → HasNoUnit tail → play answered p.m (full_units (units_of (taken ++ tail))) start ≡ answer_so_far
-full_answer answered start taken number answer_so_far p tail none =
-    ap (λ us. play answered p.m us start) (ap full_units (p.splits tail (λ e. absurd (true≢false (sym e)))) ∙ filter-append (λ (u : ScriptUnit). u.is_full) p.done (cut outside number (lines_of tail))
+pub full_answer : {S : Type 0} (asks : List ℕ → Bool) (answered : Bool → ScriptUnit → S → Answer S) (start : S) (taken : List ℕ) (number : ℕ) (answer_so_far : Answer S) (p : Progress asks answered start taken number false answer_so_far) (tail : List ℕ)
+    → HasNoUnit asks tail → play answered p.m (full_units (units_of asks (taken ++ tail))) start ≡ answer_so_far
+full_answer asks answered start taken number answer_so_far p tail none =
+    ap (λ us. play answered p.m us start) (ap full_units (p.splits tail (λ e. absurd (true≢false (sym e)))) ∙ filter-append (λ (u : ScriptUnit). u.is_full) p.done (cut asks outside number (lines_of tail))
     ∙ ap (λ l. full_units p.done ++ l) (none number) ∙ append-nil (full_units p.done) ∙ p.full refl)
     ∙ p.plays p.m (λ k lt. refl)

@@ -11,26 +11,26 @@ use Rattle.facl_script.specs.declared.text.TextFound.TheVariants.{Absent, Whole,
 use Rattle.facl_script.proofs.LineLemmas.{lines_of-ended, lines_of-rest}
 
 -- a line of the text that doesn't end it
-pub text_line : (o : Open) (n : ℕ) (line rest : List ℕ) → HasNoLineFeed line → is_end line ≡ false → cut (within o) n (lines_of ((line ++ 10 ∷ []) ++ rest)) ≡ cut (within (with_text_line o line)) (n + 1) (lines_of rest)
-text_line o n line rest none e =
-    ap (λ l. cut (within o) n (lines_of l)) (append_assoc line (10 ∷ []) rest) ∙ ap (cut (within o) n) (lines_of-ended line rest none) ∙ rw e refl
+pub text_line : (asks : List ℕ → Bool) (o : Open) (n : ℕ) (line rest : List ℕ) → HasNoLineFeed line → is_end line ≡ false → cut asks (within o) n (lines_of ((line ++ 10 ∷ []) ++ rest)) ≡ cut asks (within (with_text_line o line)) (n + 1) (lines_of rest)
+text_line asks o n line rest none e =
+    ap (λ l. cut asks (within o) n (lines_of l)) (append_assoc line (10 ∷ []) rest) ∙ ap (cut asks (within o) n) (lines_of-ended line rest none) ∙ rw e refl
 
 -- the line that ends it
-pub text_end : (o : Open) (n : ℕ) (ended : Bool) (line rest : List ℕ) → HasNoLineFeed line → is_end line ≡ true → (ended ≡ false → (0 < length line) × (rest ≡ []))
-    → cut (within o) n (lines_of (spelled line ended ++ rest)) ≡ closed o (ended_text o.text) ended ∷ cut outside (n + 1) (lines_of rest)
-text_end o n true line rest none e last =
-    ap (λ l. cut (within o) n (lines_of l)) (append_assoc line (10 ∷ []) rest) ∙ ap (cut (within o) n) (lines_of-ended line rest none) ∙ rw e refl
-text_end o n false line rest none e last =
+pub text_end : (asks : List ℕ → Bool) (o : Open) (n : ℕ) (ended : Bool) (line rest : List ℕ) → HasNoLineFeed line → is_end line ≡ true → (ended ≡ false → (0 < length line) × (rest ≡ []))
+    → cut asks (within o) n (lines_of (spelled line ended ++ rest)) ≡ closed o (ended_text o.text) ended ∷ cut asks outside (n + 1) (lines_of rest)
+text_end asks o n true line rest none e last =
+    ap (λ l. cut asks (within o) n (lines_of l)) (append_assoc line (10 ∷ []) rest) ∙ ap (cut asks (within o) n) (lines_of-ended line rest none) ∙ rw e refl
+text_end asks o n false line rest none e last =
     rw ((last refl).1, append-nil line, lines_of-rest line none (last refl).0, e) refl
 
 -- a last line that doesn't end it
-pub text_breaks : (o : Open) (n : ℕ) (line : List ℕ) → HasNoLineFeed line → is_end line ≡ false → 0 < length line → cut (within o) n (lines_of line) ≡ closed o unended false ∷ []
-text_breaks o n line none e some = rw (lines_of-rest line none some, e) refl
+pub text_breaks : (asks : List ℕ → Bool) (o : Open) (n : ℕ) (line : List ℕ) → HasNoLineFeed line → is_end line ≡ false → 0 < length line → cut asks (within o) n (lines_of line) ≡ closed o unended false ∷ []
+text_breaks asks o n line none e some = rw (lines_of-rest line none some, e) refl
 
 -- what has no LF makes no full unit
-pub no_unit : (tail : List ℕ) → HasNoLineFeed tail → (o : Open) (n : ℕ) → full_units (cut (within o) n (lines_of tail)) ≡ []
-no_unit [] h o n = refl
-no_unit (b ∷ tail) h o n = ap (λ ls. full_units (cut (within o) n ls)) (lines_of-rest (b ∷ tail) h (omega arith)) ∙ cases (is_end (b ∷ tail))
+pub no_unit : (asks : List ℕ → Bool) (tail : List ℕ) → HasNoLineFeed tail → (o : Open) (n : ℕ) → full_units (cut asks (within o) n (lines_of tail)) ≡ []
+no_unit asks [] h o n = refl
+no_unit asks (b ∷ tail) h o n = ap (λ ls. full_units (cut asks (within o) n ls)) (lines_of-rest (b ∷ tail) h (omega arith)) ∙ cases (is_end (b ∷ tail))
   where
     cases : (t : Bool) → full_units (cond t (closed o (ended_text o.text) false ∷ []) (closed o unended false ∷ [])) ≡ []
     cases true = refl

@@ -3,11 +3,9 @@ pub mod Devices
 pub mod StdDevices
 pub mod Lines
 pub mod Source
-pub mod TextWords
 pub mod Words
 pub mod Written
 pub mod Steps
-pub mod Beginning
 pub mod Units
 pub mod Pieces
 pub mod ReadText

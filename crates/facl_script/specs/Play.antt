@@ -23,6 +23,6 @@ abbrev pub play : {S : Type 0} → (Bool → ScriptUnit → S → Answer S) → 
 play answered m [] state = quiet state
 play answered m (u ∷ us) state = joined (answered (m u.number) u state) (play answered m us (answered (m u.number) u state).state)
 
--- what a whole script does
-abbrev pub session : {S : Type 0} → (Bool → ScriptUnit → S → Answer S) → (ℕ → Bool) → List ℕ → S → Answer S
-session answered m script state = play answered m (units_of script) state
+-- what a whole script does, by which of its lines ask for a text
+abbrev pub session : {S : Type 0} → (List ℕ → Bool) → (Bool → ScriptUnit → S → Answer S) → (ℕ → Bool) → List ℕ → S → Answer S
+session asks answered m script state = play answered m (units_of asks script) state

@@ -1,5 +1,5 @@
 -- What reading a text finds.
-use Rattle.std.specs.Prelude.{◌≡◌, ◌≤◌, ◌+◌, ℕ, false, List, [], ◌∷◌, ◌++◌, length, Option, None, Some}
+use Rattle.std.specs.Prelude.{◌≡◌, ◌≤◌, ◌+◌, ℕ, Bool, false, List, [], ◌∷◌, ◌++◌, length, Option, None, Some}
 use Rattle.std.specs.Io.KnownBytes.{Consumes, IsAtEnd}
 use Rattle.facl_script.specs.Lines.{lines_of}
 use Rattle.facl_script.specs.Units.{opened, UnitText, none, whole, too_long, unended, outside, within, cut, closed}
@@ -26,8 +26,8 @@ IsTextFound Lost held text = Unit {0}
 -- This piece ends the unit whose text it begins: its lines are the text's, up to the line `.` or the script's end (for inner functions).
 pub record IsText (found : TextRead) (before after : Option (List ℕ)) (held : List ℕ) (old new : ℕ) (piece : List ℕ) (text : UnitText) : Type 0 where
   pub consumes : Consumes before after piece
-  pub splits : (number : ℕ) (line : List ℕ) (n : ℕ) (rest : List ℕ) → (found.is_full ≡ false → rest ≡ [])
-      → cut (within (opened number line)) n (lines_of (piece ++ rest)) ≡ closed (opened number line) text found.is_full ∷ cut outside (n + found.lines) (lines_of rest)
+  pub splits : (asks : List ℕ → Bool) (number : ℕ) (line : List ℕ) (n : ℕ) (rest : List ℕ) → (found.is_full ≡ false → rest ≡ [])
+      → cut asks (within (opened number line)) n (lines_of (piece ++ rest)) ≡ closed (opened number line) text found.is_full ∷ cut asks outside (n + found.lines) (lines_of rest)
   pub last : found.is_full ≡ false → IsAtEnd after
   pub holds : IsTextFound found.text held text
   pub count : new ≡ old + length piece

@@ -29,11 +29,11 @@ pub record Breaks {S : Type 0} (a : Answer S) (state : S) (spent spent' : ℕ) (
   pub spends : spent' ≤ spent + a.cost
 
 -- The whole script was answered. It was within the limit.
-pub record Ends {S : Type 0} (answered : Bool → ScriptUnit → S → Answer S) (start : S) (script : List ℕ) (refused : Bool) (state : S) (spent spent' : ℕ) (out out' err err' : Option (List ℕ)) : Type 0 where
+pub record Ends {S : Type 0} (asks : List ℕ → Bool) (answered : Bool → ScriptUnit → S → Answer S) (start : S) (script : List ℕ) (refused : Bool) (state : S) (spent spent' : ℕ) (out out' err err' : Option (List ℕ)) : Type 0 where
   pub m : ℕ → Bool
   pub within : length script ≤ script_limit
-  pub gives : Gives (session answered m script start) state spent spent' out out' err err'
-  pub refused_is : refused ≡ (session answered m script start).refused
+  pub gives : Gives (session asks answered m script start) state spent spent' out out' err err'
+  pub refused_is : refused ≡ (session asks answered m script start).refused
 
 -- These units were answered, and no other.
 pub record IsAnswered {S : Type 0} (answered : Bool → ScriptUnit → S → Answer S) (start : S) (units : List ScriptUnit) (state : S) (spent spent' : ℕ) (out out' err err' : Option (List ℕ)) : Type 0 where
@@ -41,17 +41,17 @@ pub record IsAnswered {S : Type 0} (answered : Bool → ScriptUnit → S → Ans
   pub gives : Gives (play answered m units start) state spent spent' out out' err err'
 
 -- All units before one were answered, and a writer failed in the midst of that one. Past it, at most a chunk was read.
-pub record FailsAt {S : Type 0} (answered : Bool → ScriptUnit → S → Answer S) (start : S) (script : List ℕ) (state : S) (spent spent' : ℕ) (remaining out out' err err' : Option (List ℕ)) : Type 0 where
+pub record FailsAt {S : Type 0} (asks : List ℕ → Bool) (answered : Bool → ScriptUnit → S → Answer S) (start : S) (script : List ℕ) (state : S) (spent spent' : ℕ) (remaining out out' err err' : Option (List ℕ)) : Type 0 where
   pub m : ℕ → Bool
   pub before : List ScriptUnit
   pub unit : ScriptUnit
   pub after : List ScriptUnit
-  pub units : units_of script ≡ before ++ unit ∷ after
+  pub units : units_of asks script ≡ before ++ unit ∷ after
   pub read : List ℕ
   pub pending : List ℕ
   pub consumes : Consumes (Some script) remaining (read ++ pending)
   pub near : length pending ≤ chunk_limit
-  pub units_read : units_of read ≡ before ++ unit ∷ []
+  pub units_read : units_of asks read ≡ before ++ unit ∷ []
   pub out_now : Option (List ℕ)
   pub err_now : Option (List ℕ)
   pub spent_now : ℕ
@@ -60,14 +60,14 @@ pub record FailsAt {S : Type 0} (answered : Bool → ScriptUnit → S → Answer
   pub breaks : Breaks (answered (m unit.number) unit (play answered m before start).state) state spent_now spent' out_now out' err_now err'
 
 -- The run over a script stopped with this fault: what the reader has left, and what was answered by then.
-abbrev pub StopsWith : {S : Type 0} → ScriptFault → (Bool → ScriptUnit → S → Answer S) → S → List ℕ → S → (spent spent' : ℕ) (remaining out out' err err' : Option (List ℕ)) → Type 0
+abbrev pub StopsWith : {S : Type 0} → (List ℕ → Bool) → ScriptFault → (Bool → ScriptUnit → S → Answer S) → S → List ℕ → S → (spent spent' : ℕ) (remaining out out' err err' : Option (List ℕ)) → Type 0
 -- the units whose last LF was read
-StopsWith Read answered start script state spent spent' remaining out out' err err' =
-    (read : List ℕ) × Consumes (Some script) remaining read × IsAnswered answered start (full_units (units_of read)) state spent spent' out out' err err'
+StopsWith asks Read answered start script state spent spent' remaining out out' err err' =
+    (read : List ℕ) × Consumes (Some script) remaining read × IsAnswered answered start (full_units (units_of asks read)) state spent spent' out out' err err'
 -- the units whose last LF is within the limit, past which one byte was read
-StopsWith TooLong answered start script state spent spent' remaining out out' err err' =
-    (more : List ℕ) × (length more ≡ 1) × Consumes (Some script) remaining (take script_limit script ++ more) × (script_limit < length script) × IsAnswered answered start (full_units (units_of (take script_limit script))) state spent spent' out out' err err'
+StopsWith asks TooLong answered start script state spent spent' remaining out out' err err' =
+    (more : List ℕ) × (length more ≡ 1) × Consumes (Some script) remaining (take script_limit script ++ more) × (script_limit < length script) × IsAnswered answered start (full_units (units_of asks (take script_limit script))) state spent spent' out out' err err'
 -- the units whose last LF came before the line that found no room; past what was looked at then, at most a chunk was read
-StopsWith NoMemory answered start script state spent spent' remaining out out' err err' =
-    (read : List ℕ) × (pending : List ℕ) × Consumes (Some script) remaining (read ++ pending) × (length pending ≤ chunk_limit) × IsAnswered answered start (full_units (units_of read)) state spent spent' out out' err err'
-StopsWith Write answered start script state spent spent' remaining out out' err err' = FailsAt answered start script state spent spent' remaining out out' err err'
+StopsWith asks NoMemory answered start script state spent spent' remaining out out' err err' =
+    (read : List ℕ) × (pending : List ℕ) × Consumes (Some script) remaining (read ++ pending) × (length pending ≤ chunk_limit) × IsAnswered answered start (full_units (units_of asks read)) state spent spent' out out' err err'
+StopsWith asks Write answered start script state spent spent' remaining out out' err err' = FailsAt asks answered start script state spent spent' remaining out out' err err'

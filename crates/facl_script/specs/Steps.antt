@@ -1,4 +1,4 @@
--- What one character of a line does, wherever it is. It is for inner functions: no contract of a public one names it.
+-- What one character of a line does, wherever it is.
 use Rattle.std.specs.Prelude.{ℕ, if◌then◌else◌}
 use Rattle.facl_script.specs.declared.place.Place.{Place}
 use Rattle.facl_script.specs.declared.place.Place.TheVariants.{Between, Within, Quoted}

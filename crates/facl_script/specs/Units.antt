@@ -1,8 +1,7 @@
--- The units of a script: each line, with its text if it takes one.
-use Rattle.std.specs.Prelude.{◌≡◌, ◌+◌, ◌==◌, ℕ, Bool, false, if◌then◌else◌, nat_le, List, [], ◌∷◌, ◌++◌, length, filter, Option, None, Some}
+-- The units of a script: each line, with its text if it takes one. Which lines ask for a text is an argument.
+use Rattle.std.specs.Prelude.{◌≡◌, ◌+◌, ◌==◌, ℕ, Bool, false, ◌&&◌, if◌then◌else◌, nat_le, List, [], ◌∷◌, ◌++◌, length, filter, Option, None, Some}
 use Rattle.facl_script.specs.Limits.{line_limit}
 use Rattle.facl_script.specs.Lines.{Line, lines_of}
-use Rattle.facl_script.specs.Words.{takes_text}
 
 -- What a unit has beside its line: nothing, or the lines up to its line `.`, each with its LF.
 -- One of these lines may be over the limit, or the script may end before the line `.`, which counts first.
@@ -22,6 +21,10 @@ pub record ScriptUnit : Type 0 where
 -- a line, if it is within the limit
 abbrev pub within_limit : List ℕ → Option (List ℕ)
 within_limit line = if nat_le (length line) line_limit then Some line else None
+
+-- The lines after this one are its text: it asks for one, and is within the limit.
+abbrev pub takes_text : (List ℕ → Bool) → List ℕ → Bool
+takes_text asks line = nat_le (length line) line_limit && asks line
 
 -- the line `.`, which ends a text
 abbrev pub is_end : List ℕ → Bool
@@ -60,25 +63,25 @@ pub data Mode : Type 0 where
   within : Open → Mode
 
 -- the units of these lines, of which the first has this number; lines of texts are counted too
-abbrev pub cut : Mode → ℕ → List Line → List ScriptUnit
-cut outside n [] = []
-cut (within o) n [] = closed o unended false ∷ []
-cut outside n (l ∷ ls) =
-    if takes_text l.bytes then cut (within (opened n l.bytes)) (n + 1) ls
-    else record { number = n; line = within_limit l.bytes; text = none; is_full = l.ended } ∷ cut outside (n + 1) ls
-cut (within o) n (l ∷ ls) =
-    if is_end l.bytes then closed o (ended_text o.text) l.ended ∷ cut outside (n + 1) ls else cut (within (with_text_line o l.bytes)) (n + 1) ls
+abbrev pub cut : (List ℕ → Bool) → Mode → ℕ → List Line → List ScriptUnit
+cut asks outside n [] = []
+cut asks (within o) n [] = closed o unended false ∷ []
+cut asks outside n (l ∷ ls) =
+    if takes_text asks l.bytes then cut asks (within (opened n l.bytes)) (n + 1) ls
+    else record { number = n; line = within_limit l.bytes; text = none; is_full = l.ended } ∷ cut asks outside (n + 1) ls
+cut asks (within o) n (l ∷ ls) =
+    if is_end l.bytes then closed o (ended_text o.text) l.ended ∷ cut asks outside (n + 1) ls else cut asks (within (with_text_line o l.bytes)) (n + 1) ls
 
-abbrev pub units_of : List ℕ → List ScriptUnit
-units_of script = cut outside 1 (lines_of script)
+abbrev pub units_of : (List ℕ → Bool) → List ℕ → List ScriptUnit
+units_of asks script = cut asks outside 1 (lines_of script)
 
 abbrev pub full_units : List ScriptUnit → List ScriptUnit
 full_units units = filter (λ u. u.is_full) units
 
 -- these bytes, from the beginning of a unit on, make no full unit
-abbrev pub HasNoUnit : List ℕ → Type 0
-HasNoUnit tail = (n : ℕ) → full_units (cut outside n (lines_of tail)) ≡ []
+abbrev pub HasNoUnit : (List ℕ → Bool) → List ℕ → Type 0
+HasNoUnit asks tail = (n : ℕ) → full_units (cut asks outside n (lines_of tail)) ≡ []
 
 -- nor do these from the beginning of a text on (for inner functions)
 abbrev pub HasNoUnitWithin : List ℕ → Type 0
-HasNoUnitWithin tail = (number : ℕ) (line : List ℕ) (n : ℕ) → full_units (cut (within (opened number line)) n (lines_of tail)) ≡ []
+HasNoUnitWithin tail = (asks : List ℕ → Bool) (number : ℕ) (line : List ℕ) (n : ℕ) → full_units (cut asks (within (opened number line)) n (lines_of tail)) ≡ []

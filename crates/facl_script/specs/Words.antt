@@ -8,7 +8,6 @@ use Rattle.facl_script.specs.declared.place.Place.TheVariants.{Between, Within, 
 use Rattle.facl_script.specs.declared.words.SplitFault.{SplitFault}
 use Rattle.facl_script.specs.declared.words.SplitFault.TheVariants.{NotUtf8, OpenQuote}
 use Rattle.facl_script.specs.Limits.{line_limit}
-use Rattle.facl_script.specs.TextWords.{is_text_word}
 
 -- white space is a space or a tab
 abbrev pub is_white : ℕ → Bool
@@ -52,17 +51,3 @@ words_or_open (Some words) = Ok words
 -- A blank line or comment has no words, whatever bytes it has. That bytes are not UTF-8 is found before an open quote.
 abbrev pub line_words : List ℕ → Result (List (List ℕ)) SplitFault
 line_words line = if has_no_words line then Ok [] else if is_utf8 line then words_or_open (words_of line) else Err NotUtf8
-
--- one word asks for a text: the first where it is `load`, a later one where it names standard input
-abbrev pub asks_for_text : Bool → List ℕ → Bool
-asks_for_text true word = bytes_eq word (codes "load")
-asks_for_text false word = is_text_word word
-
--- some of the words asks for a text
-abbrev pub ask_for_text : List (List ℕ) → Bool
-ask_for_text [] = false
-ask_for_text (tool ∷ words) = asks_for_text true tool || list_any (asks_for_text false) words
-
--- The lines after this one are its text. No line takes a text that is over the limit, blank, a comment, or has an open quote.
-abbrev pub takes_text : List ℕ → Bool
-takes_text line = nat_le (length line) line_limit && not (has_no_words line) && option_map_or ask_for_text (words_of line) false

@@ -1,6 +1,6 @@
 //! Laws of the definitions, each proved as the contract of a function that does nothing.
 
-ghost use Rattle.std.specs.Prelude.{◌≡◌, ◌↔◌, ◌%◌, ◌++◌, ℕ, List, length, map, filter, Some, None};
+ghost use Rattle.std.specs.Prelude.{◌≡◌, ◌↔◌, ◌%◌, ◌++◌, ℕ, Bool, List, length, map, filter, Some, None};
 ghost use Rattle.std.specs.List.{AllByRecursion, join_with_byte};
 ghost use Rattle.facl_script.specs.Words.{is_quote, words_of};
 ghost use Rattle.facl_script.specs.Units.{ScriptUnit, units_of, full_units};
@@ -26,11 +26,11 @@ pub fn quote_is_open_where_odd()
 /// Proof only: a script is cut into these units exactly if they spell it, one right after another, with the lines of their texts and the LFs:
 /// no byte is lost or belongs to two units. A unit's number is 1 and the LFs before it.
 pub fn script_has_units_as_spelled()
-    ensures { (script : List ℕ) (units : List ScriptUnit) → (units_of script ≡ units) ↔ AreUnits 1 units script }
+    ensures { (asks : List ℕ → Bool) (script : List ℕ) (units : List ScriptUnit) → (units_of asks script ≡ units) ↔ AreUnits asks 1 units script }
 {}
 
 /// Proof only: the full units of the front of a script are the first units of the script, whatever comes after it. So what a run has answered
 /// that stops with a fault are the first units of its script.
 pub fn full_units_come_first()
-    ensures { (front rest : List ℕ) → (more : List ScriptUnit) × (units_of (front ++ rest) ≡ full_units (units_of front) ++ more) }
+    ensures { (asks : List ℕ → Bool) (front rest : List ℕ) → (more : List ScriptUnit) × (units_of asks (front ++ rest) ≡ full_units (units_of asks front) ++ more) }
 {}

@@ -8,7 +8,6 @@ mod place;
 mod play;
 mod source;
 mod text;
-mod text_words;
 mod unit;
 mod words;
 mod write;
@@ -19,10 +18,10 @@ pub use laws::{
     full_units_come_first, line_has_words_as_written, quote_is_open_where_odd,
     script_has_units_as_spelled, words_joined_by_spaces_are_split_again,
 };
+pub use place::{Effect, Place};
 pub use play::{Session, run_session};
 pub use source::{LINE_LIMIT, SCRIPT_LIMIT};
 pub use text::TextFound;
-pub use text_words::{is_text_word, takes_text};
 pub use unit::{Script, UnitFound};
 pub use words::{SplitFault, has_no_words, split_words};
 pub use write::{write_answer, write_whole};

@@ -22,6 +22,9 @@ pub trait Session {
     /// The state of a session.
     ghost state: { Self → Self.State };
 
+    /// Which lines ask for a text: for the lines after them, up to a line `.`. A line over the limit has none all the same.
+    ghost asks: { List ℕ → Bool };
+
     /// What a unit does at a state: the first argument is whether memory runs out for it.
     ghost answered: { Bool → ScriptUnit → Self.State → Answer Self.State };
 
@@ -41,11 +44,15 @@ pub trait Session {
     /// What the last unit writes to the messages.
     ghost to_err: { Self → List ℕ };
 
+    /// Whether a line asks for a text. It is decided without memory.
+    fn asks_for_text(line: &[u8]) -> bool
+        ensures { result ≡ asks line.now };
+
     /// Answers a unit, of which this line and this text are kept, and returns whether it is refused. All that it writes is
     /// composed here. Where its text was lost, or an allocation fails, memory runs out for the unit.
     fn answer(&mut self, unit: &UnitFound, line: &[u8], text: &[u8]) -> bool
         requires { is_ready unit.now.number self.old }
-        ensures answers { (u : ScriptUnit) → IsUnitFound unit.now line.now text.now u
+        ensures answers { (u : ScriptUnit) → IsUnitFound asks unit.now line.now text.now u
             → (ran_out : Bool)
             × IsAnswer (answered ran_out u (state self.old)) (state self.new) (spent self.old) (spent self.new)
             (to_out self.new) (to_err self.new) result }
@@ -73,7 +80,7 @@ fn answer_unit<S: Session, O: Sink, E: Sink>(
     requires out_works { O.has_failed out.old ≡ false }
     requires err_works { E.has_failed err.old ≡ false }
     ensures ok { IfOk result (λ refused. (u : ScriptUnit)
-        → IsUnitFound unit.now (line_held script.now) (text_held script.now) u
+        → IsUnitFound S.asks unit.now (line_held script.now) (text_held script.now) u
         → (ran_out : Bool)
         × Gives (S.answered ran_out u (S.state session.old)) (S.state session.new)
         (S.spent session.old) (S.spent session.new)
@@ -81,7 +88,7 @@ fn answer_unit<S: Session, O: Sink, E: Sink>(
         × (refused ≡ (S.answered ran_out u (S.state session.old)).refused)) }
     ensures works { OnOk result ((O.has_failed out.new ≡ false) × (E.has_failed err.new ≡ false)) }
     ensures part { OnErr result ((u : ScriptUnit)
-        → IsUnitFound unit.now (line_held script.now) (text_held script.now) u
+        → IsUnitFound S.asks unit.now (line_held script.now) (text_held script.now) u
         → (ran_out : Bool)
         × Breaks (S.answered ran_out u (S.state session.old)) (S.state session.new)
         (S.spent session.old) (S.spent session.new)
@@ -114,11 +121,11 @@ pub fn run_session<S: Session, R: Feed, O: Sink, E: Sink>(
     requires err { E.has_failed err.old ≡ false }
 
     ensures ok { IfOk result (λ refused. IfSome (R.remaining reader.old) (λ script.
-        Ends S.answered (S.state session.old) script refused (S.state session.new)
+        Ends S.asks S.answered (S.state session.old) script refused (S.state session.new)
         (S.spent session.old) (S.spent session.new)
         (O.contents out.old) (O.contents out.new) (E.contents err.old) (E.contents err.new))) }
     ensures fault { IfErr result (λ fault. IfSome (R.remaining reader.old) (λ script.
-        StopsWith fault S.answered (S.state session.old) script (S.state session.new)
+        StopsWith S.asks fault S.answered (S.state session.old) script (S.state session.new)
         (S.spent session.old) (S.spent session.new) (R.remaining reader.new)
         (O.contents out.old) (O.contents out.new) (E.contents err.old) (E.contents err.new))) }
 
@@ -136,7 +143,7 @@ pub fn run_session<S: Session, R: Feed, O: Sink, E: Sink>(
 {
     let mut script = Script::new(alloc);
     let mut is_refused = false;
-    while let Some(unit) = script.next_unit(reader)? {
+    while let Some(unit) = script.next_unit::<S, R>(reader)? {
         is_refused |= answer_unit(session, &unit, &script, out, err)?;
     }
     Ok(is_refused)

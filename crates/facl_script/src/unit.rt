@@ -1,16 +1,15 @@
 //! A script, read unit by unit: each line with its text, if it takes one.
 ghost use Rattle.std.specs.Prelude.{◌≡◌, ◌≤◌, ◌+◌, ℕ, List, [], ◌∷◌, ◌++◌, true, false, OnOk, OnErr, IfOk, IfErr, Option, is_none, length};
 ghost use Rattle.facl_script.specs.Lines.{Held};
-ghost use Rattle.facl_script.specs.Words.{takes_text as takes_text_after};
-ghost use Rattle.facl_script.specs.Units.{HasNoUnit};
+ghost use Rattle.facl_script.specs.Units.{HasNoUnit, takes_text};
 ghost use Rattle.facl_script.specs.Source.{taken_count};
 ghost use Rattle.facl_script.specs.Limits.{script_limit};
 
 use crate::devices::Feed;
 use crate::fault::ScriptFault;
+use crate::play::Session;
 use crate::source::Source;
 use crate::text::{TextFound, read_text};
-use crate::text_words::takes_text;
 use std::alloc::Global;
 
 /// A unit that was read.
@@ -27,10 +26,10 @@ pub struct UnitFound {
 }
 
 /// Whether the line that is held takes a text.
-fn takes(is_too_long: bool, line: &[u8]) -> bool
-    ensures { (text : List ℕ) → Held is_too_long line.now text → result ≡ takes_text_after text }
+fn takes<S: Session>(is_too_long: bool, line: &[u8]) -> bool
+    ensures { (text : List ℕ) → Held is_too_long line.now text → result ≡ takes_text S.asks text }
 {
-    !is_too_long && takes_text(line)
+    !is_too_long && S::asks_for_text(line)
 }
 
 /// A script that is read unit by unit, with the line and the text of the last one.
@@ -81,13 +80,13 @@ impl Script {
     }
 
     /// The next unit, past the check for the end.
-    fn read_unit<R: Feed>(&mut self, reader: &mut R) -> Result<Option<UnitFound>, ScriptFault>
+    fn read_unit<S: Session, R: Feed>(&mut self, reader: &mut R) -> Result<Option<UnitFound>, ScriptFault>
         requires { R.has_failed reader.old ≡ false }
-        ensures ok { IfOk result (λ found. FindsUnit found (line_held self.new) (text_held self.new)
+        ensures ok { IfOk result (λ found. FindsUnit S.asks found (line_held self.new) (text_held self.new)
             (script_left self.old (R.remaining reader.old)) (script_left self.new (R.remaining reader.new))
             (script_taken self.old) (script_taken self.new) (next_number self.old) (next_number self.new)) }
         ensures works { OnOk result (R.has_failed reader.new ≡ false) }
-        ensures err { IfErr result (λ e. (tail : List ℕ) × HasNoUnit tail
+        ensures err { IfErr result (λ e. (tail : List ℕ) × HasNoUnit S.asks tail
             × ScriptStopsAfter e (script_left self.old (R.remaining reader.old)) self.new
             (R.remaining reader.new) (R.has_failed reader.new) tail
             × (script_taken self.new ≡ script_taken self.old + length tail)) }
@@ -96,7 +95,7 @@ impl Script {
         let Some(found) = self.source.next_line(reader, &mut self.line)? else {
             return Ok(None);
         };
-        if !takes(found.is_too_long, &self.line) {
+        if !takes::<S>(found.is_too_long, &self.line) {
             self.number += 1;
             return Ok(Some(UnitFound {
                 number,
@@ -129,21 +128,21 @@ impl Script {
         }))
     }
 
-    /// The next unit of the script, or `None` where it ends. After the end, and after an error, nothing is read, and the
+    /// The next unit of the script, as the session tells which lines ask for a text, or `None` where it ends. After the end, and after an error, nothing is read, and the
     /// answer is `None`.
     ///
     /// A text that memory cannot keep is read to its end all the same. An error means that the reader failed, that the script
     /// goes on past the limit, or that no memory was there for a line.
-    pub fn next_unit<R: Feed>(&mut self, reader: &mut R) -> Result<Option<UnitFound>, ScriptFault>
+    pub fn next_unit<S: Session, R: Feed>(&mut self, reader: &mut R) -> Result<Option<UnitFound>, ScriptFault>
         requires { R.has_failed reader.old ≡ false }
         ensures ok { IfOk result (λ found. is_over self.old ≡ false
-            → FindsUnit found (line_held self.new) (text_held self.new)
+            → FindsUnit S.asks found (line_held self.new) (text_held self.new)
             (script_left self.old (R.remaining reader.old)) (script_left self.new (R.remaining reader.new))
             (script_taken self.old) (script_taken self.new) (next_number self.old) (next_number self.new)) }
         ensures ends { IfOk result (λ found. is_over self.new ≡ is_last found) }
         ensures broken { OnErr result (is_over self.new ≡ true) }
         ensures works { OnOk result (R.has_failed reader.new ≡ false) }
-        ensures err { IfErr result (λ e. (tail : List ℕ) × HasNoUnit tail
+        ensures err { IfErr result (λ e. (tail : List ℕ) × HasNoUnit S.asks tail
             × ScriptStopsAfter e (script_left self.old (R.remaining reader.old)) self.new
             (R.remaining reader.new) (R.has_failed reader.new) tail
             × (script_taken self.new ≡ script_taken self.old + length tail)) }
@@ -153,7 +152,7 @@ impl Script {
         if self.is_over {
             return Ok(None);
         }
-        let outcome = self.read_unit(reader);
+        let outcome = self.read_unit::<S, R>(reader);
         self.is_over = match &outcome {
             Ok(Some(unit)) => !unit.is_full,
             Ok(None) => true,

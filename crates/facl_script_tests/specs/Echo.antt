@@ -1,8 +1,13 @@
--- A session that gives back each line and its text. Its state is whether it has refused a unit.
-use Rattle.std.specs.Prelude.{ℕ, Bool, true, false, if◌then◌else◌, List, [], ◌∷◌, ◌++◌, codes, Option, None, Some}
+-- A session that gives back each line and its text. Its state is whether it has refused a unit. Its lines that begin
+-- with `l` or `y` ask for a text.
+use Rattle.std.specs.Prelude.{◌==◌, ◌||◌, ℕ, Bool, true, false, if◌then◌else◌, List, [], ◌∷◌, ◌++◌, codes, Option, None, Some}
 use Rattle.facl_script.specs.Units.{ScriptUnit, UnitText, none, whole, too_long, unended}
 use Rattle.facl_script.specs.Words.{has_no_words}
 use Rattle.facl_script.specs.Play.{Answer, quiet}
+
+abbrev pub asks : List ℕ → Bool
+asks [] = false
+asks (b ∷ bs) = b == 108 || b == 121
 
 abbrev pub refusal : List ℕ → Answer Bool
 refusal why = record { out = []; err = why; state = true; refused = true; cost = 0 }

@@ -2,7 +2,7 @@
 ghost use Rattle.std.specs.Prelude.{◌≡◌, ◌++◌, ◌∷◌, [], true, false, codes, IfOk, OnOk};
 ghost use Rattle.facl_script.specs.Units.{ScriptUnit};
 ghost use Rattle.facl_script.specs.ReadUnit.{IsUnitFound};
-ghost use Rattle.facl_script_tests.specs.Echo.{echoed, echoed_there};
+ghost use Rattle.facl_script_tests.specs.Echo.{asks, echoed, echoed_there};
 
 use facl_script::{Session, TextFound, UnitFound, has_no_words};
 use std::alloc::{AllocError, Global};
@@ -58,7 +58,7 @@ fn compose(
 ) -> Result<bool, AllocError>
     requires out { out.old.items ≡ [] }
     requires err { err.old.items ≡ [] }
-    ensures { IfOk result (λ refused. (u : ScriptUnit) → IsUnitFound unit.now line.now text.now u
+    ensures { IfOk result (λ refused. (u : ScriptUnit) → IsUnitFound asks unit.now line.now text.now u
         → (out.new.items ≡ (echoed_there u false).out) × (err.new.items ≡ (echoed_there u false).err) × (refused ≡ (echoed_there u false).refused)) }
 {
     if unit.is_too_long {
@@ -78,11 +78,20 @@ impl Session for Echo {
 
     ghost state = { λ s. s.has_refused };
 
+    ghost asks = { asks };
+
     ghost answered = { echoed };
 
     ghost to_out = { λ s. s.out.items };
 
     ghost to_err = { λ s. s.err.items };
+
+    fn asks_for_text(line: &[u8]) -> bool {
+        match line {
+            [] => false,
+            [first, ..] => *first == b'l' || *first == b'y',
+        }
+    }
 
     fn answer(&mut self, unit: &UnitFound, line: &[u8], text: &[u8]) -> bool {
         self.out.clear();

@@ -1,5 +1,5 @@
-//! Tests of the words of lines, and of which lines take a text.
-use facl_script::{SplitFault, is_text_word, has_no_words, split_words, takes_text};
+//! Tests of the words of lines.
+use facl_script::{SplitFault, has_no_words, split_words};
 use std::alloc::Global;
 use std::process::Abort;
 
@@ -45,44 +45,4 @@ fn expect_fault(rt: &impl Abort, alloc: Global, line: &[u8], want: SplitFault) {
 fn refuses_lines(rt: HostRuntime) {
     expect_fault(&rt, rt.alloc(), b"can 'joe f", SplitFault::OpenQuote);
     expect_fault(&rt, rt.alloc(), b"can \xff 'joe", SplitFault::NotUtf8);
-}
-
-#[test]
-fn finds_text_lines(rt: HostRuntime) {
-    let takes = [
-        b"load".as_slice(),
-        b"'lo'ad x",
-        b"frob -",
-        b"setfacl '-' f",
-        b"setfacl -M- f",
-        b"x \t-X-",
-        b"x --modify-file=-",
-        b"x --remove-file=-",
-        b"x --set-file=-",
-        b"x --restore=-",
-        b"\xff -",
-    ];
-    for line in takes {
-        assert!(rt; takes_text(line));
-    }
-    let takes_none = [
-        b"".as_slice(),
-        b"# -",
-        b"-",
-        b"'load",
-        b"x load",
-        b"loads",
-        b"loa d",
-        b"x '-",
-        b"x --",
-        b"x -M",
-        b"x -M=-",
-        b"x --modify-file=--",
-        b"x --modify-file=-x",
-        b"x --modify-file=-0123456789",
-    ];
-    for line in takes_none {
-        assert!(rt; !takes_text(line));
-    }
-    assert!(rt; is_text_word(b"--restore=-"));
 }

@@ -4,4 +4,6 @@ pub mod Rows
 pub mod Tools
 pub mod Places
 pub mod Setfacl
+pub mod TextWords
+pub mod Beginning
 pub mod Rules

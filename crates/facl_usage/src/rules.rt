@@ -16,10 +16,10 @@ use crate::places::{
     setattr, setfacl, useradd, usermod, who,
 };
 use crate::setfacl::{fits_setfacl, inputs_wanted};
+use crate::text_words::is_text_word;
 use crate::tool::Tool;
 use crate::words::{Word, Words};
 use acl_names::read_name;
-use facl_script::is_text_word;
 use std::alloc::{AllocError, Global};
 
 fn texts_wanted(tool: Tool, words: &Words) -> usize

@@ -12,6 +12,8 @@ mod reading;
 #[cfg(test)]
 mod setfacl;
 #[cfg(test)]
+mod texts;
+#[cfg(test)]
 mod expected;
 #[cfg(test)]
 mod tools;

@@ -16,7 +16,7 @@ loop-script-init g c = record {
   err_works = c.requires.err;
   taken = [];
   answer_so_far = quiet (g.S.Session.state c.args.session.now);
-  progress = rw (c.new-script.ensures.number, c.new-script.ensures.over) (begins g.S.Session.answered (g.S.Session.state c.args.session.now));
+  progress = rw (c.new-script.ensures.number, c.new-script.ensures.over) (begins g.S.Session.asks g.S.Session.answered (g.S.Session.state c.args.session.now));
   consumes = left_consumes _ _ (c.new-script.ensures.left (g.R.Feed.remaining c.args.reader.now));
   last = λ e. absurd (true≢false (sym e ∙ c.new-script.ensures.over));
   ready = rw c.new-script.ensures.number c.requires.ready;
@@ -35,7 +35,7 @@ returns-clause-ok g c =
     let same : is_over c.loop-script.script ≡ true → after ≡ before =
     λ e. ap (λ s. script_left s (g.R.Feed.remaining c.next_unit.new.reader)) (c.in_ok-unit.ensures.over e).1 ∙ ap (λ r. script_left c.loop-script.script (g.R.Feed.remaining r)) (c.in_ok-unit.ensures.over e).2 in
     let ended = at_end (is_over c.loop-script.script) before after (λ e. (same e, inv.last e)) (λ e. ((found e).0, (found e).1)) in
-    ends_here g.S.Session.answered (g.S.Session.state c.args.session.now) (g.S.Session.state c.loop-script.session) (g.S.Session.spent c.args.session.now) (g.S.Session.spent c.loop-script.session) (g.R.Feed.remaining c.args.reader.now) before after
+    ends_here g.S.Session.asks g.S.Session.answered (g.S.Session.state c.args.session.now) (g.S.Session.state c.loop-script.session) (g.S.Session.spent c.args.session.now) (g.S.Session.spent c.loop-script.session) (g.R.Feed.remaining c.args.reader.now) before after
     (g.O.Sink.contents c.args.out.now) (g.O.Sink.contents c.loop-script.out) (g.E.Sink.contents c.args.err.now) (g.E.Sink.contents c.loop-script.err)
     inv.taken (next_number c.loop-script.script) (is_over c.loop-script.script) inv.answer_so_far inv.progress inv.consumes ended.0 ended.1
     (omega (arith, inv.count, c.loop-script.script.source.within)) inv.gives c.loop-script.is_refused inv.refused
@@ -59,9 +59,9 @@ returns-in_err-unit-clause-fault g c =
     let start = g.S.Session.state c.args.session.now in
     let number = next_number c.loop-script.script in
     let going = not_over (is_over c.loop-script.script) (λ e. let o = (c.in_err-unit.ensures.over e).0 in cc) in
-    let progress = subst (λ (b : Bool). Progress g.S.Session.answered start inv.taken number b inv.answer_so_far) going inv.progress in
+    let progress = subst (λ (b : Bool). Progress g.S.Session.asks g.S.Session.answered start inv.taken number b inv.answer_so_far) going inv.progress in
     rw (p.1, p.2)
-    (stops_reading g.S.Session.answered start (g.S.Session.state c.loop-script.session) (g.S.Session.spent c.args.session.now) (g.S.Session.spent c.loop-script.session) c.in_err-unit.field-0.0
+    (stops_reading g.S.Session.asks g.S.Session.answered start (g.S.Session.state c.loop-script.session) (g.S.Session.spent c.args.session.now) (g.S.Session.spent c.loop-script.session) c.in_err-unit.field-0.0
     (g.R.Feed.remaining c.args.reader.now) (script_left c.loop-script.script (g.R.Feed.remaining c.loop-script.reader)) (g.R.Feed.remaining c.next_unit.new.reader)
     (g.O.Sink.contents c.args.out.now) (g.O.Sink.contents c.loop-script.out) (g.E.Sink.contents c.args.err.now) (g.E.Sink.contents c.loop-script.err)
     c.next_unit.new.self (g.R.Feed.has_failed c.next_unit.new.reader) inv.taken number inv.answer_so_far progress h.0 h.1 inv.consumes h.2 (omega (arith, h.3, inv.count)) inv.gives)
@@ -80,7 +80,7 @@ returns-in_err-is_refused-clause-fault g c =
     let start = g.S.Session.state c.args.session.now in
     let number = next_number c.loop-script.script in
     let going = not_over (is_over c.loop-script.script) (λ e. not_end _ _ c.in-Some.is _ (c.in_ok-unit.ensures.over e).0 refl) in
-    let progress = subst (λ (b : Bool). Progress g.S.Session.answered start inv.taken number b inv.answer_so_far) going inv.progress in
+    let progress = subst (λ (b : Bool). Progress g.S.Session.asks g.S.Session.answered start inv.taken number b inv.answer_so_far) going inv.progress in
     let found = (rw c.in-Some.is at c.in_ok-unit.ensures.ok) going in
     let piece : List ℕ = found.0 in
     let unit = found.1 in
@@ -90,7 +90,7 @@ returns-in_err-is_refused-clause-fault g c =
     let h = subst (λ s. BreaksAt g.S.Session.answered unit s (g.S.Session.state c.answer_unit.new.session) (g.S.Session.spent c.loop-script.session) (g.S.Session.spent c.answer_unit.new.session) (g.O.Sink.contents c.loop-script.out) (g.O.Sink.contents c.answer_unit.new.out) (g.E.Sink.contents c.loop-script.err) (g.E.Sink.contents c.answer_unit.new.err)) inv.gives.state_is
     (c.in_err-is_refused.ensures.part unit found.3) in
     rw (p.1, p.2, c.in_err-is_refused.ensures.which)
-    (fails_writing g.S.Session.answered start (g.S.Session.state c.loop-script.session) (g.S.Session.state c.answer_unit.new.session)
+    (fails_writing g.S.Session.asks g.S.Session.answered start (g.S.Session.state c.loop-script.session) (g.S.Session.state c.answer_unit.new.session)
     (g.S.Session.spent c.args.session.now) (g.S.Session.spent c.loop-script.session) (g.S.Session.spent c.answer_unit.new.session)
     a (g.R.Feed.remaining c.next_unit.new.reader) c.next_unit.new.self
     (g.O.Sink.contents c.args.out.now) (g.O.Sink.contents c.loop-script.out) (g.O.Sink.contents c.answer_unit.new.out)
@@ -104,7 +104,7 @@ loop-script-preserved g c =
     let start = g.S.Session.state c.args.session.now in
     let number = next_number c.loop-script.script in
     let going = not_over (is_over c.loop-script.script) (λ e. not_end _ _ c.in-Some.is _ (c.in_ok-unit.ensures.over e).0 refl) in
-    let progress = subst (λ (b : Bool). Progress g.S.Session.answered start inv.taken number b inv.answer_so_far) going inv.progress in
+    let progress = subst (λ (b : Bool). Progress g.S.Session.asks g.S.Session.answered start inv.taken number b inv.answer_so_far) going inv.progress in
     let found = (rw c.in-Some.is at c.in_ok-unit.ensures.ok) going in
     let piece : List ℕ = found.0 in
     let unit = found.1 in
@@ -121,7 +121,7 @@ loop-script-preserved g c =
       err_works = c.in_ok-is_refused.ensures.works.1;
       taken = inv.taken ++ piece;
       answer_so_far = answer_so_far;
-      progress = rw ends (goes_on g.S.Session.answered start inv.taken number (next_number c.next_unit.new.self) inv.answer_so_far progress before after _ _ piece unit next h.0);
+      progress = rw ends (goes_on g.S.Session.asks g.S.Session.answered start inv.taken number (next_number c.next_unit.new.self) inv.answer_so_far progress before after _ _ piece unit next h.0);
       consumes = Consumes-trans (g.R.Feed.remaining c.args.reader.now) before after inv.taken piece inv.consumes next.consumes;
       last = λ e. next.last (not_full unit.is_full (sym ends ∙ e));
       ready = c.answer_unit.ensures.ready (next_number c.next_unit.new.self) (omega (arith, found.3.number, next.numbered, next.grows)) (omega (arith, c.next_unit.new.self.counted, c.next_unit.new.self.source.within));

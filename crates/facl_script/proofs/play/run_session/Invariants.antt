@@ -14,7 +14,7 @@ invariant-loop-script g l = record {
   err_works : g.E.Sink.has_failed l.err ≡ false;
   taken : List ℕ;
   answer_so_far : Answer g.row.S-State.Denot;
-  progress : Progress g.S.Session.answered (g.S.Session.state l.fn.session) taken (next_number l.script) (is_over l.script) answer_so_far;
+  progress : Progress g.S.Session.asks g.S.Session.answered (g.S.Session.state l.fn.session) taken (next_number l.script) (is_over l.script) answer_so_far;
   consumes : Consumes (g.R.Feed.remaining l.fn.reader) (script_left l.script (g.R.Feed.remaining l.reader)) taken;
   last : is_over l.script ≡ true → IsAtEnd (script_left l.script (g.R.Feed.remaining l.reader));
   ready : g.S.Session.is_ready (next_number l.script) l.session;

@@ -16,7 +16,7 @@ returns-in_err-found-clause-err g c =
     let p = err_from_is_err_and c.from_residual.result c.from_residual.ensures.1 in
     let stop = stops_later c.in_err-found.field-0.0 _ _ _ _ _ inv.piece h.0 inv.consumes h.2 in
     rw (p.1, p.2)
-    (inv.piece ++ h.0, λ number line n. ap full_units (inv.splits number line n h.0) ∙ no_unit h.0 h.1 (so_far number line inv.content) (n + c.loop-found.lines), stop, omega (arith, h.3, inv.count, length-append inv.piece h.0))
+    (inv.piece ++ h.0, λ asks number line n. ap full_units (inv.splits asks number line n h.0) ∙ no_unit asks h.0 h.1 (so_far number line inv.content) (n + c.loop-found.lines), stop, omega (arith, h.3, inv.count, length-append inv.piece h.0))
 
 pub returns-then-ends_here-clause-ok : goal.returns-then-ends_here-clause-ok
 returns-then-ends_here-clause-ok g c =
@@ -32,9 +32,9 @@ returns-then-ends_here-clause-ok g c =
       ended_text inv.content,
       record {
         consumes = Consumes-trans _ _ _ _ _ inv.consumes line.consumes;
-        splits = λ number l n rest last. ap (λ bs. cut (within (opened number l)) n (lines_of bs)) (append_assoc inv.piece (spelled t e) rest) ∙ inv.splits number l n (spelled t e ++ rest)
-            ∙ text_end (so_far number l inv.content) (n + c.loop-found.lines) e t rest line.no_line_feed ends (λ h. ((line.last h).0, last h))
-            ∙ ap (λ k. closed (opened number l) (ended_text inv.content) e ∷ cut outside k (lines_of rest)) (add_assoc n c.loop-found.lines 1);
+        splits = λ asks number l n rest last. ap (λ bs. cut asks (within (opened number l)) n (lines_of bs)) (append_assoc inv.piece (spelled t e) rest) ∙ inv.splits asks number l n (spelled t e ++ rest)
+            ∙ text_end asks (so_far number l inv.content) (n + c.loop-found.lines) e t rest line.no_line_feed ends (λ h. ((line.last h).0, last h))
+            ∙ ap (λ k. closed (opened number l) (ended_text inv.content) e ∷ cut asks outside k (lines_of rest)) (add_assoc n c.loop-found.lines 1);
         last = λ h. (line.last h).1;
         holds = holds_ended c.loop-found.held _ inv.content inv.holds;
         count = omega (arith, line.count, inv.count, length-append inv.piece (spelled t e));
@@ -58,7 +58,7 @@ returns-then-not-found-clause-ok g c =
       unended,
       record {
         consumes = Consumes-trans _ _ _ _ _ inv.consumes (subst (λ (b : Bool). Consumes (unread c.loop-found.source (g.R.Feed.remaining c.loop-found.reader)) (unread c.next_line.new.self (g.R.Feed.remaining c.next_line.new.reader)) (spelled t b)) no_end line.consumes);
-        splits = λ number l n rest last. rw (last refl, append-nil (inv.piece ++ t)) (inv.splits number l n t ∙ text_breaks (so_far number l inv.content) (n + c.loop-found.lines) t line.no_line_feed goes some);
+        splits = λ asks number l n rest last. rw (last refl, append-nil (inv.piece ++ t)) (inv.splits asks number l n t ∙ text_breaks asks (so_far number l inv.content) (n + c.loop-found.lines) t line.no_line_feed goes some);
         last = λ h. (line.last no_end).1;
         holds = refl;
         count = omega (arith, count, inv.count, length-append inv.piece t);
@@ -84,9 +84,9 @@ loop-found-preserved g c =
       piece = inv.piece ++ more;
       content = more_text inv.content t;
       consumes = Consumes-trans _ _ _ _ _ inv.consumes (subst (λ (b : Bool). Consumes (unread c.loop-found.source (g.R.Feed.remaining c.loop-found.reader)) (unread c.next_line.new.self (g.R.Feed.remaining c.next_line.new.reader)) (spelled t b)) ended line.consumes);
-      splits = λ number l n rest. ap (λ bs. cut (within (opened number l)) n (lines_of bs)) (append_assoc inv.piece more rest) ∙ inv.splits number l n (more ++ rest)
-          ∙ text_line (so_far number l inv.content) (n + c.loop-found.lines) t rest line.no_line_feed goes
-          ∙ ap (λ k. cut (within (so_far number l (more_text inv.content t))) k (lines_of rest)) (add_assoc n c.loop-found.lines 1);
+      splits = λ asks number l n rest. ap (λ bs. cut asks (within (opened number l)) n (lines_of bs)) (append_assoc inv.piece more rest) ∙ inv.splits asks number l n (more ++ rest)
+          ∙ text_line asks (so_far number l inv.content) (n + c.loop-found.lines) t rest line.no_line_feed goes
+          ∙ ap (λ k. cut asks (within (so_far number l (more_text inv.content t))) k (lines_of rest)) (add_assoc n c.loop-found.lines 1);
       holds = c.keep-held.ensures inv.content t inv.holds held2;
       count = omega (arith, count, inv.count, length-append inv.piece more);
       lines = omega (arith, inv.lines, length-append inv.piece more, length-append t (10 ∷ []));

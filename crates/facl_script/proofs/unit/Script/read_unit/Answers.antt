@@ -4,8 +4,7 @@ use Rattle.std.proofs.KnownBytes.{Consumes-trans}
 use Rattle.std.specs.Io.KnownBytes.{Consumes}
 use Rattle.facl_script.specs.Lines.{lines_of, Held, spelled}
 use Rattle.facl_script.specs.Source.{unread, taken_count}
-use Rattle.facl_script.specs.Words.{takes_text}
-use Rattle.facl_script.specs.Units.{opened, outside, unended, cut, closed, full_units}
+use Rattle.facl_script.specs.Units.{takes_text, opened, outside, unended, cut, closed, full_units}
 use Rattle.facl_script.proofs.SourceLemmas.{stops_later}
 use Rattle.facl_script.proofs.TextLemmas.{spelled_some, of_not, of_not_not}
 use Rattle.facl_script.proofs.UnitLemmas.{alone, unit_alone, unit_breaks, unit_opens, no_unit_outside, line_found, takes_held}
@@ -15,7 +14,7 @@ pub returns-in_err-found-clause-err : goal.returns-in_err-found-clause-err
 returns-in_err-found-clause-err g c =
     let h = c.in_err-found.ensures.err in
     let p = err_from_is_err_and c.from_residual.result c.from_residual.ensures.1 in
-    rw (p.1, p.2) (h.0, no_unit_outside h.0 h.1, h.2, h.3)
+    rw (p.1, p.2) (h.0, no_unit_outside g.S.Session.asks h.0 h.1, h.2, h.3)
 
 pub returns-then-not-takes-clause-ok : goal.returns-then-not-takes-clause-ok
 returns-then-not-takes-clause-ok g c =
@@ -25,13 +24,13 @@ returns-then-not-takes-clause-ok g c =
     let e = c.in-Some.found.is_ended in
     let n : ℕ = c.args.self.now.number in
     let held = subst (λ (l : List ℕ). Held c.in-Some.found.is_too_long l t) (sym c.deref.ensures.value) line.held in
-    let takes : takes_text t ≡ false = sym (c.takes.ensures t held) ∙ c.if-not-takes.true in
+    let takes : takes_text g.S.Session.asks t ≡ false = sym (c.takes.ensures t held) ∙ c.if-not-takes.true in
     let some = spelled_some t e (λ h. (line.last h).0) in (
       spelled t e,
       alone n t e,
       record {
         consumes = line.consumes;
-        splits = λ rest last. unit_alone n e t rest line.no_line_feed takes (λ h. ((line.last h).0, last h));
+        splits = λ rest last. unit_alone g.S.Session.asks n e t rest line.no_line_feed takes (λ h. ((line.last h).0, last h));
         last = λ h. (line.last h).1;
         numbered = refl;
         grows = omega arith;
@@ -49,7 +48,7 @@ returns-then-not-found-clause-ok g c =
     let no_end : c.in-Some.found.is_ended ≡ false = of_not _ c.if-not-found.true in
     let n : ℕ = c.args.self.now.number in
     let held = subst (λ (l : List ℕ). Held c.in-Some.found.is_too_long l t) (sym c.deref.ensures.value) line.held in
-    let takes : takes_text t ≡ true = sym (c.takes.ensures t held) ∙ c.if-not-takes.false in
+    let takes : takes_text g.S.Session.asks t ≡ true = sym (c.takes.ensures t held) ∙ c.if-not-takes.false in
     let some = (line.last no_end).0 in
     let consumes = subst (λ (b : Bool). Consumes (unread c.args.self.now.source (g.R.Feed.remaining c.args.reader.now)) (unread c.next_line.new.self (g.R.Feed.remaining c.next_line.new.reader)) (spelled t b)) no_end line.consumes in
     let count = subst (λ (b : Bool). taken_count c.next_line.new.self ≡ taken_count c.args.self.now.source + length (spelled t b)) no_end line.count in (
@@ -57,14 +56,14 @@ returns-then-not-found-clause-ok g c =
       closed (opened n t) unended false,
       record {
         consumes = consumes;
-        splits = λ rest last. unit_breaks n t rest line.no_line_feed takes some (last refl);
+        splits = λ rest last. unit_breaks g.S.Session.asks n t rest line.no_line_feed takes some (last refl);
         last = λ h. (line.last no_end).1;
         numbered = refl;
         grows = omega arith;
         lines = omega (arith, some);
         count = count;
       },
-      record { number = refl; line_is = takes_held c.in-Some.found.is_too_long c.next_line.new.line.items t line.held takes; text_is = refl; full = refl; lost = λ e. cc },
+      record { number = refl; line_is = takes_held g.S.Session.asks c.in-Some.found.is_too_long c.next_line.new.line.items t line.held takes; text_is = refl; full = refl; lost = λ e. cc },
     )
 
 pub returns-in_err-read-clause-err : goal.returns-in_err-read-clause-err
@@ -74,7 +73,7 @@ returns-in_err-read-clause-err g c =
     let line = nl.1 in
     let ended : c.in-Some.found.is_ended ≡ true = of_not_not _ c.if-not-found.false in
     let held = subst (λ (l : List ℕ). Held c.in-Some.found.is_too_long l t) (sym c.deref.ensures.value) line.held in
-    let takes : takes_text t ≡ true = sym (c.takes.ensures t held) ∙ c.if-not-takes.false in
+    let takes : takes_text g.S.Session.asks t ≡ true = sym (c.takes.ensures t held) ∙ c.if-not-takes.false in
     let consumes = subst (λ (b : Bool). Consumes (unread c.args.self.now.source (g.R.Feed.remaining c.args.reader.now)) (unread c.next_line.new.self (g.R.Feed.remaining c.next_line.new.reader)) (spelled t b)) ended line.consumes in
     let count = subst (λ (b : Bool). taken_count c.next_line.new.self ≡ taken_count c.args.self.now.source + length (spelled t b)) ended line.count in
     let h = c.in_err-read.ensures.err in
@@ -82,7 +81,7 @@ returns-in_err-read-clause-err g c =
     let stop = stops_later c.in_err-read.field-0.0 _ _ _ _ _ (t ++ 10 ∷ []) h.0 consumes h.2 in
     rw (p.1, p.2) (
       (t ++ 10 ∷ []) ++ h.0,
-      λ n. ap full_units (unit_opens n t h.0 line.no_line_feed takes) ∙ h.1 n t (n + 1),
+      λ n. ap full_units (unit_opens g.S.Session.asks n t h.0 line.no_line_feed takes) ∙ h.1 g.S.Session.asks n t (n + 1),
       stop,
       omega (arith, h.3, count, length-append (t ++ 10 ∷ []) h.0),
     )
@@ -104,8 +103,8 @@ returns-clause-ok g c =
     let ended : c.in-Some.found.is_ended ≡ true = of_not_not _ c.if-not-found.false in
     let n : ℕ = c.args.self.now.number in
     let held = subst (λ (l : List ℕ). Held c.in-Some.found.is_too_long l t) (sym c.deref.ensures.value) line.held in
-    let takes : takes_text t ≡ true = sym (c.takes.ensures t held) ∙ c.if-not-takes.false in
-    let same = takes_held c.in-Some.found.is_too_long c.next_line.new.line.items t line.held takes in
+    let takes : takes_text g.S.Session.asks t ≡ true = sym (c.takes.ensures t held) ∙ c.if-not-takes.false in
+    let same = takes_held g.S.Session.asks c.in-Some.found.is_too_long c.next_line.new.line.items t line.held takes in
     let consumes = subst (λ (b : Bool). Consumes (unread c.args.self.now.source (g.R.Feed.remaining c.args.reader.now)) (unread c.next_line.new.self (g.R.Feed.remaining c.next_line.new.reader)) (spelled t b)) ended line.consumes in
     let count = subst (λ (b : Bool). taken_count c.next_line.new.self ≡ taken_count c.args.self.now.source + length (spelled t b)) ended line.count in
     let found = c.in_ok-read.ensures.ok in
@@ -116,8 +115,8 @@ returns-clause-ok g c =
       closed (opened n t) found.1 c.in_ok-read.read.is_full,
       record {
         consumes = Consumes-trans _ _ _ _ _ consumes text.consumes;
-        splits = λ rest last. ap (λ l. cut outside n (lines_of l)) (append_assoc front piece rest) ∙ unit_opens n t (piece ++ rest) line.no_line_feed takes ∙ text.splits n t (n + 1) rest last
-            ∙ ap (λ k. closed (opened n t) found.1 c.in_ok-read.read.is_full ∷ cut outside k (lines_of rest)) (add_assoc n 1 c.in_ok-read.read.lines);
+        splits = λ rest last. ap (λ l. cut g.S.Session.asks outside n (lines_of l)) (append_assoc front piece rest) ∙ unit_opens g.S.Session.asks n t (piece ++ rest) line.no_line_feed takes ∙ text.splits g.S.Session.asks n t (n + 1) rest last
+            ∙ ap (λ k. closed (opened n t) found.1 c.in_ok-read.read.is_full ∷ cut g.S.Session.asks outside k (lines_of rest)) (add_assoc n 1 c.in_ok-read.read.lines);
         last = text.last;
         numbered = refl;
         grows = omega arith;

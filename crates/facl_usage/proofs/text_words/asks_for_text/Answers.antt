@@ -1,10 +1,10 @@
 use Rattle.std.proofs.Common.{◌+◌, ◌||◌, sym, ◌∙◌, ap, subst, List, ℕ, refl, drop, take, get_or, [], ◌∷◌, ◌++◌, arith}
 use Rattle.std.proofs.lemmas.List.{drop_more, drop_all}
-use Rattle.facl_script.specs.Words.{ask_for_text, asks_for_text}
+use Rattle.facl_usage.specs.TextWords.{words_ask, word_asks}
 use Rattle.facl_script.proofs.WordLemmas.{byte_seen, IsSeen, begins}
-use Rattle.facl_script.proofs.TextWordLemmas.{ask_more, none_done_more, take_grows, asks_by_beginning, takes_text_within}
-use Rattle.facl_script.proofs.text_words.takes_text.Goals as goal
-use Rattle.facl_script.proofs.text_words.takes_text.Goals.{in-Skips, in-Joins, in-Ends}
+use Rattle.facl_usage.proofs.TextWordLemmas.{ask_more, none_done_more, take_grows, asks_by_beginning, line_asks_within}
+use Rattle.facl_usage.proofs.text_words.asks_for_text.Goals as goal
+use Rattle.facl_usage.proofs.text_words.asks_for_text.Goals.{in-Skips, in-Joins, in-Ends}
 
 pub loop-b-init : goal.loop-b-init
 loop-b-init c = record {
@@ -41,7 +41,7 @@ loop-b-preserved c =
           })
       | in-Ends w ↦
           let h = rw (sym c.effect.ensures ∙ w.in-Ends.is) at seen in
-          let asks = w.asks-takes.ensures ∙ ap (asks_for_text c.loop-b.is_first) (w.as_slice.ensures ∙ inv.beginning) ∙ asks_by_beginning c.loop-b.is_first inv.word ∙ ap (λ f. asks_for_text f inv.word) inv.first in
+          let asks = w.asks-takes.ensures ∙ ap (word_asks c.loop-b.is_first) (w.as_slice.ensures ∙ inv.beginning) ∙ asks_by_beginning c.loop-b.is_first inv.word ∙ ap (λ f. word_asks f inv.word) inv.first in
           rw (c.after-place.ensures, w.beginning-is, w.is_first-is, w.takes-is)
           (record {
             done = inv.done ++ inv.word ∷ [];
@@ -49,7 +49,7 @@ loop-b-preserved c =
             seen = h;
             beginning = w.new-beginning-in-Ends.ensures;
             first = sym (none_done_more inv.done inv.word);
-            takes = ap (λ t. t || w.asks-takes.result) inv.takes ∙ ap (λ a. ask_for_text inv.done || a) asks ∙ sym (ask_more inv.done inv.word);
+            takes = ap (λ t. t || w.asks-takes.result) inv.takes ∙ ap (λ a. words_ask inv.done || a) asks ∙ sym (ask_more inv.done inv.word);
           })
     ]
 
@@ -58,14 +58,14 @@ returns-then-takes c =
     let inv = c.loop-b.invariant in
     let line = c.args.line.now in
     let h = rw (drop_all c.loop-b.b-index line c.loop-b-test.false, c.in-Within.is) at inv.seen in
-    let has_none = sym c.has_no_words.ensures ∙ c.if-has_no_words.false in
-    rw (c.if-takes.true, takes_text_within line inv.done inv.word c.if-line-gt-LINE_LIMIT.false has_none h, sym inv.takes, c.if-takes.true) refl
+    let says = sym c.says_nothing.ensures ∙ c.if-says_nothing.false in
+    rw (c.if-takes.true, line_asks_within line inv.done inv.word says h, sym inv.takes, c.if-takes.true) refl
 
 pub returns-else-takes : goal.returns-else-takes
 returns-else-takes c =
     let inv = c.loop-b.invariant in
     let line = c.args.line.now in
     let h = rw (drop_all c.loop-b.b-index line c.loop-b-test.false, c.in-Within.is) at inv.seen in
-    let has_none = sym c.has_no_words.ensures ∙ c.if-has_no_words.false in
-    let asks = c.asks.ensures ∙ ap (asks_for_text c.loop-b.is_first) (c.as_slice-else-takes.ensures ∙ inv.beginning) ∙ asks_by_beginning c.loop-b.is_first inv.word ∙ ap (λ f. asks_for_text f inv.word) inv.first in
-    rw (takes_text_within line inv.done inv.word c.if-line-gt-LINE_LIMIT.false has_none h, sym inv.takes, c.if-takes.false) asks
+    let says = sym c.says_nothing.ensures ∙ c.if-says_nothing.false in
+    let asks = c.asks.ensures ∙ ap (word_asks c.loop-b.is_first) (c.as_slice-else-takes.ensures ∙ inv.beginning) ∙ asks_by_beginning c.loop-b.is_first inv.word ∙ ap (λ f. word_asks f inv.word) inv.first in
+    rw (line_asks_within line inv.done inv.word says h, sym inv.takes, c.if-takes.false) asks

@@ -1,12 +1,10 @@
-//! Which lines take the lines after them as their text. It is decided without memory.
+//! Which lines of a script ask for the lines after them as their text. It is decided without memory.
 ghost use Rattle.std.specs.Prelude.{◌≡◌, ◌≤◌, [], ◌∷◌, ◌++◌, take};
-ghost use Rattle.facl_script.specs.TextWords.{is_text_word as is_text_spelling};
-ghost use Rattle.facl_script.specs.Words.{asks_for_text, takes_text as takes_text_after};
-ghost use Rattle.facl_script.specs.declared.text_words.TheConstants.{BEGINNING};
+ghost use Rattle.facl_usage.specs.TextWords.{is_text_word as is_text_spelling};
+ghost use Rattle.facl_usage.specs.TextWords.{word_asks, line_asks};
+ghost use Rattle.facl_usage.specs.declared.text_words.TheConstants.{BEGINNING};
 
-use crate::place::{Effect, Place};
-use crate::source::LINE_LIMIT;
-use crate::words::has_no_words;
+use facl_script::{Effect, Place, says_nothing};
 
 /// Whether a word of a tool line names standard input as a file of entries or as a dump, as setfacl(1) spells it:
 /// `-`, `-M-`, `-X-`, `--modify-file=-`, `--remove-file=-`, `--set-file=-` or `--restore=-`.
@@ -24,7 +22,7 @@ pub fn is_text_word(word: &[u8]) -> bool
 
 /// Whether one word asks for a text: the first where it is `load`, a later one where it names standard input.
 fn asks(is_first: bool, word: &[u8]) -> bool
-    ensures { result ≡ asks_for_text is_first word.now }
+    ensures { result ≡ word_asks is_first word.now }
 {
     if is_first {
         word == b"load".as_slice()
@@ -45,7 +43,7 @@ struct Beginning {
 }
 
 impl Beginning {
-    ghost use Rattle.facl_script.specs.Beginning.{first_bytes};
+    ghost use Rattle.facl_usage.specs.Beginning.{first_bytes};
 
     fn new() -> Beginning
         ensures { first_bytes result ≡ [] }
@@ -73,12 +71,12 @@ impl Beginning {
     }
 }
 
-/// Whether a line takes the lines after it, up to a line `.`, as its text: its first word is `load`, or a later one names
-/// standard input, once quotes are taken off. No line does that is over the limit, blank, a comment, or has an open quote.
-pub fn takes_text(line: &[u8]) -> bool
-    ensures { result ≡ takes_text_after line.now }
+/// Whether a line asks for the lines after it, up to a line `.`, as its text: its first word is `load`, or a later one
+/// names standard input, once quotes are taken off. No line does that is blank, a comment, or has an open quote.
+pub fn asks_for_text(line: &[u8]) -> bool
+    ensures { result ≡ line_asks line.now }
 {
-    if line.len() > LINE_LIMIT || has_no_words(line) {
+    if says_nothing(line) {
         return false;
     }
     let mut place = Place::Between;

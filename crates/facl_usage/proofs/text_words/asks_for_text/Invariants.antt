@@ -1,9 +1,9 @@
 use Rattle.std.proofs.Common.{◌≡◌, ℕ, List, drop, take}
-use Rattle.facl_script.specs.Beginning.{first_bytes}
-use Rattle.facl_script.specs.Words.{ask_for_text}
+use Rattle.facl_usage.specs.Beginning.{first_bytes}
+use Rattle.facl_usage.specs.TextWords.{words_ask}
 use Rattle.facl_script.proofs.WordLemmas.{IsSeen}
-use Rattle.facl_script.proofs.TextWordLemmas.{none_done}
-use Rattle.facl_script.proofs.text_words.takes_text.Given as goal
+use Rattle.facl_usage.proofs.TextWordLemmas.{none_done}
+use Rattle.facl_usage.proofs.text_words.asks_for_text.Given as goal
 
 abbrev pub invariant-loop-b : goal.invariant-loop-b
 invariant-loop-b l = record {
@@ -12,5 +12,5 @@ invariant-loop-b l = record {
   seen : IsSeen l.line done word l.place (drop l.b-index l.line);
   beginning : first_bytes l.beginning ≡ take 16 word;
   first : l.is_first ≡ none_done done;
-  takes : l.takes ≡ ask_for_text done;
+  takes : l.takes ≡ words_ask done;
 }
