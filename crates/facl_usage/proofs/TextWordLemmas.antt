@@ -5,7 +5,7 @@ use Rattle.std.specs.List.{list_any}
 use Rattle.std.specs.Str.{bytes_eq}
 use Rattle.facl_script.specs.declared.place.Place.TheVariants.{Within}
 use Rattle.facl_script.proofs.WordLemmas.{IsSeen, seen_within}
-use Rattle.facl_script.specs.Words.{words_of, says_nothing}
+use Rattle.facl_script.specs.Words.{words_of, has_no_words}
 use Rattle.facl_usage.specs.TextWords.{word_asks, words_ask, line_asks}
 use Rattle.std.specs.Option.{option_map_or}
 
@@ -61,10 +61,10 @@ take_grows (suc n) [] b = refl
 take_grows (suc n) (x ∷ word) b = ap (λ l. x ∷ l) (take_grows n word b)
 
 -- a line that is not blank or a comment asks for a text where its words do
-pub line_asks_words : (line : List ℕ) → says_nothing line ≡ false → line_asks line ≡ option_map_or words_ask (words_of line) false
-line_asks_words line says = rw says refl
+pub line_asks_words : (line : List ℕ) → has_no_words line ≡ false → line_asks line ≡ option_map_or words_ask (words_of line) false
+line_asks_words line has_some = rw has_some refl
 
-pub line_asks_within : (line : List ℕ) (done : List (List ℕ)) (word : List ℕ) → says_nothing line ≡ false → IsSeen line done word Within []
+pub line_asks_within : (line : List ℕ) (done : List (List ℕ)) (word : List ℕ) → has_no_words line ≡ false → IsSeen line done word Within []
     → line_asks line ≡ (words_ask done || word_asks (none_done done) word)
-line_asks_within line done word says h =
-    line_asks_words line says ∙ ap (λ o. option_map_or words_ask o false) (seen_within line done word h) ∙ ask_more done word
+line_asks_within line done word has_some h =
+    line_asks_words line has_some ∙ ap (λ o. option_map_or words_ask o false) (seen_within line done word h) ∙ ask_more done word

@@ -3,7 +3,7 @@ use Rattle.std.specs.Prelude.{◌&&◌, ◌||◌, ℕ, Bool, true, false, not, L
 use Rattle.std.specs.List.{list_any}
 use Rattle.std.specs.Option.{option_map_or}
 use Rattle.std.specs.Str.{bytes_eq}
-use Rattle.facl_script.specs.Words.{says_nothing, words_of}
+use Rattle.facl_script.specs.Words.{has_no_words, words_of}
 
 -- the spellings of a file that is standard input
 abbrev pub text_words : List (List ℕ)
@@ -26,4 +26,4 @@ words_ask (tool ∷ words) = word_asks true tool || list_any (word_asks false) w
 
 -- A line asks for a text by its words. No line does that is blank, a comment, or has an open quote.
 abbrev pub line_asks : List ℕ → Bool
-line_asks line = not (says_nothing line) && option_map_or words_ask (words_of line) false
+line_asks line = not (has_no_words line) && option_map_or words_ask (words_of line) false

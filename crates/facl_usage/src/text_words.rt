@@ -4,7 +4,7 @@ ghost use Rattle.facl_usage.specs.TextWords.{is_text_word as is_text_spelling};
 ghost use Rattle.facl_usage.specs.TextWords.{word_asks, line_asks};
 ghost use Rattle.facl_usage.specs.declared.text_words.TheConstants.{BEGINNING};
 
-use facl_script::{Effect, Place, says_nothing};
+use facl_script::{Effect, Place, has_no_words};
 
 /// Whether a word of a tool line names standard input as a file of entries or as a dump, as setfacl(1) spells it:
 /// `-`, `-M-`, `-X-`, `--modify-file=-`, `--remove-file=-`, `--set-file=-` or `--restore=-`.
@@ -76,7 +76,7 @@ impl Beginning {
 pub fn asks_for_text(line: &[u8]) -> bool
     ensures { result ≡ line_asks line.now }
 {
-    if says_nothing(line) {
+    if has_no_words(line) {
         return false;
     }
     let mut place = Place::Between;

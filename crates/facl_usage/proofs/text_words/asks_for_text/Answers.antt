@@ -58,14 +58,14 @@ returns-then-takes c =
     let inv = c.loop-b.invariant in
     let line = c.args.line.now in
     let h = rw (drop_all c.loop-b.b-index line c.loop-b-test.false, c.in-Within.is) at inv.seen in
-    let says = sym c.says_nothing.ensures ∙ c.if-says_nothing.false in
-    rw (c.if-takes.true, line_asks_within line inv.done inv.word says h, sym inv.takes, c.if-takes.true) refl
+    let has_some = sym c.has_no_words.ensures ∙ c.if-has_no_words.false in
+    rw (c.if-takes.true, line_asks_within line inv.done inv.word has_some h, sym inv.takes, c.if-takes.true) refl
 
 pub returns-else-takes : goal.returns-else-takes
 returns-else-takes c =
     let inv = c.loop-b.invariant in
     let line = c.args.line.now in
     let h = rw (drop_all c.loop-b.b-index line c.loop-b-test.false, c.in-Within.is) at inv.seen in
-    let says = sym c.says_nothing.ensures ∙ c.if-says_nothing.false in
+    let has_some = sym c.has_no_words.ensures ∙ c.if-has_no_words.false in
     let asks = c.asks.ensures ∙ ap (word_asks c.loop-b.is_first) (c.as_slice-else-takes.ensures ∙ inv.beginning) ∙ asks_by_beginning c.loop-b.is_first inv.word ∙ ap (λ f. word_asks f inv.word) inv.first in
-    rw (line_asks_within line inv.done inv.word says h, sym inv.takes, c.if-takes.false) asks
+    rw (line_asks_within line inv.done inv.word has_some h, sym inv.takes, c.if-takes.false) asks
