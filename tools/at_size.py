@@ -1,13 +1,13 @@
 #!/usr/bin/env python3
-"""Runs the program where everything is large, and each fault of a line once there; memory is not to run out.
+"""Runs the program where everything is large, with faults of lines there; memory is not to run out.
 
 usage: at_size.py PROGRAM [WORD..]
 
-20,000 files with lists of up to 4,096 entries, 30,000 users and groups with names of 200 bytes, paths of 4,000
-components, lines of 65,536 bytes and thousands of words, texts of 10 MB. The messages are compared whole, so `no memory`
-is a failure, and so is a line that is refused where it should not be. The exit status is then 1. Time and the most
-memory of each part are printed. With words, only the parts whose names contain one of them are run. It takes some
-minutes and 4 GB of memory, most of them in `all_pairs`: the index of 20,000 files and 30,000 users.
+20,000 files with lists of up to 4,096 entries and few users, or 30,000 users and few files; 30,000 groups, names of 200
+bytes, paths of 4,000 components, lines of 65,536 bytes and thousands of words, texts of 10 MB. The messages are compared
+whole, so `no memory` is a failure, and so is a line that is refused where it should not be. The exit status is then 1.
+Time and the most memory of each part are printed. With words, only the parts whose names contain one of them are run.
+It takes some 12 seconds of processor time, and 500 MB.
 """
 import os
 import sys
@@ -274,20 +274,9 @@ def few_users(folder):
 
 
 def long_lines(folder):
-    """The same files: faults of lines, and of restores of 10 MB."""
+    """The same files: faults of lines, and of restores of 10 MB: the first ones, since a script has at most 67 MB."""
     write_world(folder, FILES, 20, PEOPLE)
     return [Lines("lines", faults_of_lines()), Lines("restores", faults_of_restores(FILES)[:3])]
-
-
-def restores(folder):
-    """The other faults of restores. A script has at most 67 MB, so these are two runs."""
-    write_world(folder, FILES, 20, PEOPLE)
-    return [Lines("restores", faults_of_restores(FILES)[3:8])]
-
-
-def more_restores(folder):
-    write_world(folder, FILES, 20, PEOPLE)
-    return [Lines("restores", faults_of_restores(FILES)[8:])]
 
 
 def few_files(folder):
@@ -329,23 +318,7 @@ def loads(folder):
     ]
 
 
-def all_pairs(folder):
-    """All files and all users: 600 million pairs."""
-    write_world(folder, FILES, PEOPLE, PEOPLE)
-    return [
-        Lines("can and who", [(b"can --reach %s %s" % (user(1), path(1)), None), (b"who r " + path(1), None)]),
-        Lines("may", [(b"may --reach %s r" % user(3), None)]),
-        Lines("getfacl -R", [(b"getfacl -R .", None)]),
-        Lines("chmod of a file", [(b"chmod 600 " + path(3), None)]),
-        Lines("chmod -R of 100 files", [(b"chmod -R 700 " + path(300).split(b"/")[0], None)]),
-        Lines("gpasswd", [(b"gpasswd -a %s %s" % (user(1), group(3)), None)]),
-        Lines("useradd", [(b"useradd -u 1 -g %s new" % group(1), None)]),
-        Lines("userdel", [(b"userdel new", None)]),
-        Lines("faults", faults_of_commands()),
-    ]
-
-
-PARTS = [few_users, long_lines, restores, more_restores, few_files, loads, all_pairs]
+PARTS = [few_users, long_lines, few_files, loads]
 
 
 def main():
