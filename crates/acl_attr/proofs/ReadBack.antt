@@ -257,10 +257,10 @@ read_on before piece es e r all =
 
 of_entry : (bytes : List ℕ) (reported_fault : TextFault) → has_head bytes ≡ true → IsFirstFault one_entry 1 start (entries_in (drop 4 bytes)) reported_fault → IsOfAnEntry bytes reported_fault.at
 of_entry bytes reported_fault head first =
-    let r = all_read first.before first.encoded first.no_fault_before in
-    let read = is_read_of first.before first.encoded r in
-    let both : Ok first.encoded ≡ Ok (reading_of (lasting 0 r.es) r.es) = sym first.no_fault_before ∙ read_of first.before r.es read in
-    let same : first.encoded ≡ reading_of (lasting 0 r.es) r.es = cc in
+    let r = all_read first.before first.state first.no_fault_before in
+    let read = is_read_of first.before first.state r in
+    let both : Ok first.state ≡ Ok (reading_of (lasting 0 r.es) r.es) = sym first.no_fault_before ∙ read_of first.before r.es read in
+    let same : first.state ≡ reading_of (lasting 0 r.es) r.es = cc in
     record {
       head = head;
       before = first.before;
@@ -305,7 +305,7 @@ faulty_where bytes reported_fault e =
                 let here : Err bad.0 ≡ Err reported_fault = sym (ap (list_of last) bad.1) ∙ whole in
                 let same : bad.0 ≡ reported_fault = cc in
                 let first = fault_is_first one_entry 1 start pieces reported_fault (bad.1 ∙ ap (λ f. Err f) same) in
-                record { kind = bad_kind (with_entry reported_fault.at first.encoded first.piece) reported_fault.kind first.faulty; place = inr (inl (of_entry bytes reported_fault head first)) }
+                record { kind = bad_kind (with_entry reported_fault.at first.state first.piece) reported_fault.kind first.faulty; place = inr (inl (of_entry bytes reported_fault head first)) }
             | inl fine ↦
                 let r = all_read pieces fine.0 fine.1 in
                 let none = no_list_of last fine.0.entries reported_fault (fault (entries fine.0.entries)) refl (sym (ap (list_of last) fine.1) ∙ whole) in
