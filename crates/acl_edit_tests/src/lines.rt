@@ -6,7 +6,7 @@ use std::alloc::Global;
 use std::process::Abort;
 
 /// A file, a line, and what becomes of the file.
-static LINES: [(&str, &str, &str); 35] = [
+static LINES: [(&str, &str, &str); 40] = [
     // Named entries get a mask.
     (
         "u::rw-,g::r--,o::---",
@@ -137,6 +137,28 @@ static LINES: [(&str, &str, &str); 35] = [
         "-m=u:1000:rX",
         "u::rwx,u:1000:r-x,g::r-x,g:70:rwx,m::rwx,o::r-x/",
     ),
+    // A named user's execute permission counts; a directory needs none.
+    (
+        "u::rw-,u:7:r-x,g::r--,m::r-x,o::---",
+        "-m=u:1000:rX",
+        "u::rw-,u:7:r-x,u:1000:r-x,g::r--,m::r-x,o::---",
+    ),
+    (
+        "u::rw-,g::r--,o::---/",
+        "-m=u:1000:rX",
+        "u::rw-,u:1000:r-x,g::r--,m::r-x,o::---/",
+    ),
+    // A default list keeps its own base entries, and none is made to remove an entry.
+    (
+        "u::rwx,g::r-x,o::r-x/u::rwx,g::---,o::---",
+        "-m=d:u:1000:rx",
+        "u::rwx,g::r-x,o::r-x/u::rwx,u:1000:r-x,g::---,m::r-x,o::---",
+    ),
+    (
+        "u::rwx,g::r-x,o::r-x/",
+        "-x=d:u:1000",
+        "u::rwx,g::r-x,o::r-x/",
+    ),
     // Base entries keep what they grant.
     (
         "u::rw-,g::r--,o::---",
@@ -151,6 +173,11 @@ static LINES: [(&str, &str, &str); 35] = [
     ("u::rw-,g::rwx,m::r--,o::---", "-b", "u::rw-,g::r--,o::---"),
     ("u::rw-,g::r--,m::rwx,o::---", "-b", "u::rw-,g::r--,o::---"),
     // Default lists are dropped.
+    (
+        "u::rwx,g::r-x,o::r-x/u::rwx,g::---,o::---",
+        "-b",
+        "u::rwx,g::r-x,o::r-x/",
+    ),
     (
         "u::rwx,g::r-x,o::r-x/u::rwx,g::---,o::---",
         "-k",

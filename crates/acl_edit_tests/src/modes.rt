@@ -4,7 +4,7 @@ use acl_edit::chmod;
 use acl_entry::{Subject, granted};
 
 /// A file, modes that it is given in turn, and its lists and flags afterwards.
-static MODES: [(&str, &[u16], &str, [bool; 3]); 5] = [
+static MODES: [(&str, &[u16], &str, [bool; 3]); 7] = [
     (
         "u::rw-,u:1000:rwx,g::r--,m::rwx,o::---",
         &[0o600],
@@ -34,6 +34,19 @@ static MODES: [(&str, &[u16], &str, [bool; 3]); 5] = [
         &[0o3750, 0o705],
         "u::rwx,g::---,o::r-x/",
         [false, true, false],
+    ),
+    // A directory keeps its set user ID, and a plain file no set group ID.
+    (
+        "u::rwx,g::r-x,o::r-x/",
+        &[0o4755, 0o755],
+        "u::rwx,g::r-x,o::r-x/",
+        [true, false, false],
+    ),
+    (
+        "u::rw-,g::r--,o::---",
+        &[0o2640, 0o640],
+        "u::rw-,g::r--,o::---",
+        [false; 3],
     ),
 ];
 

@@ -6,16 +6,16 @@ use acl_tree::each_file_is_edited;
 static RESTORES: [Row; 4] = [
     Row {
         line: Line::Restore(
-            b"# file: f\n# owner: ann\n# flags: s--\nuser::rwx\ngroup::r-x\nother::---\n",
+            b"# file: f\n# owner: ann\n# group: users\n# flags: s--\nuser::rwx\ngroup::r-x\nother::---\n",
         ),
         outcome: "done: 1 changed, 0 gone",
-        files: &[(b"f", "-s-- ann:staff u::rwx,g::r-x,o::---")],
+        files: &[(b"f", "-s-- ann:users u::rwx,g::r-x,o::---")],
     },
-    // Flags that no line names are cleared; they are no part of the check.
+    // Flags that no line names are cleared, and an owner and a group stay; flags are no part of the check.
     Row {
         line: Line::Restore(b"# file: f\nuser::rwx\ngroup::r-x\nother::---\n"),
         outcome: "done: 0 changed, 0 gone",
-        files: &[(b"f", "---- ann:staff u::rwx,g::r-x,o::---")],
+        files: &[(b"f", "---- ann:users u::rwx,g::r-x,o::---")],
     },
     // A missing file comes before a refused one.
     Row {

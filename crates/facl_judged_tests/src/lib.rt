@@ -8,10 +8,16 @@
 mod answers;
 #[cfg(test)]
 mod costs;
+#[cfg(test)]
+mod file_costs;
 mod judges;
+#[cfg(test)]
+mod member_costs;
 mod played;
 #[cfg(test)]
 mod texts;
+#[cfg(test)]
+mod user_costs;
 
 pub use judges::{OwnerAlone, WholeClass};
 pub use played::{Played, play};

@@ -135,8 +135,16 @@ other::r-x\n\
     Row {
         name: "no base lists",
         setup: WHOLE,
-        script: b"getfacl -R -s -c .\n",
+        script: b"setfacl -m d:o:- .\n\
+getfacl -R -s -c .\n",
         out: b"user::rwx\n\
+group::r-x\n\
+other::r-x\n\
+default:user::rwx\n\
+default:group::r-x\n\
+default:other::---\n\
+\n\
+user::rwx\n\
 group::r-x\n\
 group:adm:rwx\n\
 mask::rwx\n\

@@ -142,7 +142,7 @@ getfacl f\n\
 getfacl a/../b\n\
 can 'joe f\n\
 can \xff f\n\
-load dump\n\
+load nosuch\n\
 # file: a",
         out: b"",
         err: b"line 1: facl: unknown tool\n\
