@@ -9,4 +9,4 @@ mod laws;
 
 pub use decode::decode_attr;
 pub use encode::encode_attr;
-pub use laws::{attribute_fault_is_first, attribute_encodes_its_entries};
+pub use laws::{attribute_encodes_its_entries, attribute_fault_is_first};

@@ -8,10 +8,10 @@ mod draft;
 mod dump;
 mod effective;
 mod header;
+mod item;
 mod laws;
 mod line;
 mod record;
-mod item;
 mod seen;
 mod writing;
 

@@ -14,7 +14,7 @@ ghost use Rattle.acl_entry.specs.Perms.{number};
 ghost use Rattle.std.specs.List.{position_from, list_all};
 
 use crate::sorted::{
-    class_union, has_base_alone, in_order, missing_base, perm_of, set_mode, has_entry, unmasked,
+    class_union, has_base_alone, has_entry, in_order, missing_base, perm_of, set_mode, unmasked,
 };
 use crate::{Entry, Key, ListFault, Perm};
 use smallvec::SmallVec;

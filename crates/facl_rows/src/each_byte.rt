@@ -87,7 +87,13 @@ static REPORTED: [Reported; 2] = [
     },
 ];
 
-fn expect_err_fails(rt: &impl Abort, alloc: Global, row: &Reported, taken: &[u8], takes_nothing: bool) {
+fn expect_err_fails(
+    rt: &impl Abort,
+    alloc: Global,
+    row: &Reported,
+    taken: &[u8],
+    takes_nothing: bool,
+) {
     let mut out = Vec::new(alloc);
     let mut err = failing_after(alloc, taken.len(), takes_nothing);
     let end_of_run = run(
@@ -150,7 +156,10 @@ fn expect_reader_fails(rt: &impl Abort, alloc: Global, given: usize) {
     assert!(rt; matches!(end_of_run, Err(RunFault::Read)), "at {given}");
     let (printed, reported) = written(given);
     assert!(rt; out.len() == printed && OUT.starts_with(&out), "at {given}");
-    assert!(rt; err.len() == reported && ERR.starts_with(&err), "at {given}");
+    assert!(rt;
+        err.len() == reported && ERR.starts_with(&err),
+        "at {given}"
+    );
     assert!(rt; reader.calls == given.saturating_add(1), "at {given}");
 }
 

@@ -1,13 +1,10 @@
 -- The words of a line.
-use Rattle.std.specs.Prelude.{ℕ, Bool, true, false, not, ◌&&◌, ◌||◌, ◌==◌, nat_le, if◌then◌else◌, List, [], ◌∷◌, length, codes, Option, None, Some, option_map, Result, Ok, Err}
-use Rattle.std.specs.List.{list_any}
-use Rattle.std.specs.Option.{option_map_or}
-use Rattle.std.specs.Str.{bytes_eq, is_utf8}
+use Rattle.std.specs.Prelude.{ℕ, Bool, true, ◌&&◌, ◌||◌, ◌==◌, if◌then◌else◌, List, [], ◌∷◌, Option, None, Some, option_map, Result, Ok, Err}
+use Rattle.std.specs.Str.{is_utf8}
 use Rattle.facl_script.specs.declared.place.Place.{Place}
 use Rattle.facl_script.specs.declared.place.Place.TheVariants.{Between, Within, Quoted}
 use Rattle.facl_script.specs.declared.words.SplitFault.{SplitFault}
 use Rattle.facl_script.specs.declared.words.SplitFault.TheVariants.{NotUtf8, OpenQuote}
-use Rattle.facl_script.specs.Limits.{line_limit}
 
 -- white space is a space or a tab
 abbrev pub is_white : ℕ → Bool

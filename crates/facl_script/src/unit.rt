@@ -80,7 +80,10 @@ impl Script {
     }
 
     /// The next unit, past the check for the end.
-    fn read_unit<S: Session, R: Feed>(&mut self, reader: &mut R) -> Result<Option<UnitFound>, ScriptFault>
+    fn read_unit<S: Session, R: Feed>(
+        &mut self,
+        reader: &mut R,
+    ) -> Result<Option<UnitFound>, ScriptFault>
         requires { R.has_failed reader.old ≡ false }
         ensures ok { IfOk result (λ found. FindsUnit S.asks found (line_held self.new) (text_held self.new)
             (script_left self.old (R.remaining reader.old)) (script_left self.new (R.remaining reader.new))
@@ -133,7 +136,10 @@ impl Script {
     ///
     /// A text that memory cannot keep is read to its end all the same. An error means that the reader failed, that the script
     /// goes on past the limit, or that no memory was there for a line.
-    pub fn next_unit<S: Session, R: Feed>(&mut self, reader: &mut R) -> Result<Option<UnitFound>, ScriptFault>
+    pub fn next_unit<S: Session, R: Feed>(
+        &mut self,
+        reader: &mut R,
+    ) -> Result<Option<UnitFound>, ScriptFault>
         requires { R.has_failed reader.old ≡ false }
         ensures ok { IfOk result (λ found. is_over self.old ≡ false
             → FindsUnit S.asks found (line_held self.new) (text_held self.new)

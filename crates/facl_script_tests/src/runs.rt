@@ -127,7 +127,10 @@ fn expect_reader_fails(rt: &impl Abort, alloc: Global, given: usize) {
     let mut err = Vec::new(alloc);
     let found = echo(alloc, &mut reader, &mut out, &mut err);
     assert_eq!(rt; found, Err(ScriptFault::Read), "at {given}");
-    assert!(rt; out.len() == answer_so_far(given) && err.is_empty(), "at {given}");
+    assert!(rt;
+        out.len() == answer_so_far(given) && err.is_empty(),
+        "at {given}"
+    );
 }
 
 #[test]

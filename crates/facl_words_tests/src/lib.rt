@@ -2,6 +2,8 @@
 #![tactic(auto)]
 
 #[cfg(test)]
+mod expected;
+#[cfg(test)]
 mod people;
 #[cfg(test)]
 mod program;
@@ -13,7 +15,5 @@ mod reading;
 mod setfacl;
 #[cfg(test)]
 mod texts;
-#[cfg(test)]
-mod expected;
 #[cfg(test)]
 mod tools;
