@@ -11,12 +11,12 @@ mod gpasswd;
 mod laws;
 mod load;
 mod moved;
-mod prepare;
 mod restore;
 mod rm;
 mod stage_people;
 mod staged;
 mod state;
+mod step;
 mod useradd;
 mod userdel;
 mod usermod;
@@ -30,5 +30,6 @@ pub use laws::{
     restore_of_what_is_changes_nothing, unnamed_files_stay,
 };
 pub use moved::{GroupIds, UsersMove};
-pub use staged::Staged;
+pub use staged::{Staged, commit};
 pub use state::State;
+pub use step::prepare;

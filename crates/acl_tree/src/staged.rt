@@ -99,8 +99,9 @@ impl Staged {
     }
 }
 
-/// Puts the state after a command in place of the present one. It allocates nothing and succeeds.
-pub(crate) fn commit(tree: &mut Tree, people: &mut People, staged: Staged)
+/// Puts the state after a command in place of a tree and its people: [`crate::State::commit`] for those who hold the two
+/// apart. It allocates nothing and succeeds.
+pub fn commit(tree: &mut Tree, people: &mut People, staged: Staged)
     ensures tree { tree.new ≡ staged.state.tree }
     ensures people { people.new ≡ staged.state.people }
 {

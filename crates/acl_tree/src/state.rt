@@ -7,8 +7,8 @@ ghost use Rattle.acl_tree.specs.Reports.{users_move, Reports};
 ghost use Rattle.acl_files.specs.declared.fault.TreeFault.TheVariants.{AlreadyLoaded};
 
 use crate::command::Command;
-use crate::prepare::prepare;
 use crate::staged::{Staged, commit};
+use crate::step::prepare;
 use acl_files::{Tree, TreeFault};
 use acl_people::People;
 use std::alloc::{AllocError, Global};

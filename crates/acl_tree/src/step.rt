@@ -22,8 +22,8 @@ use acl_files::{Tree, TreeFault};
 use acl_people::People;
 use std::alloc::Global;
 
-/// The state after a command: see [`crate::State::prepare`].
-pub(crate) fn prepare(
+/// The state after a command: [`crate::State::prepare`], with its errors, for those who hold a tree and its people apart.
+pub fn prepare(
     tree: &Tree,
     alloc: Global,
     people: &People,

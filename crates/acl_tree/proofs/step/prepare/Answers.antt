@@ -2,7 +2,7 @@ use Rattle.std.proofs.Common.{◌≡◌, sym, subst}
 use Rattle.std.specs.Prelude.{IfOk}
 use Rattle.acl_tree.specs.Step.{State, step, Stages}
 use Rattle.acl_tree.specs.Reports.{users_move}
-use Rattle.acl_tree.proofs.prepare.prepare.Goals as goal
+use Rattle.acl_tree.proofs.step.prepare.Goals as goal
 
 pub returns-in-Chmod-clause-made : goal.returns-in-Chmod-clause-made
 returns-in-Chmod-clause-made c =
