@@ -116,6 +116,13 @@ module _ {V : Type 0} where
       less_not_greater : Less ≡ Greater → ⊥
       less_not_greater e = cc
 
+  -- those of a list in order begin at the path's place
+  pub from_place : (p : PathOf) (es : List (PathOf × V)) (i : ℕ) → IsStart es p i → from p es ≡ drop i es
+  from_place p es i s =
+      ap (λ l. from p l) (sym (take-append-drop i es))
+      ∙ from-append p (take i es) (drop i es)
+      ∙ (λ j. from_none p (take i es) (before_start es p i s) j ++ from_all p (drop i es) (from_start es p i s) j)
+
 module _ {A V : Type 0} (f : A → List (PathOf × V)) where
   from_each : (p : PathOf) (es : List (PathOf × V)) → IsInOrder es → (0 < length es → BeginsAfter es p) → From p es
   from_each p [] h begins = tt
@@ -126,8 +133,8 @@ module _ {A V : Type 0} (f : A → List (PathOf × V)) where
   from_whole parts p h counted = from_all p (flat_map f parts) (from_each p (flat_map f parts) h (rest_after f parts p 0 counted))
 
   -- else what is left of the last part that begins by it, and the parts after that
-  pub from_part : (parts : List A) (p : PathOf) (k i : ℕ) (c : A) → IsInOrder (flat_map f parts) → IsCountUpTo f parts p (k + 1) → c ≡ get_or parts k c → IsStart (f c) p i → from p (flat_map f parts) ≡ drop i (f c) ++ flat_map f (drop (k + 1) parts)
-  from_part parts p k i c h counted is s =
+  pub from_part : (parts : List A) (p : PathOf) (k : ℕ) (c : A) → IsInOrder (flat_map f parts) → IsCountUpTo f parts p (k + 1) → c ≡ get_or parts k c → from p (flat_map f parts) ≡ from p (f c) ++ flat_map f (drop (k + 1) parts)
+  from_part parts p k c h counted is =
       let lt : k < length parts = omega (arith, counted.in_range) in
       let left = flat_map f (take k parts) in
       let rest = flat_map f (drop (k + 1) parts) in
@@ -138,17 +145,11 @@ module _ {A V : Type 0} (f : A → List (PathOf × V)) where
       ap (λ es. from p es) whole
       ∙ from-append p left (f c ++ rest)
       ∙ (λ j. from_none p left (before_left left (f c) rest p order here) j ++ from-append p (f c) rest j)
-      ∙ (λ j. part j ++ from_all p rest (from_each p rest (in_order-right (f c) rest (in_order-right left (f c ++ rest) order)) (rest_after f parts p (k + 1) counted)) j)
+      ∙ ap (λ l. from p (f c) ++ l) (from_all p rest (from_each p rest (in_order-right (f c) rest (in_order-right left (f c ++ rest) order)) (rest_after f parts p (k + 1) counted)))
     where
       before_left : (left here rest : List (PathOf × V)) (p : PathOf) → IsInOrder (left ++ (here ++ rest)) → BeginsBy here p → Before p left
       before_left left [] rest p h b = absurd (let some : 0 < 0 = b.some in omega arith)
       before_left left (x ∷ here) rest p h b = before_later x.0 p left (not_less_back p x.0 (b.not_after x)) (before_first left (x ∷ (here ++ rest)) x.0 h (omega arith) (λ d. refl))
-
-      part : from p (f c) ≡ drop i (f c)
-      part =
-          ap (λ es. from p es) (sym (take-append-drop i (f c)))
-          ∙ from-append p (take i (f c)) (drop i (f c))
-          ∙ (λ j. from_none p (take i (f c)) (before_start (f c) p i s) j ++ from_all p (drop i (f c)) (from_start (f c) p i s) j)
 
 module _ {V : Type 0} where
   -- where the next entry isn't within the path, nothing more is

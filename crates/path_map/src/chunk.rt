@@ -1,14 +1,15 @@
 //! A chunk: some entries that follow one another in path order, shared by the maps that contain them.
 
-ghost use Rattle.std.specs.Prelude.{◌≡◌, ◌<◌, ◌≤◌, map, length, slice_index_or};
-ghost use Rattle.std.specs.Option.{option_copied};
-ghost use Rattle.std.specs.FinMap.{find};
-ghost use Rattle.acl_names.specs.Paths.{path_cmp};
-ghost use Rattle.path_map.specs.Entries.{PathOf, IsInOrder};
+ghost use Rattle.std.specs.Prelude.{◌≡◌, ◌<◌, ◌≤◌, map, length};
+ghost use Rattle.path_map.specs.Entries.{IsInOrder};
 
 use crate::entry::Entry;
+use crate::merge::{Merge, merged_entries};
+use crate::part::Part;
+use crate::pieces::push_entries;
 use crate::place::value_at;
 use acl_names::Path;
+use std::alloc::{AllocError, Global};
 use std::marker::Model;
 use std::rc::Rc;
 
@@ -52,20 +53,33 @@ impl<V> Chunk<V> {
     {
         &self.entries
     }
+}
 
-    /// The value of a path.
-    pub fn get(&self, path: &Path) -> Option<&V>
-        ensures { option_copied result ≡ find path_cmp path.now self.now }
-    {
+impl<V> Part<V> for Chunk<V> {
+    ghost entries_of = { λ c. c };
+
+    fn first(&self) -> &Path {
+        self.entries[0].path()
+    }
+
+    fn get(&self, path: &Path) -> Option<&V> {
         value_at(self.entries(), path)
     }
 
-    /// The first path.
-    pub fn first(&self) -> &Path
-        ensures order { IsInOrder self.now }
-        ensures some { 0 < length self.now }
-        ensures path { (d : PathOf × V) → result.now ≡ (slice_index_or self.now 0 d).0 }
-    {
-        self.entries[0].path()
+    fn len(&self) -> usize {
+        self.entries().len()
+    }
+}
+
+impl<V: Drop> Merge<V> for Chunk<V> {
+    fn push_merged<W>(
+        &self,
+        alloc: Global,
+        new: &mut Vec<Rc<Chunk<V>>>,
+        puts: &[Rc<Entry<V>>],
+        gone: &[Rc<Entry<W>>],
+    ) -> Result<(), AllocError> {
+        let entries = merged_entries(alloc, self.entries(), puts, gone)?;
+        push_entries(alloc, new, &entries)
     }
 }

@@ -3,6 +3,7 @@
 ghost use Rattle.std.specs.Prelude.{◌≡◌, ◌∷◌, [], MatchOption, option_map};
 ghost use Rattle.path_map.specs.Entries.{first};
 
+use crate::branch::Branch;
 use crate::chunk::Chunk;
 use crate::entry::Entry;
 use crate::map::PathMap;
@@ -14,6 +15,7 @@ use std::rc::Rc;
 pub struct Entries<'a, V> {
     pub(crate) entries: &'a [Rc<Entry<V>>],
     pub(crate) chunks: &'a [Rc<Chunk<V>>],
+    pub(crate) branches: &'a [Rc<Branch<V>>],
 }
 
 impl<'a, V> Model for Entries<'a, V> {
@@ -23,7 +25,7 @@ impl<'a, V> Model for Entries<'a, V> {
 
     ghost Value = { List (PathOf × V) };
 
-    ghost view = { λ f. map (λ r. r.value) f.entries.now ++ flat_map (λ c. c.value) f.chunks.now };
+    ghost view = { λ f. map (λ r. r.value) f.entries.now ++ flat_map (λ c. c.value) f.chunks.now ++ flat_map (λ b. b.value) f.branches.now };
 }
 
 impl<'a, V> Entries<'a, V> {
@@ -32,6 +34,13 @@ impl<'a, V> Entries<'a, V> {
         ensures { MatchOption result ((self.old ≡ []) × (self.new ≡ [])) (λ entry. self.old ≡ entry.now.value ∷ self.new) }
     {
         if self.entries.is_empty() {
+            if self.chunks.is_empty() {
+                let [branch, more @ ..] = self.branches else {
+                    return None;
+                };
+                self.chunks = branch.chunks();
+                self.branches = more;
+            }
             let [chunk, more @ ..] = self.chunks else {
                 return None;
             };
@@ -52,8 +61,11 @@ impl<'a, V> Entries<'a, V> {
         match self.entries {
             [entry, ..] => Some(entry),
             [] => match self.chunks {
-                [] => None,
                 [chunk, ..] => Some(&chunk.entries()[0]),
+                [] => match self.branches {
+                    [branch, ..] => Some(&branch.chunks()[0].entries()[0]),
+                    [] => None,
+                },
             },
         }
     }
@@ -66,7 +78,8 @@ impl<V> PathMap<V> {
     {
         Entries {
             entries: &[],
-            chunks: self.chunks(),
+            chunks: &[],
+            branches: self.branches(),
         }
     }
 }

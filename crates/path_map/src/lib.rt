@@ -2,11 +2,13 @@
 #![tactic(auto)]
 
 mod below;
+mod branch;
 mod chunk;
 mod entry;
 mod iter;
 mod map;
 mod merge;
+mod part;
 mod pieces;
 mod place;
 mod within;

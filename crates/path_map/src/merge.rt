@@ -1,28 +1,25 @@
-//! A map with some entries put and others removed: only the chunks that contain them are copied.
+//! A map with some entries put and others removed: only the branches and chunks that contain them are copied.
 
-ghost use Rattle.std.specs.Prelude.{◌≡◌, ◌++◌, map, IfOk, OnOk};
+ghost use Rattle.std.specs.Prelude.{◌≡◌, ◌++◌, ◌<◌, length, map, IfOk, OnOk};
 ghost use Rattle.std.specs.List.{flat_map};
 ghost use Rattle.path_map.specs.Entries.{IsInOrder};
 ghost use Rattle.path_map.specs.Merged.{put_all, without_all, merged};
 
-use crate::chunk::Chunk;
 use crate::entry::Entry;
 use crate::map::PathMap;
-use crate::pieces::push_entries;
+use crate::part::Part;
+use crate::pieces::{push_chunks, push_entries};
 use crate::place::{has, start};
 use std::alloc::{AllocError, Global};
 use std::cmp::Ordering;
 use std::rc::Rc;
 
-/// Adds entries; they are shared.
-fn share_entries<V: Drop>(
-    new: &mut Vec<Rc<Entry<V>>>,
-    entries: &[Rc<Entry<V>>],
-) -> Result<(), AllocError>
-    ensures { OnOk result (map (λ r. r.value) new.new.items ≡ map (λ r. r.value) new.old.items ++ map (λ r. r.value) entries.now) }
+/// Adds values; they are shared.
+fn share_all<T: Drop>(new: &mut Vec<Rc<T>>, values: &[Rc<T>]) -> Result<(), AllocError>
+    ensures { OnOk result (map (λ r. r.value) new.new.items ≡ map (λ r. r.value) new.old.items ++ map (λ r. r.value) values.now) }
 {
-    for entry in entries {
-        new.push(entry.clone()?)?;
+    for value in values {
+        new.push(value.clone()?)?;
     }
     Ok(())
 }
@@ -63,7 +60,7 @@ fn put_in<V: Drop>(
             },
         }
     }
-    share_entries(&mut new, old)?;
+    share_all(&mut new, old)?;
     Ok(new)
 }
 
@@ -86,7 +83,7 @@ fn entries_without<V: Drop, W>(
 }
 
 /// Entries with some put and others removed.
-fn merged_entries<V: Drop, W>(
+pub(crate) fn merged_entries<V: Drop, W>(
     alloc: Global,
     entries: &[Rc<Entry<V>>],
     puts: &[Rc<Entry<V>>],
@@ -104,72 +101,53 @@ fn merged_entries<V: Drop, W>(
     put_in(alloc, &kept, puts)
 }
 
-/// Adds entries with some put and others removed, in chunks.
-fn push_merged<V: Drop, W>(
+/// A part that can be merged with entries that are put and removed.
+pub(crate) trait Merge<V>: Part<V> + Sized + Drop {
+    /// Adds the part with some entries put and others removed, as new parts.
+    fn push_merged<W>(
+        &self,
+        alloc: Global,
+        new: &mut Vec<Rc<Self>>,
+        puts: &[Rc<Entry<V>>],
+        gone: &[Rc<Entry<W>>],
+    ) -> Result<(), AllocError>
+        requires puts { IsInOrder (map (λ r. r.value) puts.now) }
+        requires gone { IsInOrder (map (λ r. r.value) gone.now) }
+        ensures { OnOk result (flat_map (λ c. Self.entries_of c.value) new.new.items ≡ flat_map (λ c. Self.entries_of c.value) new.old.items ++ merged (map (λ r. r.value) puts.now) (map (λ r. r.value) gone.now) (Self.entries_of self.now)) };
+}
+
+/// Adds parts with some entries put and others removed. With nothing to put or remove the parts are shared; else
+/// each half is merged by itself, down to one part.
+pub(crate) fn merge_parts<V, W, P: Merge<V>>(
     alloc: Global,
-    new: &mut Vec<Rc<Chunk<V>>>,
-    entries: &[Rc<Entry<V>>],
+    new: &mut Vec<Rc<P>>,
+    parts: &[Rc<P>],
     puts: &[Rc<Entry<V>>],
     gone: &[Rc<Entry<W>>],
 ) -> Result<(), AllocError>
-    requires entries { IsInOrder (map (λ r. r.value) entries.now) }
+    requires some { 0 < length parts.now }
+    requires entries { IsInOrder (flat_map (λ c. P.entries_of c.value) parts.now) }
     requires puts { IsInOrder (map (λ r. r.value) puts.now) }
     requires gone { IsInOrder (map (λ r. r.value) gone.now) }
-    ensures { OnOk result (flat_map (λ c. c.value) new.new.items ≡ flat_map (λ c. c.value) new.old.items ++ merged (map (λ r. r.value) puts.now) (map (λ r. r.value) gone.now) (map (λ r. r.value) entries.now)) }
-{
-    let entries = merged_entries(alloc, entries, puts, gone)?;
-    push_entries(alloc, new, &entries)
-}
-
-/// Adds chunks; they are shared.
-fn share_chunks<V: Drop>(
-    new: &mut Vec<Rc<Chunk<V>>>,
-    chunks: &[Rc<Chunk<V>>],
-) -> Result<(), AllocError>
-    ensures { OnOk result (flat_map (λ c. c.value) new.new.items ≡ flat_map (λ c. c.value) new.old.items ++ flat_map (λ c. c.value) chunks.now) }
-{
-    for chunk in chunks {
-        new.push(chunk.clone()?)?;
-    }
-    Ok(())
-}
-
-/// Adds chunks with some entries put and others removed. With nothing to put or remove the chunks are shared;
-/// else each half is merged by itself.
-fn merge_chunks<V: Drop, W>(
-    alloc: Global,
-    new: &mut Vec<Rc<Chunk<V>>>,
-    chunks: &[Rc<Chunk<V>>],
-    puts: &[Rc<Entry<V>>],
-    gone: &[Rc<Entry<W>>],
-) -> Result<(), AllocError>
-    requires entries { IsInOrder (flat_map (λ c. c.value) chunks.now) }
-    requires puts { IsInOrder (map (λ r. r.value) puts.now) }
-    requires gone { IsInOrder (map (λ r. r.value) gone.now) }
-    ensures { OnOk result (flat_map (λ c. c.value) new.new.items ≡ flat_map (λ c. c.value) new.old.items ++ merged (map (λ r. r.value) puts.now) (map (λ r. r.value) gone.now) (flat_map (λ c. c.value) chunks.now)) }
+    ensures { OnOk result (flat_map (λ c. P.entries_of c.value) new.new.items ≡ flat_map (λ c. P.entries_of c.value) new.old.items ++ merged (map (λ r. r.value) puts.now) (map (λ r. r.value) gone.now) (flat_map (λ c. P.entries_of c.value) parts.now)) }
 {
     if puts.is_empty() && gone.is_empty() {
-        share_chunks(new, chunks)?;
+        share_all(new, parts)?;
         return Ok(());
     }
-    match chunks {
-        [] => {
-            push_entries(alloc, new, puts)?;
-            Ok(())
-        }
-        [chunk] => {
-            push_merged(alloc, new, chunk.entries(), puts, gone)?;
+    match parts {
+        [] => Ok(()),
+        [part] => {
+            part.push_merged(alloc, new, puts, gone)?;
             Ok(())
         }
         _ => {
-            let (left, right) = chunks.split_at(chunks.len() / 2);
+            let (left, right) = parts.split_at(parts.len() / 2);
             let middle = right[0].first();
-            let at = start(puts, middle);
-            let (puts_left, puts_right) = puts.split_at(at);
-            let gone_at = start(gone, middle);
-            let (gone_left, gone_right) = gone.split_at(gone_at);
-            merge_chunks(alloc, new, left, puts_left, gone_left)?;
-            merge_chunks(alloc, new, right, puts_right, gone_right)?;
+            let (puts_left, puts_right) = puts.split_at(start(puts, middle));
+            let (gone_left, gone_right) = gone.split_at(start(gone, middle));
+            merge_parts(alloc, new, left, puts_left, gone_left)?;
+            merge_parts(alloc, new, right, puts_right, gone_right)?;
             Ok(())
         }
     }
@@ -183,12 +161,14 @@ impl<V: Drop> PathMap<V> {
     {
         let mut chunks = Vec::new(alloc);
         push_entries(alloc, &mut chunks, entries)?;
-        Ok(PathMap::of(chunks))
+        let mut branches = Vec::new(alloc);
+        push_chunks(alloc, &mut branches, &chunks)?;
+        Ok(PathMap::of(branches))
     }
 
     /// The map with some entries put, after the paths of others are removed: a path in both lists is put. Both
-    /// lists are in path order. This map stays as it is. Only the chunks that contain such a path are copied.
-    /// Fails only if memory runs out.
+    /// lists are in path order. This map stays as it is. Only the branches and chunks that contain such a path are
+    /// copied. Fails only if memory runs out.
     pub fn merged<W>(
         &self,
         alloc: Global,
@@ -199,9 +179,13 @@ impl<V: Drop> PathMap<V> {
         requires gone { IsInOrder (map (λ r. r.value) gone.now) }
         ensures { IfOk result (λ new. new ≡ merged (map (λ r. r.value) puts.now) (map (λ r. r.value) gone.now) self.now) }
     {
-        let mut chunks = Vec::with_capacity(alloc, self.chunks().len())?;
-        merge_chunks(alloc, &mut chunks, self.chunks(), puts, gone)?;
-        Ok(PathMap::of(chunks))
+        let branches = self.branches();
+        if branches.is_empty() {
+            return PathMap::from_sorted(alloc, puts);
+        }
+        let mut new = Vec::with_capacity(alloc, branches.len())?;
+        merge_parts(alloc, &mut new, branches, puts, gone)?;
+        Ok(PathMap::of(new))
     }
 
     /// The map with some entries put, in path order. This map stays as it is. Fails only if memory runs out.

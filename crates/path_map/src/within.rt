@@ -6,8 +6,8 @@ ghost use Rattle.path_map.specs.Below.{from, within};
 use crate::below::is_within;
 use crate::entry::Entry;
 use crate::iter::Entries;
-use crate::map::{PathMap, count_up_to};
-use crate::place::start;
+use crate::map::PathMap;
+use crate::part::count_up_to;
 use acl_names::Path;
 use std::marker::Model;
 use std::rc::Rc;
@@ -52,20 +52,16 @@ impl<V> PathMap<V> {
     pub fn from(&self, path: &Path) -> Entries<'_, V>
         ensures { result ≡ from path.now self.now }
     {
-        let chunks = self.chunks();
-        let after = count_up_to(chunks, path);
+        let branches = self.branches();
+        let after = count_up_to(branches, path);
         if after == 0 {
-            return Entries {
-                entries: &[],
-                chunks,
-            };
+            return self.iter();
         }
-        let chunk = &chunks[after - 1];
-        let entries = chunk.entries();
-        let at = start(entries, path);
+        let (entries, chunks) = branches[after - 1].from(path);
         Entries {
-            entries: entries.split_at(at).1,
-            chunks: chunks.split_at(after).1,
+            entries,
+            chunks,
+            branches: branches.split_at(after).1,
         }
     }
 
