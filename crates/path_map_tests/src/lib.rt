@@ -1,7 +1,9 @@
-//! Each public call of `path_map` once, on a map with two names that begin alike.
+//! Each public call of `path_map` once, on a map with two names that begin alike, and on one of three branches.
 //!
 //! They are apart from `path_map`, since a crate with tests is proved twice.
 #![tactic(auto)]
 
+#[cfg(test)]
+mod branches;
 #[cfg(test)]
 mod maps;
