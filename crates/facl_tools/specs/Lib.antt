@@ -9,5 +9,4 @@ pub mod Attributes
 pub mod Memberships
 pub mod Accounts
 pub mod RemovedKeys
-pub mod Queries
 pub mod Tools

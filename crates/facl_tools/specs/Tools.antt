@@ -24,7 +24,7 @@ use Rattle.facl_listings.specs.declared.options.Options.{Options}
 use Rattle.facl_listings.specs.Listings.{listing}
 use Rattle.facl_replies.specs.Replies.{Reply, after, or_fault, done, printed, replied}
 use Rattle.facl_replies.specs.Modes.{mode_of}
-use Rattle.facl_tools.specs.Queries.{can_line, who_line, may_line, index_line}
+use Rattle.facl_questions.specs.Queries.{can_line, who_line, may_line, index_line}
 use Rattle.facl_tools.specs.Setfacl.{setfacl_line}
 use Rattle.facl_tools.specs.Chacl.{chacl_line}
 use Rattle.facl_tools.specs.Creation.{creat_line}

@@ -5,17 +5,14 @@
 #![tactic(auto)]
 
 mod attr;
-mod can;
 mod chacl;
 mod chmod;
 mod creat;
 mod edits;
 mod getfacl;
 mod gpasswd;
-mod index;
 mod lists;
 mod load;
-mod may;
 mod removed_keys;
 mod rm;
 mod setattr;
@@ -27,6 +24,5 @@ mod tools;
 mod useradd;
 mod userdel;
 mod usermod;
-mod who;
 
 pub use tools::tool_line;

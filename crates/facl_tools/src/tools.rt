@@ -5,25 +5,22 @@ ghost use Rattle.facl_replies.specs.Replies.{Replies};
 ghost use Rattle.facl_tools.specs.Tools.{tool_line};
 
 use crate::attr::attr;
-use crate::can::can;
 use crate::chacl::chacl;
 use crate::chmod::chmod;
 use crate::creat::creat;
 use crate::getfacl::getfacl;
 use crate::gpasswd::gpasswd;
-use crate::index::print_index;
 use crate::load::load;
-use crate::may::may;
 use crate::rm::rm;
 use crate::setattr::setattr;
 use crate::setfacl::setfacl;
 use crate::useradd::useradd;
 use crate::userdel::userdel;
 use crate::usermod::usermod;
-use crate::who::who;
 use acl_rights::{Index, Judge};
 use acl_tree::State;
 use facl_messages::LineFault;
+use facl_questions::{can_line, index_line, may_line, who_line};
 use facl_replies::Effect;
 use facl_usage::{Tool, Words};
 use std::alloc::Global;
@@ -52,10 +49,10 @@ pub fn tool_line<J: Judge>(
         Tool::Usermod => usermod(alloc, state, words),
         Tool::Attr => attr(alloc, state, words),
         Tool::Setattr => setattr(alloc, state, words),
-        Tool::Can => can(alloc, state, index, words),
-        Tool::Who => who(alloc, state, index, words),
-        Tool::May => may(alloc, state, index, words),
-        Tool::Index => print_index(alloc, state, index),
+        Tool::Can => can_line(alloc, state, index, words),
+        Tool::Who => who_line(alloc, state, index, words),
+        Tool::May => may_line(alloc, state, index, words),
+        Tool::Index => index_line(alloc, state, index),
         Tool::Useradd => useradd(alloc, state, words),
         Tool::Userdel => userdel(alloc, state, words),
     }

@@ -3,7 +3,7 @@
 ghost use Rattle.acl_rights.specs.Tables.{IsWhole};
 ghost use Rattle.acl_tree.specs.Step as step;
 ghost use Rattle.facl_replies.specs.Replies.{Gives, Replies};
-ghost use Rattle.facl_tools.specs.Queries.{can_line, can_of, requests_at};
+ghost use Rattle.facl_questions.specs.Queries.{can_line, can_of, requests_at};
 
 use acl_names::Path;
 use acl_rights::{Index, Judge};
@@ -52,7 +52,7 @@ fn can_of<J: Judge>(
 }
 
 /// What a user may do with a file; with `--reach` only where the user can search each recorded directory above it.
-pub(crate) fn can<J: Judge>(
+pub fn can_line<J: Judge>(
     alloc: Global,
     state: &State,
     index: &Index<J>,

@@ -2,7 +2,7 @@
 
 ghost use Rattle.acl_rights.specs.Tables.{IsWhole};
 ghost use Rattle.facl_replies.specs.Replies.{Replies};
-ghost use Rattle.facl_tools.specs.Queries.{index_line};
+ghost use Rattle.facl_questions.specs.Queries.{index_line};
 
 use acl_rights::{Index, Judge};
 use acl_tree::State;
@@ -12,7 +12,7 @@ use facl_replies::Effect;
 use std::alloc::Global;
 
 /// What each user may do with each file.
-pub(crate) fn print_index<J: Judge>(
+pub fn index_line<J: Judge>(
     alloc: Global,
     state: &State,
     index: &Index<J>,

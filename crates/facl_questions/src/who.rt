@@ -2,7 +2,7 @@
 
 ghost use Rattle.acl_rights.specs.Tables.{IsWhole};
 ghost use Rattle.facl_replies.specs.Replies.{Gives, Replies};
-ghost use Rattle.facl_tools.specs.Queries.{who_at, who_line, who_of};
+ghost use Rattle.facl_questions.specs.Queries.{who_at, who_line, who_of};
 
 use acl_entry::Perm;
 use acl_names::Path;
@@ -52,7 +52,7 @@ fn who_of<J: Judge>(
 
 /// The users who may do something with a file; with `--reach` only those who can search each recorded directory above
 /// it.
-pub(crate) fn who<J: Judge>(
+pub fn who_line<J: Judge>(
     alloc: Global,
     state: &State,
     index: &Index<J>,

@@ -3,7 +3,7 @@
 ghost use Rattle.std.specs.Prelude.{◌≡◌, IfOk, option_map};
 ghost use Rattle.acl_rights.specs.Tables.{IsWhole};
 ghost use Rattle.facl_replies.specs.Replies.{Gives, Replies};
-ghost use Rattle.facl_tools.specs.Queries.{may_line, may_of, may_text_of};
+ghost use Rattle.facl_questions.specs.Queries.{may_line, may_of, may_text_of};
 
 use acl_entry::Perm;
 use acl_names::Name;
@@ -27,7 +27,8 @@ fn may_text_of<J: Judge>(
     name: &Name,
 ) -> Result<Option<Vec<u8>>, AllocError>
     requires { IsWhole J.verdict_of state.now index.now }
-    ensures { IfOk result (λ text. option_map (λ out. out.items) text ≡ may_text_of J.verdict_of along state.now request name.now) }
+    ensures { IfOk result
+        (λ text. option_map (λ out. out.items) text ≡ may_text_of J.verdict_of along state.now request name.now) }
 {
     match state.people().find_user(name.as_bytes()) {
         Some(user) => write_may(alloc, state, index, user, request, along),
@@ -56,7 +57,7 @@ fn may_of<J: Judge>(
 
 /// The files with which a user may do something; with `--reach` only those whose recorded directories above the user
 /// can search.
-pub(crate) fn may<J: Judge>(
+pub fn may_line<J: Judge>(
     alloc: Global,
     state: &State,
     index: &Index<J>,
