@@ -1,6 +1,6 @@
 //! What lines cost.
 use crate::lines::Line;
-use crate::world::{Row, Verdict, first_wrong, nothing};
+use crate::world::{Row, Verdict, asked_by_build, first_wrong, nothing};
 use acl_tree::Table;
 
 const PASSWD: &[u8] = b"lisa:x:1001:50:Lisa:/home/lisa:/bin/sh\n\
@@ -113,7 +113,7 @@ static MEMBERSHIPS: [Row; 5] = [
 
 static FILES_ALONE: [Row; 4] = [
     Row {
-        line: Line::Setfacl(b"d:u:joe:rx", true, b"pub"),
+        line: Line::Setfacl(b"d:u:joe:rx", true, b"."),
         asked: (0, 0),
         looked: 0,
         refreshed: 0,
@@ -145,6 +145,37 @@ static FILES_ALONE: [Row; 4] = [
         reach: &[],
     },
 ];
+
+/// All five files change. Then there are four labels: the root and run have the same owner, group and list.
+static FOUR_LABELS: [Row; 1] = [Row {
+    line: Line::Setfacl(b"u:joe:rX", true, b"."),
+    asked: (0, 12),
+    looked: 0,
+    refreshed: 15,
+    verdicts: &[
+        Verdict {
+            user: JOE,
+            path: b"run",
+            byte: 0x33,
+        },
+        Verdict {
+            user: JOE,
+            path: b"f",
+            byte: 0x11,
+        },
+        Verdict {
+            user: LISA,
+            path: b"log",
+            byte: 0x55,
+        },
+        Verdict {
+            user: ANN,
+            path: b"log",
+            byte: 0x01,
+        },
+    ],
+    reach: &[],
+}];
 
 /// Users is left and staff joined.
 static PRIMARY: [Row; 1] = [Row {
@@ -288,6 +319,23 @@ fn lines_cost_what_they_change(rt: HostRuntime) {
         "a named group"
     );
     assert_eq!(rt; first_wrong(alloc, &mut third, &FILES_ALONE), None, "files");
+}
+
+#[test]
+fn a_build_asks_for_each_user_on_each_file(rt: HostRuntime) {
+    let alloc = rt.alloc();
+    let mut world = nothing(alloc).expect(&rt, "memory");
+    assert_eq!(rt; asked_by_build(alloc, &world.state), Some(0), "no files");
+    assert_eq!(rt; first_wrong(alloc, &mut world, &SETUP), None);
+    assert_eq!(rt; asked_by_build(alloc, &world.state), Some(15));
+}
+
+#[test]
+fn a_label_is_judged_once(rt: HostRuntime) {
+    let alloc = rt.alloc();
+    let mut world = nothing(alloc).expect(&rt, "memory");
+    assert_eq!(rt; first_wrong(alloc, &mut world, &SETUP), None);
+    assert_eq!(rt; first_wrong(alloc, &mut world, &FOUR_LABELS), None);
 }
 
 #[test]

@@ -9,4 +9,4 @@ mod lines;
 mod world;
 
 pub use lines::{Line, command};
-pub use world::{Costs, Row, Verdict, World, first_wrong, nothing, play};
+pub use world::{Costs, Row, Verdict, World, asked_by_build, first_wrong, nothing, play};

@@ -60,6 +60,17 @@ pub fn play(alloc: Global, world: &mut World, command: &Command<'_>) -> Option<C
     })
 }
 
+/// How many verdicts an index that is made of a state asks for; none where memory runs out.
+pub fn asked_by_build(alloc: Global, state: &State) -> Option<u64> {
+    state.tree().is_sound();
+    state.people().is_sound();
+    let mut judge = Posix::new();
+    match Index::build(alloc, &mut judge, state.tree(), state.people()) {
+        Ok(_) => Some(judge.asked()),
+        Err(_) => None,
+    }
+}
+
 /// What a user may do with a file after a line: the user's place, the file, and the byte of the requests.
 pub struct Verdict {
     pub user: usize,
