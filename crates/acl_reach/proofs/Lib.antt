@@ -1,4 +1,5 @@
 pub mod Orders
 pub mod Walks
 mod Begins
+mod Changes
 mod Tops

@@ -4,4 +4,5 @@ pub mod Goes
 pub mod Costs
 pub mod Asked
 pub mod Reached
+pub mod Counts
 pub mod Refreshed

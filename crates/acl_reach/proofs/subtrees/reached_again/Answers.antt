@@ -7,7 +7,7 @@ use Rattle.acl_reach.specs.Reach.{reached_from, reached_rows}
 use Rattle.acl_reach.specs.Differing.{differing}
 use Rattle.acl_reach.specs.Subtrees.{lies_in, AgreesAbove}
 use Rattle.acl_reach.proofs.Orders.{in_order-values}
-use Rattle.acl_reach.proofs.Tops.{agrees_above, again, again_differs}
+use Rattle.acl_reach.proofs.Changes.{agrees_above, again, again_differs}
 use Rattle.acl_reach.proofs.subtrees.reached_again.Goals as goal
 
 pub reached_below-requires-clause-above : goal.reached_below-requires-clause-above
