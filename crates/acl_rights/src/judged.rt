@@ -1,8 +1,9 @@
 //! Rows of files on which all verdicts are asked for.
 
-ghost use Rattle.std.specs.Prelude.{◌≡◌, ◌+◌, ◌*◌, ◌<◌, ◌≤◌, ◌^◌, List, length, map, IfOk, IfSome, OnOk};
+ghost use Rattle.std.specs.Prelude.{◌≡◌, ◌+◌, ◌-◌, ◌*◌, ◌∷◌, ◌<◌, ◌≤◌, ◌^◌, List, length, map, take, IfOk, IfSome, OnOk};
 ghost use Rattle.acl_entry.specs.Person.{Person};
 ghost use Rattle.acl_rights.specs.Tables.{Verdict, cells_of, rows_of};
+ghost use Rattle.acl_rights.specs.declared.judged.TheConstants.{KEPT};
 
 use acl_entry::Subject;
 use acl_tree::{Record, Tree};
@@ -102,16 +103,17 @@ fn row_of_label<'a>(
 }
 
 /// Puts a place before those that are kept, and drops the last one where there are too many.
-fn keep_place(places: &mut Vec<usize>, place: usize) -> Result<(), AllocError> {
-    if places.len() >= KEPT {
-        places.pop();
-    }
+fn keep_place(places: &mut Vec<usize>, place: usize) -> Result<(), AllocError>
+    ensures { OnOk result (places.new.items ≡ place ∷ take (KEPT - 1) places.old.items) }
+{
+    places.truncate(KEPT - 1);
     places.insert(0, place)?;
     Ok(())
 }
 
 /// The row of a file after those of other files: the verdicts of a row whose place is kept, where its file has
-/// the same label. Where none has it, all verdicts are asked for, and the new row's place is kept.
+/// the same label. Where none has it, all verdicts are asked for, and the new row's place is kept. Labels are
+/// compared at each place, so the places that are kept decide only how many verdicts are asked for.
 fn next_row<J: Judge>(
     alloc: Global,
     judge: &mut J,
