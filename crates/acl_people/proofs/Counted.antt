@@ -1,10 +1,10 @@
 -- The names of counted rows are distinct, not empty, and made of bytes.
-use Rattle.std.proofs.Common.{◌≡◌, ℕ, ◌+◌, ◌<◌, Bool, true, false, ◌||◌, cond, List, [], ◌∷◌, ◌++◌, length, map, get_or, take, position, Option, Some, None, option_map, Result, Ok, Err, if◌then◌else◌, nat_le, refl, sym, ap, subst, ◌∙◌, inl, inr, arith, length-append}
+use Rattle.std.proofs.Common.{◌≡◌, ℕ, ◌+◌, ◌<◌, Bool, true, false, ◌||◌, cond, List, [], ◌∷◌, ◌++◌, length, map, get_or, position, Option, Some, None, option_map, Result, Ok, Err, if◌then◌else◌, nat_le, refl, ap, subst, ◌∙◌, inl, inr, arith, length-append}
 use Rattle.std.specs.List.{list_all, position_or_len, remove}
 use Rattle.std.specs.Option.{option_or}
 use Rattle.std.specs.Str.{bytes_eq}
 use Rattle.std.specs.Cmp.Lexicographic.{nat_list_eq_equiv}
-use Rattle.std.proofs.lemmas.List.{map_push, length-map, get_or-map, get_or_append_left, get_or_push, take-map}
+use Rattle.std.proofs.lemmas.List.{map_push, length-map, get_or_append_left, get_or_push}
 use Rattle.std.proofs.lemmas.List.Edits.{length-remove, get_or-remove_below, get_or-remove_above}
 use Rattle.std.proofs.lemmas.List.Quantifiers.{position-Some}
 use Rattle.std.proofs.lemmas.List.Sums.{position_or_len_is}
@@ -18,7 +18,7 @@ use Rattle.acl_text.specs.InTurn.{read_each_from, at_place}
 use Rattle.acl_text.specs.Rows.{is_repeated, counted, one_line, has_no_content}
 use Rattle.acl_people.specs.Rolls.{Named, is_name, AreNames, AreCounted}
 use Rattle.acl_people.proofs.Bytes.{are_texts, pieces_made}
-use Rattle.acl_people.proofs.Places.{position-cons, position-push, position-before}
+use Rattle.acl_people.proofs.Places.{position-cons, position-push}
 
 err_is_not_ok : {A E : Type 0} (e : E) (x : A) → Err e ≡ Ok x → ⊥
 err_is_not_ok e x h = cc
@@ -163,13 +163,3 @@ module _ {R : Type 0} (name_of : R → List ℕ) (id_of : R → ℕ) where
             → ((mid : List R) → AreCounted (entries mid) → read_each_from (λ at rows line. one_line name_of row_of rows line) (at + 1) mid ls ≡ Ok new → AreCounted (entries new)) → AreCounted (entries new)
         by line (Ok mid) e is more = more mid (line_keeps rows mid l line known e) is
         by line (Err kind) e is more = absurd (err_is_not_ok _ new is)
-
-  -- the name of a row is not among those before it
-  pub fresh : (rows : List R) (i : ℕ) (row : R) → AreNames (entries rows) → i < length rows → row ≡ get_or rows i row → position (is_name (name_of row)) (entries (take i rows)) ≡ None
-  fresh rows i row names lt at =
-      let y : Named = (name_of row, id_of row) in
-      let as_long : length (entries rows) ≡ length rows = length-map rows (λ r. (name_of r, id_of r)) in
-      let once = names.once i y (omega arith) in
-      let is : get_or (entries rows) i y ≡ y = get_or-map (λ r. (name_of r, id_of r)) rows i row y lt ∙ ap (λ r. (name_of r, id_of r)) (sym at) in
-      ap (λ es. position (is_name (name_of row)) es) (sym (take-map (λ r. (name_of r, id_of r)) i rows))
-      ∙ position-before (is_name (name_of row)) i (entries rows) (ap (λ e. position (is_name e.0) (entries rows)) (sym is) ∙ once)

@@ -1,4 +1,5 @@
 pub mod Rolls
+pub mod Orders
 pub mod Entries
 pub mod UserNames
 pub mod Registers

@@ -2,20 +2,20 @@
 use Rattle.std.specs.Prelude.{ℕ, List, [], map, filter}
 use Rattle.std.specs.Option.{option_map_or}
 use Rattle.std.specs.List.{flat_map}
+use Rattle.std.specs.Ordering.{nat_cmp}
 use Rattle.std.specs.Str.{bytes_eq}
 use Rattle.std.specs.declared.vec.Vec.{Vec}
-use Rattle.std.specs.HashMap.{HashMap, get_by}
+use Rattle.std.specs.BTreeMap.{BTreeMap, get_by}
+use Rattle.std.specs.Cmp.Lexicographic.{slice_cmp}
 use Rattle.std.specs.declared.alloc.Global.{Global}
-use Rattle.std.specs.declared.hash.FoldHasher.{FoldHasher}
-use Rattle.std.specs.declared.hash.BuildHasherDefault.{BuildHasherDefault}
 use denote.Ref.{Bor}
 use Rattle.acl_text.specs.declared.rows.GroupRow.{GroupRow}
 
 abbrev pub Members : Type 0
-Members = HashMap (Bor (List ℕ)) (Vec ℕ Global) (BuildHasherDefault FoldHasher)
+Members = BTreeMap (Bor (List ℕ)) (Vec ℕ Global)
 
 abbrev pub gids_at : Members → List ℕ → List ℕ
-gids_at members name = option_map_or (λ gids. gids.items) (get_by (λ k. bytes_eq name k.now) members) []
+gids_at members name = option_map_or (λ gids. gids.items) (get_by (λ k. slice_cmp nat_cmp name k.now) members) []
 
 -- a row's group, once for each time that it names the user
 abbrev pub row_gids : List ℕ → GroupRow → List ℕ

@@ -7,6 +7,7 @@ ghost use Rattle.acl_people.specs.Rolls.{AreNames, AreCounted};
 ghost use Rattle.acl_people.specs.Entries.{group_entry};
 ghost use Rattle.acl_people.specs.Changes.{change_at, name_added, name_removed};
 
+use crate::entries::Entries;
 use crate::group::Group;
 use crate::roll::Roll;
 use acl_text::{GroupRow, TextFault, read_group};
@@ -39,11 +40,11 @@ fn roll_of(alloc: Global, rows: &[GroupRow]) -> Result<Roll, AllocError>
     requires { AreNames (map group_entry rows.now) }
     ensures { IfOk result (λ roll. roll ≡ map group_entry rows.now) }
 {
-    let mut roll = Roll::new(alloc);
+    let mut entries = Entries::new(alloc);
     for row in rows {
-        roll = roll.with(alloc, row.name.as_bytes(), row.gid)?;
+        entries = entries.with(alloc, row.name.as_bytes(), row.gid)?;
     }
-    Ok(roll)
+    Roll::of(alloc, entries)
 }
 
 /// The rows, shared among copies.
@@ -90,7 +91,7 @@ impl Groups {
     {
         Ok(Groups {
             rows: Vec::new(alloc),
-            roll: Rc::new(alloc, Roll::new(alloc))?,
+            roll: Rc::new(alloc, roll_of(alloc, &[])?)?,
         })
     }
 

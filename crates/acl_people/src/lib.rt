@@ -3,6 +3,7 @@
 #![tactic(auto)]
 
 mod accounts;
+mod entries;
 mod fault;
 mod group;
 mod groups;

@@ -7,13 +7,13 @@ ghost use Rattle.acl_people.specs.Members.{gids_at, row_gids, rows_gids};
 use crate::group::Group;
 use acl_entry::Id;
 use std::alloc::{AllocError, Global};
-use std::collections::HashMap;
+use std::collections::BTreeMap;
 use std::rc::Rc;
 
 /// Notes a group for a name.
 fn join<'a>(
     alloc: Global,
-    members: &mut HashMap<&'a [u8], Vec<Id>>,
+    members: &mut BTreeMap<&'a [u8], Vec<Id>>,
     name: &'a [u8],
     gid: Id,
 ) -> Result<(), AllocError>
@@ -31,7 +31,7 @@ fn join<'a>(
 /// Notes a row's group for each name in it.
 fn add_row<'a>(
     alloc: Global,
-    members: &mut HashMap<&'a [u8], Vec<Id>>,
+    members: &mut BTreeMap<&'a [u8], Vec<Id>>,
     row: &'a Group,
 ) -> Result<(), AllocError>
     ensures { OnOk result ((name : List ℕ) → gids_at members.new name ≡ gids_at members.old name ++ row_gids name row.now) }
@@ -46,10 +46,10 @@ fn add_row<'a>(
 pub fn members_of<'a>(
     alloc: Global,
     rows: &'a [Rc<Group>],
-) -> Result<HashMap<&'a [u8], Vec<Id>>, AllocError>
+) -> Result<BTreeMap<&'a [u8], Vec<Id>>, AllocError>
     ensures { IfOk result (λ members. (name : List ℕ) → gids_at members name ≡ rows_gids name (map (λ r. r.value) rows.now)) }
 {
-    let mut members = HashMap::new(alloc);
+    let mut members = BTreeMap::new(alloc);
     for row in rows {
         add_row(alloc, &mut members, row)?;
     }

@@ -1,93 +1,86 @@
 //! Names with their ids, looked up by name and by id.
 
-ghost use Rattle.std.specs.Prelude.{◌≡◌, ◌<◌, ◌++◌, ◌∷◌, [], ℕ, ◌==◌, nat_eq, length, position, Some, None, IfOk, IfSome, OnOk, option_map, slice_get, if◌then◌else◌};
-ghost use Rattle.std.specs.HashMap.{get};
-ghost use Rattle.std.specs.Option.{option_copied, option_or};
-ghost use Rattle.acl_people.specs.Rolls.{is_name, is_id, prints, id_named, name_shown, place_of_word};
+ghost use Rattle.std.specs.Prelude.{◌≡◌, ◌<◌, length, position, IfOk, IfSome};
+ghost use Rattle.std.specs.List.{range_with_len};
+ghost use Rattle.std.specs.Option.{option_copied};
+ghost use Rattle.acl_people.specs.Rolls.{is_name, is_id, id_named, name_shown, place_of_word, AreNames};
+ghost use Rattle.acl_people.specs.Orders.{AreByName};
 
+use crate::entries::Entries;
 use acl_entry::Id;
 use acl_text::{is_number, read_id};
-use indexmap::IndexMap;
 use std::alloc::{AllocError, Global};
-use std::collections::HashMap;
 use std::marker::Model;
 
-/// Names in the order of their rows, each once, with their ids. The first place of each id, and the first
-/// place of each id whose name is not digits alone, are kept beside them.
+/// Names in the order of their rows, each once, with their ids. Their places in the order of the names are
+/// kept beside them, so that a name is found by halving.
 #[derive(Drop)]
 pub struct Roll {
-    ids: IndexMap<Vec<u8>, Id>,
-    first: HashMap<u32, usize>,
-    shown: HashMap<u32, usize>,
+    entries: Entries,
+    by_name: Vec<usize>,
 }
 
 impl Model for Roll {
-    ghost use Rattle.std.specs.Prelude.{◌≡◌, ℕ, List, map, position, nat_eq};
-    ghost use Rattle.std.specs.HashMap.{get};
-    ghost use Rattle.acl_people.specs.Rolls.{Named, is_id, prints};
+    ghost use Rattle.std.specs.Prelude.{ℕ, List};
+    ghost use Rattle.acl_people.specs.Rolls.{AreNames};
+    ghost use Rattle.acl_people.specs.Orders.{AreByName};
 
     ghost Value = { List (List ℕ × ℕ) };
 
-    ghost view = { λ r. map (λ e. (e.0.items, e.1)) r.ids.entries };
+    ghost view = { λ r. r.entries };
 
-    ghost invariant = { λ r.
-        ((id : ℕ) → get nat_eq r.first id ≡ position (is_id id) (map (λ e. (e.0.items, e.1)) r.ids.entries))
-        × ((id : ℕ) → get nat_eq r.shown id ≡ position (prints id) (map (λ e. (e.0.items, e.1)) r.ids.entries)) };
+    ghost invariant = { λ r. AreNames r.entries × AreByName r.entries r.by_name.items };
 }
 
-/// Keeps the place for the id, unless it has one. Fails only if memory runs out.
-fn note(places: &mut HashMap<u32, usize>, id: u32, place: usize) -> Result<(), AllocError>
-    ensures { OnOk result ((q : ℕ) → get nat_eq places.new q ≡ option_or (get nat_eq places.old q) (if id == q then Some place else None)) }
+/// The first places, in their order.
+fn places(alloc: Global, count: usize) -> Result<Vec<usize>, AllocError>
+    ensures { IfOk result (λ all. all.items ≡ range_with_len 0 count) }
 {
-    if !places.contains_key(&id) {
-        places.insert(id, place)?;
+    let mut all = Vec::with_capacity(alloc, count)?;
+    for place in 0..count {
+        all.push(place)?;
     }
-    Ok(())
+    Ok(all)
+}
+
+/// The places of the names in the order of the names.
+fn in_name_order(alloc: Global, entries: &Entries) -> Result<Vec<usize>, AllocError>
+    ensures { IfOk result (λ all. AreByName entries.now all.items) }
+{
+    let mut all = places(alloc, entries.count())?;
+    all.sort_unstable_by(|a, b| entries.name_or_empty(*a).cmp(entries.name_or_empty(*b)));
+    Ok(all)
 }
 
 impl Roll {
-    /// No names.
-    pub fn new(alloc: Global) -> Roll
-        ensures { result ≡ [] }
+    /// The names. Fails only if memory runs out.
+    pub fn of(alloc: Global, entries: Entries) -> Result<Roll, AllocError>
+        requires { AreNames entries }
+        ensures { IfOk result (λ roll. roll ≡ entries) }
     {
-        Roll {
-            ids: IndexMap::new(alloc),
-            first: HashMap::new(alloc),
-            shown: HashMap::new(alloc),
-        }
-    }
-
-    /// The names and one more, which is not among them.
-    pub fn with(self, alloc: Global, name: &[u8], id: Id) -> Result<Roll, AllocError>
-        requires { position (is_name name.now) self ≡ None }
-        ensures { IfOk result (λ roll. roll ≡ self ++ (name.now, id) ∷ []) }
-    {
-        let Roll {
-            mut ids,
-            mut first,
-            mut shown,
-        } = self;
-        let place = ids.len();
-        note(&mut first, id.number(), place)?;
-        if !is_number(name) {
-            note(&mut shown, id.number(), place)?;
-        }
-        ids.insert(Vec::from_slice(alloc, name)?, id)?;
-        Ok(Roll { ids, first, shown })
+        let by_name = in_name_order(alloc, &entries)?;
+        Ok(Roll { entries, by_name })
     }
 
     /// The place of a name.
     pub fn place_of_name(&self, name: &[u8]) -> Option<usize>
         ensures { result ≡ position (is_name name.now) self.now }
     {
-        self.ids.get_index_of(name)
+        let entries = &self.entries;
+        let found = self
+            .by_name
+            .binary_search_by(|place| entries.name_or_empty(*place).cmp(name));
+        match found {
+            Ok(at) => Some(self.by_name[at]),
+            Err(_) => None,
+        }
     }
 
     /// The first place of an id.
     pub fn place_of_id(&self, id: Id) -> Option<usize>
         ensures { result ≡ position (is_id id) self.now }
     {
-        self.first.get(&id.number()).copied()
+        self.entries.place_of_id(id)
     }
 
     /// The place that a word stands for: digits alone are an id, any other word is a name.
@@ -105,45 +98,19 @@ impl Roll {
         }
     }
 
-    fn id_at(&self, place: usize) -> Option<Id>
-        ensures { result ≡ option_map (λ e. e.1) (slice_get self.now place) }
-    {
-        match self.ids.get_index(place) {
-            Some((_, id)) => Some(*id),
-            None => None,
-        }
-    }
-
-    /// The name at a place.
-    pub fn name_at(&self, place: usize) -> Option<&[u8]>
-        ensures { option_copied result ≡ option_map (λ e. e.0) (slice_get self.now place) }
-    {
-        match self.ids.get_index(place) {
-            Some((name, _)) => Some(name),
-            None => None,
-        }
-    }
-
     /// The id of a name.
     pub fn id_named(&self, name: &[u8]) -> Option<Id>
         ensures { result ≡ id_named name.now self.now }
     {
         let place = self.place_of_name(name)?;
-        self.id_at(place)
-    }
-
-    /// The place of the name that an id prints as.
-    fn place_shown(&self, id: Id) -> Option<usize>
-        ensures { result ≡ position (prints id) self.now }
-    {
-        self.shown.get(&id.number()).copied()
+        self.entries.id_at(place)
     }
 
     /// The name that an id prints as.
     pub fn name_shown(&self, id: Id) -> Option<&[u8]>
         ensures { option_copied result ≡ name_shown id self.now }
     {
-        let place = self.place_shown(id)?;
-        self.name_at(place)
+        let place = self.entries.place_shown(id)?;
+        self.entries.name_at(place)
     }
 }

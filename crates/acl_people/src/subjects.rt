@@ -10,13 +10,13 @@ use crate::members::members_of;
 use acl_entry::{Id, Subject};
 use acl_text::PasswdRow;
 use std::alloc::{AllocError, Global};
-use std::collections::HashMap;
+use std::collections::BTreeMap;
 use std::rc::Rc;
 
 /// The user of a row, as the check sees one.
 fn subject_of(
     alloc: Global,
-    members: &HashMap<&[u8], Vec<Id>>,
+    members: &BTreeMap<&[u8], Vec<Id>>,
     row: &PasswdRow,
 ) -> Result<Subject, AllocError>
     ensures { IfOk result (λ subject. subject ≡ record { uid = row.now.uid; groups = sets.from_list (row.now.gid ∷ gids_at members.now row.now.name) }) }

@@ -8,6 +8,7 @@ ghost use Rattle.acl_people.specs.Rolls.{AreNames, AreCounted};
 ghost use Rattle.acl_people.specs.Entries.{user_entry};
 ghost use Rattle.acl_people.specs.Changes.{change_at, with_gid};
 
+use crate::entries::Entries;
 use crate::roll::Roll;
 use crate::shared::shared;
 use acl_entry::Id;
@@ -41,11 +42,11 @@ fn roll_of(alloc: Global, rows: &[Rc<PasswdRow>]) -> Result<Roll, AllocError>
     requires { AreNames (map user_entry (map (λ r. r.value) rows.now)) }
     ensures { IfOk result (λ roll. roll ≡ map user_entry (map (λ r. r.value) rows.now)) }
 {
-    let mut roll = Roll::new(alloc);
+    let mut entries = Entries::new(alloc);
     for row in rows {
-        roll = roll.with(alloc, row.name.as_bytes(), row.uid)?;
+        entries = entries.with(alloc, row.name.as_bytes(), row.uid)?;
     }
-    Ok(roll)
+    Roll::of(alloc, entries)
 }
 
 impl Users {

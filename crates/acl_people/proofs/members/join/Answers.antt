@@ -1,5 +1,5 @@
 use Rattle.std.proofs.Common.{◌≡◌, ◌++◌, ◌∷◌, [], Some, None, ap, ◌∙◌}
-use Rattle.std.proofs.lemmas.Map.Text.{hash_map_updates_str}
+use Rattle.std.proofs.lemmas.Map.Text.{btree_map_updates_str}
 use Rattle.std.specs.Option.{option_map_or}
 use Rattle.acl_people.specs.Members.{gids_at}
 use Rattle.acl_people.proofs.Joined.{joined}
@@ -15,6 +15,6 @@ returns c =
     ]
     in
     joined c.args.name.now c.args.gid c.args.members.now c.remove.new.self c.insert.new.self c.push.new.self
-    (hash_map_updates_str c.args.name.now c.args.members.now c.remove.new.self None c.remove.ensures.updates)
-    (hash_map_updates_str c.args.name.now c.remove.new.self c.insert.new.self (Some c.push.new.self) c.in_ok-insert.ensures.updates)
+    (btree_map_updates_str c.args.name.now c.args.members.now c.remove.new.self None c.remove.ensures.updates)
+    (btree_map_updates_str c.args.name.now c.remove.new.self c.insert.new.self (Some c.push.new.self) c.in_ok-insert.ensures.updates)
     (c.in_ok-push.ensures.items ∙ ap (λ gids. gids ++ c.args.gid ∷ []) had)
