@@ -6,7 +6,9 @@ use Rattle.std.proofs.lemmas.Bool.{cases_Bool, or_parts, ltb-true, ltb-false, eq
 use Rattle.acl_entry.specs.declared.entry.Entry.{Entry}
 use Rattle.acl_entry.specs.declared.key.Key.{Key}
 use Rattle.acl_entry.specs.declared.key.Key.TheVariants.{Owner, User, OwningGroup, Group, Mask, Other}
+use Rattle.acl_entry.specs.Ids.{nobody}
 use Rattle.acl_entry.specs.Keys.{named_id}
+use Rattle.acl_entry.specs.Lists.{most_entries}
 use Rattle.acl_entry.specs.Perms.{Perms, number, numbered, number-numbered}
 use Rattle.byteorder.specs.Endian.{little_number}
 use Rattle.acl_attr.specs.declared.decode.Reading.{Reading}
@@ -37,12 +39,12 @@ record IsKeyOf (tag id : ℕ) (k : Key) : Type 0 where
 
 named : (make : ℕ → Key) (tag id : ℕ) (k : Key) → ((n : ℕ) → tag_of (make n) ≡ tag) → ((n : ℕ) → named_id (make n) ≡ Some n) → option_map make (id_from id) ≡ Some k → IsKeyOf tag id k
 named make tag id k tags ids e =
-    elim (cases_Bool (ltb id 4294967295)) [
+    elim (cases_Bool (ltb id nobody)) [
       | inl small ↦
           let same : make id ≡ k = some_same _ k (sym (ap (λ b. option_map make (cond b (Some id) None)) small) ∙ e) in
           record {
             tag_is = sym (tags id) ∙ ap tag_of same;
-            id_is = rw (← same) (rw (ids id) (refl, ltb-true id 4294967295 small));
+            id_is = rw (← same) (rw (ids id) (refl, ltb-true id nobody small));
           }
       | inr large ↦ absurd (none_is_not_some k (sym (ap (λ b. option_map make (cond b (Some id) None)) large) ∙ e))
     ]
@@ -90,7 +92,7 @@ key_is tag id k e =
 pub record IsRead (at : ℕ) (reading new : Reading) (bytes : List ℕ) : Type 0 where
   pub entry : Entry
   pub encoded : Encodes bytes entry
-  pub few : at ≤ 4096
+  pub few : at ≤ most_entries
   pub rises : reading.last_tag ≤ tag_of entry.key
   pub apart : maps.contains_key reading.entries entry.key ≡ false
   pub is : new ≡ record { entries = maps.insert reading.entries entry.key entry.perm; last_tag = tag_of entry.key }
@@ -105,7 +107,7 @@ module _ (at : ℕ) (reading new : Reading) (bytes : List ℕ) where
   abbrev id : ℕ
   id = little_number 4 (drop 4 bytes)
 
-  by_key : (p : Perms) (k : Key) → length bytes ≡ 8 → at ≤ 4096 → reading.last_tag ≤ tag → perm_of perm ≡ Some p → key_of tag id ≡ Some k → with_key reading tag p k ≡ Some new → IsRead at reading new bytes
+  by_key : (p : Perms) (k : Key) → length bytes ≡ 8 → at ≤ most_entries → reading.last_tag ≤ tag → perm_of perm ≡ Some p → key_of tag id ≡ Some k → with_key reading tag p k ≡ Some new → IsRead at reading new bytes
   by_key p k eight few rises is_perm is_key e =
       let parts = key_is tag id k is_key in
       elim (cases_Bool (maps.contains_key reading.entries k)) [
@@ -122,7 +124,7 @@ module _ (at : ℕ) (reading new : Reading) (bytes : List ℕ) where
         }
       ]
 
-  by_numbers : length bytes ≡ 8 → at ≤ 4096 → reading.last_tag ≤ tag → (op : Option Perms) → perm_of perm ≡ op → (ok : Option Key) → key_of tag id ≡ ok
+  by_numbers : length bytes ≡ 8 → at ≤ most_entries → reading.last_tag ≤ tag → (op : Option Perms) → perm_of perm ≡ op → (ok : Option Key) → key_of tag id ≡ ok
       → option_and_then (λ p. option_and_then (with_key reading tag p) ok) op ≡ Some new → IsRead at reading new bytes
   by_numbers eight few rises None is_perm ok is_key e = absurd (none_is_not_some new e)
   by_numbers eight few rises (Some p) is_perm None is_key e = absurd (none_is_not_some new e)
@@ -130,11 +132,11 @@ module _ (at : ℕ) (reading new : Reading) (bytes : List ℕ) where
 
   pub is_read : with_entry at reading bytes ≡ Some new → IsRead at reading new bytes
   is_read e =
-      elim (cases_Bool (ltb 4096 at || not (eqb (length bytes) 8))) [
+      elim (cases_Bool (ltb most_entries at || not (eqb (length bytes) 8))) [
         | inl bad ↦ absurd (none_is_not_some new (rw bad at e))
         | inr fine ↦
-            let parts = or_parts (ltb 4096 at) (not (eqb (length bytes) 8)) fine in
-            let few : at ≤ 4096 = ltb-false 4096 at parts.0 in
+            let parts = or_parts (ltb most_entries at) (not (eqb (length bytes) 8)) fine in
+            let few : at ≤ most_entries = ltb-false most_entries at parts.0 in
             let eight : length bytes ≡ 8 = eqb-true (length bytes) 8 (not-false (eqb (length bytes) 8) parts.1) in
             elim (cases_Bool (ltb tag reading.last_tag)) [
               | inl falls ↦ absurd (none_is_not_some new (rw falls at (rw fine at e)))

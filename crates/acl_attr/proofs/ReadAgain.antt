@@ -16,8 +16,9 @@ use Rattle.acl_entry.specs.declared.entry.ListFault.{ListFault}
 use Rattle.acl_entry.specs.declared.entry.ListFault.TheVariants.{TooLong}
 use Rattle.acl_entry.specs.declared.key.Key.{Key}
 use Rattle.acl_entry.specs.declared.key.Key.TheVariants.{Owner, User, OwningGroup, Group, Mask, Other}
+use Rattle.acl_entry.specs.Ids.{nobody}
 use Rattle.acl_entry.specs.Keys.{key_cmp, rank, id_of}
-use Rattle.acl_entry.specs.Lists.{KeyMap, IsInOrder, IsValid, HasIds, keys, pairs, map_of, entries, fault}
+use Rattle.acl_entry.specs.Lists.{KeyMap, IsInOrder, IsValid, HasIds, keys, pairs, map_of, entries, fault, most_entries}
 use Rattle.acl_entry.specs.Perms.{number}
 use Rattle.acl_entry.proofs.KeyLaws.{key_total, exact_keys, above}
 use Rattle.acl_entry.proofs.Placed.{less}
@@ -52,7 +53,7 @@ tag_small (Group id) = omega arith
 tag_small Mask = omega arith
 tag_small Other = omega arith
 
-id_small : (k : Key) → id_of k < 4294967295 → written_id k < 4294967296
+id_small : (k : Key) → id_of k < nobody → written_id k < 4294967296
 id_small Owner lt = omega arith
 id_small (User id) lt = omega arith
 id_small OwningGroup lt = omega arith
@@ -60,10 +61,10 @@ id_small (Group id) lt = omega arith
 id_small Mask lt = omega arith
 id_small Other lt = omega arith
 
-id_again : (id : ℕ) → id < 4294967295 → id_from id ≡ Some id
-id_again id lt = ap (λ b. cond b (Some id) None) (lt-ltb id 4294967295 lt)
+id_again : (id : ℕ) → id < nobody → id_from id ≡ Some id
+id_again id lt = ap (λ b. cond b (Some id) None) (lt-ltb id nobody lt)
 
-key_again : (k : Key) → id_of k < 4294967295 → key_of (tag_of k) (written_id k) ≡ Some k
+key_again : (k : Key) → id_of k < nobody → key_of (tag_of k) (written_id k) ≡ Some k
 key_again Owner lt = refl
 key_again (User id) lt = ap (option_map User) (id_again id lt)
 key_again OwningGroup lt = refl
@@ -72,19 +73,19 @@ key_again Mask lt = refl
 key_again Other lt = refl
 
 -- the numbers of a written entry are read as they were
-entry_again : (at : ℕ) (reading : Reading) (e : Entry) → at ≤ 4096 → id_of e.key < 4294967295 → with_entry at reading (entry_bytes e) ≡ with_numbers reading (tag_of e.key) (number e.perm) (written_id e.key)
+entry_again : (at : ℕ) (reading : Reading) (e : Entry) → at ≤ most_entries → id_of e.key < nobody → with_entry at reading (entry_bytes e) ≡ with_numbers reading (tag_of e.key) (number e.perm) (written_id e.key)
 entry_again at reading e le lt =
     let bytes = entry_bytes e in
     let id = little_bytes 4 (written_id e.key) in
     let tag_is : little_number 2 bytes ≡ tag_of e.key = little_number-reads_back 2 (tag_of e.key) (little_bytes 2 (number e.perm) ++ id) (tag_small e.key) in
     let perm_is : little_number 2 (drop 2 bytes) ≡ number e.perm = little_number-reads_back 2 (number e.perm) id (perm_small e.perm.read e.perm.write e.perm.execute) in
     let id_is : little_number 4 (drop 4 bytes) ≡ written_id e.key = little_number-reads_back 4 (written_id e.key) [] (id_small e.key lt) in
-    ap (λ b. cond (b || false) None (with_numbers reading (little_number 2 bytes) (little_number 2 (drop 2 bytes)) (little_number 4 (drop 4 bytes)))) (le-ltb 4096 at le)
+    ap (λ b. cond (b || false) None (with_numbers reading (little_number 2 bytes) (little_number 2 (drop 2 bytes)) (little_number 4 (drop 4 bytes)))) (le-ltb most_entries at le)
     ∙ ap (λ t. with_numbers reading t (little_number 2 (drop 2 bytes)) (little_number 4 (drop 4 bytes))) tag_is
     ∙ ap (λ p. with_numbers reading (tag_of e.key) p (little_number 4 (drop 4 bytes))) perm_is
     ∙ ap (λ i. with_numbers reading (tag_of e.key) (number e.perm) i) id_is
 
-added : (at : ℕ) (reading : Reading) (e : Entry) → at ≤ 4096 → id_of e.key < 4294967295 → reading.last_tag ≤ tag_of e.key → maps.contains_key reading.entries e.key ≡ false
+added : (at : ℕ) (reading : Reading) (e : Entry) → at ≤ most_entries → id_of e.key < nobody → reading.last_tag ≤ tag_of e.key → maps.contains_key reading.entries e.key ≡ false
     → one_entry at reading (entry_bytes e) ≡ Ok (record { entries = maps.insert reading.entries e.key e.perm; last_tag = tag_of e.key })
 added at reading e le lt rises new =
     let more = with_key reading (tag_of e.key) in
@@ -158,7 +159,7 @@ rising t e (f ∷ es) le below =
     let more = tags_rise e.key f.key (less _ parts.0) in
     (omega arith, rising t e es le parts.1)
 
-encoded_again : (at : ℕ) (tag : ℕ) (done es : List Entry) → at + length es ≤ 4097 → IsInOrder (done ++ es) → AllByRecursion (λ e. id_of e.key < 4294967295) es → TagsRise tag es
+encoded_again : (at : ℕ) (tag : ℕ) (done es : List Entry) → at + length es ≤ 4097 → IsInOrder (done ++ es) → AllByRecursion (λ e. id_of e.key < nobody) es → TagsRise tag es
     → read_each_from one_entry at (record { entries = map_of done; last_tag = tag }) (map entry_bytes es) ≡ Ok (record { entries = map_of (done ++ es); last_tag = lasting tag es })
 encoded_again at tag done [] room order ids rise = ap (λ (l : List Entry). Ok (record { entries = map_of l; last_tag = tag })) (sym (append-nil done))
 encoded_again at tag done (e ∷ es) room order ids rise =
@@ -180,15 +181,15 @@ cut_again : (es : List Entry) → entries_in (flat_map entry_bytes es) ≡ map e
 cut_again [] = refl
 cut_again (e ∷ es) = entries_step (entry_bytes e ++ flat_map entry_bytes es) (omega arith) ∙ ap (λ (l : List (List ℕ)). entry_bytes e ∷ l) (cut_again es)
 
-no_more : (n : ℕ) (o : Option ListFault) → cond (ltb 4096 n) (Some TooLong) o ≡ None → n ≤ 4096
+no_more : (n : ℕ) (o : Option ListFault) → cond (ltb most_entries n) (Some TooLong) o ≡ None → n ≤ most_entries
 no_more n o e =
-    elim (cases_Bool (ltb 4096 n)) [
+    elim (cases_Bool (ltb most_entries n)) [
       | inl long ↦ absurd (cc (ap (λ b. cond b (Some TooLong) o) long, e))
-      | inr fits ↦ ltb-false 4096 n fits
+      | inr fits ↦ ltb-false most_entries n fits
     ]
 
 -- a valid list has at most 4,096 entries
-few : (acl : KeyMap) → IsValid acl → length (entries acl) ≤ 4096
+few : (acl : KeyMap) → IsValid acl → length (entries acl) ≤ most_entries
 few acl valid = omega (arith, no_more (length (keys (entries acl))) _ valid, length-map (entries acl) (λ e. e.key))
 
 -- the attribute of a list is read as that list
@@ -197,7 +198,7 @@ attr_again acl valid ids =
     let es = entries acl in
     let bytes = flat_map entry_bytes es in
     let last = length (entries_in bytes) in
-    let read_each = encoded_again 1 0 [] es (omega (arith, few acl valid)) (in_order-entries acl) (recursion_from_All (λ (e : Entry). id_of e.key < 4294967295) es ids) (no_tag es) in
+    let read_each = encoded_again 1 0 [] es (omega (arith, few acl valid)) (in_order-entries acl) (recursion_from_All (λ (e : Entry). id_of e.key < nobody) es ids) (no_tag es) in
     let read : list_in bytes ≡ list_from last (map_of es) (fault (entries (map_of es))) = ap (λ cut. list_of last (read_each_from one_entry 1 start cut)) (cut_again es) ∙ ap (list_of last) read_each in
     let whole : list_in bytes ≡ Ok acl = read ∙ (ap (λ m. list_from last m (fault (entries m))) (map_of-entries acl) ∙ ap (list_from last acl) valid) in
     let head : has_head (attr_bytes acl) ≡ true = ap (λ b. b && true) (le-leb 4 (length (attr_bytes acl)) (omega arith)) in

@@ -11,8 +11,9 @@ use Rattle.acl_entry.specs.declared.entry.Entry.{Entry}
 use Rattle.acl_entry.specs.declared.entry.ListFault.{ListFault}
 use Rattle.acl_entry.specs.declared.key.Key.{Key}
 use Rattle.acl_entry.specs.declared.key.Key.TheVariants.{Owner, User, OwningGroup, Group, Mask, Other}
+use Rattle.acl_entry.specs.Ids.{nobody}
 use Rattle.acl_entry.specs.Keys.{key_cmp, named_id}
-use Rattle.acl_entry.specs.Lists.{KeyMap, IsValid, keys, pairs, is_among, repeated_from, map_of, entries, fault}
+use Rattle.acl_entry.specs.Lists.{KeyMap, IsValid, keys, pairs, is_among, repeated_from, map_of, entries, fault, most_entries}
 use Rattle.acl_entry.specs.Perms.{number}
 use Rattle.acl_entry.proofs.Maps.{get-map_of}
 use Rattle.acl_entry.proofs.Faults.{is_among-keys}
@@ -120,9 +121,9 @@ read_encoded at tag done (p ∷ ps) new fits e =
 
 key_decoded : (k : Key) (n : ℕ) → IsIdOf (named_id k) n → key_of (tag_of k) n ≡ Some k
 key_decoded Owner n is = refl
-key_decoded (User id) n is = ap (λ (m : ℕ). option_map User (id_from m)) is.0 ∙ ap (λ b. option_map User (cond b (Some id) None)) (lt-ltb id 4294967295 is.1)
+key_decoded (User id) n is = ap (λ (m : ℕ). option_map User (id_from m)) is.0 ∙ ap (λ b. option_map User (cond b (Some id) None)) (lt-ltb id nobody is.1)
 key_decoded OwningGroup n is = refl
-key_decoded (Group id) n is = ap (λ (m : ℕ). option_map Group (id_from m)) is.0 ∙ ap (λ b. option_map Group (cond b (Some id) None)) (lt-ltb id 4294967295 is.1)
+key_decoded (Group id) n is = ap (λ (m : ℕ). option_map Group (id_from m)) is.0 ∙ ap (λ b. option_map Group (cond b (Some id) None)) (lt-ltb id nobody is.1)
 key_decoded Mask n is = refl
 key_decoded Other n is = refl
 
@@ -140,11 +141,11 @@ module _ (at : ℕ) (reading : Reading) (piece : List ℕ) (e : Entry) where
       ∙ ap (λ o. option_and_then (more e.perm) o) (key_decoded e.key id is_id)
       ∙ ap (λ b. cond b None (Some after)) apart
 
-  encoded_entry : Encodes piece e → at ≤ 4096 → reading.last_tag ≤ tag_of e.key → maps.contains_key reading.entries e.key ≡ false → one_entry at reading piece ≡ Ok after
+  encoded_entry : Encodes piece e → at ≤ most_entries → reading.last_tag ≤ tag_of e.key → maps.contains_key reading.entries e.key ≡ false → one_entry at reading piece ≡ Ok after
   encoded_entry encoded few rises apart =
       let numbers = with_numbers reading (little_number 2 piece) (little_number 2 (drop 2 piece)) (little_number 4 (drop 4 piece)) in
       ap (λ o. or_fault o BadAttr) (
-      ap (λ b. cond (b || not (eqb (length piece) 8)) None numbers) (le-ltb 4096 at few)
+      ap (λ b. cond (b || not (eqb (length piece) 8)) None numbers) (le-ltb most_entries at few)
       ∙ ap (λ b. cond (not b) None numbers) (eq-eqb (length piece) 8 encoded.eight)
       ∙ encoded_numbers (little_number 2 piece) (little_number 2 (drop 2 piece)) (little_number 4 (drop 4 piece)) encoded.tag encoded.perm encoded.id rises apart
       )

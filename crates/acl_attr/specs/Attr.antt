@@ -8,8 +8,9 @@ use Rattle.acl_entry.specs.declared.entry.Entry.{Entry}
 use Rattle.acl_entry.specs.declared.entry.ListFault.{ListFault}
 use Rattle.acl_entry.specs.declared.key.Key.{Key}
 use Rattle.acl_entry.specs.declared.key.Key.TheVariants.{Owner, User, OwningGroup, Group, Mask, Other}
+use Rattle.acl_entry.specs.Ids.{nobody}
 use Rattle.acl_entry.specs.Keys.{named_id}
-use Rattle.acl_entry.specs.Lists.{KeyMap, entries, fault}
+use Rattle.acl_entry.specs.Lists.{KeyMap, entries, fault, most_entries}
 use Rattle.acl_entry.specs.Perms.{Perms, number, numbered}
 use Rattle.acl_text.specs.declared.fault.FaultKind.{FaultKind}
 use Rattle.acl_text.specs.declared.fault.FaultKind.TheVariants.{BadAttr}
@@ -31,7 +32,7 @@ tag_of Other = 32
 
 -- the id that is named, and the greatest number of four bytes where nobody is
 abbrev pub written_id : Key → ℕ
-written_id key = unwrap_or (named_id key) 4294967295
+written_id key = unwrap_or (named_id key) nobody
 
 abbrev pub entry_bytes : Entry → List ℕ
 entry_bytes e = little_bytes 2 (tag_of e.key) ++ (little_bytes 2 (number e.perm) ++ little_bytes 4 (written_id e.key))
@@ -42,9 +43,9 @@ attr_bytes acl = little_bytes 4 2 ++ flat_map entry_bytes (entries acl)
 
 -- ---- reading
 
--- the number 4294967295 names nobody
+-- an id, but for the number that names nobody
 abbrev pub id_from : ℕ → Option ℕ
-id_from n = if nat_lt n 4294967295 then Some n else None
+id_from n = if nat_lt n nobody then Some n else None
 
 -- an entry that names nobody may have any id
 abbrev pub key_of : ℕ → ℕ → Option Key
@@ -79,7 +80,7 @@ with_numbers reading tag perm id =
 -- the entry at a place, by the numbers that its bytes read as; eight bytes, and at most 4,096 entries
 abbrev pub with_entry : ℕ → Reading → List ℕ → Option Reading
 with_entry at reading bytes =
-    if nat_lt 4096 at || not (length bytes == 8) then None
+    if nat_lt most_entries at || not (length bytes == 8) then None
     else with_numbers reading (little_number 2 bytes) (little_number 2 (drop 2 bytes)) (little_number 4 (drop 4 bytes))
 
 abbrev pub one_entry : ℕ → Reading → List ℕ → Result Reading FaultKind

@@ -2,8 +2,9 @@
 use Rattle.std.specs.Prelude.{◌≡◌, ℕ, ◌+◌, ◌≤◌, ◌<◌, ◌⊎◌, List, [], ◌∷◌, ◌++◌, drop, length, true, false, Option, Some, None}
 use Rattle.std.specs.List.{flat_map}
 use Rattle.acl_entry.specs.declared.entry.Entry.{Entry}
+use Rattle.acl_entry.specs.Ids.{nobody}
 use Rattle.acl_entry.specs.Keys.{named_id}
-use Rattle.acl_entry.specs.Lists.{KeyMap, IsValid, keys, repeated, map_of}
+use Rattle.acl_entry.specs.Lists.{KeyMap, IsValid, keys, repeated, map_of, most_entries}
 use Rattle.acl_entry.specs.Perms.{number}
 use Rattle.byteorder.specs.Endian.{little_number}
 use Rattle.acl_attr.specs.Attr.{tag_of, has_head, entries_in}
@@ -11,7 +12,7 @@ use Rattle.acl_attr.specs.Attr.{tag_of, has_head, entries_in}
 -- an id is named where the entry names one, and may be any number where it names nobody
 abbrev pub IsIdOf : Option ℕ → ℕ → Type 0
 IsIdOf None n = Unit {0}
-IsIdOf (Some id) n = (n ≡ id) × (id < 4294967295)
+IsIdOf (Some id) n = (n ≡ id) × (id < nobody)
 
 -- eight bytes read as an entry's tag, its permissions and its id
 pub record Encodes (bytes : List ℕ) (e : Entry) : Type 0 where
@@ -35,7 +36,7 @@ TagsRise tag (e ∷ es) = (tag ≤ tag_of e.key) × TagsRise (tag_of e.key) es
 -- Pieces in turn are entries: their tags never fall, and no key comes twice.
 pub record Read (pieces : List (List ℕ)) (entries : List Entry) : Type 0 where
   pub encoded : EncodeEach pieces entries
-  pub few : length entries ≤ 4096
+  pub few : length entries ≤ most_entries
   pub tags : TagsRise 0 entries
   pub once : repeated (keys entries) ≡ None
 

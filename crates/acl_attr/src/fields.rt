@@ -3,7 +3,7 @@
 ghost use Rattle.std.specs.Prelude.{◌≡◌, ◌<◌, ◌^◌, IfSome};
 ghost use Rattle.acl_attr.specs.Attr.{tag_of, key_of, written_id};
 
-use acl_entry::{Id, Key};
+use acl_entry::{Id, Key, NOBODY};
 
 /// The number that an attribute begins with.
 pub(crate) const VERSION: u32 = 2;
@@ -25,9 +25,6 @@ const GROUP: u16 = 8;
 const MASK: u16 = 16;
 
 const OTHER: u16 = 32;
-
-/// What is written for an id where an entry names nobody.
-const NO_ID: u32 = 4294967295;
 
 /// The tag of a key.
 pub(crate) fn tag_of(key: &Key) -> u16
@@ -65,6 +62,6 @@ pub(crate) fn written_id(key: &Key) -> u32
 {
     match key.id() {
         Some(id) => id.number(),
-        None => NO_ID,
+        None => NOBODY,
     }
 }

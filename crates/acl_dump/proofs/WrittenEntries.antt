@@ -7,6 +7,7 @@ use Rattle.std.proofs.lemmas.List.{reverse-append}
 use Rattle.acl_entry.specs.declared.entry.Entry.{Entry}
 use Rattle.acl_entry.specs.declared.key.Key.{Key}
 use Rattle.acl_entry.specs.declared.key.Key.TheVariants as keys
+use Rattle.acl_entry.specs.Ids.{nobody}
 use Rattle.acl_entry.specs.Keys.{id_of, is_class}
 use Rattle.acl_entry.specs.Perms as perms
 use Rattle.acl_entry.specs.Perms.{Perms}
@@ -178,7 +179,7 @@ module _ (user_id group_id : List ℕ → Option ℕ) (user_name group_name : �
   word_of k = qualifier user_name group_name k
 
   -- the fields of an entry with blanks after it
-  entry_fields_again : (e : Entry) (t : List ℕ) → id_of e.key < 4294967295 → IsNamedKey e.key → AllByRecursion (λ b. is_blank b ≡ true) t
+  entry_fields_again : (e : Entry) (t : List ℕ) → id_of e.key < nobody → IsNamedKey e.key → AllByRecursion (λ b. is_blank b ≡ true) t
       → entry_fields (written e ++ t) ≡ tag_text Long e.key ∷ word_of e.key ∷ perms.text e.perm ∷ []
   entry_fields_again e t lt named blank =
       let tag = tag_text Long e.key in
@@ -187,7 +188,7 @@ module _ (user_id group_id : List ℕ → Option ℕ) (user_name group_name : �
       ∙ fields_followed tag word t e.perm (tag_plain Long e.key) (qualifier_plain true false user_id group_id user_name group_name e.key lt named) blank
 
   -- an entry with blanks after it
-  fields_again : (at : ℕ) (which : Which) (e : Entry) (t : List ℕ) → id_of e.key < 4294967295 → IsNamedKey e.key → AllByRecursion (λ b. is_blank b ≡ true) t
+  fields_again : (at : ℕ) (which : Which) (e : Entry) (t : List ℕ) → id_of e.key < nobody → IsNamedKey e.key → AllByRecursion (λ b. is_blank b ≡ true) t
       → item_of user_id group_id at lines.Entry (shown user_name group_name which e ++ t) ≡ Ok (Some (item.Entry (is_default which) e))
   fields_again at Access e t lt named blank =
       ap (λ f. entry_from user_id group_id rules at f >>= (λ spec. Ok (Some (entry_item spec)))) (entry_fields_again e t lt named blank)
@@ -223,7 +224,7 @@ module _ (user_id group_id : List ℕ → Option ℕ) (user_name group_name : �
   front_line Access = tt
   front_line Default = (refl, (refl, (refl, (refl, (refl, (refl, (refl, (refl, tt))))))))
 
-  in_shown : (q : ℕ → Bool) → ((b : ℕ) → is_plain b ≡ true → q b ≡ false) → q 58 ≡ false → (which : Which) → AllByRecursion (λ b. q b ≡ false) (front which) → (e : Entry) → id_of e.key < 4294967295 → IsNamedKey e.key
+  in_shown : (q : ℕ → Bool) → ((b : ℕ) → is_plain b ≡ true → q b ≡ false) → q 58 ≡ false → (which : Which) → AllByRecursion (λ b. q b ≡ false) (front which) → (e : Entry) → id_of e.key < nobody → IsNamedKey e.key
       → AllByRecursion (λ b. q b ≡ false) (shown user_name group_name which e)
   in_shown q why colon which none e lt named = all-append (λ b. q b ≡ false) (front which) (written e) none (in_entry true false user_id group_id user_name group_name q why colon Long e lt named)
 
@@ -231,20 +232,20 @@ module _ (user_id group_id : List ℕ → Option ℕ) (user_name group_name : �
   abbrev ReadsAs : ℕ → Which → Entry → List ℕ → Type 0
   ReadsAs at which e line = (v : List ℕ) × (content_of line ≡ (lines.Entry, v)) × (item_of user_id group_id at lines.Entry v ≡ Ok (Some (item.Entry (is_default which) e)))
 
-  reads_bare : (at : ℕ) (which : Which) (e : Entry) → id_of e.key < 4294967295 → IsNamedKey e.key → ReadsAs at which e (shown user_name group_name which e ++ [])
+  reads_bare : (at : ℕ) (which : Which) (e : Entry) → id_of e.key < nobody → IsNamedKey e.key → ReadsAs at which e (shown user_name group_name which e ++ [])
   reads_bare at which e lt named =
       let text = shown user_name group_name which e in
       let none = all-append (λ b. (b == 35) ≡ false) text [] (in_shown (λ b. b == 35) plain-hash refl which (front_hash which) e lt named) tt in
       (text ++ [], opened which e [] ∙ ap (λ (v : List ℕ). (lines.Entry, v)) (before_first_none (λ b. b == 35) (text ++ []) none), fields_again at which e [] lt named tt)
 
-  reads_commented : (at : ℕ) (which : Which) (e : Entry) (t ys : List ℕ) → id_of e.key < 4294967295 → IsNamedKey e.key → AllByRecursion (λ b. is_blank b ≡ true) t → ReadsAs at which e (shown user_name group_name which e ++ (t ++ 35 ∷ ys))
+  reads_commented : (at : ℕ) (which : Which) (e : Entry) (t ys : List ℕ) → id_of e.key < nobody → IsNamedKey e.key → AllByRecursion (λ b. is_blank b ≡ true) t → ReadsAs at which e (shown user_name group_name which e ++ (t ++ 35 ∷ ys))
   reads_commented at which e t ys lt named blank =
       let text = shown user_name group_name which e in
       let none = all-append (λ b. (b == 35) ≡ false) text t (in_shown (λ b. b == 35) plain-hash refl which (front_hash which) e lt named) (no_hash t blank) in
       (text ++ t, opened which e (t ++ 35 ∷ ys) ∙ ap (λ (v : List ℕ). (lines.Entry, v)) (ap (before_first (λ b. b == 35)) (sym (append_assoc text t (35 ∷ ys))) ∙ before_first_at (λ b. b == 35) (text ++ t) 35 ys none refl), fields_again at which e t lt named blank)
 
   -- a line of an entry, with or without its effective permissions
-  pub line_again : (at : ℕ) (how : Effective) (which : Which) (mask : Option Perms) (e : Entry) → id_of e.key < 4294967295 → IsNamedKey e.key
+  pub line_again : (at : ℕ) (how : Effective) (which : Which) (mask : Option Perms) (e : Entry) → id_of e.key < nobody → IsNamedKey e.key
       → ReadsAs at which e (shown user_name group_name which e ++ comment how mask e (length (shown user_name group_name which e)))
   line_again at how which None e lt named = reads_bare at which e lt named
   line_again at how which (Some mask) e lt named =
@@ -267,7 +268,7 @@ module _ (user_id group_id : List ℕ → Option ℕ) (user_name group_name : �
         | false ↦ tt
       ]
 
-  pub line_clean : (how : Effective) (which : Which) (mask : Option Perms) (e : Entry) → id_of e.key < 4294967295 → IsNamedKey e.key
+  pub line_clean : (how : Effective) (which : Which) (mask : Option Perms) (e : Entry) → id_of e.key < nobody → IsNamedKey e.key
       → AllByRecursion (λ b. (b == 10) ≡ false) (shown user_name group_name which e ++ comment how mask e (length (shown user_name group_name which e)))
   line_clean how which mask e lt named =
       let text = shown user_name group_name which e in

@@ -7,6 +7,7 @@ use Rattle.std.proofs.lemmas.List.{append-nil, map-append}
 use Rattle.std.proofs.lemmas.List.Elements.{recursion_from_All}
 use Rattle.acl_entry.specs.declared.entry.Entry.{Entry}
 use Rattle.acl_entry.specs.declared.key.Key.TheVariants.{Mask}
+use Rattle.acl_entry.specs.Ids.{nobody}
 use Rattle.acl_entry.specs.Keys.{id_of}
 use Rattle.acl_entry.specs.Lists.{KeyMap, entries, fault, IsValid}
 use Rattle.acl_entry.specs.Perms.{Perms}
@@ -223,7 +224,7 @@ module _ (dump_use : DumpUse) (user_id group_id : List ℕ → Option ℕ) (user
       ∙ (append_assoc text (note ++ 10 ∷ []) (more ++ rest)
       ∙ (ap (λ (l : List ℕ). text ++ l) (append_assoc note (10 ∷ []) (more ++ rest)) ∙ sym (append_assoc text note (10 ∷ (more ++ rest)))))
 
-  access_chunk : (records : List DumpRecord) (first at : ℕ) (r : DumpRecord) (mask : Option Perms) (xs es : List Entry) (rest : List ℕ) → AllByRecursion (λ e. id_of e.key < 4294967295) es → AllByRecursion NamedEntry es
+  access_chunk : (records : List DumpRecord) (first at : ℕ) (r : DumpRecord) (mask : Option Perms) (xs es : List Entry) (rest : List ℕ) → AllByRecursion (λ e. id_of e.key < nobody) es → AllByRecursion NamedEntry es
       → reading records (drafted first r r.owner r.group r.flags xs []) at (lines_text Access mask es ++ rest) ≡ reading records (drafted first r r.owner r.group r.flags (xs ++ es) []) (at + length es) rest
   access_chunk records first at r mask xs [] rest small found =
       no_more records (drafted first r r.owner r.group r.flags xs []) at rest ∙ ap (λ (l : List Entry). reading records (drafted first r r.owner r.group r.flags l []) (at + 0) rest) (sym (append-nil xs))
@@ -237,7 +238,7 @@ module _ (dump_use : DumpUse) (user_id group_id : List ℕ → Option ℕ) (user
       ∙ (ap (λ (l : List Entry). reading records (draft l []) (at + 1 + length es) rest) (append_assoc xs (e ∷ []) es)
       ∙ ap (λ (n : ℕ). reading records (draft (xs ++ e ∷ es) []) n rest) (omega arith))))
 
-  default_chunk : (records : List DumpRecord) (first at : ℕ) (r : DumpRecord) (mask : Option Perms) (access xs es : List Entry) (rest : List ℕ) → AllByRecursion (λ e. id_of e.key < 4294967295) es → AllByRecursion NamedEntry es
+  default_chunk : (records : List DumpRecord) (first at : ℕ) (r : DumpRecord) (mask : Option Perms) (access xs es : List Entry) (rest : List ℕ) → AllByRecursion (λ e. id_of e.key < nobody) es → AllByRecursion NamedEntry es
       → reading records (drafted first r r.owner r.group r.flags access xs) at (lines_text Default mask es ++ rest) ≡ reading records (drafted first r r.owner r.group r.flags access (xs ++ es)) (at + length es) rest
   default_chunk records first at r mask access xs [] rest small found =
       no_more records (drafted first r r.owner r.group r.flags access xs) at rest ∙ ap (λ (l : List Entry). reading records (drafted first r r.owner r.group r.flags access l) (at + 0) rest) (sym (append-nil xs))
@@ -255,7 +256,7 @@ module _ (dump_use : DumpUse) (user_id group_id : List ℕ → Option ℕ) (user
       → reading records (drafted first r r.owner r.group r.flags access []) at (default_text user_name group_name WhereMasked dacl ++ rest) ≡ reading records (drafted first r r.owner r.group r.flags access (default_entries dacl)) (at + default_count dacl) rest
   defaults_chunk records first at r access None rest is = no_more records (drafted first r r.owner r.group r.flags access []) at rest
   defaults_chunk records first at r access (Some acl) rest is =
-      default_chunk records first at r (maps.get acl Mask) access [] (entries acl) rest (recursion_from_All (λ (e : Entry). id_of e.key < 4294967295) (entries acl) is.ids) is.named
+      default_chunk records first at r (maps.get acl Mask) access [] (entries acl) rest (recursion_from_All (λ (e : Entry). id_of e.key < nobody) (entries acl) is.ids) is.named
 
   -- ---- records
 
@@ -280,7 +281,7 @@ module _ (dump_use : DumpUse) (user_id group_id : List ℕ → Option ℕ) (user
       ∙ (owner_chunk more at from_owner r r.owner grouping is.owner
       ∙ (group_chunk more at from_group r r.owner r.group flagged is.group
       ∙ (flags_chunk more at from_flags r r.owner r.group r.flags listing is.flags
-      ∙ (access_chunk more at from_access r (maps.get r.access Mask) [] (entries r.access) ending (recursion_from_All (λ (e : Entry). id_of e.key < 4294967295) (entries r.access) is.access.ids) is.access.named
+      ∙ (access_chunk more at from_access r (maps.get r.access Mask) [] (entries r.access) ending (recursion_from_All (λ (e : Entry). id_of e.key < nobody) (entries r.access) is.access.ids) is.access.named
       ∙ (defaults_chunk more at from_default r (entries r.access) r.dacl (10 ∷ rest) is.dacl
       ∙ (read_one_item more (Some (all_lines at r)) (Some (all_lines at r)) (from_default + default_count r.dacl) [] rest lines.Nothing [] None tt refl refl refl refl
       ∙ ap (λ (n : ℕ). reading more (Some (all_lines at r)) n rest) (omega arith))))))))

@@ -1,6 +1,7 @@
 -- Where the records of a dump are read again as they are written.
 use Rattle.std.specs.Prelude.{◌≡◌, ℕ, ◌+◌, ◌<◌, List, [], ◌∷◌, ◌++◌, length, Bool, true, false, Option, Some, None, is_some, map}
 use Rattle.std.specs.List.{list_all, list_any, flat_map}
+use Rattle.acl_entry.specs.Ids.{nobody}
 use Rattle.acl_entry.specs.Lists.{KeyMap, entries, IsValid, HasIds}
 use Rattle.acl_names.specs.Paths.{is_component}
 use Rattle.acl_text.specs.Writing.{IsNamed, AreNamed}
@@ -12,7 +13,7 @@ use Rattle.acl_dump.specs.Writing.{record_text}
 
 -- an owner or a group, if there is one, has an id, and its name is found again
 pub record IsFound (look_up : List ℕ → Option ℕ) (name_of : ℕ → Option (List ℕ)) (id : ℕ) : Type 0 where
-  pub small : id < 4294967295
+  pub small : id < nobody
   pub named : IsNamed look_up id (name_of id)
 
 abbrev pub IsFoundIf : (List ℕ → Option ℕ) → (ℕ → Option (List ℕ)) → Option ℕ → Type 0

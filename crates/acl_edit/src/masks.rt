@@ -1,13 +1,13 @@
 //! The mask that a setfacl(1) line leaves in a list that it names.
-ghost use Rattle.std.specs.Prelude.{◌≡◌, ◌<◌, IsOk, OnOk, map, filter};
-ghost use Rattle.acl_entry.specs.Lists.{union_all, in_class, perm_of_entry, inline_entries};
+ghost use Rattle.std.specs.Prelude.{◌≡◌, ◌<◌, IsOk, OnOk};
+ghost use Rattle.acl_entry.specs.Lists.{inline_entries};
 ghost use Rattle.acl_edit.specs.Rooms.{size};
 ghost use Rattle.acl_edit.specs.Parts.{part};
 ghost use Rattle.acl_edit.specs.Masks as masks;
 ghost use Rattle.acl_edit.specs.Masks.{has_mask, has_named, is_recalculated};
 
 use crate::Change;
-use acl_entry::{Draft, Entry, Key, Perm};
+use acl_entry::{Draft, Key};
 use acl_text::Which;
 use std::alloc::AllocError;
 
@@ -22,19 +22,6 @@ fn has_named(draft: &Draft) -> bool
     ensures { result ≡ has_named draft.now }
 {
     draft.entries().iter().any(|entry| entry.key.is_named())
-}
-
-/// All that the entries of the group class have.
-fn class_union(entries: &[Entry]) -> Perm
-    ensures { result ≡ union_all (map perm_of_entry (filter in_class entries.now)) }
-{
-    let mut all = Perm::none();
-    for entry in entries {
-        if entry.key.is_class() {
-            all = all.union(entry.perm);
-        }
-    }
-    all
 }
 
 /// Gives a list with named entries and without a mask one that is equal to the owning group.
@@ -56,7 +43,7 @@ fn recalculate(draft: &mut Draft) -> Result<(), AllocError>
     ensures room { IsOk result }
 {
     if has_mask(draft) {
-        let all = class_union(draft.entries());
+        let all = draft.class_union();
         draft.insert(Key::Mask, all)?;
     }
     Ok(())

@@ -1,3 +1,4 @@
+pub mod Ids
 pub mod Perms
 pub mod Keys
 pub mod Lists

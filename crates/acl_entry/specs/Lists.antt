@@ -6,6 +6,7 @@ use Rattle.std.specs.FinMap as maps
 use Rattle.std.specs.FinMap.{FinMap}
 use Rattle.acl_entry.specs.Perms as perms
 use Rattle.acl_entry.specs.Perms.{Perms}
+use Rattle.acl_entry.specs.Ids.{nobody}
 use Rattle.acl_entry.specs.Keys.{key_cmp, same_key, id_of, is_named, is_class, is_base}
 use Rattle.acl_entry.specs.declared.key.Key.{Key}
 use Rattle.acl_entry.specs.declared.key.Key.TheVariants.{Owner, OwningGroup, Mask, Other}
@@ -162,9 +163,9 @@ pub record IsGapFor (es : List Entry) (k : Key) (i : ℕ) : Type 0 where
   pub lower_before : (j : ℕ) (d : Entry) → j < i → key_cmp k (slice_index_or es j d).key ≡ Greater
   pub higher_after : (j : ℕ) (d : Entry) → i ≤ j → j < length es → key_cmp k (slice_index_or es j d).key ≡ Less
 
--- each named id is one: 4294967295 names nobody
+-- each named id is one
 abbrev pub HasIds : List Entry → Type 0
-HasIds es = All (λ e. id_of e.key < 4294967295) es
+HasIds es = All (λ e. id_of e.key < nobody) es
 
 -- entries that are a map
 pub record IsMap (es : List Entry) : Type 0 where

@@ -6,6 +6,7 @@ ghost use Rattle.acl_entry.specs.declared.entry.ListFault.TheVariants.{NoMemory,
 ghost use Rattle.acl_entry.specs.declared.key.Key.TheVariants.{Mask};
 ghost use Rattle.std.specs.List.Sorted.{IsPermutation};
 ghost use Rattle.std.specs.FinMap as maps;
+ghost use Rattle.acl_entry.specs.Ids.{nobody};
 ghost use Rattle.acl_entry.specs.Keys.{key_cmp, is_named, is_base};
 ghost use Rattle.acl_entry.specs.Lists as lists;
 ghost use Rattle.acl_entry.specs.Lists.{HasIds, IsValid, IsList};
@@ -16,7 +17,7 @@ ghost use Rattle.std.specs.List.{position_from, list_all};
 use crate::sorted::{
     class_union, has_base_alone, has_entry, in_order, missing_base, perm_of, set_mode, unmasked,
 };
-use crate::{Entry, Key, ListFault, Perm};
+use crate::{Entry, Key, ListFault, NOBODY, Perm};
 use smallvec::SmallVec;
 use std::alloc::{AllocError, Global};
 use std::marker::Model;
@@ -27,10 +28,11 @@ pub const MAX_ENTRIES: usize = 4096;
 /// The most entries that a list keeps with no allocation.
 pub const INLINE_ENTRIES: usize = 8;
 
-/// Proof only: the most entries of a list, and how many of them it keeps with no allocation.
+/// Proof only: the most entries of a list, how many of them it keeps with no allocation, and the number that is no id.
 pub fn limits_are_as_defined()
     ensures most { MAX_ENTRIES ≡ lists.most_entries }
     ensures inline { INLINE_ENTRIES ≡ lists.inline_entries }
+    ensures nobody { NOBODY ≡ nobody }
 {}
 
 /// A valid access control list, seen by contracts as the map from keys to permission sets.

@@ -5,7 +5,7 @@ ghost use Rattle.acl_entry.specs.Lists as lists;
 ghost use Rattle.acl_entry.specs.Lists.{HasIds, IsValid};
 
 use crate::acl::{Acl, INLINE_ENTRIES};
-use crate::sorted::{fault_in_order, perm_of, place, set_perm};
+use crate::sorted::{class_union, fault_in_order, perm_of, place, set_perm};
 use crate::{Entry, Key, ListFault, Perm};
 use smallvec::SmallVec;
 use std::alloc::{AllocError, Global};
@@ -100,6 +100,14 @@ impl Draft {
         ensures ids { HasIds result.now }
     {
         &self.entries
+    }
+
+    /// The union of what the entries of the group class have, the mask apart: what a mask is
+    /// recalculated to, setfacl(1).
+    pub fn class_union(&self) -> Perm
+        ensures { result ≡ lists.class_union self.now }
+    {
+        class_union(&self.entries)
     }
 
     /// The list of these entries. It takes no memory.

@@ -1,12 +1,16 @@
 //! Whom an entry is for: acl(5), "ACL ENTRIES".
 ghost use Rattle.std.specs.Prelude.{◌≡◌, ◌<◌, SomeIff};
+ghost use Rattle.acl_entry.specs.Ids.{nobody};
 ghost use Rattle.acl_entry.specs.Keys.{key_cmp, named_id, id_of, is_named, is_class, is_base};
 
 use std::cmp::Ordering;
 use std::marker::Model;
 
-/// The number of a user or a group, from 0 to 4294967294. The greatest `u32` names nobody: the
-/// system calls use it for "no change", and attribute bytes for "no qualifier".
+/// The greatest `u32`, which is no id: the system calls use it for "no change", and attribute bytes for "no
+/// qualifier".
+pub const NOBODY: u32 = 4294967295;
+
+/// The number of a user or a group, from 0 to 4294967294: any but [`NOBODY`].
 #[derive(Clone, Copy, PartialEq, Eq, PartialOrd, Ord, Debug)]
 pub struct Id {
     number: u32,
@@ -14,22 +18,23 @@ pub struct Id {
 
 impl Model for Id {
     ghost use Rattle.std.specs.Prelude.{ℕ, ◌<◌};
+    ghost use Rattle.acl_entry.specs.Ids.{nobody};
 
     ghost Value = { ℕ };
 
     ghost view = { λ a. a.number };
 
-    ghost invariant = { λ a. a.number < 4294967295 };
+    ghost invariant = { λ a. a.number < nobody };
 
     ghost inverse = { λ n. record { number = n } };
 }
 
 impl Id {
-    /// The id of a number, and `None` for 4294967295.
+    /// The id of a number, and `None` for [`NOBODY`].
     pub fn new(number: u32) -> Option<Id>
-        ensures { SomeIff result (number < 4294967295) number }
+        ensures { SomeIff result (number < nobody) number }
     {
-        if number < u32::MAX {
+        if number < NOBODY {
             Some(Id { number })
         } else {
             None
@@ -39,7 +44,7 @@ impl Id {
     /// The id's number, at most 4294967294.
     pub fn number(self) -> u32
         ensures is { result ≡ self }
-        ensures small { self < 4294967295 }
+        ensures small { self < nobody }
     {
         self.number
     }
@@ -74,7 +79,7 @@ impl Key {
     /// The id of the user or the group that is named, if one is.
     pub fn id(&self) -> Option<Id>
         ensures named { result ≡ named_id self.now }
-        ensures bound { id_of self.now < 4294967295 }
+        ensures bound { id_of self.now < nobody }
     {
         match *self {
             Key::User(id) | Key::Group(id) => {

@@ -19,6 +19,6 @@ pub use acl::{Acl, INLINE_ENTRIES, MAX_ENTRIES, limits_are_as_defined};
 pub use check::{Requests, granted};
 pub use draft::Draft;
 pub use entry::{Entry, ListFault};
-pub use key::{Id, Key};
+pub use key::{Id, Key, NOBODY};
 pub use label::{Label, Subject};
 pub use perm::Perm;

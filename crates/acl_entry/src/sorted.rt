@@ -5,6 +5,7 @@ ghost use Rattle.acl_entry.specs.declared.entry.ListFault.TheVariants.{NoMemory,
 ghost use Rattle.acl_entry.specs.declared.key.Key.TheVariants.{Mask};
 ghost use Rattle.std.specs.List.Sorted.{IsPermutation};
 ghost use Rattle.std.specs.FinMap as maps;
+ghost use Rattle.acl_entry.specs.Ids.{nobody};
 ghost use Rattle.acl_entry.specs.Keys.{key_cmp, is_named, is_base, id_of};
 ghost use Rattle.acl_entry.specs.Lists as lists;
 ghost use Rattle.acl_entry.specs.Lists.{IsAt, IsGapFor, IsInOrder, IsList, HasIds, pairs, keys, repeated, in_class, perm_of_entry};
@@ -20,7 +21,7 @@ pub(crate) fn place(entries: &[Entry], key: &Key) -> Result<usize, usize>
     requires { IsInOrder entries.now }
     ensures found { IfOk result (IsAt entries.now key.now) }
     ensures absent { IfErr result (IsGapFor entries.now key.now) }
-    ensures id { id_of key.now < 4294967295 }
+    ensures id { id_of key.now < nobody }
 {
     let _id = key.id();
     entries.binary_search_by_key(key, |entry| entry.key)

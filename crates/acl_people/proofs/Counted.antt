@@ -15,7 +15,7 @@ use Rattle.acl_text.specs.declared.fault.FaultKind.{FaultKind}
 use Rattle.acl_text.specs.declared.fault.FaultKind.TheVariants.{TooMany}
 use Rattle.acl_text.specs.declared.fault.TextFault.{TextFault}
 use Rattle.acl_text.specs.InTurn.{read_each_from, at_place}
-use Rattle.acl_text.specs.Rows.{is_repeated, counted, one_line, has_no_content}
+use Rattle.acl_text.specs.Rows.{is_repeated, counted, one_line, has_no_content, most_rows}
 use Rattle.acl_people.specs.Rolls.{Named, is_name, AreNames, AreCounted}
 use Rattle.acl_people.proofs.Bytes.{are_texts, pieces_made}
 use Rattle.acl_people.proofs.Places.{position-cons, position-push}
@@ -71,7 +71,7 @@ names_push es y names new text = record { once = once; filled = each_filled; mad
 pub none_counted : AreCounted []
 none_counted = record { names = no_names; few = omega arith }
 
-pub counted_push : (es : List Named) (y : Named) → AreCounted es → position (is_name y.0) es ≡ None → IsNameText y.0 → length es < 65536 → AreCounted (es ++ y ∷ [])
+pub counted_push : (es : List Named) (y : Named) → AreCounted es → position (is_name y.0) es ≡ None → IsNameText y.0 → length es < most_rows → AreCounted (es ++ y ∷ [])
 counted_push es y known new text room = record { names = names_push es y known.names new text; few = omega (arith, length-append es (y ∷ [])) }
 
 first_is : {X : Type 0} (p : X → Bool) (xs : List X) (i : ℕ) (d : X) → i < length xs → ((k : ℕ) → k < i → p (get_or xs k d) ≡ false) → p (get_or xs i d) ≡ true → position p xs ≡ Some i
@@ -133,16 +133,16 @@ module _ {R : Type 0} (name_of : R → List ℕ) (id_of : R → ℕ) where
   counted_keeps rows new None text known is = absurd (err_is_not_ok _ new is)
   counted_keeps rows new (Some row) text known is = by (is_repeated name_of rows (name_of row)) refl is
     where
-      full : (b : Bool) → nat_le 65536 (length rows) ≡ b → is_repeated name_of rows (name_of row) ≡ false → (let many : Result (List R) FaultKind = Err TooMany in (if b then many else Ok (rows ++ row ∷ [])) ≡ Ok new) → AreCounted (entries new)
+      full : (b : Bool) → nat_le most_rows (length rows) ≡ b → is_repeated name_of rows (name_of row) ≡ false → (let many : Result (List R) FaultKind = Err TooMany in (if b then many else Ok (rows ++ row ∷ [])) ≡ Ok new) → AreCounted (entries new)
       full true room apart e = absurd (err_is_not_ok _ new e)
       full false room apart e =
           subst (λ rs. AreCounted (entries rs)) (ok_same FaultKind (rows ++ row ∷ []) new e)
           (let pushed : entries (rows ++ row ∷ []) ≡ entries rows ++ (name_of row, id_of row) ∷ [] = map_push (λ r. (name_of r, id_of r)) rows row in
           rw pushed (counted_push (entries rows) (name_of row, id_of row) known (not_there (name_of row) rows apart) (text row refl) (let as_long : length (entries rows) ≡ length rows = length-map rows (λ r. (name_of r, id_of r)) in grind (arith, nat_tests))))
 
-      by : (b : Bool) → is_repeated name_of rows (name_of row) ≡ b → (let many : Result (List R) FaultKind = Err TooMany in (if b then Ok rows else (if nat_le 65536 (length rows) then many else Ok (rows ++ row ∷ []))) ≡ Ok new) → AreCounted (entries new)
+      by : (b : Bool) → is_repeated name_of rows (name_of row) ≡ b → (let many : Result (List R) FaultKind = Err TooMany in (if b then Ok rows else (if nat_le most_rows (length rows) then many else Ok (rows ++ row ∷ []))) ≡ Ok new) → AreCounted (entries new)
       by true there e = subst (λ rs. AreCounted (entries rs)) (ok_same FaultKind rows new e) known
-      by false apart e = full (nat_le 65536 (length rows)) refl apart e
+      by false apart e = full (nat_le most_rows (length rows)) refl apart e
 
   module _ (row_of : List (List ℕ) → Option R) (text : (fields : List (List ℕ)) → are_texts fields ≡ true → (row : R) → row_of fields ≡ Some row → IsNameText (name_of row)) where
     line_keeps : (rows new : List R) (line : List ℕ) → list_all is_byte line ≡ true → AreCounted (entries rows) → one_line name_of row_of rows line ≡ Ok new → AreCounted (entries new)

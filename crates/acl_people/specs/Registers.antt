@@ -7,7 +7,7 @@ use Rattle.acl_entry.specs.Person.{Person}
 use Rattle.acl_text.specs.declared.rows.PasswdRow.{PasswdRow}
 use Rattle.acl_text.specs.declared.rows.GroupRow.{GroupRow}
 use Rattle.acl_text.specs.declared.fault.TextFault.{TextFault}
-use Rattle.acl_text.specs.Rows.{passwd_of, group_of}
+use Rattle.acl_text.specs.Rows.{passwd_of, group_of, most_rows}
 use Rattle.acl_people.specs.declared.fault.LoadFault.{LoadFault}
 use Rattle.acl_people.specs.declared.fault.LoadFault.TheVariants.{AlreadyLoaded, Text, NoMemory}
 use Rattle.acl_people.specs.Rolls.{Named, AreNames}
@@ -74,7 +74,7 @@ Loads view result is = MatchResult result (λ people. is ≡ Ok (view people)) (
 
 -- what is true of all people: at most 65,536 users and as many groups, each name in one row
 pub record IsSound (known : Register) : Type 0 where
-  pub few_users : length known.users ≤ 65536
-  pub few_groups : length known.groups ≤ 65536
+  pub few_users : length known.users ≤ most_rows
+  pub few_groups : length known.groups ≤ most_rows
   pub user_names : AreNames (users_of known)
   pub group_names : AreNames (groups_of known)

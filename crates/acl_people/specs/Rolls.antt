@@ -5,6 +5,7 @@ use Rattle.std.specs.Option.{is_some}
 use Rattle.std.specs.Str.{bytes_eq}
 use Rattle.acl_names.specs.Pieces.{is_byte}
 use Rattle.acl_text.specs.Ids.{is_number, id_of}
+use Rattle.acl_text.specs.Rows.{most_rows}
 use Rattle.acl_text.specs.Writing.{IsNamed}
 
 -- a name and its id
@@ -49,10 +50,10 @@ pub record AreNames (es : List Named) : Type 0 where
   pub filled : (i : ℕ) (d : Named) → i < length es → 0 < length (slice_index_or es i d).0
   pub made_of_bytes : (i : ℕ) (d : Named) → i < length es → list_all is_byte (slice_index_or es i d).0 ≡ true
 
--- the names and ids of counted rows: each name is in one row, and there are at most 65,536
+-- the names and ids of counted rows: each name is in one row, and there are at most `most_rows`
 pub record AreCounted (es : List Named) : Type 0 where
   pub names : AreNames es
-  pub few : length es ≤ 65536
+  pub few : length es ≤ most_rows
 
 -- Each name that an id prints as is found under that id, is made of bytes, is not empty, and is not digits alone.
 abbrev pub IsNaming : (List ℕ → Option ℕ) → (ℕ → Option (List ℕ)) → Type 0

@@ -3,6 +3,7 @@
 ghost use Rattle.std.specs.Prelude.{◌≡◌, ◌<◌, nat_le, true, false, length, IfOk, OnOk};
 ghost use Rattle.std.specs.List.{list_all};
 ghost use Rattle.acl_names.specs.Pieces.{is_byte};
+ghost use Rattle.acl_text.specs.Rows.{most_rows};
 ghost use Rattle.acl_people.specs.Rolls.{has_name, has_id};
 ghost use Rattle.acl_people.specs.Registers.{users_of, persons};
 ghost use Rattle.acl_people.specs.Changes.{gid_of, with_user, without_user};
@@ -12,12 +13,9 @@ use crate::people::People;
 use crate::user_name::UserName;
 use acl_entry::Id;
 use acl_names::Name;
-use acl_text::PasswdRow;
+use acl_text::{MAX_ROWS, PasswdRow};
 use std::alloc::{AllocError, Global};
 use std::rc::Rc;
-
-/// The most users.
-const MAX_USERS: usize = 65536;
 
 /// A new user's row.
 fn new_row(alloc: Global, name: &[u8], uid: Id, gid: Id) -> Result<PasswdRow, AllocError>
@@ -48,9 +46,9 @@ impl People {
 
     /// Whether there is no room for one more user.
     pub fn is_full(&self) -> bool
-        ensures { result ≡ nat_le 65536 (length self.now.users) }
+        ensures { result ≡ nat_le most_rows (length self.now.users) }
     {
-        self.user_rows().rows().len() >= MAX_USERS
+        self.user_rows().rows().len() >= MAX_ROWS
     }
 
     /// These people and one user more, the last, with a group as the primary group. Fails only if memory
@@ -63,7 +61,7 @@ impl People {
         group: usize,
     ) -> Result<People, AllocError>
         requires new { has_name name.now (users_of self.now) ≡ false }
-        requires room { length self.now.users < 65536 }
+        requires room { length self.now.users < most_rows }
         requires group { group < length self.now.groups }
         ensures rows { IfOk result (λ people. people ≡ with_user name.now uid group self.now) }
         ensures joins { IfOk result (λ people. JoinsUser (persons self.now) (persons people)) }

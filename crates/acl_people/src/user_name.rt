@@ -1,11 +1,10 @@
 //! Names that new users may have.
 
 ghost use Rattle.std.specs.Prelude.{◌≡◌, ◌<◌, length, Some, None, if◌then◌else◌};
-ghost use Rattle.std.specs.List.{list_any};
-ghost use Rattle.acl_people.specs.UserNames.{cuts_row, is_user_name};
+ghost use Rattle.acl_text.specs.UserNames.{is_user_name};
 
 use acl_names::Name;
-use acl_text::is_number;
+use acl_text::is_user_name;
 use std::marker::Model;
 
 /// A name that a new user may have: not empty, not digits alone, and without a colon, a comma, a line feed
@@ -17,28 +16,13 @@ pub struct UserName {
 
 impl Model for UserName {
     ghost use Rattle.std.specs.Prelude.{◌≡◌, true, List, ℕ};
-    ghost use Rattle.acl_people.specs.UserNames.{is_user_name};
+    ghost use Rattle.acl_text.specs.UserNames.{is_user_name};
 
     ghost Value = { List ℕ };
 
     ghost view = { λ n. n.name };
 
     ghost invariant = { λ n. is_user_name n.name ≡ true };
-}
-
-/// Whether a byte of the name ends a field or a row, or separates names.
-fn cuts_row(name: &[u8]) -> bool
-    ensures { result ≡ list_any cuts_row name.now }
-{
-    name.iter()
-        .any(|b| *b == b':' || *b == b',' || *b == b'\n' || *b == 0)
-}
-
-/// Whether a new user may have the name.
-fn is_user_name(name: &[u8]) -> bool
-    ensures { result ≡ is_user_name name.now }
-{
-    !name.is_empty() && !is_number(name) && !cuts_row(name)
 }
 
 impl UserName {

@@ -10,18 +10,18 @@ use Rattle.std.proofs.lemmas.Bool.{cases_Bool, or_right, le-leb, lt-leb}
 use Rattle.std.proofs.lemmas.List.Folds.{list_any-append}
 use Rattle.acl_text.specs.declared.fault.FaultKind.TheVariants.{TooMany}
 use Rattle.acl_names.specs.Pieces.{pieces}
-use Rattle.acl_text.specs.Rows.{has_no_content, is_repeated, one_line}
+use Rattle.acl_text.specs.Rows.{has_no_content, is_repeated, most_rows, one_line}
 use Rattle.acl_text.specs.Seen.{SeenNames, SeenAre}
 
 module _ {R : Type 0} (name_of : R → List ℕ) (row_of : List (List ℕ) → Option R) (rows : List R) (line : List ℕ) (row : R) (means : has_no_content line ≡ false) (fields : Some row ≡ row_of (pieces 58 line)) where
   pub line_known : is_repeated name_of rows (name_of row) ≡ true → one_line name_of row_of rows line ≡ Ok rows
   line_known known = rw (means, ← fields, known) refl
 
-  pub line_full : is_repeated name_of rows (name_of row) ≡ false → 65536 ≤ length rows → one_line name_of row_of rows line ≡ Err TooMany
-  line_full new full = let is = le-leb 65536 (length rows) full in rw (means, ← fields, new, is) refl
+  pub line_full : is_repeated name_of rows (name_of row) ≡ false → most_rows ≤ length rows → one_line name_of row_of rows line ≡ Err TooMany
+  line_full new full = let is = le-leb most_rows (length rows) full in rw (means, ← fields, new, is) refl
 
-  pub line_new : is_repeated name_of rows (name_of row) ≡ false → length rows < 65536 → one_line name_of row_of rows line ≡ Ok (rows ++ row ∷ [])
-  line_new new room = let is = lt-leb 65536 (length rows) room in rw (means, ← fields, new, is) refl
+  pub line_new : is_repeated name_of rows (name_of row) ≡ false → length rows < most_rows → one_line name_of row_of rows line ≡ Ok (rows ++ row ∷ [])
+  line_new new room = let is = lt-leb most_rows (length rows) room in rw (means, ← fields, new, is) refl
 
 pub or_no : (b : Bool) → b ≡ (b || false)
 or_no true = refl

@@ -11,7 +11,7 @@ use Rattle.acl_names.specs.Pieces.{pieces}
 use Rattle.acl_text.specs.declared.fault.FaultKind.{FaultKind}
 use Rattle.acl_text.specs.declared.fault.TextFault.{TextFault}
 use Rattle.acl_text.specs.InTurn.{read_each_from, read_each}
-use Rattle.acl_text.specs.Rows.{has_no_content, is_repeated, one_line}
+use Rattle.acl_text.specs.Rows.{has_no_content, is_repeated, most_rows, one_line}
 use Rattle.acl_text.proofs.Counted.{or_no}
 use Rattle.acl_text.specs.Firsts.{firsts, AreCounted}
 
@@ -84,7 +84,7 @@ module _ {R : Type 0} (name_of : R → List ℕ) where
       rows : List R
       well_formed : rows_on lines ≡ map (λ row. Some row) rows
       out_is : out ≡ some ++ new_rows all rows
-      few : length out ≤ 65536
+      few : length out ≤ most_rows
 
     -- a line that is not ignored, where the other lines are known
     module _ (at : ℕ) (some all : List R) (line : List ℕ) (lines : List (List ℕ)) (out : List R) (names : HaveSameNames some all) (means : has_no_content line ≡ false) where
@@ -104,8 +104,8 @@ module _ {R : Type 0} (name_of : R → List ℕ) where
         few = more.few;
       }
 
-      added_row : (o : Option R) → row_of (pieces 58 line) ≡ o → length some ≤ 65536 → reads_rows at some (line ∷ lines) ≡ Ok out
-          → ((more others : List R) → HaveSameNames more others → length more ≤ 65536 → reads_rows (at + 1) more lines ≡ Ok out → Adds more others lines out)
+      added_row : (o : Option R) → row_of (pieces 58 line) ≡ o → length some ≤ most_rows → reads_rows at some (line ∷ lines) ≡ Ok out
+          → ((more others : List R) → HaveSameNames more others → length more ≤ most_rows → reads_rows (at + 1) more lines ≡ Ok out → Adds more others lines out)
           → Adds some all (line ∷ lines) out
       added_row None is few e goes_on = let read_each = rw (means, is) at e in absurd cc
       added_row (Some row) is few e goes_on =
@@ -116,15 +116,15 @@ module _ {R : Type 0} (name_of : R → List ℕ) where
                 known_adds row on there (goes_on some (all ++ row ∷ []) (known_more some all row names there) few (rw (means, is, known) at e))
             | inr new ↦
                 let absent : repeated all row ≡ false = sym (names.same (name_of row)) ∙ new in
-                elim (cases_Bool (leb 65536 (length some))) [
+                elim (cases_Bool (leb most_rows (length some))) [
                   | inl full ↦ let read_each = rw (means, is, new, full) at e in absurd cc
                   | inr room ↦
-                      let fits : length (some ++ row ∷ []) ≤ 65536 = omega (arith, length-append some (row ∷ []), leb-false 65536 (length some) room) in
+                      let fits : length (some ++ row ∷ []) ≤ most_rows = omega (arith, length-append some (row ∷ []), leb-false most_rows (length some) room) in
                       new_adds row on absent (goes_on (some ++ row ∷ []) (all ++ row ∷ []) (new_more some all row names) fits (rw (means, is, new, room) at e))
                 ]
           ]
 
-    added : (at : ℕ) (some all : List R) (lines : List (List ℕ)) (out : List R) → HaveSameNames some all → length some ≤ 65536 → reads_rows at some lines ≡ Ok out → Adds some all lines out
+    added : (at : ℕ) (some all : List R) (lines : List (List ℕ)) (out : List R) → HaveSameNames some all → length some ≤ most_rows → reads_rows at some lines ≡ Ok out → Adds some all lines out
     added at some all [] out names few e =
         let same : some ≡ out = cc in
         record { rows = []; well_formed = refl; out_is = sym same ∙ sym (append-nil some); few = rw (← same) few }
@@ -138,8 +138,8 @@ module _ {R : Type 0} (name_of : R → List ℕ) where
 
     module _ (at : ℕ) (some all : List R) (line : List ℕ) (lines : List (List ℕ)) where
       reads_row : (rows : List R) → HaveSameNames some all → has_no_content line ≡ false → row_of (pieces 58 line) ∷ rows_on lines ≡ map (λ row. Some row) rows
-          → length (some ++ new_rows all rows) ≤ 65536
-          → ((more others rest : List R) → HaveSameNames more others → rows_on lines ≡ map (λ row. Some row) rest → length (more ++ new_rows others rest) ≤ 65536 → reads_rows (at + 1) more lines ≡ Ok (more ++ new_rows others rest))
+          → length (some ++ new_rows all rows) ≤ most_rows
+          → ((more others rest : List R) → HaveSameNames more others → rows_on lines ≡ map (λ row. Some row) rest → length (more ++ new_rows others rest) ≤ most_rows → reads_rows (at + 1) more lines ≡ Ok (more ++ new_rows others rest))
           → reads_rows at some (line ∷ lines) ≡ Ok (some ++ new_rows all rows)
       reads_row [] names means are few goes_on = absurd cc
       reads_row (row ∷ rows) names means are few goes_on =
@@ -152,13 +152,13 @@ module _ {R : Type 0} (name_of : R → List ℕ) where
             | inr new ↦
                 let absent : repeated all row ≡ false = sym (names.same (name_of row)) ∙ new in
                 let along : some ++ (row ∷ new_rows (all ++ row ∷ []) rows) ≡ (some ++ row ∷ []) ++ new_rows (all ++ row ∷ []) rows = sym (append_assoc some (row ∷ []) (new_rows (all ++ row ∷ []) rows)) in
-                let short : length (some ++ (row ∷ new_rows (all ++ row ∷ []) rows)) ≤ 65536 = rw absent at few in
-                let room : leb 65536 (length some) ≡ false = lt-leb 65536 (length some) (omega (arith, short, length-append some (row ∷ new_rows (all ++ row ∷ []) rows))) in
+                let short : length (some ++ (row ∷ new_rows (all ++ row ∷ []) rows)) ≤ most_rows = rw absent at few in
+                let room : leb most_rows (length some) ≡ false = lt-leb most_rows (length some) (omega (arith, short, length-append some (row ∷ new_rows (all ++ row ∷ []) rows))) in
                 rw (means, is, new, room, absent, along) (goes_on (some ++ row ∷ []) (all ++ row ∷ []) rows (new_more some all row names) others (rw along at short))
           ]
 
     reads_added : (at : ℕ) (some all : List R) (lines : List (List ℕ)) (rows : List R) → HaveSameNames some all → rows_on lines ≡ map (λ row. Some row) rows
-        → length (some ++ new_rows all rows) ≤ 65536 → reads_rows at some lines ≡ Ok (some ++ new_rows all rows)
+        → length (some ++ new_rows all rows) ≤ most_rows → reads_rows at some lines ≡ Ok (some ++ new_rows all rows)
     reads_added at some all [] [] names are few = ap (λ (rs : List R). Ok rs) (sym (append-nil some))
     reads_added at some all [] (row ∷ rows) names are few = absurd cc
     reads_added at some all (line ∷ lines) rows names are few =

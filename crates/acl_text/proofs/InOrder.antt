@@ -11,7 +11,7 @@ use Rattle.acl_text.specs.declared.entries.Rules.{Rules}
 use Rattle.acl_text.specs.declared.entries.Spec.{Spec}
 use Rattle.acl_text.specs.InTurn.{read_each_from, read_each}
 use Rattle.acl_text.specs.Blanks.{trimmed}
-use Rattle.acl_text.specs.Entries.{content, separator, entry_of, one_more}
+use Rattle.acl_text.specs.Entries.{content, separator, entry_of, most_text_entries, one_more}
 use Rattle.acl_text.specs.Means.{AreRead}
 
 module _ (user_id group_id : List ℕ → Option ℕ) (sep : Sep) (rules : Rules) where
@@ -32,7 +32,7 @@ module _ (user_id group_id : List ℕ → Option ℕ) (sep : Sep) (rules : Rules
     specs : List Spec
     each : map read (entries_from at ps) ≡ map (λ spec. Ok spec) specs
     out_is : out ≡ some ++ specs
-    few : length out ≤ 16384
+    few : length out ≤ most_text_entries
 
   module _ (at : ℕ) (some : List Spec) (p : List ℕ) (ps : List (List ℕ)) (means : has_no_content p ≡ false) where
     one_adds : (out : List Spec) (spec : Spec) → read (at, content sep p) ≡ Ok spec → Adds (at + 1) (some ++ spec ∷ []) ps out → Adds at some (p ∷ ps) out
@@ -44,28 +44,28 @@ module _ (user_id group_id : List ℕ → Option ℕ) (sep : Sep) (rules : Rules
     }
 
     added_one : (out : List Spec) (r : Result Spec FaultKind) → read (at, content sep p) ≡ r → reads_specs at some (p ∷ ps) ≡ Ok out
-        → ((more : List Spec) → length more ≤ 16384 → reads_specs (at + 1) more ps ≡ Ok out → Adds (at + 1) more ps out) → Adds at some (p ∷ ps) out
+        → ((more : List Spec) → length more ≤ most_text_entries → reads_specs (at + 1) more ps ≡ Ok out → Adds (at + 1) more ps out) → Adds at some (p ∷ ps) out
     added_one out (Err kind) is e goes_on = let read_each = rw (means, is) at e in absurd cc
     added_one out (Ok spec) is e goes_on =
-        elim (cases_Bool (leb 16384 (length some))) [
+        elim (cases_Bool (leb most_text_entries (length some))) [
           | inl full ↦ let read_each = rw (means, is, full) at e in absurd cc
           | inr room ↦
-              let fits : length (some ++ spec ∷ []) ≤ 16384 = omega (arith, length-append some (spec ∷ []), leb-false 16384 (length some) room) in
+              let fits : length (some ++ spec ∷ []) ≤ most_text_entries = omega (arith, length-append some (spec ∷ []), leb-false most_text_entries (length some) room) in
               one_adds out spec is (goes_on (some ++ spec ∷ []) fits (rw (means, is, room) at e))
         ]
 
-    reads_one : (specs : List Spec) → read (at, content sep p) ∷ map read (entries_from (at + 1) ps) ≡ map (λ spec. Ok spec) specs → length (some ++ specs) ≤ 16384
-        → ((more rest : List Spec) → map read (entries_from (at + 1) ps) ≡ map (λ spec. Ok spec) rest → length (more ++ rest) ≤ 16384 → reads_specs (at + 1) more ps ≡ Ok (more ++ rest))
+    reads_one : (specs : List Spec) → read (at, content sep p) ∷ map read (entries_from (at + 1) ps) ≡ map (λ spec. Ok spec) specs → length (some ++ specs) ≤ most_text_entries
+        → ((more rest : List Spec) → map read (entries_from (at + 1) ps) ≡ map (λ spec. Ok spec) rest → length (more ++ rest) ≤ most_text_entries → reads_specs (at + 1) more ps ≡ Ok (more ++ rest))
         → reads_specs at some (p ∷ ps) ≡ Ok (some ++ specs)
     reads_one [] are few goes_on = absurd cc
     reads_one (spec ∷ specs) are few goes_on =
         let is : read (at, content sep p) ≡ Ok spec = cc in
         let others : map read (entries_from (at + 1) ps) ≡ map (λ spec. Ok spec) specs = cc in
         let along : some ++ (spec ∷ specs) ≡ (some ++ spec ∷ []) ++ specs = sym (append_assoc some (spec ∷ []) specs) in
-        let room : leb 16384 (length some) ≡ false = lt-leb 16384 (length some) (omega (arith, few, length-append some (spec ∷ specs))) in
+        let room : leb most_text_entries (length some) ≡ false = lt-leb most_text_entries (length some) (omega (arith, few, length-append some (spec ∷ specs))) in
         rw (means, is, room, along) (goes_on (some ++ spec ∷ []) specs others (rw along at few))
 
-  added : (at : ℕ) (some : List Spec) (ps : List (List ℕ)) (out : List Spec) → length some ≤ 16384 → reads_specs at some ps ≡ Ok out → Adds at some ps out
+  added : (at : ℕ) (some : List Spec) (ps : List (List ℕ)) (out : List Spec) → length some ≤ most_text_entries → reads_specs at some ps ≡ Ok out → Adds at some ps out
   added at some [] out few e =
       let same : some ≡ out = cc in
       record { specs = []; each = refl; out_is = sym same ∙ sym (append-nil some); few = rw (← same) few }
@@ -77,7 +77,7 @@ module _ (user_id group_id : List ℕ → Option ℕ) (sep : Sep) (rules : Rules
         | inr means ↦ added_one at some p ps means out (read (at, content sep p)) refl e (λ more room goes. added (at + 1) more ps out room goes)
       ]
 
-  reads_added : (at : ℕ) (some : List Spec) (ps : List (List ℕ)) (specs : List Spec) → map read (entries_from at ps) ≡ map (λ spec. Ok spec) specs → length (some ++ specs) ≤ 16384 → reads_specs at some ps ≡ Ok (some ++ specs)
+  reads_added : (at : ℕ) (some : List Spec) (ps : List (List ℕ)) (specs : List Spec) → map read (entries_from at ps) ≡ map (λ spec. Ok spec) specs → length (some ++ specs) ≤ most_text_entries → reads_specs at some ps ≡ Ok (some ++ specs)
   reads_added at some [] [] are few = ap (λ (ss : List Spec). Ok ss) (sym (append-nil some))
   reads_added at some [] (spec ∷ specs) are few = absurd cc
   reads_added at some (p ∷ ps) specs are few =

@@ -15,7 +15,7 @@ use Rattle.acl_text.specs.declared.fields.Tag.TheVariants as tags
 use Rattle.acl_text.specs.InTurn.{◌>>=◌, or_fault}
 use Rattle.acl_text.specs.Blanks.{trimmed}
 use Rattle.acl_text.specs.Fields.{EntryRow, default_of, entry_fields}
-use Rattle.acl_text.specs.Entries.{tagged, given_perms, no_perms, wanted_perms, allowed_key, content, with_entry, key_of, entry_from, entry_of, one_more}
+use Rattle.acl_text.specs.Entries.{tagged, given_perms, no_perms, wanted_perms, allowed_key, content, with_entry, key_of, entry_from, entry_of, most_text_entries, one_more}
 use Rattle.acl_text.specs.Lowest.{number, ReportsLowest, HasBadTag, HasBadPerms, HasUnknownWord, HasBaseKey, HasNoRoom, FieldsHave, EntryHas, NextEntryHas}
 
 -- ---- one check, and one after another
@@ -217,12 +217,12 @@ module _ (user_id group_id : List ℕ → Option ℕ) (rules : Rules) (at : ℕ)
 pub entry_lowest : (user_id group_id : List ℕ → Option ℕ) (rules : Rules) (at : ℕ) (entry : List ℕ) → ReportsLowest (EntryHas user_id group_id rules entry) (entry_of user_id group_id rules at entry)
 entry_lowest user_id group_id rules at entry = fields_lowest user_id group_id rules at (entry_fields entry)
 
-room_lowest : (specs : List Spec) (spec : Spec) → ReportsLowest (HasNoRoom specs) (if nat_le 16384 (length specs) then Err kinds.TooMany else Ok (specs ++ spec ∷ []))
-room_lowest specs spec = alone (HasNoRoom specs) (if nat_le 16384 (length specs) then Err kinds.TooMany else Ok (specs ++ spec ∷ []))
-    (λ k h. rw (le-leb 16384 (length specs) h.full) (ap (λ j. Err j) (sym h.is)))
+room_lowest : (specs : List Spec) (spec : Spec) → ReportsLowest (HasNoRoom specs) (if nat_le most_text_entries (length specs) then Err kinds.TooMany else Ok (specs ++ spec ∷ []))
+room_lowest specs spec = alone (HasNoRoom specs) (if nat_le most_text_entries (length specs) then Err kinds.TooMany else Ok (specs ++ spec ∷ []))
+    (λ k h. rw (le-leb most_text_entries (length specs) h.full) (ap (λ j. Err j) (sym h.is)))
     (λ k e.
-    elim (cases_Bool (leb 16384 (length specs))) [
-      | inl full ↦ let read_each = rw full at e in let same : kinds.TooMany ≡ k = cc in record { is = sym same; full = leb-true 16384 (length specs) full }
+    elim (cases_Bool (leb most_text_entries (length specs))) [
+      | inl full ↦ let read_each = rw full at e in let same : kinds.TooMany ≡ k = cc in record { is = sym same; full = leb-true most_text_entries (length specs) full }
       | inr room ↦ let read_each = rw room at e in absurd cc
     ])
 
@@ -231,7 +231,7 @@ next_lowest : (user_id group_id : List ℕ → Option ℕ) (rules : Rules) (at :
     → ReportsLowest (NextEntryHas user_id group_id rules specs entry) (with_entry specs (entry_of user_id group_id rules at entry))
 next_lowest user_id group_id rules at specs entry =
     in_turn (EntryHas user_id group_id rules entry) (HasNoRoom specs) (entry_of user_id group_id rules at entry)
-    (λ spec. if nat_le 16384 (length specs) then Err kinds.TooMany else Ok (specs ++ spec ∷ []))
+    (λ spec. if nat_le most_text_entries (length specs) then Err kinds.TooMany else Ok (specs ++ spec ∷ []))
     (λ j k have room. omega (arith, fields-kind user_id group_id rules (default_of (entry_fields entry)) j have, ap number room.is))
     (entry_lowest user_id group_id rules at entry) (λ spec is. room_lowest specs spec)
 

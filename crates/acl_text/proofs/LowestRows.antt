@@ -4,7 +4,7 @@ use Rattle.std.proofs.lemmas.Bool.{cases_Bool, le-leb, leb-true}
 use Rattle.acl_names.specs.Pieces.{pieces}
 use Rattle.acl_text.specs.declared.fault.FaultKind.{FaultKind}
 use Rattle.acl_text.specs.declared.fault.FaultKind.TheVariants as kinds
-use Rattle.acl_text.specs.Rows.{is_repeated, counted, has_no_content, one_line}
+use Rattle.acl_text.specs.Rows.{is_repeated, most_rows, counted, has_no_content, one_line}
 use Rattle.acl_text.specs.Lowest.{ReportsLowest, RowHas}
 use Rattle.acl_text.proofs.Lowest.{alone}
 
@@ -12,7 +12,7 @@ module _ {R : Type 0} (name_of : R → List ℕ) (row_of : List (List ℕ) → O
   found : (k : FaultKind) → RowHas name_of row_of rows line k → counted name_of rows (row_of (pieces 58 line)) ≡ Err k
   found k (inl bad) = ap (counted name_of rows) bad.no_row ∙ ap (λ j. Err j) (sym bad.is)
   found k (inr full) =
-      let is = le-leb 65536 (length rows) full.full in
+      let is = le-leb most_rows (length rows) full.full in
       ap (counted name_of rows) full.is_row ∙ rw (full.new, is) (ap (λ j. Err j) (sym full.is))
 
   applies_to : (k : FaultKind) (o : Option R) → row_of (pieces 58 line) ≡ o → counted name_of rows o ≡ Err k → RowHas name_of row_of rows line k
@@ -22,8 +22,8 @@ module _ {R : Type 0} (name_of : R → List ℕ) (row_of : List (List ℕ) → O
         | inl repeated ↦ let read_each = rw repeated at e in absurd cc
         | inr new ↦
             let read_each = rw new at e in
-            elim (cases_Bool (leb 65536 (length rows))) [
-              | inl full ↦ let last = rw full at read_each in let same : kinds.TooMany ≡ k = cc in inr (record { is = sym same; row = row; is_row = is; new = new; full = leb-true 65536 (length rows) full })
+            elim (cases_Bool (leb most_rows (length rows))) [
+              | inl full ↦ let last = rw full at read_each in let same : kinds.TooMany ≡ k = cc in inr (record { is = sym same; row = row; is_row = is; new = new; full = leb-true most_rows (length rows) full })
               | inr room ↦ let last = rw room at read_each in absurd cc
             ]
       ]

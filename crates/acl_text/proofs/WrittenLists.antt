@@ -10,6 +10,7 @@ use Rattle.acl_entry.specs.Lists.{KeyMap, entries, HasIds, IsValid}
 use Rattle.acl_entry.specs.declared.entry.ListFault.{ListFault}
 use Rattle.acl_entry.specs.declared.entry.ListFault.TheVariants.{TooLong}
 use Rattle.acl_entry.specs.Perms.{Perms, text}
+use Rattle.acl_entry.specs.Ids.{nobody}
 use Rattle.acl_entry.specs.Keys.{id_of}
 use Rattle.acl_entry.specs.declared.key.Key.{Key}
 use Rattle.acl_entry.specs.declared.key.Key.TheVariants as keys
@@ -27,7 +28,7 @@ use Rattle.acl_text.specs.declared.form.Form.TheVariants.{Long, Short}
 use Rattle.acl_text.specs.InTurn.{at_place, read_each_from}
 use Rattle.acl_text.specs.Blanks.{is_blank, trimmed}
 use Rattle.acl_text.specs.Letters.{perms_of}
-use Rattle.acl_text.specs.Entries.{rules_of, content, entry_from, entry_of, one_more, entries_of}
+use Rattle.acl_text.specs.Entries.{rules_of, content, entry_from, entry_of, most_text_entries, one_more, entries_of}
 use Rattle.acl_text.specs.Writing.{tag_text, id_text, qualifier, entry_text, long, short, spec_of, specs_from, IsKeyNamed, AreNamed}
 use Rattle.acl_text.proofs.Plain.{is_plain, plain-line, plain-blank, plain-comma, plain-hash, none_of, all-append, trimmed_none, pieces_at, pieces_none, before_first_none, fields_again}
 use Rattle.acl_text.proofs.WrittenWords.{IsWordOf, word_again}
@@ -95,7 +96,7 @@ module _ (takes_default takes_x : Bool) (user_id group_id : List ℕ → Option 
 
   -- ---- fields
 
-  pub qualifier_plain : (k : Key) → id_of k < 4294967295 → IsNamedKey k → list_all is_plain (qualifier user_name group_name k) ≡ true
+  pub qualifier_plain : (k : Key) → id_of k < nobody → IsNamedKey k → list_all is_plain (qualifier user_name group_name k) ≡ true
   qualifier_plain keys.Owner lt named = refl
   qualifier_plain (keys.User id) lt named = (word_again user_id id (user_name id) lt named).plain
   qualifier_plain keys.OwningGroup lt named = refl
@@ -116,7 +117,7 @@ module _ (takes_default takes_x : Bool) (user_id group_id : List ℕ → Option 
   group_again Long at (b ∷ bs) id is p = rw (perms_again takes_x p.read p.write p.execute, is.again) refl
   group_again Short at (b ∷ bs) id is p = rw (perms_again takes_x p.read p.write p.execute, is.again) refl
 
-  pub key_again : (form : Form) (at : ℕ) (k : Key) (p : Perms) → id_of k < 4294967295 → IsNamedKey k → FromFields at (tag_text form k) (qualifier user_name group_name k) k p
+  pub key_again : (form : Form) (at : ℕ) (k : Key) (p : Perms) → id_of k < nobody → IsNamedKey k → FromFields at (tag_text form k) (qualifier user_name group_name k) k p
   key_again Long at keys.Owner p lt named = rw (perms_again takes_x p.read p.write p.execute) refl
   key_again Short at keys.Owner p lt named = rw (perms_again takes_x p.read p.write p.execute) refl
   key_again form at (keys.User id) p lt named = user_again form at (id_text id (user_name id)) id (word_again user_id id (user_name id) lt named) p
@@ -130,30 +131,30 @@ module _ (takes_default takes_x : Bool) (user_id group_id : List ℕ → Option 
 
   -- ---- entries
 
-  pub entry_again : (form : Form) (at : ℕ) (e : Entry) → id_of e.key < 4294967295 → IsNamedKey e.key → entry_of user_id group_id (taking takes_default takes_x) at (entry_text user_name group_name form e) ≡ Ok (spec_of at e)
+  pub entry_again : (form : Form) (at : ℕ) (e : Entry) → id_of e.key < nobody → IsNamedKey e.key → entry_of user_id group_id (taking takes_default takes_x) at (entry_text user_name group_name form e) ≡ Ok (spec_of at e)
   entry_again form at e lt named =
       ap (entry_from user_id group_id (taking takes_default takes_x) at) (fields_again (tag_text form e.key) (qualifier user_name group_name e.key) (text e.perm) (tag_plain form e.key) (qualifier_plain e.key lt named) (plain_text e.perm))
       ∙ key_again form at e.key e.perm lt named
 
   -- a test that fails at plain bytes and at a colon fails in all of an entry
-  pub in_entry : (q : ℕ → Bool) → ((b : ℕ) → is_plain b ≡ true → q b ≡ false) → q 58 ≡ false → (form : Form) (e : Entry) → id_of e.key < 4294967295 → IsNamedKey e.key → AllByRecursion (λ b. q b ≡ false) (entry_text user_name group_name form e)
+  pub in_entry : (q : ℕ → Bool) → ((b : ℕ) → is_plain b ≡ true → q b ≡ false) → q 58 ≡ false → (form : Form) (e : Entry) → id_of e.key < nobody → IsNamedKey e.key → AllByRecursion (λ b. q b ≡ false) (entry_text user_name group_name form e)
   in_entry q why colon form e lt named =
       let word = qualifier user_name group_name e.key in
       all-append (λ b. q b ≡ false) (tag_text form e.key) (58 ∷ (word ++ 58 ∷ text e.perm)) (none_of is_plain q why (tag_text form e.key) (tag_plain form e.key))
       (colon, all-append (λ b. q b ≡ false) word (58 ∷ text e.perm) (none_of is_plain q why word (qualifier_plain e.key lt named)) (colon, none_of is_plain q why (text e.perm) (plain_text e.perm)))
 
-  one_from : (sep : Sep) (at : ℕ) (specs : List Spec) (piece : List ℕ) (spec : Spec) → content sep piece ≡ piece → trimmed piece ≡ piece → 0 < length piece → entry_of user_id group_id (taking takes_default takes_x) at piece ≡ Ok spec → length specs < 16384
+  one_from : (sep : Sep) (at : ℕ) (specs : List Spec) (piece : List ℕ) (spec : Spec) → content sep piece ≡ piece → trimmed piece ≡ piece → 0 < length piece → entry_of user_id group_id (taking takes_default takes_x) at piece ≡ Ok spec → length specs < most_text_entries
       → one_more user_id group_id sep (taking takes_default takes_x) at specs piece ≡ Ok (specs ++ spec ∷ [])
   one_from sep at specs piece spec whole bare some e room =
       let full : (length piece == 0) ≡ false = ne_eqb (length piece) 0 (λ zero. omega arith) in
-      let fits : leb 16384 (length specs) ≡ false = lt-leb 16384 (length specs) room in
+      let fits : leb most_text_entries (length specs) ≡ false = lt-leb most_text_entries (length specs) room in
       rw (whole, bare, full, e, fits) refl
 
-  content_again : (sep : Sep) (form : Form) (e : Entry) → id_of e.key < 4294967295 → IsNamedKey e.key → content sep (entry_text user_name group_name form e) ≡ entry_text user_name group_name form e
+  content_again : (sep : Sep) (form : Form) (e : Entry) → id_of e.key < nobody → IsNamedKey e.key → content sep (entry_text user_name group_name form e) ≡ entry_text user_name group_name form e
   content_again Comma form e lt named = refl
   content_again Line form e lt named = before_first_none (λ b. b == 35) (entry_text user_name group_name form e) (in_entry (λ b. b == 35) plain-hash refl form e lt named)
 
-  one_again : (sep : Sep) (form : Form) (at : ℕ) (specs : List Spec) (e : Entry) → id_of e.key < 4294967295 → IsNamedKey e.key → length specs < 16384 → one_more user_id group_id sep (taking takes_default takes_x) at specs (entry_text user_name group_name form e) ≡ Ok (specs ++ spec_of at e ∷ [])
+  one_again : (sep : Sep) (form : Form) (at : ℕ) (specs : List Spec) (e : Entry) → id_of e.key < nobody → IsNamedKey e.key → length specs < most_text_entries → one_more user_id group_id sep (taking takes_default takes_x) at specs (entry_text user_name group_name form e) ≡ Ok (specs ++ spec_of at e ∷ [])
   one_again sep form at specs e lt named room =
       one_from sep at specs (entry_text user_name group_name form e) (spec_of at e)
       (content_again sep form e lt named)
@@ -164,12 +165,12 @@ module _ (takes_default takes_x : Bool) (user_id group_id : List ℕ → Option 
   -- ---- lists
 
   abbrev HasSmallIds : List Entry → Type 0
-  HasSmallIds es = AllByRecursion (λ e. id_of e.key < 4294967295) es
+  HasSmallIds es = AllByRecursion (λ e. id_of e.key < nobody) es
 
   abbrev reading : Sep → ℕ → List Spec → List (List ℕ) → Result (List Spec) TextFault
   reading sep at specs ps = read_each_from (one_more user_id group_id sep (taking takes_default takes_x)) at specs ps
 
-  pub long_reads : (es : List Entry) (at : ℕ) (specs : List Spec) → HasSmallIds es → AreNamed user_id group_id user_name group_name es → length specs + length es ≤ 16384
+  pub long_reads : (es : List Entry) (at : ℕ) (specs : List Spec) → HasSmallIds es → AreNamed user_id group_id user_name group_name es → length specs + length es ≤ most_text_entries
       → reading Line at specs (pieces 10 (long user_name group_name es)) ≡ Ok (specs ++ specs_from at es)
   long_reads [] at specs ids named room = ap (λ (s : List Spec). Ok s) (sym (append-nil specs))
   long_reads (e ∷ es) at specs ids named room =
@@ -182,7 +183,7 @@ module _ (takes_default takes_x : Bool) (user_id group_id : List ℕ → Option 
       ∙ (ap (λ j. at_place at j (λ more. reading Line (at + 1) more (pieces 10 (long user_name group_name es)))) first
       ∙ (rest ∙ ap (λ (s : List Spec). Ok s) (append_assoc specs (spec_of at e ∷ []) (specs_from (at + 1) es))))
 
-  others_read : (e : Entry) (es : List Entry) (at : ℕ) (specs : List Spec) → HasSmallIds (e ∷ es) → AreNamed user_id group_id user_name group_name (e ∷ es) → length specs + length (e ∷ es) ≤ 16384
+  others_read : (e : Entry) (es : List Entry) (at : ℕ) (specs : List Spec) → HasSmallIds (e ∷ es) → AreNamed user_id group_id user_name group_name (e ∷ es) → length specs + length (e ∷ es) ≤ most_text_entries
       → reading Comma at specs (pieces 44 (short user_name group_name (e ∷ es))) ≡ Ok (specs ++ specs_from at (e ∷ es))
   others_read e [] at specs ids named room =
       let entry = entry_text user_name group_name Short e in
@@ -197,27 +198,27 @@ module _ (takes_default takes_x : Bool) (user_id group_id : List ℕ → Option 
       ∙ (ap (λ j. at_place at j (λ more. reading Comma (at + 1) more (pieces 44 (short user_name group_name (f ∷ es))))) first
       ∙ (rest ∙ ap (λ (s : List Spec). Ok s) (append_assoc specs (spec_of at e ∷ []) (specs_from (at + 1) (f ∷ es)))))
 
-  pub short_reads : (es : List Entry) (at : ℕ) (specs : List Spec) → HasSmallIds es → AreNamed user_id group_id user_name group_name es → length specs + length es ≤ 16384
+  pub short_reads : (es : List Entry) (at : ℕ) (specs : List Spec) → HasSmallIds es → AreNamed user_id group_id user_name group_name es → length specs + length es ≤ most_text_entries
       → reading Comma at specs (pieces 44 (short user_name group_name es)) ≡ Ok (specs ++ specs_from at es)
   short_reads [] at specs ids named room = ap (λ (s : List Spec). Ok s) (sym (append-nil specs))
   short_reads (e ∷ es) at specs ids named room = others_read e es at specs ids named room
 
 -- ---- valid lists
 
-room_for : (n : ℕ) (o : Option ListFault) → cond (ltb 4096 n) (Some TooLong) o ≡ None → n ≤ 4096
+room_for : (n : ℕ) (o : Option ListFault) → cond (ltb lists.most_entries n) (Some TooLong) o ≡ None → n ≤ lists.most_entries
 room_for n o e =
-    elim (cases_Bool (ltb 4096 n)) [
+    elim (cases_Bool (ltb lists.most_entries n)) [
       | inl long ↦ absurd (cc (rw long at e))
-      | inr fits ↦ ltb-false 4096 n fits
+      | inr fits ↦ ltb-false lists.most_entries n fits
     ]
 
-few : (m : KeyMap) → IsValid m → length (entries m) ≤ 4096
+few : (m : KeyMap) → IsValid m → length (entries m) ≤ lists.most_entries
 few m valid = omega (arith, room_for (length (lists.keys (entries m))) _ valid, length-map (entries m) (λ e. e.key))
 
 -- a valid list is read as it was written, by each use that takes permissions
 module _ (user_id group_id : List ℕ → Option ℕ) (user_name group_name : ℕ → Option (List ℕ)) (m : KeyMap) (valid : IsValid m) (ids : HasIds (entries m)) (named : AreNamed user_id group_id user_name group_name (entries m)) where
-  small : AllByRecursion (λ e. id_of e.key < 4294967295) (entries m)
-  small = recursion_from_All (λ (e : Entry). id_of e.key < 4294967295) (entries m) ids
+  small : AllByRecursion (λ e. id_of e.key < nobody) (entries m)
+  small = recursion_from_All (λ (e : Entry). id_of e.key < nobody) (entries m) ids
 
   pub long_again : (want : Want) → (rules_of want).takes_perms ≡ true → entries_of user_id group_id Line want (long user_name group_name (entries m)) ≡ Ok (specs_from 1 (entries m))
   long_again WithPerms takes = long_reads true true user_id group_id user_name group_name (entries m) 1 [] small named (omega (arith, few m valid))

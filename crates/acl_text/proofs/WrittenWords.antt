@@ -1,6 +1,6 @@
 -- Names and numbers that are written are read as the ids that they stand for.
 use Rattle.std.proofs.Common.{◌≡◌, ℕ, ◌+◌, ◌-◌, ◌*◌, ◌/◌, ◌%◌, ◌^◌, ◌<◌, ◌≤◌, true, false, eqb, leb, List, [], ◌∷◌, ◌++◌, length, Option, Some, None, refl, ap, ◌∙◌, arith, inl, inr, length-append}
-use Rattle.std.specs.Prelude.{◌==◌, ◌||◌, ◌&&◌, decimal, nat_lt, nat_le}
+use Rattle.std.specs.Prelude.{◌==◌, ◌||◌, ◌&&◌, decimal, nat_lt}
 use Rattle.std.specs.List.{list_all, AllByRecursion}
 use Rattle.std.specs.Char.{is_ascii_digit}
 use Rattle.std.proofs.lemmas.Bool.{cases_Bool, and_parts, and_from, or_parts, ne_eqb, le-leb, lt-ltb, ltb-true, leb-true}
@@ -8,6 +8,7 @@ use Rattle.std.proofs.lemmas.Fmt.{decimal_by_steps}
 use Rattle.acl_names.specs.Pieces.{is_byte}
 use Rattle.acl_names.specs.Names.{decoded, escaped, escape, byte_text, is_escaped_in_paths, is_escaped_in_names}
 use Rattle.acl_names.proofs.Escapes.{name_again}
+use Rattle.acl_entry.specs.Ids.{nobody}
 use Rattle.acl_text.specs.Ids.{is_number, number_after}
 use Rattle.acl_text.specs.Words.{named_id, word_id}
 use Rattle.acl_text.specs.Writing.{id_text, IsNamed}
@@ -63,10 +64,10 @@ digits_decoded (d ∷ ds) are =
     let no : eqb d 92 ≡ false = ne_eqb d 92 (λ e. omega arith) in
     rw no (ap (λ (bs : List ℕ). d ∷ bs) (digits_decoded ds parts.1))
 
-number_again : (look_up : List ℕ → Option ℕ) (n : ℕ) (ds : List ℕ) → n < 4294967295 → AreDigitsOf n ds → word_id look_up ds ≡ Some n
+number_again : (look_up : List ℕ → Option ℕ) (n : ℕ) (ds : List ℕ) → n < nobody → AreDigitsOf n ds → word_id look_up ds ≡ Some n
 number_again look_up n ds lt are =
     let is : is_number ds ≡ true = and_from (nat_lt 0 (length ds)) (list_all is_ascii_digit ds) (lt-ltb 0 (length ds) are.some) are.digits in
-    let small : nat_le n 4294967294 ≡ true = le-leb n 4294967294 (omega arith) in
+    let small : nat_lt n nobody ≡ true = lt-ltb n nobody lt in
     ap (λ (w : List ℕ). named_id look_up (decoded w)) (trimmed_plain ds (digits_plain ds are.digits)) ∙ (ap (named_id look_up) (digits_decoded ds are.digits) ∙ rw (is, are.value, small) refl)
 
 -- ---- names
@@ -119,7 +120,7 @@ pub record IsWordOf (look_up : List ℕ → Option ℕ) (id : ℕ) (word : List 
   pub plain : list_all is_plain word ≡ true
   pub some : 0 < length word
 
-pub word_again : (look_up : List ℕ → Option ℕ) (id : ℕ) (name : Option (List ℕ)) → id < 4294967295 → IsNamed look_up id name → IsWordOf look_up id (id_text id name)
+pub word_again : (look_up : List ℕ → Option ℕ) (id : ℕ) (name : Option (List ℕ)) → id < nobody → IsNamed look_up id name → IsWordOf look_up id (id_text id name)
 word_again look_up id None lt named =
     let are = decimal_digits id (omega arith) in
     record { again = number_again look_up id (decimal id) lt are; plain = digits_plain (decimal id) are.digits; some = are.some }

@@ -57,11 +57,14 @@ abbrev pub separator : Sep → ℕ
 separator Comma = 44
 separator Line = 10
 
--- at most 16,384 entries
+-- the most entries of one text, empty ones not counted
+abbrev pub most_text_entries : ℕ
+most_text_entries = 16384
+
 abbrev pub with_entry : List Spec → Result Spec FaultKind → Result (List Spec) FaultKind
 with_entry specs entry = do
   spec ← entry
-  if nat_le 16384 (length specs) then Err TooMany else Ok (specs ++ spec ∷ [])
+  if nat_le most_text_entries (length specs) then Err TooMany else Ok (specs ++ spec ∷ [])
 
 module _ (user_id group_id : List ℕ → Option ℕ) where
   -- an empty user or group word is the owner or the owning group

@@ -1,7 +1,8 @@
 -- Numbers of users and groups.
-use Rattle.std.specs.Prelude.{ℕ, ◌+◌, ◌-◌, ◌*◌, List, [], ◌∷◌, length, Bool, ◌&&◌, nat_le, nat_lt, if◌then◌else◌, Option, Some, None}
+use Rattle.std.specs.Prelude.{ℕ, ◌+◌, ◌-◌, ◌*◌, List, [], ◌∷◌, length, Bool, ◌&&◌, nat_lt, if◌then◌else◌, Option, Some, None}
 use Rattle.std.specs.List.{list_all}
 use Rattle.std.specs.Char.{is_ascii_digit}
+use Rattle.acl_entry.specs.Ids.{nobody}
 
 -- digits alone
 abbrev pub is_number : List ℕ → Bool
@@ -12,6 +13,6 @@ abbrev pub number_after : ℕ → List ℕ → ℕ
 number_after n [] = n
 number_after n (b ∷ bs) = number_after (10 * n + (b - 48)) bs
 
--- the id of digits alone, at most 4294967294
+-- the id of digits alone, if it is one
 abbrev pub id_of : List ℕ → Option ℕ
-id_of bytes = if is_number bytes && nat_le (number_after 0 bytes) 4294967294 then Some (number_after 0 bytes) else None
+id_of bytes = if is_number bytes && nat_lt (number_after 0 bytes) nobody then Some (number_after 0 bytes) else None

@@ -1,6 +1,7 @@
 pub mod InTurn
 pub mod Blanks
 pub mod Ids
+pub mod UserNames
 pub mod Rows
 pub mod Firsts
 pub mod Seen

@@ -7,8 +7,8 @@ use Rattle.acl_text.specs.declared.fault.FaultKind.TheVariants as kinds
 use Rattle.acl_text.specs.declared.entries.Rules.{Rules}
 use Rattle.acl_text.specs.declared.entries.Spec.{Spec}
 use Rattle.acl_text.specs.Fields.{EntryRow, default_of, entry_fields}
-use Rattle.acl_text.specs.Entries.{tagged, wanted_perms, key_of, allowed_key}
-use Rattle.acl_text.specs.Rows.{is_repeated}
+use Rattle.acl_text.specs.Entries.{tagged, wanted_perms, key_of, allowed_key, most_text_entries}
+use Rattle.acl_text.specs.Rows.{is_repeated, most_rows}
 
 -- the kinds in their order
 abbrev pub number : FaultKind → ℕ
@@ -77,7 +77,7 @@ EntryHas user_id group_id rules entry = FieldsHave user_id group_id rules (defau
 -- there are as many entries already as a text may have
 pub record HasNoRoom (specs : List Spec) (kind : FaultKind) : Type 0 where
   pub is : kind ≡ kinds.TooMany
-  pub full : 16384 ≤ length specs
+  pub full : most_text_entries ≤ length specs
 
 -- what the next entry of a text has
 abbrev pub NextEntryHas : (user_id group_id : List ℕ → Option ℕ) → Rules → List Spec → List ℕ → FaultKind → Type 0
@@ -97,7 +97,7 @@ module _ {R : Type 0} (name_of : R → List ℕ) (row_of : List (List ℕ) → O
     pub row : R
     pub is_row : row_of (pieces 58 line) ≡ Some row
     pub new : is_repeated name_of rows (name_of row) ≡ false
-    pub full : 65536 ≤ length rows
+    pub full : most_rows ≤ length rows
 
   abbrev pub RowHas : FaultKind → Type 0
   RowHas kind = HasBadRow kind ⊎ HasNoPlace kind

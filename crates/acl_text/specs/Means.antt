@@ -16,7 +16,7 @@ use Rattle.acl_text.specs.Blanks.{trimmed}
 use Rattle.acl_text.specs.Fields.{EntryRow, entry_fields}
 use Rattle.acl_text.specs.Letters.{is_letter, holds}
 use Rattle.acl_text.specs.Words.{word_id}
-use Rattle.acl_text.specs.Entries.{separator, content, entry_of}
+use Rattle.acl_text.specs.Entries.{separator, content, entry_of, most_text_entries}
 
 -- ---- the fields
 
@@ -151,7 +151,7 @@ pub record Means (user_id group_id : List ℕ → Option ℕ) (rules : Rules) (a
 abbrev pub numbered_entries : Sep → List ℕ → List (ℕ × List ℕ)
 numbered_entries sep bytes = filter (λ e. not (length (trimmed e.1) == 0)) (enumerate_from 1 (map (content sep) (pieces (separator sep) bytes)))
 
--- each entry means one spec, in their order, and there are no more than 16,384
+-- each entry means one spec, in their order, and there are at most `most_text_entries`
 pub record AreRead (user_id group_id : List ℕ → Option ℕ) (sep : Sep) (rules : Rules) (bytes : List ℕ) (specs : List Spec) : Type 0 where
   pub each : map (λ e. entry_of user_id group_id rules e.0 e.1) (numbered_entries sep bytes) ≡ map (λ spec. Ok spec) specs
-  pub few : length specs ≤ 16384
+  pub few : length specs ≤ most_text_entries

@@ -38,12 +38,16 @@ has_no_content (b ∷ bs) = b == 35
 abbrev pub is_repeated : {R : Type 0} → (R → List ℕ) → List R → List ℕ → Bool
 is_repeated name_of rows name = list_any (λ r. bytes_eq (name_of r) name) rows
 
--- the first row of a name is counted, and at most 65,536 rows are
+-- the most rows that are counted
+abbrev pub most_rows : ℕ
+most_rows = 65536
+
+-- the first row of a name is counted, and at most `most_rows` are
 abbrev pub counted : {R : Type 0} → (R → List ℕ) → List R → Option R → Result (List R) FaultKind
 counted name_of rows None = Err BadRow
 counted name_of rows (Some row) =
     if is_repeated name_of rows (name_of row) then Ok rows
-    else (if nat_le 65536 (length rows) then Err TooMany else Ok (rows ++ row ∷ []))
+    else (if nat_le most_rows (length rows) then Err TooMany else Ok (rows ++ row ∷ []))
 
 -- the counted rows, once a line is read too
 abbrev pub one_line : {R : Type 0} → (R → List ℕ) → (List (List ℕ) → Option R) → List R → List ℕ → Result (List R) FaultKind

@@ -5,9 +5,7 @@ ghost use Rattle.std.specs.List.{list_all};
 ghost use Rattle.std.specs.Char.{is_ascii_digit};
 ghost use Rattle.acl_text.specs.Ids.{is_number, id_of};
 
-use acl_entry::Id;
-
-const MAX_ID: u64 = 4294967294;
+use acl_entry::{Id, NOBODY};
 
 /// Whether a word is digits alone, and so always a number.
 pub fn is_number(word: &[u8]) -> bool
@@ -35,7 +33,7 @@ pub fn read_id(word: &[u8]) -> Option<Id>
             return None;
         }
         number = 10 * number + u64::from(*b - b'0');
-        if number > MAX_ID {
+        if number >= u64::from(NOBODY) {
             return None;
         }
     }

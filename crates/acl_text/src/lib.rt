@@ -16,6 +16,7 @@ mod line;
 mod naming;
 mod passwd;
 mod rows;
+mod user_name;
 mod writing;
 
 pub use acl_names::{
@@ -35,7 +36,9 @@ pub use laws::{
     passwd_rows_are_first_of_their_names, piece_fault_is_lowest,
 };
 pub use letters::read_perms;
+pub use line::MAX_ROWS;
 pub use naming::{Names, NoNames, read_group_word, read_user_word};
 pub use passwd::read_passwd;
 pub use rows::{GroupRow, NameList, PasswdRow};
+pub use user_name::is_user_name;
 pub use writing::{append_entry, append_id, append_short, write_long, write_short};

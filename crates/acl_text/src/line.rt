@@ -3,8 +3,8 @@
 ghost use Rattle.std.specs.Prelude.{◌≡◌};
 ghost use Rattle.acl_text.specs.Rows.{has_no_content};
 
-/// The most rows that are counted.
-pub(crate) const MAX_ROWS: usize = 65536;
+/// The most rows of passwd(5), or of group(5), that are counted.
+pub const MAX_ROWS: usize = 65536;
 
 /// Empty lines and lines that begin with `#` are ignored.
 pub(crate) fn has_no_content(line: &[u8]) -> bool

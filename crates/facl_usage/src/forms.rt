@@ -1,14 +1,13 @@
 //! The forms of single words.
 ghost use Rattle.std.specs.Prelude.{◌≡◌, nat_eq};
-ghost use Rattle.std.specs.Char.{is_ascii_digit};
-ghost use Rattle.std.specs.List.{list_all, list_any, starts_with};
-ghost use Rattle.facl_usage.specs.Forms.{cuts_row, is_digits, is_id, is_mode, is_octal_digit};
-ghost use Rattle.facl_usage.specs.Forms.{is_permission_letter, is_permission_mode, is_permissions};
-ghost use Rattle.facl_usage.specs.Forms.{is_table_name, is_user_name, names_attribute};
+ghost use Rattle.std.specs.List.{list_all, starts_with};
+ghost use Rattle.facl_usage.specs.Forms.{is_id, is_mode, is_octal_digit, is_permission_mode, is_permissions};
+ghost use Rattle.facl_usage.specs.Forms.{is_table_name, names_attribute};
 
-/// The greatest id of a user or a group: the next number is no id.
-const MAX_ID: u32 = 4_294_967_294;
+use acl_text::{read_id, read_perms};
 
+/// Whether each byte is an octal digit. A mode has up to four of them; a permissions field, which `acl_text` reads, has
+/// one, or letters.
 fn are_octal_digits(bytes: &[u8]) -> bool
     ensures { result ≡ list_all is_octal_digit bytes.now }
 {
@@ -29,20 +28,11 @@ pub fn is_permission_mode(text: &str) -> bool
     is_mode(text) && (text.len() < 4 || text.as_bytes()[0] == b'0')
 }
 
-fn are_permission_letters(bytes: &[u8]) -> bool
-    ensures { result ≡ list_all is_permission_letter bytes.now }
-{
-    bytes
-        .iter()
-        .all(|b| *b == b'r' || *b == b'w' || *b == b'x' || *b == b'-')
-}
-
-/// Whether the text is permissions: nothing, letters `rwx-`, or one octal digit.
+/// Whether the text is permissions, as `acl_text` reads them: nothing, letters `rwx-`, or one octal digit.
 pub(crate) fn is_permissions(text: &str) -> bool
     ensures { result ≡ is_permissions text.now }
 {
-    let bytes = text.as_bytes();
-    are_permission_letters(bytes) || (bytes.len() == 1 && are_octal_digits(bytes))
+    read_perms(text.as_bytes()).is_some()
 }
 
 /// Whether the text is the name of a text that is loaded.
@@ -69,43 +59,9 @@ pub(crate) fn names_attribute(text: &str) -> bool
         || begins(text, "system.posix_acl_default=0X")
 }
 
-fn are_digits(bytes: &[u8]) -> bool
-    ensures { result ≡ list_all is_ascii_digit bytes.now }
-{
-    bytes.iter().all(|b| b.is_ascii_digit())
-}
-
-fn is_digits(bytes: &[u8]) -> bool
-    ensures { result ≡ is_digits bytes.now }
-{
-    !bytes.is_empty() && are_digits(bytes)
-}
-
-/// Whether the text is the id of a user: digits alone, at most 4294967294.
+/// Whether the text is the id of a user, as `acl_text` reads it: digits alone, at most 4294967294.
 pub(crate) fn is_id(text: &str) -> bool
     ensures { result ≡ is_id text.now }
 {
-    if !is_digits(text.as_bytes()) {
-        return false;
-    }
-    match text.parse::<u32>() {
-        Ok(id) => id <= MAX_ID,
-        Err(_) => false,
-    }
-}
-
-fn cuts_row(bytes: &[u8]) -> bool
-    ensures { result ≡ list_any cuts_row bytes.now }
-{
-    bytes
-        .iter()
-        .any(|b| *b == b':' || *b == b',' || *b == b'\n' || *b == 0)
-}
-
-/// Whether a user may be given the name: it is not empty, not digits alone, and nothing in it ends a
-/// field or a row of passwd(5) or group(5).
-pub(crate) fn is_user_name(name: &[u8]) -> bool
-    ensures { result ≡ is_user_name name.now }
-{
-    !name.is_empty() && !is_digits(name) && !cuts_row(name)
+    read_id(text.as_bytes()).is_some()
 }

@@ -8,8 +8,7 @@ ghost use Rattle.facl_usage.specs.Rules.{fits_getfacl, fits_gpasswd, fits_text, 
 ghost use Rattle.facl_usage.specs.Rules.{fits_useradd, lists_wanted, tasks_given, texts_wanted};
 
 use crate::forms::{
-    is_id, is_mode, is_permission_mode, is_permissions, is_table_name, is_user_name,
-    names_attribute,
+    is_id, is_mode, is_permission_mode, is_permissions, is_table_name, names_attribute,
 };
 use crate::places::{
     OperandPlace, ValuePlace, attr, can, chacl, chmod, creat, getfacl, gpasswd, load, may, rm,
@@ -20,6 +19,7 @@ use crate::text_words::is_text_word;
 use crate::tool::Tool;
 use crate::words::{Word, Words};
 use acl_names::read_name;
+use acl_text::is_user_name;
 use std::alloc::{AllocError, Global};
 
 fn texts_wanted(tool: Tool, words: &Words) -> usize

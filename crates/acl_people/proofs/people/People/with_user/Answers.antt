@@ -4,6 +4,7 @@ use Rattle.std.specs.List.{list_all}
 use Rattle.std.proofs.lemmas.List.{map_push, length-map}
 use Rattle.acl_names.specs.Pieces.{is_byte}
 use Rattle.acl_text.specs.declared.rows.PasswdRow.{PasswdRow}
+use Rattle.acl_text.specs.Rows.{most_rows}
 use Rattle.acl_people.specs.Rolls.{is_name, AreCounted}
 use Rattle.acl_people.specs.Entries.{user_entry}
 use Rattle.acl_people.specs.Registers.{Register, persons, users_of}
@@ -22,14 +23,14 @@ pub with_user_row-requires : goal.with_user_row-requires
 with_user_row-requires c =
     let known = c.args.self.now in
     let row = user_row c.args.name.now c.args.uid c.gid_of-gid.result in
-    let counted : AreCounted (users_of known) = record { names = c.is_sound.ensures.user_names; few = subst (λ n. n ≤ 65536) (sym (length-map known.users user_entry)) c.is_sound.ensures.few_users } in
+    let counted : AreCounted (users_of known) = record { names = c.is_sound.ensures.user_names; few = subst (λ n. n ≤ most_rows) (sym (length-map known.users user_entry)) c.is_sound.ensures.few_users } in
     let name : c.as_bytes.result.now ≡ c.args.name.now = c.as_bytes.ensures ∙ c.as_name.ensures.all in
     let text : IsNameText c.args.name.now = record {
       filled = c.as_name.ensures.filled;
       made_of_bytes = subst (λ (n : List ℕ). list_all is_byte n ≡ true) name c.in_ok-row.ensures.bytes;
     } in
     let new : position (is_name c.args.name.now) (users_of known) ≡ None = none_where _ c.requires.new in
-    let room : length (users_of known) < 65536 = subst (λ n. n < 65536) (sym (length-map known.users user_entry)) c.requires.room in
+    let room : length (users_of known) < most_rows = subst (λ n. n < most_rows) (sym (length-map known.users user_entry)) c.requires.room in
     let pushed : map user_entry (known.users ++ row ∷ []) ≡ users_of known ++ user_entry row ∷ [] = map_push user_entry known.users row in
     let is : c.in_ok-row.row ≡ row = c.in_ok-row.ensures.made ∙ ap (λ (n : List ℕ). user_row n c.args.uid c.gid_of-gid.result) name in
     subst (λ r. AreCounted (map user_entry (known.users ++ r ∷ []))) (sym is)
