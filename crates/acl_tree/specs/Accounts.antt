@@ -1,5 +1,6 @@
 -- useradd(8) and userdel(8): users come and go.
 use Rattle.std.specs.Prelude.{ℕ, List, length, nat_le, if◌then◌else◌, Result, Ok, Err}
+use Rattle.acl_text.specs.Rows.{most_rows}
 use Rattle.acl_people.specs.Rolls.{has_name, has_id}
 use Rattle.acl_people.specs.Registers.{Register, users_of}
 use Rattle.acl_people.specs.Changes.{with_user, without_user}
@@ -12,7 +13,7 @@ use Rattle.acl_tree.specs.Memberships.{UserChange, user_at, group_at}
 abbrev pub add_to : NewUser → Register → Result ℕ TreeFault → Result UserChange TreeFault
 add_to new known (Err fault) = Err fault
 add_to new known (Ok group) =
-    if nat_le 65536 (length known.users) then Err TooManyUsers
+    if nat_le most_rows (length known.users) then Err TooManyUsers
     else Ok (record { user = length known.users; people = with_user new.name new.uid group known })
 
 -- useradd: a user of a new name and a new id
