@@ -63,4 +63,5 @@ def main():
     write_dump(folder, files, users, groups)
 
 
-main()
+if __name__ == "__main__":
+    main()

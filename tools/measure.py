@@ -196,4 +196,5 @@ def main():
     print(f"It is meant to take 1/{GOAL:,} at most, where there are {GOAL_FILES:,} files.")
 
 
-main()
+if __name__ == "__main__":
+    main()
