@@ -66,6 +66,14 @@ class People:
     def group(self, word):
         return self.find(self.rows, word, lambda it: it.gid)
 
+    def passwd_text(self):
+        """The users as a text of passwd(5)."""
+        return b"".join(b"%s:x:%d:%d:::\n" % (it.name, it.uid, it.gid) for it in self.users)
+
+    def group_text(self):
+        """The groups as a text of group(5)."""
+        return b"".join(b"%s:x:%d:%s\n" % (it.name, it.gid, b",".join(it.names)) for it in self.rows)
+
     def groups_of(self, user):
         return {user.gid} | {row.gid for row in self.rows if user.name in row.names}
 

@@ -12,6 +12,8 @@ their lines in turn. Of each batch, with no second implementation but of the che
 - the accepted lines alone print the same, with the same warnings and no message;
 - the listing of all files (`getfacl -R .`), loaded by the same users, gives the same listing; restored there it changes
   nothing;
+- `index`, which the lines kept current, is the same where it is built afresh, of that listing and of texts of the users
+  and groups after the lines (not where a user was added whose name starts with `#`, as no row of a text does);
 - `index` and random questions of can, who and may, half of them with `--reach`, are answered as acl(5)'s check has it,
   rebuilt from that listing and the users (answers.py).
 
@@ -70,20 +72,17 @@ class Program:
     def __init__(self, program, folder):
         self.program = program
         self.folder = folder
-        for name, text in (("passwd", PASSWD), ("group", GROUP)):
-            with open(os.path.join(folder, name), "wb") as out:
-                out.write(text)
         self.runs = 0
 
-    def run(self, units, dump):
+    def run(self, units, dump, passwd=PASSWD, group=GROUP):
+        """What the program prints and ends with, where these texts are loaded; None is a dump that is not."""
         self.runs += 1
         words = [self.program]
-        names = ["passwd", "group"] if dump is None else ["passwd", "group", "dump"]
-        if dump is not None:
-            with open(os.path.join(self.folder, "dump"), "wb") as out:
-                out.write(dump)
-        for name in names:
-            words += ["--" + name, os.path.join(self.folder, name)]
+        for name, text in (("passwd", passwd), ("group", group), ("dump", dump)):
+            if text is not None:
+                with open(os.path.join(self.folder, name), "wb") as out:
+                    out.write(text)
+                words += ["--" + name, os.path.join(self.folder, name)]
         done = subprocess.run(words, input=script_of(units), capture_output=True)
         return Run(done.stdout, done.stderr, done.returncode)
 
@@ -143,17 +142,33 @@ def fault_of(program, units, dump):
     listing = run.out[len(before.out) :]
     kept = [units[k] for k in kept]
     people = [unit for unit in kept if unit.line.split(maxsplit=1)[:1] and unit.line.split(maxsplit=1)[0] in PEOPLE]
-    return reload_fault(program, people, listing) or answers_fault(program, kept[:-1], people, dump, before.out)
+    after = People(PASSWD, GROUP)
+    for unit in people:
+        after.do(unit.line)
+    return (
+        reload_fault(program, people, listing)
+        or afresh_fault(program, kept, after, dump, run.out, listing)
+        or answers_fault(program, kept[:-1], after, dump, before.out)
+    )
 
 
-def answers_fault(program, kept, people, dump, printed):
+def afresh_fault(program, kept, after, dump, printed, listing):
+    """What is wrong with the index after the accepted lines, which print this much, and at last the listing of all
+    files: built of that listing and these users it has to be the same."""
+    if b"index" not in program.tools or any(user.name.startswith(b"#") for user in after.users):
+        return None
+    index = program.run(kept + [INDEX], dump).out[len(printed) :]
+    run = program.run([INDEX], listing, after.passwd_text(), after.group_text())
+    if run != Run(index, b"", 0):
+        return f"the index that is built afresh is not the one that was kept: {run.out[-300:]!r} {run.err[-300:]!r}"
+    return None
+
+
+def answers_fault(program, kept, after, dump, printed):
     """What is wrong with the answers to random questions after the accepted lines."""
     if not {b"who", b"may", b"index"} <= set(program.tools):
         return None
     listed = program.run(kept + [NUMBERS], dump).out
-    after = People(PASSWD, GROUP)
-    for unit in people:
-        after.do(unit.line)
     table = Table(after, listed[len(printed) :])
     choice = random.Random(len(listed))
     questions = [table.question(choice) for _ in range(QUESTIONS)] if after.users else []

@@ -82,15 +82,20 @@ class TimedRun:
             raise Failed(f"{name}: it printed {shown(message)} in place of {shown(text)}")
         return False
 
+    def most_memory(self):
+        """The most memory of the program so far, in bytes. That of wait4(2) counts what this script had at the start."""
+        with open(f"/proc/{self.run.pid}/status", "rb") as file:
+            return next(int(line.split()[1]) * 1024 for line in file if line.startswith(b"VmHWM:"))
+
     def end(self):
         """Ends the run. Returns its most memory, in bytes."""
+        memory = self.most_memory()
         self.run.stdin.close()
         rest = self.run.stderr.read()
-        _, status, usage = os.wait4(self.run.pid, 0)
-        self.run.returncode = os.waitstatus_to_exitcode(status)
-        if rest or self.run.returncode != (1 if self.refused else 0):
-            raise Failed(f"at the end: status {self.run.returncode}, {shown(rest)}")
-        return usage.ru_maxrss * 1024
+        status = self.run.wait()
+        if rest or status != (1 if self.refused else 0):
+            raise Failed(f"at the end: status {status}, {shown(rest)}")
+        return memory
 
     def stop(self):
         """Ends a run that failed."""
