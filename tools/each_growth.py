@@ -4,6 +4,9 @@
 A run whose setup or line buffer found no memory prints the units before in full, then `facl: no memory`, and ends with 2.
 Any other run has one message `line N: facl: no memory` at most; all else is as if the lines of that unit were empty, or,
 where there is none (a growth that the program can do without), as in the run that meets no refusal.
+
+Then the same with that growth and all after it refused. Such a run prints some units in full; each unit after them has
+the message `line N: facl: no memory`, for which nothing is allocated; and it may end with 2 and `facl: no memory`.
 """
 
 import os
@@ -231,10 +234,12 @@ class Program:
         self.preloaded = preloaded
         self.files = files
 
-    def run(self, units, refuse=0):
+    def run(self, units, refuse=0, goes_on=False):
         """What a run writes and ends with, and whether the growth was refused."""
         reported_read, reported_write = os.pipe()
         environment = {"LD_PRELOAD": self.preloaded, "REFUSE": str(refuse)}
+        if goes_on:
+            environment["REFUSE_ON"] = "1"
 
         def ready():
             os.dup2(reported_write, 9)
@@ -300,6 +305,35 @@ def sweep(name, program, units):
     print(f"{name}: {n - 1} growths refused in turn: {kinds['stopped']} runs stopped, {kinds['refused']} lines refused, {kinds['unharmed']} as without")
 
 
+def lost(units, at):
+    """The message of a unit for which memory ran out; a comment has none."""
+    return b"" if units[at][0].startswith("#") else b"line %d: facl: no memory\n" % first_line(units, at)
+
+
+def check_on(name, units, n, run, before):
+    """Whether a run from whose growth n on all are refused is as it may be; `before` has the first units' runs."""
+    out, err, status, _ = run
+    for k, first in enumerate(before):
+        if out != first[0] or not err.startswith(first[1]):
+            continue
+        rest, at = err[len(first[1]) :], k
+        while at < len(units) and rest.startswith(lost(units, at)):
+            rest, at = rest[len(lost(units, at)) :], at + 1
+        if (rest, status) == (b"facl: no memory\n", 2) or (at == len(units) and (rest, status) == (b"", 1 if err else 0)):
+            return
+    raise SystemExit(f"{name}: growth {n} and all after it: {run}")
+
+
+def sweep_on(name, program, units):
+    """Refuses growth 1, 2, .. and all after it in turn."""
+    before = [program.run(units[:k]) for k in range(len(units) + 1)]
+    n = 1
+    while (run := program.run(units, n, True))[3]:
+        check_on(name, units, n, run, before)
+        n += 1
+    print(f"{name}: {n - 1} times all growths from one on refused, as expected", flush=True)
+
+
 def options_of(folder, dump):
     """The program's words for the texts, which are written into the folder."""
     files = []
@@ -314,13 +348,17 @@ def options_of(folder, dump):
 def main():
     program, preloaded = sys.argv[1:]
     with tempfile.TemporaryDirectory() as folder:
-        files = options_of(folder, DUMP)
-        sweep("texts as files", Program(program, preloaded, files), QUESTIONS)
-        sweep("texts by load", Program(program, preloaded, []), LOADS + QUESTIONS)
-        files = options_of(folder, SHORT_DUMP)
-        sweep("changes", Program(program, preloaded, files), CHANGES)
-        sweep("attributes and lists", Program(program, preloaded, files), ATTRIBUTES)
-        sweep("each tool and option", Program(program, preloaded, files), EVERY)
+        sessions = [
+            ("texts as files", DUMP, QUESTIONS),
+            ("texts by load", None, LOADS + QUESTIONS),
+            ("changes", SHORT_DUMP, CHANGES),
+            ("attributes and lists", SHORT_DUMP, ATTRIBUTES),
+            ("each tool and option", SHORT_DUMP, EVERY),
+        ]
+        for name, dump, units in sessions:
+            files = options_of(folder, dump) if dump else []
+            sweep(name, Program(program, preloaded, files), units)
+            sweep_on(name, Program(program, preloaded, files), units)
 
 
 if __name__ == "__main__":

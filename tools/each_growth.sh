@@ -1,5 +1,6 @@
 #!/bin/sh
-# Refuses each growth of memory of the built program in turn, and checks what it answers (tools/each_growth.py).
+# Refuses each growth of memory of the built program in turn, alone and with all after it, and checks what it answers
+# (tools/each_growth.py).
 #
 # usage: tools/each_growth.sh [PROGRAM]      PROGRAM: one that is built already
 #

@@ -386,6 +386,18 @@ def refused_lines(folder, count):
     return [Step("refused", [lines] * rounds, Refusals([message for _, message in REFUSED], rounds * len(REFUSED)))]
 
 
+def empty_and_endless(folder, size):
+    """so many bytes of empty lines, of one line, and of a text of one line"""
+    write_people(folder)
+    write_text(folder, "dump", tree(10))
+    line = b"x" * size + b"\n"
+    return [
+        Step("empty lines", [b"\n" * size]),
+        Step("one line", [line], [(1, b"facl: line too long")]),
+        Step("a text line", [b"setfacl -M - .\n", line, b".\n"], [(1, b"facl: text line too long")]),
+    ]
+
+
 def many_questions(folder, count):
     """so many questions over 5,000 files"""
     write_people(folder)
@@ -415,6 +427,7 @@ SHAPES = [
     Shape(different_operands, 10_000, 10_000),
     Shape(filled_lines, LINE, LINE),
     Shape(refused_lines, 200_000, 1_000_000),
+    Shape(empty_and_endless, 4_000_000, 20_000_000),
     Shape(many_questions, 100_000, 1_000_000),
 ]
 

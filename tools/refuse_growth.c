@@ -1,5 +1,6 @@
-/* A malloc that refuses one growth: the one with the number REFUSE, counted from 1. It reports on descriptor 9, if that
-   is open, that it did. Preloaded by tools/each_growth.sh under the built program; no part of facl. */
+/* A malloc that refuses one growth: the one with the number REFUSE, counted from 1; where REFUSE_ON is set all after it
+   too. It reports on descriptor 9, if that is open, that it did. Preloaded by tools/each_growth.sh under the built
+   program; no part of facl. */
 #define _GNU_SOURCE
 #include <dlfcn.h>
 #include <stddef.h>
@@ -10,11 +11,15 @@ static long growths;
 
 static int refused(void) {
     static long wanted = -1;
+    static int goes_on;
     if (wanted < 0) {
         const char *text = getenv("REFUSE");
         wanted = text ? atol(text) : 0;
+        goes_on = getenv("REFUSE_ON") != NULL;
     }
-    if (++growths != wanted) return 0;
+    growths++;
+    if (wanted && goes_on && growths > wanted) return 1;
+    if (growths != wanted) return 0;
     (void)!write(9, "refused\n", 8);
     return 1;
 }

@@ -1,0 +1,124 @@
+#!/usr/bin/env python3
+"""Looks for growths of memory in the machine code of the built program, where there are to be none.
+
+usage: no_growth.py PROGRAM
+
+Two things are looked at:
+
+- the calls that are documented as taking no memory (docs/PROOFS.md), or functions in which they are done, as far as
+  the program has them as functions of their own: no call from one of them leads to the system's allocator, on any way;
+- the answer of a line after the state before it is replaced (`State::commit`): on no way from there to its end is the
+  allocator called, so neither the index nor the output is put in place with memory.
+
+A call through a pointer counts as a growth. It needs objdump of binutils. The exit status is 1 where a growth is found,
+or where the program has none of these functions.
+"""
+import re
+import subprocess
+import sys
+
+CALLS = [
+    "acl_edit::node::Node::same_label",
+    "acl_entry::acl::Acl::set_mode_entries",
+    "acl_entry::draft::Draft::finish",
+    "acl_files::tree::Tree::get",
+    "acl_names::path::Path::new",
+    "acl_names::path::Path::order",
+    "acl_people::group::Group::names_user",
+    "acl_people::roll::Roll::place_of_name",
+    "acl_people::roll::Roll::place_of_word",
+    "acl_text::letters::perms_of",
+    "acl_tree::staged::Staged::give_up",
+    "acl_tree::state::State::commit",
+    "acl_verdicts::posix::PosixJudge::verdict",
+    "facl_usage::text_words::is_text_word",
+    "path_map::below::is_within",
+    "path_map::map::PathMap::from",
+]
+ANSWER, COMMIT = "facl::session::Facl::", "acl_tree::state::State::commit"
+GROWTHS = {"malloc", "realloc", "calloc", "aligned_alloc", "posix_memalign"}
+HEAD = re.compile(r"([0-9a-f]+) <(.*)>:")
+CODE = re.compile(r"\s*([0-9a-f]+):\t(\S+)\s*(.*)")
+TARGET = re.compile(r"([0-9a-f]+) <(.*?)(\+0x[0-9a-f]+)?>")
+
+
+def read_code(program):
+    """The instructions of each function: address, operation and operand."""
+    dump = subprocess.run(["objdump", "-d", "--no-show-raw-insn", program], capture_output=True, text=True, check=True)
+    functions, name = {}, None
+    for line in dump.stdout.splitlines():
+        if head := HEAD.fullmatch(line):
+            name = functions.setdefault(head[2], [])
+        elif name is not None and (code := CODE.fullmatch(line)):
+            name.append((int(code[1], 16), code[2], code[3]))
+    return functions
+
+
+def leaves_to(name, operation, operand):
+    """The function that an instruction of a function leads to, or `a pointer`; None where it stays."""
+    target = TARGET.search(operand)
+    if operation == "call":
+        return target[2] if target else "a pointer"
+    if operation.startswith("j") and target and target[2] != name:
+        return target[2]
+    return None
+
+
+def growths_from(functions, names):
+    """What calls from some functions lead to that is a growth, or may be one."""
+    seen, left = set(), list(names)
+    while left:
+        name = left.pop()
+        if name not in seen:
+            seen.add(name)
+            left += {leaves_to(name, *code[1:]) for code in functions.get(name, ())} - {None}
+    return sorted({name.split("@")[0] for name in seen} & (GROWTHS | {"a pointer"}))
+
+
+def called_after(name, code, at):
+    """What is called on any way from an instruction of a function to the function's end."""
+    places = {address: place for place, (address, _, _) in enumerate(code)}
+    seen, left, called = set(), [at], set()
+    while left:
+        place = left.pop()
+        if place in seen or place >= len(code):
+            continue
+        seen.add(place)
+        _, operation, operand = code[place]
+        called.add(leaves_to(name, operation, operand))
+        target = TARGET.search(operand)
+        if operation.startswith("j") and not target:
+            called.add("a pointer")
+        if operation.startswith("j") and target and int(target[1], 16) in places:
+            left.append(places[int(target[1], 16)])
+        if operation not in ("ret", "jmp", "ud2"):
+            left.append(place + 1)
+    return called - {None}
+
+
+def answers(functions):
+    """Each answer of a line with what it calls after the state is replaced."""
+    for name, code in functions.items():
+        if name.startswith(ANSWER):
+            for place, (_, operation, operand) in enumerate(code):
+                if leaves_to(name, operation, operand) == COMMIT:
+                    yield f"{name} after {COMMIT}", called_after(name, code, place + 1)
+
+
+def main():
+    if len(sys.argv) != 2:
+        sys.exit(__doc__)
+    functions = read_code(sys.argv[1])
+    there = {name: name.split("::<")[0] for name in functions}
+    calls = [(name, [name]) for name, plain in there.items() if plain in CALLS]
+    after = list(answers(functions))
+    found = [(name, growths_from(functions, start)) for name, start in calls + after]
+    for name, growths in found:
+        print(f"{name}: {'leads to ' + ', '.join(growths) if growths else 'no growth'}")
+    apart = [name for name in CALLS if name not in there.values()]
+    if apart:
+        print(f"No functions of their own in this program: {', '.join(apart)}")
+    sys.exit(1 if not calls or not after or any(growths for _, growths in found) else 0)
+
+
+main()
