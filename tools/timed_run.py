@@ -85,7 +85,7 @@ class TimedRun:
     def most_memory(self):
         """The most memory of the program so far, in bytes. That of wait4(2) counts what this script had at the start."""
         with open(f"/proc/{self.run.pid}/status", "rb") as file:
-            return next(int(line.split()[1]) * 1024 for line in file if line.startswith(b"VmHWM:"))
+            return next((int(line.split()[1]) * 1024 for line in file if line.startswith(b"VmHWM:")), 0)
 
     def end(self):
         """Ends the run. Returns its most memory, in bytes."""
