@@ -9,7 +9,7 @@ by the size and a logarithm, with room for noise and for memory that is out of t
 program, the best of N runs (2), and of as many again where it grows by more; a step of less than 50 ms is not compared.
 Where each line of a step looks at everything, as a userdel, the number of lines stays, so what is compared is the time
 of a line. Where the paths of a shape contain one another, the texts grow by the square, and the size is compared with
-its half. User names that are made to collide are no shape here: docs/PERFORMANCE.md has what they take.
+its half.
 
 --full takes the sizes of the limits: 1,000,000 files, 65,536 users or groups, 4,096 entries, paths of 32,000 names; it
 takes some 3 GB of memory and a quarter of an hour. Without it the files, users and lines are fewer, and all shapes run
