@@ -35,6 +35,13 @@ fn runs_over_memory(rt: HostRuntime) {
     assert!(rt; !reader.failed());
 }
 
+#[test]
+fn only_a_dot_alone_ends_a_text(rt: HostRuntime) {
+    let script = b"load\n. \n .\n..\n.\n".as_slice();
+    let wanted = (b"load\n. \n .\n..\n".as_slice(), b"".as_slice());
+    expect_echo(&rt, rt.alloc(), script, Ok(false), wanted);
+}
+
 const SCRIPTS: [&[u8]; 6] = [b"", b"a", b"a\n", b"load", b"load\nb", b"load\n."];
 
 fn expect_end(rt: &impl Abort, alloc: Global, script: &[u8]) {
