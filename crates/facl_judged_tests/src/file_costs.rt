@@ -228,11 +228,12 @@ static SEARCH: [Cost; 8] = [
     },
 ];
 
-/// Each file that changes is judged for each user.
+/// Each file that changes is judged for each user; files that then have one label are judged once, as the root and run
+/// of the first line.
 static WHOLE_TREE: [Cost; 5] = [
     Cost {
         line: b"setfacl -R -m u:joe:rX .\n",
-        asked: (0, 15),
+        asked: (0, 12),
     },
     Cost {
         line: b"setfacl -R -m u:joe:rX .\n",
