@@ -23,6 +23,8 @@ mod listings;
 #[cfg(test)]
 mod loads;
 #[cfg(test)]
+mod long_lines;
+#[cfg(test)]
 mod members;
 #[cfg(test)]
 mod mixed_rows;

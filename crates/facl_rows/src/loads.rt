@@ -5,7 +5,7 @@ use crate::texts::{NOTHING, PEOPLE};
 use facl::Status;
 use std::test::Fail;
 
-static LOADS: [Row; 8] = [
+static LOADS: [Row; 9] = [
     Row {
         name: "an empty script",
         setup: NOTHING,
@@ -151,6 +151,34 @@ line 5: facl: open quote\n\
 line 6: facl: not UTF-8\n\
 line 7: facl: text without end\n",
         status: Status::Refused,
+    },
+    Row {
+        name: "a default list makes a directory",
+        setup: PEOPLE,
+        script: b"load dump\n\
+# file: .\n\
+# owner: lisa\n\
+# group: staff\n\
+user::rwx\n\
+group::r-x\n\
+other::r-x\n\
+\n\
+# file: d\n\
+# owner: lisa\n\
+# group: staff\n\
+user::rwx\n\
+group::r-x\n\
+other::r-x\n\
+default:user::rwx\n\
+default:group::r-x\n\
+default:other::---\n\
+.\n\
+creat --user=lisa --mode=640 d/x\n\
+chacl -l d d/x\n",
+        out: b"d [u::rwx,g::r-x,o::r-x/u::rwx,g::r-x,o::---]\n\
+d/x [u::rw-,g::r--,o::---]\n",
+        err: b"",
+        status: Status::Accepted,
     },
     Row {
         name: "a word that is no text of load",
