@@ -4,7 +4,7 @@ use Rattle.std.specs.Prelude.{if◌then◌else◌, ◌==◌}
 use Rattle.std.specs.List.{AllByRecursion}
 use Rattle.std.specs.Ordering.{is_gt, is_eq, is_lt, nat_cmp}
 use Rattle.std.specs.Cmp.Lexicographic.{slice_cmp}
-use Rattle.std.specs.FinMap.{find, is_sorted}
+use Rattle.std.specs.FinMap.{is_sorted}
 use Rattle.std.specs.FinMap.Entries.{below_all}
 use Rattle.std.proofs.lemmas.Bool.{and_parts, eqb-true}
 use Rattle.std.proofs.lemmas.Cmp.{tied_itself, nat_list_cmp_total}
@@ -19,17 +19,12 @@ use Rattle.acl_verdicts.specs.Rows.{Rows}
 use Rattle.acl_reach.specs.Reach.{can_search, passes_in, reached_rows}
 use Rattle.acl_reach.specs.Walks.{nearest_from, nearest, last_from, lets, cut_from, AllBefore, reached_in, IsWalked}
 use Rattle.acl_reach.specs.Subtrees.{IsNearest}
-use Rattle.acl_reach.proofs.Walks.{both, below_less, below_within, within_below, within_trans, below_of_within, passes_alike, all-append, take_all, before_more, and_true, false_from, walked_on, walked_post, walked_done}
+use Rattle.acl_reach.proofs.Walks.{both, below_less, within_below, below_of_within, passes_alike, all-append, take_all, before_more, and_true, false_from, walked_on, walked_post, walked_done}
 
 less : (o : Ordering) → is_lt o ≡ true → o ≡ Less
 less Less h = refl
 less Equal h = cc
 less Greater h = cc
-
-equal : (o : Ordering) → is_eq o ≡ true → o ≡ Equal
-equal Less h = cc
-equal Equal h = refl
-equal Greater h = cc
 
 greater : (o : Ordering) → is_gt o ≡ true → o ≡ Greater
 greater Less h = cc
@@ -297,65 +292,9 @@ below_init [] x p = refl
 below_init (a ∷ e) x [] = ap (λ b. is_eq (slice_cmp nat_cmp a x) && b) (nothing_below e) ∙ and_false (is_eq (slice_cmp nat_cmp a x))
 below_init (a ∷ e) x (y ∷ p) = ap (λ b. is_eq (slice_cmp nat_cmp a x) && b) (below_init e y p)
 
-below_parent : (e p : PathOf) → (p ≡ [] → ⊥) → is_below e p ≡ is_within e (parent p)
+pub below_parent : (e p : PathOf) → (p ≡ [] → ⊥) → is_below e p ≡ is_within e (parent p)
 below_parent e [] some = absurd (some refl)
 below_parent e (x ∷ p) some = below_init e x p ∙ ap (is_within e) (sym (parent_is x p))
-
-within_cases : (q p : PathOf) → is_within q p ≡ true → is_below q p ≡ false → q ≡ p
-within_cases q p w apart = by (path_cmp q p) refl
-  where
-    by : (o : Ordering) → path_cmp q p ≡ o → q ≡ p
-    by Less is = absurd (clash (is_below q p) (within_below q p w is) apart)
-    by Equal is = exact_paths q p is
-    by Greater is = absurd (clash (is_gt (path_cmp q p)) (ap is_gt is) (not_before q p w))
-
--- where the parent has no row, it has the nearest row that the path has
-parent_skipped : {A : Type 0} (o : Option A) (p : PathOf) (es : List (PathOf × A)) → (p ≡ [] → ⊥) → find path_cmp (parent p) es ≡ None → nearest_from o p es ≡ nearest_from o (parent p) es
-parent_skipped o p [] some none = refl
-parent_skipped o p (e ∷ es) some none =
-    let m = parent p in
-    by (is_eq (path_cmp m e.0)) refl none (λ b rest. parent_skipped (if b then Some e.1 else o) p es some rest)
-  where
-    apart : is_eq (path_cmp (parent p) e.0) ≡ false → (e.0 ≡ parent p → ⊥)
-    apart other same = clash (is_eq (path_cmp (parent p) e.0)) (ap (λ q. is_eq (path_cmp (parent p) q)) same ∙ ap is_eq (tied_itself path_total (parent p))) other
-
-    here : is_eq (path_cmp (parent p) e.0) ≡ false → is_below e.0 p ≡ is_below e.0 (parent p)
-    here other = below_parent e.0 p some ∙ either (is_below e.0 (parent p)) refl
-      where
-        either : (b : Bool) → is_below e.0 (parent p) ≡ b → is_within e.0 (parent p) ≡ b
-        either true is = below_within e.0 (parent p) is
-        either false is = false_from (is_within e.0 (parent p)) (λ w. apart other (within_cases e.0 (parent p) w is))
-
-    by : (b : Bool) → is_eq (path_cmp (parent p) e.0) ≡ b → cond b (Some e.1) (find path_cmp (parent p) es) ≡ None
-        → ((b : Bool) → find path_cmp (parent p) es ≡ None → nearest_from (if b then Some e.1 else o) p es ≡ nearest_from (if b then Some e.1 else o) (parent p) es)
-        → nearest_from (if is_below e.0 p then Some e.1 else o) p es ≡ nearest_from (if is_below e.0 (parent p) then Some e.1 else o) (parent p) es
-    by true is gone more = cc
-    by false is gone more = ap (λ b. nearest_from (if b then Some e.1 else o) p es) (here is) ∙ more (is_below e.0 (parent p)) gone
-
--- where the parent has a row, it is the nearest
-parent_nearest : {A : Type 0} (o : Option A) (p : PathOf) (es : List (PathOf × A)) (a : A) → (p ≡ [] → ⊥) → IsInOrder es → find path_cmp (parent p) es ≡ Some a → nearest_from o p es ≡ Some a
-parent_nearest o p [] a some h is = cc
-parent_nearest {A = A} o p (e ∷ es) a some h is =
-    let parts = and_parts (below_all path_cmp e.0 es) (is_sorted path_cmp es) h in
-    by (is_eq (path_cmp (parent p) e.0)) refl is parts.0 (parent_nearest (if is_below e.0 p then Some e.1 else o) p es a some parts.1)
-  where
-    by : (b : Bool) → is_eq (path_cmp (parent p) e.0) ≡ b → cond b (Some e.1) (find path_cmp (parent p) es) ≡ Some a → IsTrue (below_all path_cmp e.0 es)
-        → (find path_cmp (parent p) es ≡ Some a → nearest_from (if is_below e.0 p then Some e.1 else o) p es ≡ Some a)
-        → nearest_from (if is_below e.0 p then Some e.1 else o) p es ≡ Some a
-    by true same found first more =
-        let path : parent p ≡ e.0 = exact_paths (parent p) e.0 (equal (path_cmp (parent p) e.0) same) in
-        let above_it : is_below e.0 p ≡ true = below_parent e.0 p some ∙ ap (is_within e.0) path ∙ within_itself e.0 in
-        ap (λ b. nearest_from (if b then Some e.1 else o) p es) above_it ∙ none_later (Some e.1) es first ∙ found
-      where
-        none_later : (o : Option A) (fs : List (PathOf × A)) → IsTrue (below_all path_cmp e.0 fs) → nearest_from o p fs ≡ o
-        none_later o [] h = refl
-        none_later o (f ∷ fs) h =
-            let parts = and_parts (is_lt (path_cmp e.0 f.0)) (below_all path_cmp e.0 fs) h in
-            let path : parent p ≡ e.0 = exact_paths (parent p) e.0 (equal (path_cmp (parent p) e.0) same) in
-            let late : is_gt (path_cmp f.0 (parent p)) ≡ true = ap (λ q. is_gt (path_cmp f.0 q)) path ∙ ap is_gt (above e.0 f.0 (less (path_cmp e.0 f.0) parts.0)) in
-            let out : is_below f.0 p ≡ false = below_parent f.0 p some ∙ early_not_within f.0 (parent p) late in
-            ap (λ b. nearest_from (if b then Some f.1 else o) p fs) out ∙ none_later o fs parts.1
-    by false other found first more = more found
 
 pub full_path : (p parts : PathOf) (b : Bool) → b ≡ (length parts == 0) → parts ≡ p → b ≡ false → p ≡ [] → ⊥
 full_path p parts b is same some root = clash b (is ∙ ap (λ (l : PathOf). length l == 0) (same ∙ root)) some
@@ -366,30 +305,6 @@ empty_path p parts b is same none = nothing p (eqb-true (length p) 0 (sym (is �
     nothing : (q : PathOf) → length q ≡ 0 → q ≡ []
     nothing [] h = refl
     nothing (x ∷ q) h = absurd (omega (arith, h))
-
--- a path that is looked up on the way up, from which the nearest row is still to be found
-pub record IsAhead (top : PathOf) (rows : Rows) (path : PathOf) : Type 0 where
-  pub inside : is_within path top ≡ true
-  pub same : nearest path rows ≡ nearest top rows
-
-pub ahead_begins : (top : PathOf) (rows : Rows) (path : PathOf) → path ≡ top → IsAhead top rows path
-ahead_begins top rows path is = subst (IsAhead top rows) (sym is) (record { inside = within_itself top; same = refl })
-
-pub ahead_on : (top : PathOf) (rows : Rows) (path next : PathOf) → (path ≡ [] → ⊥) → next ≡ parent path → find path_cmp next rows ≡ None → IsAhead top rows path → IsAhead top rows next
-ahead_on top rows path next some is none w =
-    subst (IsAhead top rows) (sym is) (record {
-      inside = within_trans (parent path) path top (below_within (parent path) path (below_parent (parent path) path some ∙ within_itself (parent path))) w.inside;
-      same = sym (parent_skipped None path rows some (ap (λ p. find path_cmp p rows) (sym is) ∙ none)) ∙ w.same;
-    })
-
-pub ahead_found : (top : PathOf) (rows : Rows) (path next : PathOf) (cells : List ℕ) → IsInOrder rows → (path ≡ [] → ⊥) → next ≡ parent path → find path_cmp next rows ≡ Some cells → IsAhead top rows path → IsNearest top rows ((next, cells) ∷ [])
-ahead_found top rows path next cells order some is found w = record {
-  below = (below_of_within next path top (ap (λ p. is_below p path) is ∙ below_parent (parent path) path some ∙ within_itself (parent path)) w.inside, tt);
-  last = sym (parent_nearest None path rows cells some order (ap (λ p. find path_cmp p rows) (sym is) ∙ found)) ∙ w.same;
-}
-
-pub ahead_ends : (top : PathOf) (rows : Rows) (path : PathOf) → path ≡ [] → IsAhead top rows path → IsNearest top rows []
-ahead_ends top rows path is w = record { below = tt; last = (root_near rows).last ∙ ap (λ p. nearest p rows) (sym is) ∙ w.same }
 
 -- a walk over all rows
 pub all_reached : (rows made new : Rows) (root : PathOf) → root ≡ [] → made ≡ [] → new ≡ made ++ within root (reached_rows rows) → new ≡ reached_rows rows

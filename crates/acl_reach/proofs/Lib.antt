@@ -1,5 +1,6 @@
 pub mod Orders
 pub mod Walks
 mod Begins
+mod Nearest
 mod Changes
 mod Tops

@@ -35,7 +35,7 @@ less Greater h = cc
 pub both : (a b : Bool) → a ≡ true → b ≡ true → (a && b) ≡ true
 both a b p q = cc
 
-exact_names : IsAntisymmetric (slice_cmp nat_cmp)
+pub exact_names : IsAntisymmetric (slice_cmp nat_cmp)
 exact_names = slice_cmp-IsAntisymmetric nat_cmp-IsAntisymmetric
 
 pub false_from : (b : Bool) → (b ≡ true → ⊥) → b ≡ false

@@ -1,5 +1,7 @@
 -- The rows at and below some paths, walked again.
-use Rattle.std.specs.Prelude.{◌≡◌, Bool, true, false, List, ◌++◌, filter, Option, None, Some}
+use Rattle.std.specs.Prelude.{◌≡◌, Bool, true, false, List, [], ◌∷◌, ◌++◌, filter, Option, None, Some, if◌then◌else◌}
+use Rattle.std.specs.Ordering.{nat_cmp, eq_by_cmp}
+use Rattle.std.specs.Cmp.Lexicographic.{slice_cmp}
 use Rattle.std.specs.List.{list_any, AllByRecursion}
 use Rattle.acl_load.specs.Below.{is_within, is_below}
 use Rattle.path_map.specs.Entries.{PathOf}
@@ -30,6 +32,12 @@ covers None p = false
 covers (Some top) p = is_within top p
 
 -- ---- for inner functions
+
+-- the path that two paths begin with, as long as it can be
+abbrev pub common : PathOf → PathOf → PathOf
+common [] q = []
+common (x ∷ p) [] = []
+common (x ∷ p) (y ∷ q) = if eq_by_cmp (slice_cmp nat_cmp) x y then x ∷ common p q else []
 
 -- where no top is above a top, the nearest row above it is as before
 abbrev pub AgreesAbove : {A : Type 0} → List (PathOf × A) → Rows → Rows → Type 0

@@ -1,12 +1,13 @@
 //! The nearest path above a path that has a row.
 
 ghost use Rattle.std.specs.Prelude.{◌≡◌, ◌-◌, length, take, map, IfOk};
-ghost use Rattle.acl_reach.specs.Subtrees.{IsNearest};
+ghost use Rattle.acl_reach.specs.Subtrees.{IsNearest, common};
 
 use acl_names::Path;
 use acl_verdicts::Cells;
-use path_map::{Entry, PathMap};
+use path_map::{Entry, PathMap, is_within};
 use std::alloc::{AllocError, Global};
+use std::cmp::Ordering;
 use std::rc::Rc;
 
 /// The path without its last component: the root is its own. Fails only if memory runs out.
@@ -22,8 +23,26 @@ fn parent_of(alloc: Global, path: &Path) -> Result<Path, AllocError>
     Ok(Path::new(above).unwrap())
 }
 
-/// The nearest row above a path, if there is one: one look-up for each path above it, until there is a row.
-/// Fails only if memory runs out.
+/// The names with which two paths begin, as far as they are the same. Fails only if memory runs out.
+fn shared_top(alloc: Global, path: &Path, other: &Path) -> Result<Path, AllocError>
+    ensures { IfOk result (λ p. p ≡ common path.now other.now) }
+{
+    let mut shared = Vec::new(alloc);
+    let mut names = path.components();
+    let mut others = other.components();
+    while let Some(name) = names.next() {
+        match others.next() {
+            Some(against) if name.cmp(against) == Ordering::Equal => shared.push(Vec::from_slice(
+                alloc, name,
+            )?)?,
+            _ => break,
+        }
+    }
+    Ok(Path::new(shared).unwrap())
+}
+
+/// The nearest row above a path, if there is one: the last row up to its parent, or else one above what they
+/// have in common. That is a search for each row in the way. Fails only if memory runs out.
 pub(crate) fn nearest_above(
     alloc: Global,
     rows: &PathMap<Cells>,
@@ -33,14 +52,16 @@ pub(crate) fn nearest_above(
 {
     rows.is_in_order();
     let mut above = Vec::new(alloc);
-    let mut path = path.try_clone(alloc)?;
-    while !path.components().is_empty() {
-        path = parent_of(alloc, &path)?;
-        if let Some(cells) = rows.get(&path) {
-            let cells = cells.share()?;
-            above.push(Rc::new(alloc, Entry::new(Rc::new(alloc, path)?, cells))?)?;
+    if path.components().is_empty() {
+        return Ok(above);
+    }
+    let mut top = parent_of(alloc, path)?;
+    while let Some(row) = rows.up_to(&top) {
+        if is_within(row.path(), &top) {
+            above.push(row.clone()?)?;
             return Ok(above);
         }
+        top = shared_top(alloc, &top, row.path())?;
     }
     Ok(above)
 }

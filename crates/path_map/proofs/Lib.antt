@@ -6,6 +6,7 @@ pub mod Joined
 pub mod Sorted
 pub mod Convex
 pub mod Ranges
+pub mod UpTo
 pub mod Edits
 pub mod Differences
 pub mod Rows

@@ -8,7 +8,7 @@ ghost use Rattle.path_map.specs.Below.{from};
 use crate::chunk::Chunk;
 use crate::entry::Entry;
 use crate::merge::{Merge, merge_parts};
-use crate::part::{Part, count_entries, count_up_to, value_in};
+use crate::part::{Part, count_entries, count_up_to, last_up_to, value_in};
 use crate::pieces::push_chunks;
 use crate::place::start;
 use acl_names::Path;
@@ -81,6 +81,10 @@ impl<V> Part<V> for Branch<V> {
 
     fn get(&self, path: &Path) -> Option<&V> {
         value_in(self.chunks(), path)
+    }
+
+    fn up_to(&self, path: &Path) -> Option<&Rc<Entry<V>>> {
+        last_up_to(self.chunks(), path)
     }
 
     fn len(&self) -> usize {

@@ -7,7 +7,7 @@ use crate::entry::Entry;
 use crate::merge::{Merge, merged_entries};
 use crate::part::Part;
 use crate::pieces::push_entries;
-use crate::place::value_at;
+use crate::place::{entry_up_to, value_at};
 use acl_names::Path;
 use std::alloc::{AllocError, Global};
 use std::marker::Model;
@@ -64,6 +64,10 @@ impl<V> Part<V> for Chunk<V> {
 
     fn get(&self, path: &Path) -> Option<&V> {
         value_at(self.entries(), path)
+    }
+
+    fn up_to(&self, path: &Path) -> Option<&Rc<Entry<V>>> {
+        entry_up_to(self.entries(), path)
     }
 
     fn len(&self) -> usize {

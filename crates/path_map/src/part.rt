@@ -1,13 +1,15 @@
 //! A part of a map: some entries that follow one another in path order, shared by the maps that contain them.
 
-ghost use Rattle.std.specs.Prelude.{◌≡◌, ◌<◌, List, length, slice_index_or};
+ghost use Rattle.std.specs.Prelude.{◌≡◌, ◌<◌, List, length, slice_index_or, option_map};
 ghost use Rattle.std.specs.Option.{option_copied};
 ghost use Rattle.std.specs.List.{flat_map};
 ghost use Rattle.std.specs.FinMap.{find};
 ghost use Rattle.acl_names.specs.Paths.{path_cmp};
 ghost use Rattle.path_map.specs.Entries.{PathOf, IsInOrder};
+ghost use Rattle.path_map.specs.Below.{up_to};
 ghost use Rattle.path_map.specs.Inner.{IsCountUpTo};
 
+use crate::entry::Entry;
 use acl_names::Path;
 use std::cmp::Ordering;
 use std::rc::Rc;
@@ -25,6 +27,10 @@ pub(crate) trait Part<V> {
     /// The value of a path.
     fn get(&self, path: &Path) -> Option<&V>
         ensures { option_copied result ≡ find path_cmp path.now (entries_of self.now) };
+
+    /// The last entry that is not after a path.
+    fn up_to(&self, path: &Path) -> Option<&Rc<Entry<V>>>
+        ensures { option_map (λ e. e.now.value) result ≡ up_to path.now (entries_of self.now) };
 
     /// How many entries there are.
     fn len(&self) -> usize
@@ -55,6 +61,18 @@ pub(crate) fn value_in<'a, V, P: Part<V>>(parts: &'a [Rc<P>], path: &Path) -> Op
 {
     let at = count_up_to(parts, path).checked_sub(1)?;
     parts[at].get(path)
+}
+
+/// The last entry that is not after a path: it is in the last part that begins at the path or before it.
+pub(crate) fn last_up_to<'a, V, P: Part<V>>(
+    parts: &'a [Rc<P>],
+    path: &Path,
+) -> Option<&'a Rc<Entry<V>>>
+    requires { IsInOrder (flat_map (λ c. P.entries_of c.value) parts.now) }
+    ensures { option_map (λ e. e.now.value) result ≡ up_to path.now (flat_map (λ c. P.entries_of c.value) parts.now) }
+{
+    let at = count_up_to(parts, path).checked_sub(1)?;
+    parts[at].up_to(path)
 }
 
 /// How many entries the parts have.

@@ -1,13 +1,13 @@
-//! The entries from a path on, and those at or below it, found by search.
+//! The entries from a path on, those at or below it, and the last one up to it, found by search.
 
-ghost use Rattle.std.specs.Prelude.{◌≡◌, ◌∷◌, [], MatchOption};
-ghost use Rattle.path_map.specs.Below.{from, within};
+ghost use Rattle.std.specs.Prelude.{◌≡◌, ◌∷◌, [], MatchOption, option_map};
+ghost use Rattle.path_map.specs.Below.{from, within, up_to};
 
 use crate::below::is_within;
 use crate::entry::Entry;
 use crate::iter::Entries;
 use crate::map::PathMap;
-use crate::part::count_up_to;
+use crate::part::{count_up_to, last_up_to};
 use acl_names::Path;
 use std::marker::Model;
 use std::rc::Rc;
@@ -63,6 +63,14 @@ impl<V> PathMap<V> {
             chunks,
             branches: branches.split_at(after).1,
         }
+    }
+
+    /// The last entry that is not after a path, if there is one. Allocates nothing.
+    pub fn up_to(&self, path: &Path) -> Option<&Rc<Entry<V>>>
+        ensures { option_map (λ e. e.now.value) result ≡ up_to path.now self.now }
+    {
+        self.is_in_order();
+        last_up_to(self.branches(), path)
     }
 
     /// The entries at or below a path. Allocates nothing.

@@ -40,6 +40,10 @@ fn each_number_is_found_and_followed(rt: std::rt::HostRuntime) -> Result<(), Fai
         let entry = numbered(&rt, alloc, number)?;
         assert_eq!(rt; map.get(entry.path()).copied(), Some(number));
         assert!(rt; are_evens(map.from(entry.path()), number, 80_000));
+        assert_eq!(rt;
+            map.up_to(entry.path()).map(|last| *last.value()),
+            Some(number)
+        );
     }
     Ok(())
 }

@@ -64,6 +64,11 @@ fn a_map_is_looked_at(rt: std::rt::HostRuntime) -> Result<(), Fail> {
         b"a/b ab ".as_slice()
     );
     assert_eq!(rt; map.get(&b).copied(), Some(3));
+    assert_eq!(rt; map.up_to(&b).map(|entry| *entry.value()), Some(3));
+    let c = path(&rt, alloc, b"a/c")?;
+    assert_eq!(rt; map.up_to(&c).map(|entry| *entry.value()), Some(3));
+    let empty: PathMap<u32> = PathMap::new(alloc);
+    assert!(rt; empty.up_to(&c).is_none());
     assert_eq!(rt; map.iter().peek().map(|entry| *entry.value()), Some(1));
     Ok(())
 }
