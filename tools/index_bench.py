@@ -14,8 +14,9 @@ import os
 import sys
 import tempfile
 
-from measure import Session
-from make_tree import PER_DIRECTORY, record, write_people
+sys.dont_write_bytecode = True
+from make_tree import PER_DIRECTORY, record, write_people  # noqa: E402
+from measure import Session  # noqa: E402
 
 RUNS = 2
 LINES = 200
