@@ -94,28 +94,32 @@ def read_changes():
     return found
 
 
+def has_failed(tests):
+    """Whether a test failed, and not only for want of time."""
+    parts = ("\n" + tests).split("\ntest ")
+    return any(part.partition("\n")[0].endswith("FAILED") and "no-answer" not in part for part in parts)
+
+
 def tried(top, crate):
     """What the tests of the crate show."""
     folder = os.path.join(top, "crates", crate)
     words = ["rt", "try", "--test", "--seconds", str(SECONDS)]
     run = subprocess.run(words, cwd=folder, stdout=subprocess.PIPE, stderr=subprocess.STDOUT, text=True)
-    if "test result: ok" in run.stdout:
-        return "not seen"
-    if "test result: FAILED" in run.stdout and "no-answer" not in run.stdout:
+    if has_failed(run.stdout):
         return "seen"
-    return "no answer"
+    return "not seen" if "test result: ok" in run.stdout else "no answer"
 
 
 def shown(top, change):
-    """What the tests show of the change."""
+    """What the tests show of the change: `seen` where a test failed, else `no answer` where one was not over."""
     change.make(top)
-    found = "not seen"
+    found = set()
     for crate in TESTS.get(change.crate, []) + WHOLE_SCRIPTS:
-        found = tried(top, crate)
-        if found != "not seen":
+        found.add(tried(top, crate))
+        if "seen" in found:
             break
     change.undo(top)
-    return found
+    return next(answer for answer in ("seen", "no answer", "not seen") if answer in found)
 
 
 def try_all(changes, jobs):

@@ -4,9 +4,9 @@
 usage: tools/prove.py [--jobs N] [CRATE]
 
 CRATE is facl_cli unless it is given. A crate is started once those that it depends on are built, the one with the
-longest way to CRATE first. N crates run at a time: as many as there are processors, and as memory has room for, unless
-N is given. A crate that runs alone checks N of its functions at a time; otherwise rt decides. What is proved already,
-and has not changed since, is not proved again.
+longest way to CRATE first. N checks run at a time: as many as there are processors, and as memory has room for, unless
+N is given. A crate has one of them, and more where no other crate waits, since each loads all that the crate depends on
+once more. What is proved already, and has not changed since, is not proved again.
 
 After each crate it prints to standard error how many of all are done, and the minutes so far. What rt prints of a crate
 goes to a log in the folder out/ of CRATE. The exit status is 0 where all crates are proved, else 1.
@@ -94,27 +94,36 @@ def start(crate, flags, log):
         )
 
 
+def start_ready(crates, running, jobs, log_of):
+    """Starts as many of the crates as processors are free. Each takes the processors that no other one waits for."""
+    free = jobs - sum(share for _, share in running.values())
+    for at, crate in enumerate(crates):
+        if free == 0:
+            break
+        share = max(1, free // (len(crates) - at))
+        running[crate] = start(crate, ["--jobs", str(share)], log_of(crate)), share
+        free -= share
+
+
 def prove_all(uses, crates, jobs, log_of):
     """Proves all crates. Returns the one that is not proved, if there is one."""
     ways, began = ways_up(uses, crates), time.time()
-    waiting, done, running = set(crates), set(), {}
+    done, running = set(), {}
     try:
         while len(done) < len(crates):
-            ready = [crate for crate in waiting if all(use in done for use in uses[crate])]
-            is_alone = not running and len(ready) == 1
-            flags = ["--jobs", str(jobs)] if is_alone else []
-            for crate in sorted(ready, key=ways.get, reverse=True)[: jobs - len(running)]:
-                waiting.remove(crate)
-                running[crate] = start(crate, flags, log_of(crate))
+            left = crates - done - running.keys()
+            ready = [crate for crate in left if all(use in done for use in uses[crate])]
+            start_ready(sorted(ready, key=ways.get, reverse=True), running, jobs, log_of)
             time.sleep(0.2)
-            for crate in [crate for crate, run in running.items() if run.poll() is not None]:
-                if running.pop(crate).returncode != 0:
+            for crate in [crate for crate, (run, _) in running.items() if run.poll() is not None]:
+                run, _ = running.pop(crate)
+                if run.returncode != 0:
                     return crate
                 done.add(crate)
                 say(f"{len(done)} of {len(crates)} crates, {(time.time() - began) / 60:.1f} min: {crate}")
         return None
     finally:
-        for run in running.values():
+        for run, _ in running.values():
             if run.poll() is None:
                 os.killpg(run.pid, signal.SIGTERM)
 

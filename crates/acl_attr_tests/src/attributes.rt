@@ -90,6 +90,17 @@ fn an_entry_is_repeated(rt: HostRuntime) -> Result<(), Fail> {
     Ok(())
 }
 
+/// The entry of the owning group stands before that of joe.
+#[test]
+fn entries_are_out_of_order(rt: HostRuntime) -> Result<(), Fail> {
+    let mut bytes = Vec::from_slice(rt.alloc(), &WORKED[..12])?;
+    bytes.extend_from_slice(&WORKED[20..28])?;
+    bytes.extend_from_slice(&WORKED[12..20])?;
+    bytes.extend_from_slice(&WORKED[28..])?;
+    assert_eq!(rt; decode_attr(rt.alloc(), &bytes).err(), bad(3));
+    Ok(())
+}
+
 #[test]
 fn ids_that_name_nobody(rt: HostRuntime) -> Result<(), Fail> {
     let any_id = [

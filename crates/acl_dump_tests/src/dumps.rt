@@ -40,6 +40,18 @@ fn a_directory(rt: HostRuntime) {
     }
 }
 
+/// A record is listed with the permissions that the mask cuts, and none where an entry has fewer than the mask.
+#[test]
+fn entries_below_the_mask(rt: HostRuntime) {
+    let text =
+        b"# file: a\n# owner: joe\n# group: staff\nuser::rwx\nuser:joe:r--\ngroup::---\ngroup:cool:rwx\nmask::rw-\nother::rwx\n";
+    let listed =
+        b"# file: a\n# owner: joe\n# group: staff\nuser::rwx\nuser:joe:r--\ngroup::---\ngroup:cool:rwx\t\t\t#effective:rw-\nmask::rw-\nother::rwx\n\n";
+    for record in &load(&rt, rt.alloc(), text) {
+        assert!(rt; record_text(&rt, rt.alloc(), record).as_slice() == listed.as_slice());
+    }
+}
+
 #[test]
 fn a_listing_is_read(rt: HostRuntime) {
     let records = load(&rt, rt.alloc(), LISTED);
@@ -113,14 +125,17 @@ fn faults(rt: HostRuntime) {
 }
 
 /// The kinds of fault that the other tests do not show, each once.
-static OTHER_KINDS: [(&[u8], &str); 10] = [
+static OTHER_KINDS: [(&[u8], &str); 13] = [
     (b"#file:a\nx:y:z:7", "BadTag, 2"),
     (b"#file:a\nu:joe", "MissingPerms, 2"),
     (b"#file:a\nu:li:7", "UnknownUser, 2"),
     (b"#file:a\n#group:li", "UnknownGroup, 2"),
     (b"#file:a\n#flags:tss", "BadHeader, 2"),
     (b"#file:a\n#owner:joe\n#owner:joe", "BadHeader, 3"),
+    (b"#file:a\n#group:cool\n#group:cool", "BadHeader, 3"),
+    (b"#file:a\n#flags:s--\n#flags:s--", "BadHeader, 3"),
     (b"#file:a\no:7\n#owner:joe", "BadHeader, 3"),
+    (b"#file:a\no:7\n#group:staff", "BadHeader, 3"),
     (b"\n#file: a/../b", "BadPath, 2"),
     (
         b"#file:a\nu::7\ng::7\no::7\nd:u::7",
@@ -214,15 +229,29 @@ fn header(rt: &impl Abort, alloc: Global, record: &DumpRecord) -> Vec<u8> {
     header
 }
 
+/// Headers that are written as they were read: of the greatest owner, of a name that ends in a blank, with flags.
+static HEADERS: [&[u8]; 4] = [
+    b"# file: a/\n# owner: 4294967294\n# group: staff\n",
+    b"# file: a \n# owner: joe\n# group: staff\n",
+    b"# file: a\n# owner: joe\n# group: staff\n# flags: s--\n",
+    b"# file: a\n# owner: joe\n# group: staff\n# flags: --t\n",
+];
+
+/// One record with this header is read, and the header is written as it was.
+fn expect_header(rt: &impl Abort, alloc: Global, want: &[u8]) {
+    let mut text = Vec::from_slice(alloc, want).expect(rt, "memory");
+    push(rt, &mut text, b"user::rwx\ngroup::r-x\nother::r-x\n");
+    let records = load(rt, alloc, &text);
+    assert!(rt; records.len() == 1);
+    for record in &records {
+        assert!(rt; header(rt, alloc, record).as_slice() == want);
+    }
+}
+
 #[test]
-fn the_greatest_owner(rt: HostRuntime) {
-    let text =
-        b"# file: a/\n# owner: 4294967294\n# group: staff\nuser::rwx\ngroup::r-x\nother::r-x\n";
-    for record in &load(&rt, rt.alloc(), text) {
-        assert!(rt;
-            header(&rt, rt.alloc(), record).as_slice()
-                == b"# file: a/\n# owner: 4294967294\n# group: staff\n".as_slice()
-        );
+fn headers_are_written_as_they_were(rt: HostRuntime) {
+    for want in &HEADERS {
+        expect_header(&rt, rt.alloc(), want);
     }
 }
 
@@ -313,7 +342,7 @@ fn every_cut_and_change(rt: HostRuntime) {
 
 /// Two records to be restored, whose paths are apart, and what may stand beside.
 const RESTORED: &[u8] =
-    b"# a comment\n# file: a/b\n# owner: joe\nu::rw\ngroup::r--\nother:-\n\n#file:c/\n #flags: s-t\n u : : x # x\ng::\nm:rw\nlisa:r\no::\nd:u::\nd:g::w\nd:o:\n";
+    b"# a comment\n# file: a/b\n# owner:  joe \n# group:\tstaff\t\nu::rw\ngroup::r--\nother:-\n\n#file:c/\n #flags: s-t\n u : : x # x\ng::\nm:rw\nlisa:r\no::\nd:u::\nd:g::w\nd:o:\n";
 
 #[test]
 fn every_cut_and_change_of_a_restore(rt: HostRuntime) {

@@ -6,7 +6,7 @@ use std::alloc::Global;
 use std::process::Abort;
 
 /// A file, a line, and what becomes of the file.
-static LINES: [(&str, &str, &str); 40] = [
+static LINES: [(&str, &str, &str); 42] = [
     // Named entries get a mask.
     (
         "u::rw-,g::r--,o::---",
@@ -22,6 +22,13 @@ static LINES: [(&str, &str, &str); 40] = [
         "u::rw-,g::r--,o::---",
         "-m=u:1000:rw,m::r",
         "u::rw-,u:1000:rw-,g::r--,m::r--,o::---",
+    ),
+    // A list without named entries gets none.
+    ("u::rw-,g::r--,o::---", "-m=o::r", "u::rw-,g::r--,o::r--"),
+    (
+        "u::rwx,g::r-x,o::r-x/",
+        "-m=d:o::r",
+        "u::rwx,g::r-x,o::r-x/u::rwx,g::r-x,o::r--",
     ),
     // A mask is left or recalculated.
     (

@@ -49,7 +49,24 @@ const NAMED_USER_DENIED: &[Row] = &[
     (Other, 4),
 ];
 
-static CHECKS: [Check; 6] = [
+const OWNER_NAMED: &[Row] = &[
+    (Owner, 6),
+    (User(LISA), 7),
+    (OwningGroup, 4),
+    (Mask, 7),
+    (Other, 0),
+];
+
+const MASKED: &[Row] = &[
+    (Owner, 6),
+    (OwningGroup, 6),
+    (Group(ADM), 6),
+    (Group(USERS), 0),
+    (Mask, 4),
+    (Other, 6),
+];
+
+static CHECKS: [Check; 13] = [
     // A named user is granted what the entry and the mask contain, and after `chmod 600` nothing.
     Check {
         list: NAMED_USER,
@@ -78,7 +95,7 @@ static CHECKS: [Check; 6] = [
         list: STAFF_TWICE,
         modes: &[],
         user: JOE,
-        groups: &[STAFF],
+        groups: &[3, STAFF],
         granted: 0b0001_0101,
     },
     // The entry of a named user denies, whatever the groups and the others are granted.
@@ -95,6 +112,59 @@ static CHECKS: [Check; 6] = [
         user: ANN,
         groups: &[USERS],
         granted: 0xff,
+    },
+    // The owner is judged by the owner's entry, also where the owner is named.
+    Check {
+        list: OWNER_NAMED,
+        modes: &[],
+        user: LISA,
+        groups: &[STAFF],
+        granted: 0b0101_0101,
+    },
+    // The mask cuts the entries of groups, and neither the owner's nor that of the others.
+    Check {
+        list: MASKED,
+        modes: &[],
+        user: LISA,
+        groups: &[STAFF],
+        granted: 0b0101_0101,
+    },
+    Check {
+        list: MASKED,
+        modes: &[],
+        user: JOE,
+        groups: &[STAFF],
+        granted: 0b0001_0001,
+    },
+    Check {
+        list: MASKED,
+        modes: &[],
+        user: JOE,
+        groups: &[ADM],
+        granted: 0b0001_0001,
+    },
+    Check {
+        list: MASKED,
+        modes: &[],
+        user: ANN,
+        groups: &[3],
+        granted: 0b0101_0101,
+    },
+    // An entry of a group of the user denies, whatever the others are granted.
+    Check {
+        list: MASKED,
+        modes: &[],
+        user: JOE,
+        groups: &[USERS],
+        granted: 0x01,
+    },
+    // The superuser is judged as any other user.
+    Check {
+        list: MASKED,
+        modes: &[],
+        user: 0,
+        groups: &[0],
+        granted: 0b0101_0101,
     },
 ];
 

@@ -136,6 +136,21 @@ fn entries_are_in_list_order(rt: HostRuntime) {
     assert!(rt; !acl.is_minimal());
 }
 
+static UNION_OF_THREE: [Row; 6] = [
+    (Owner, 0),
+    (User(JOE), 4),
+    (OwningGroup, 2),
+    (Group(ADM), 1),
+    (Mask, 0),
+    (Other, 0),
+];
+
+#[test]
+fn the_class_is_named_entries_and_the_owning_group(rt: HostRuntime) {
+    let acl = list(&rt, rt.alloc(), &UNION_OF_THREE);
+    assert!(rt; acl.class_union() == perm(&rt, 7));
+}
+
 /// The entry for joe that setfacl makes in a file of mode 0640.
 static NAMED_USER: [Row; 5] = [
     (Owner, 6),
@@ -174,6 +189,18 @@ fn mode_of_a_minimal_list(rt: HostRuntime) {
     );
     acl.restrict(0o644);
     assert!(rt; acl.mode() == 0o604);
+    acl.restrict(0o777);
+    assert!(rt; acl.mode() == 0o604);
+}
+
+#[test]
+fn creation_cuts_the_mask(rt: HostRuntime) {
+    let mut acl = list(&rt, rt.alloc(), &NAMED_USER);
+    acl.restrict(0o646);
+    assert!(rt; acl.mode() == 0o640);
+    for (who, is) in &[(Mask, 4), (OwningGroup, 4), (User(JOE), 7)] {
+        assert!(rt; acl.get(key(&rt, who)) == Some(perm(&rt, *is)));
+    }
 }
 
 /// Entries that a draft of the list of mode 0640 takes in turn, the mask twice.
@@ -231,4 +258,5 @@ fn keys(rt: HostRuntime) {
     assert!(rt; Key::Other.is_base());
     assert!(rt; Key::Group(id(&rt, ADM)).is_named());
     assert!(rt; joe < Key::OwningGroup);
+    assert!(rt; joe.order(Key::OwningGroup).is_lt());
 }

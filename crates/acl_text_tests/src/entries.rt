@@ -8,7 +8,7 @@ use std::alloc::Global;
 use std::process::Abort;
 
 /// A text of entries, what it is for, and its first fault, with the entry's number.
-static FIRST_FAULTS: [(&str, Want, &str); 12] = [
+static FIRST_FAULTS: [(&str, Want, &str); 14] = [
     (
         "u:ann:r,u:nosuch:q,u:none:r",
         Want::WithPerms,
@@ -20,9 +20,12 @@ static FIRST_FAULTS: [(&str, Want, &str); 12] = [
     ("u:joe", Want::WithPerms, "MissingPerms, 1"),
     ("joe:r,,x:y:z:7", Want::WithPerms, "BadTag, 3"),
     ("m:x:7", Want::WithPerms, "BadTag, 1"),
+    ("o:x:7", Want::WithPerms, "BadTag, 1"),
     ("d:u:joe:7", Want::Plain, "BadTag, 1"),
     ("u:joe:rX", Want::Plain, "BadPerms, 1"),
     ("u:joe:8", Want::Plain, "BadPerms, 1"),
+    // A carriage return is no blank.
+    ("u:joe:r\r", Want::Plain, "BadPerms, 1"),
     ("g:joe:7", Want::Plain, "UnknownGroup, 1"),
     ("u:4294967295:q", Want::Plain, "BadPerms, 1"),
 ];
@@ -145,9 +148,10 @@ fn greatest_ids(rt: HostRuntime) {
 }
 
 /// A text, and the permissions that it is read as.
-static PERMISSIONS: [(&[u8], Option<u8>); 9] = [
+static PERMISSIONS: [(&[u8], Option<u8>); 10] = [
     (b"", Some(0)),
     (b"-", Some(0)),
+    (b"0", Some(0)),
     (b"5", Some(5)),
     (b"xr", Some(5)),
     (b"w-w", Some(2)),

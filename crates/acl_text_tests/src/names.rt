@@ -1,6 +1,6 @@
 //! Escapes, names and paths.
 
-use acl_text::{Path, read_name, read_path, write_name, write_path};
+use acl_text::{Path, is_user_name, read_name, read_path, write_name, write_path};
 use std::alloc::Global;
 use std::cmp::Ordering;
 use std::process::Abort;
@@ -81,4 +81,38 @@ fn the_top(rt: HostRuntime) {
     expect_text(&rt, rt.alloc(), &root, b".");
     let path = path(&rt, rt.alloc(), b"/a//./x\\012y\\ z/");
     assert!(rt; matches!(root.order(&path), Ordering::Less));
+}
+
+/// Paths, the first of each two before the second: what is below a directory comes before its next sibling.
+static ORDERED: [(&[u8], &[u8]); 4] = [
+    (b".", b"a"),
+    (b"a", b"a/b"),
+    (b"a/b", b"a-b"),
+    (b"a-b", b"b"),
+];
+
+#[test]
+fn paths_are_in_order(rt: HostRuntime) {
+    for (first, second) in &ORDERED {
+        let (first, second) = (path(&rt, rt.alloc(), first), path(&rt, rt.alloc(), second));
+        assert!(rt; first.order(&second).is_lt());
+        assert!(rt; second.order(&first).is_gt());
+    }
+}
+
+static USER_NAMES: [(&[u8], bool); 7] = [
+    (b"joe", true),
+    (b"7up", true),
+    (b"1000", false),
+    (b"", false),
+    (b"a:b", false),
+    (b"a,b", false),
+    (b"a\nb", false),
+];
+
+#[test]
+fn names_of_new_users(rt: HostRuntime) {
+    for (name, want) in &USER_NAMES {
+        assert!(rt; is_user_name(name) == *want);
+    }
 }

@@ -33,6 +33,13 @@ fn ignored_and_repeated_lines(rt: HostRuntime) {
 }
 
 #[test]
+fn repeated_groups(rt: HostRuntime) {
+    let groups = read_group(rt.alloc(), b"a:x:1:\na:x:2:b\n").expect(&rt, "rows");
+    assert!(rt; groups.len() == 1);
+    assert!(rt; groups[0].gid.number() == 1);
+}
+
+#[test]
 fn empty_members(rt: HostRuntime) {
     let groups = read_group(rt.alloc(), b"a:x:1:,b,,c,").expect(&rt, "rows");
     assert!(rt; groups.len() == 1);
