@@ -32,16 +32,14 @@ TESTS = {
     "acl_dump": ["acl_dump_tests"],
     "acl_edit": ["acl_edit_tests"],
     "acl_people": ["acl_people_tests"],
-    "acl_load": ["acl_tree_tests"],
     "acl_files": ["acl_tree_tests"],
     "acl_tree": ["acl_tree_tests"],
-    "acl_reach": ["acl_rights_tests"],
+    "acl_verdicts": ["acl_rights_tests"],
     "acl_rights": ["acl_rights_tests"],
     "facl_script": ["facl_script_tests"],
-    "facl_usage": ["facl_words_tests"],
+    "facl_words": ["facl_words_tests"],
     "facl_messages": ["facl_messages_tests"],
     "facl_listings": ["facl_listings_tests"],
-    "facl_answers": ["facl_answers_tests"],
 }
 WHOLE_SCRIPTS = ["facl_rows", "facl_judged_tests"]
 

@@ -31,7 +31,7 @@ CALLS = [
     "acl_tree::staged::Staged::give_up",
     "acl_tree::state::State::commit",
     "acl_verdicts::posix::PosixJudge::verdict",
-    "facl_usage::text_words::is_text_word",
+    "facl_words::text_words::is_text_word",
     "path_map::below::is_within",
     "path_map::map::PathMap::from",
 ]

@@ -15,6 +15,10 @@ mod record;
 mod seen;
 mod writing;
 
+pub use acl_text::{
+    FaultKind, Form, Names, NoNames, PasswdRow, Sep, Spec, TextFault, Want, Which, append_entry,
+    append_id, append_short, read_entries, read_id, read_perms, trim,
+};
 pub use dump::read_dump;
 pub use effective::Effective;
 pub use header::{append_header, append_record};

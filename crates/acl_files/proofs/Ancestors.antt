@@ -15,9 +15,9 @@ use Rattle.path_map.specs.Inner.{After}
 use Rattle.path_map.proofs.Convex.{not_before}
 use Rattle.path_map.proofs.Merges.{later_after}
 use Rattle.acl_files.specs.Files.{PathOf, Files, IsInOrder}
-use Rattle.acl_load.specs.Below.{is_below, is_within}
+use Rattle.acl_files.specs.Below.{is_below, is_within}
 use Rattle.acl_files.specs.Walks.{ancestors}
-use Rattle.acl_load.proofs.Follows.{below_within, below_less, within_below}
+use Rattle.acl_files.proofs.Follows.{below_within, below_less, within_below}
 use Rattle.acl_files.proofs.Selected.{filter_alike, filter_apart}
 
 -- ---- paths

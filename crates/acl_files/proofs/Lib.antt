@@ -6,3 +6,13 @@ pub mod Edits
 pub mod Placed
 pub mod Restored
 pub mod Ancestors
+pub mod Shared
+pub mod Follows
+pub mod Loaded
+pub mod Mapped
+pub mod SortedRecords
+pub use Rattle.acl_dump.proofs as of_acl_dump
+pub use Rattle.acl_edit.proofs as of_acl_edit
+pub use Rattle.acl_entry.proofs as of_acl_entry
+pub use Rattle.acl_names.proofs as of_acl_names
+pub use Rattle.path_map.proofs as of_path_map

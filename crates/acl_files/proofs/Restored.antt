@@ -20,9 +20,9 @@ use Rattle.path_map.specs.Inner.{After}
 use Rattle.path_map.proofs.Merges.{later_after}
 use Rattle.path_map.proofs.Differences.{Leads, leads_all}
 use Rattle.path_map.proofs.Rows.{in_order-filter}
-use Rattle.acl_load.specs.Loading.{in_path_order, record_at}
-use Rattle.acl_load.proofs.Loaded.{seen, in_order-records}
-use Rattle.acl_load.proofs.Mapped.{found}
+use Rattle.acl_files.specs.Loading.{in_path_order, record_at}
+use Rattle.acl_files.proofs.Loaded.{seen, in_order-records}
+use Rattle.acl_files.proofs.Mapped.{found}
 use Rattle.acl_files.specs.declared.fault.TreeFault.TheVariants as faults
 use Rattle.acl_files.specs.declared.edit.FileFault.{FileFault}
 use Rattle.acl_files.specs.declared.edit.FileFault.TheVariants as of_files

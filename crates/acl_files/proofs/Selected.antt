@@ -20,13 +20,12 @@ use Rattle.path_map.proofs.Merges.{before_from, later_after}
 use Rattle.path_map.proofs.Places.{above, below}
 use Rattle.path_map.proofs.Ranges.{from_from, from_end}
 use Rattle.acl_files.specs.Files.{PathOf, Files, IsInOrder}
-use Rattle.acl_load.specs.Below.{is_within}
+use Rattle.acl_files.specs.Below.{is_within}
 use Rattle.acl_files.specs.Operands.{means, is_file}
 use Rattle.acl_files.specs.Sound.{holds_below}
 use Rattle.acl_files.specs.Found.{found_file, found_in, files_found}
-use Rattle.acl_files.specs.Inner.{NoneBefore, Ascend}
-use Rattle.acl_load.specs.Inner.{next_file_below}
-use Rattle.acl_load.proofs.Follows.{known_by_next}
+use Rattle.acl_files.specs.Inner.{NoneBefore, Ascend, next_file_below}
+use Rattle.acl_files.proofs.Follows.{known_by_next}
 
 equal : (o : Ordering) → is_eq o ≡ true → o ≡ Equal
 equal Less h = absurd (true≢false (sym h))

@@ -11,11 +11,39 @@ use Rattle.acl_edit.specs.declared.edit.EditFault.{EditFault}
 use Rattle.acl_edit.specs.declared.node.Node.{Node}
 use Rattle.acl_edit.specs.contracts.node.Node as node_contracts
 use Rattle.acl_files.specs.declared.edit.FileFault.{FileFault}
+use Rattle.acl_files.specs.Below.{is_below}
 use Rattle.acl_files.specs.Files.{PathOf, Files}
+use Rattle.acl_files.specs.Loading.{node_of}
 use Rattle.acl_files.specs.Edits.{and_others}
 use Rattle.acl_files.specs.Found.{FoundFile}
 use Rattle.acl_files.specs.Changed.{same_label}
 use Rattle.acl_files.specs.Restoring.{edit_of}
+
+-- ---- the files of records
+
+-- whether the first of the records that follow is below a path
+abbrev pub next_below : PathOf → List DumpRecord → Bool
+next_below p [] = false
+next_below p (r ∷ rs) = is_below p r.path
+
+-- the files of records in path order, each by the one that follows it
+abbrev pub files_from : List DumpRecord → Files
+files_from [] = []
+files_from (r ∷ rs) = (r.path, node_of (next_below r.path rs) r) ∷ files_from rs
+
+-- whether the first of the files that follow is below a path
+abbrev pub next_file_below : PathOf → Files → Bool
+next_file_below p [] = false
+next_file_below p (e ∷ es) = is_below p e.0
+
+-- a record's file, before the files that follow it
+abbrev pub file_before : DumpRecord → Files → Files
+file_before r es = (r.path, node_of (next_file_below r.path es) r) ∷ es
+
+-- the files of records in path order, before the files that follow them
+abbrev pub files_before : List DumpRecord → Files → Files
+files_before [] es = es
+files_before (r ∷ rs) es = file_before r (files_before rs es)
 
 -- ---- operands in path order
 

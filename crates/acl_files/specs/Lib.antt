@@ -7,3 +7,11 @@ pub mod Changed
 pub mod Edits
 pub mod Restoring
 pub mod Inner
+pub mod Below
+pub mod Loading
+pub use Rattle.acl_dump.specs as acl_dump
+pub use Rattle.acl_edit.specs as acl_edit
+pub use Rattle.acl_entry.specs as acl_entry
+pub use Rattle.acl_names.specs as acl_names
+pub use Rattle.acl_dump.specs.acl_text
+pub use Rattle.path_map.specs as path_map

@@ -9,7 +9,7 @@ use Rattle.acl_edit.specs.declared.node.Node.{Node}
 use Rattle.acl_files.specs.declared.fault.TreeFault.{TreeFault}
 use Rattle.acl_files.specs.Files.{PathOf, Recorded}
 use Rattle.acl_files.specs.Operands.{first_missing}
-use Rattle.acl_load.specs.Loading.{record_at}
+use Rattle.acl_files.specs.Loading.{record_at}
 use Rattle.acl_files.specs.Edits.{edit_all, unless_missing}
 
 -- the edit of a record's file

@@ -11,9 +11,10 @@ ghost use Rattle.acl_files.specs.Inner.{file_of, node_after, changed_one, change
 ghost use Rattle.acl_files.specs.declared.edit.FileFault.TheVariants.{NoMemory};
 
 use crate::fault::TreeFault;
+use crate::files::Record;
 use crate::found::Found;
 use crate::selection::select;
-use crate::tree::{Record, Tree};
+use crate::tree::Tree;
 use acl_edit::{EditFault, Node};
 use acl_names::Path;
 use std::alloc::{AllocError, AllocFailed, Global};

@@ -1,20 +1,39 @@
-//! The recorded files as one value: the files of a command, found by search, and edited or restored, all or none; the
-//! recorded paths around a path.
+//! The recorded files as one value: made of the records of a dump; the files of a command, found by search, and edited
+//! or restored, all or none; the recorded paths around a path.
 #![tactic(auto)]
 
+mod below;
 mod edit;
 mod fault;
+mod files;
 mod found;
+mod laws;
 mod paths;
 mod restore;
 mod selection;
+mod sorting;
 mod tree;
 mod walks;
 
+pub use acl_dump::{
+    DumpRecord, DumpUse, Effective, FaultKind, Form, Names, NoNames, PasswdRow, Sep, Spec,
+    TextFault, Want, Which, append_entry, append_header, append_id, append_list, append_short,
+    read_dump, read_entries, read_id, read_perms, records_are_read_again, trim,
+};
+pub use acl_edit::{Change, Edit, EditFault, Kind, Node, Specs, apply, chmod, create};
+pub use acl_entry::{
+    Acl, Draft, Entry, Id, Key, Label, ListFault, Perm, Requests, Subject, granted,
+};
+pub use acl_names::{Name, Path, append_name, append_path, read_name, read_path, write_name};
+pub use below::is_below;
 pub use edit::{FileFault, NodeEdit, edit_files};
 pub use fault::TreeFault;
+pub use files::{Record, files_of};
 pub use found::Found;
+pub use laws::each_record_is_a_file;
+pub use path_map::PathMap;
 pub use paths::Paths;
 pub use restore::{DumpRecords, restore_files};
 pub use selection::{look_up, select};
-pub use tree::{Files, Record, Tree};
+pub use sorting::in_path_order;
+pub use tree::{Files, Tree};

@@ -8,7 +8,7 @@ ghost use Rattle.acl_names.specs.Paths.{path_cmp};
 ghost use Rattle.acl_dump.specs.OwnPaths.{have_own_paths};
 ghost use Rattle.acl_edit.specs.Edits.{allowed};
 ghost use Rattle.acl_edit.specs.declared.edit.EditFault.TheVariants as no_edit;
-ghost use Rattle.acl_load.specs.Loading.{in_path_order};
+ghost use Rattle.acl_files.specs.Loading.{in_path_order};
 ghost use Rattle.acl_files.specs.Changed.{changed_between, gone_between};
 ghost use Rattle.acl_files.specs.Inner.{IsFileOf, restore_each, changed_by_records};
 ghost use Rattle.acl_files.specs.Operands.{first_missing, IsMissing};
@@ -18,7 +18,8 @@ ghost use Rattle.acl_files.specs.declared.edit.FileFault.TheVariants as of_files
 
 use crate::edit::{FileFault, NodeEdit, edit_one, push_edited};
 use crate::fault::TreeFault;
-use crate::tree::{Record, Tree};
+use crate::files::Record;
+use crate::tree::Tree;
 use acl_dump::DumpRecord;
 use acl_edit::{EditFault, Kind, Node};
 use acl_entry::{Acl, Label};

@@ -4,16 +4,15 @@ ghost use Rattle.std.specs.Prelude.{◌≡◌, ◌≢◌, ◌++◌, Bool, false,
 ghost use Rattle.std.specs.Option.{option_map_or};
 ghost use Rattle.acl_files.specs.Files.{PathOf};
 ghost use Rattle.acl_files.specs.Found.{files_found, found_in};
-ghost use Rattle.acl_files.specs.Inner.{Ascend};
-ghost use Rattle.acl_load.specs.Inner.{next_file_below};
+ghost use Rattle.acl_files.specs.Inner.{Ascend, next_file_below};
 ghost use Rattle.acl_files.specs.Operands.{means, is_file, first_missing, IsMissing};
 ghost use Rattle.acl_files.specs.declared.fault.TreeFault.TheVariants.{NoMemory};
 
+use crate::below::is_below;
 use crate::fault::TreeFault;
 use crate::found::Found;
 use crate::paths::Paths;
 use crate::tree::{Files, Tree};
-use acl_load::is_below;
 use acl_names::Path;
 use path_map::is_within;
 use std::alloc::{AllocError, Global};

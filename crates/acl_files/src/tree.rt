@@ -7,8 +7,8 @@ ghost use Rattle.acl_names.specs.Paths.{path_cmp};
 ghost use Rattle.acl_files.specs.Files.{no_files};
 ghost use Rattle.acl_files.specs.Sound.{IsSoundTree};
 
+use crate::files::Record;
 use acl_edit::Node;
-pub use acl_load::Record;
 use acl_names::Path;
 use path_map::{Entries, PathMap};
 use std::alloc::{AllocError, Global};

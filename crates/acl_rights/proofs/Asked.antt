@@ -5,16 +5,16 @@ use Rattle.std.specs.Option.{option_map_or}
 use Rattle.std.specs.FinMap.{find}
 use Rattle.std.proofs.lemmas.Bool.{ltb-true, ltb-false}
 use Rattle.std.proofs.lemmas.List.{length-map}
-use Rattle.acl_entry.specs.Check.{has}
-use Rattle.acl_entry.specs.Perms.{Perms}
-use Rattle.acl_entry.specs.Person.{Person}
-use Rattle.acl_names.specs.Paths.{path_cmp}
-use Rattle.acl_edit.specs.declared.node.Node.{Node}
+use Rattle.acl_tree.specs.acl_entry.Check.{has}
+use Rattle.acl_tree.specs.acl_entry.Perms.{Perms}
+use Rattle.acl_tree.specs.acl_entry.Person.{Person}
+use Rattle.acl_tree.specs.acl_names.Paths.{path_cmp}
+use Rattle.acl_tree.specs.acl_edit.declared.node.Node.{Node}
 use Rattle.acl_tree.specs.Files.{PathOf, Files}
-use Rattle.acl_people.specs.Registers.{person, persons}
+use Rattle.acl_tree.specs.acl_people.Registers.{person, persons}
 use Rattle.acl_tree.specs.Step.{State}
 use Rattle.acl_rights.specs.Tables.{Verdict, Table, IsWhole, Rows, cells_of, rows_of, cell_at, places_from, who_in, grants_to, may_in, verdict_at, users_granted, files_granted}
-use Rattle.acl_group_files.proofs.Maps.{find-values}
+use Rattle.acl_rights.proofs.Maps.{find-values}
 
 pub got-map : {A B : Type 0} (f : A → B) (xs : List A) (i : ℕ) → slice_get (map f xs) i ≡ option_map f (slice_get xs i)
 got-map f [] i = refl

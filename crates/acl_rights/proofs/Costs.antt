@@ -3,22 +3,22 @@ use Rattle.std.proofs.Common.{◌≡◌, not, Option, Some, None, length-append,
 use Rattle.std.specs.Prelude.{count_by, option_and_then, if◌then◌else◌}
 use Rattle.std.specs.Option.{option_map_or}
 use Rattle.std.specs.FinMap.{find}
-use Rattle.acl_names.specs.Paths.{path_cmp}
+use Rattle.acl_tree.specs.acl_names.Paths.{path_cmp}
 use Rattle.std.proofs.lemmas.List.{length-map}
 use Rattle.std.proofs.lemmas.List.Sums.{length-filter}
-use Rattle.acl_edit.specs.declared.node.Node.{Node}
-use Rattle.acl_people.specs.Registers.{Register}
+use Rattle.acl_tree.specs.acl_edit.declared.node.Node.{Node}
+use Rattle.acl_tree.specs.acl_people.Registers.{Register}
 use Rattle.acl_tree.specs.Files.{PathOf, Files, Recorded}
 use Rattle.acl_tree.specs.Changed.{same_label, is_changed, changed_between}
-use Rattle.acl_files.proofs.Changes.{label_itself}
-use Rattle.acl_people.specs.Registers.{persons}
+use Rattle.acl_tree.proofs.of_acl_files.Changes.{label_itself}
+use Rattle.acl_tree.specs.acl_people.Registers.{persons}
 use Rattle.acl_tree.specs.Reports.{StagedState}
 use Rattle.acl_tree.specs.declared.moved.UsersMove.{UsersMove}
 use Rattle.acl_tree.specs.declared.moved.UsersMove.TheVariants.{Same, Loaded, Moved, Joined, Left}
 use Rattle.path_map.specs.Entries.{IsInOrder}
 use Rattle.acl_rights.specs.Tables.{Verdict, Rows}
 use Rattle.acl_rights.specs.Kept.{GoesFrom}
-use Rattle.acl_group_files.proofs.Maps.{map_filter, find-filter, same_found}
+use Rattle.acl_rights.proofs.Maps.{map_filter, find-filter, same_found}
 use Rattle.acl_rights.proofs.Goes.{moves, moved_user_in, joins}
 use Rattle.acl_rights.specs.Stages.{mentions_one, moves_asked, most_asked}
 

@@ -8,18 +8,18 @@ use Rattle.std.specs.FinMap.Entries.{below_all}
 use Rattle.std.proofs.lemmas.Bool.{and_parts, eqb-true, eq-eqb, ltb-true, ltb-false}
 use Rattle.std.proofs.lemmas.List.Sums.{sum_by-cons}
 use Rattle.std.proofs.lemmas.Cmp.{tied_itself, nat_list_cmp_total}
-use Rattle.acl_entry.specs.Person.{Person}
-use Rattle.acl_names.specs.Paths.{path_cmp}
-use Rattle.acl_names.proofs.PathOrder.{path_total, exact_paths}
-use Rattle.acl_load.specs.Below.{is_within, is_below}
+use Rattle.acl_tree.specs.acl_entry.Person.{Person}
+use Rattle.acl_tree.specs.acl_names.Paths.{path_cmp}
+use Rattle.acl_tree.proofs.of_acl_names.PathOrder.{path_total, exact_paths}
+use Rattle.acl_tree.specs.acl_files.Below.{is_within, is_below}
 use Rattle.acl_tree.specs.Files.{PathOf}
 use Rattle.path_map.proofs.Places.{above}
 use Rattle.path_map.specs.Entries.{IsInOrder}
 use Rattle.acl_rights.specs.Tables.{Rows}
 use Rattle.acl_rights.specs.Reach.{reached_from}
-use Rattle.acl_reach.specs.Differing.{fails_from}
-use Rattle.acl_group_files.proofs.Maps.{map_values, map_filter, find-values, find-filter, same_found}
-use Rattle.acl_reach.proofs.Walks.{within_below, both}
+use Rattle.acl_verdicts.specs.Differing.{fails_from}
+use Rattle.acl_rights.proofs.Maps.{map_values, map_filter, find-values, find-filter, same_found}
+use Rattle.acl_verdicts.proofs.Walks.{within_below, both}
 use Rattle.path_map.proofs.Convex.{not_before}
 
 pub clash : (b : Bool) → b ≡ true → b ≡ false → ⊥

@@ -5,26 +5,26 @@ use Rattle.std.specs.List.{AllByRecursion, remove}
 use Rattle.std.specs.Prelude.{slice_get}
 use Rattle.path_map.specs.Merged.{merged, put_all}
 use Rattle.path_map.proofs.Merges.{without_none}
-use Rattle.acl_load.specs.Below.{is_below}
+use Rattle.acl_tree.specs.acl_files.Below.{is_below}
 use Rattle.acl_tree.specs.Sound.{holds_below}
-use Rattle.acl_reach.specs.Subtrees.{has_below, IsApart}
+use Rattle.acl_verdicts.specs.Subtrees.{has_below, IsApart}
 use Rattle.std.proofs.lemmas.List.{length-map, map-append, take_more}
-use Rattle.acl_entry.specs.Mentions.{AgreeOnMentions}
-use Rattle.acl_entry.specs.Person.{Person}
-use Rattle.acl_entry.specs.declared.label.Label.{Label}
-use Rattle.acl_names.specs.Paths.{path_cmp}
-use Rattle.acl_edit.specs.declared.node.Node.{Node}
+use Rattle.acl_tree.specs.acl_entry.Mentions.{AgreeOnMentions}
+use Rattle.acl_tree.specs.acl_entry.Person.{Person}
+use Rattle.acl_tree.specs.acl_entry.declared.label.Label.{Label}
+use Rattle.acl_tree.specs.acl_names.Paths.{path_cmp}
+use Rattle.acl_tree.specs.acl_edit.declared.node.Node.{Node}
 use Rattle.acl_tree.specs.Files.{PathOf, Files, Recorded}
 use Rattle.acl_tree.specs.Changed.{is_changed, changed_between}
-use Rattle.acl_people.specs.Registers.{persons}
-use Rattle.acl_people.specs.Moves.{MovesUser, JoinsUser, LeavesUser}
+use Rattle.acl_tree.specs.acl_people.Registers.{persons}
+use Rattle.acl_tree.specs.acl_people.Moves.{MovesUser, JoinsUser, LeavesUser}
 use Rattle.acl_tree.specs.Reports.{StagedState, UsersMoved}
 use Rattle.acl_tree.specs.declared.moved.UsersMove.TheVariants.{Same, Moved, Joined, Left}
 use Rattle.path_map.specs.Entries.{IsInOrder}
 use Rattle.acl_rights.specs.Tables.{Verdict, Rows, cells_of, rows_of}
 use Rattle.acl_rights.specs.Stages.{mentions_one}
 use Rattle.acl_rights.specs.Kept.{GoesFrom}
-use Rattle.acl_group_files.proofs.Maps.{map_values, map_filter, find-values, found_passed, seen_at, same_length}
+use Rattle.acl_rights.proofs.Maps.{map_values, map_filter, find-values, found_passed, seen_at, same_length}
 use Rattle.acl_rights.proofs.Orders.{same_order}
 use Rattle.acl_rights.proofs.Lines.{changed_whole, moved_whole, row_paths, cells_again, moved_in, moved_long, set_here, shorter, wide}
 

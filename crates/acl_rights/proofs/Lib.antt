@@ -6,3 +6,13 @@ pub mod Asked
 pub mod Reached
 pub mod Counts
 pub mod Refreshed
+pub mod Maps
+pub mod Listed
+pub mod Replaced
+pub mod Noting
+pub use Rattle.acl_tree.proofs.of_acl_dump
+pub use Rattle.acl_tree.proofs.of_acl_entry
+pub use Rattle.acl_tree.proofs.of_acl_files
+pub use Rattle.acl_tree.proofs.of_acl_names
+pub use Rattle.acl_tree.proofs as of_acl_tree
+pub use Rattle.acl_tree.proofs.of_path_map

@@ -8,22 +8,22 @@ use Rattle.std.specs.FinMap.{find}
 use Rattle.std.proofs.lemmas.Bool.{eqb-true}
 use Rattle.std.proofs.lemmas.List.{map-set, map-append, length-map}
 use Rattle.std.proofs.Math.Seq.{map-set_same}
-use Rattle.acl_entry.specs.Mentions.{mentions, meets, is_one_of, AgreeOnMentions}
-use Rattle.acl_entry.specs.Person.{Person}
-use Rattle.acl_entry.specs.declared.label.Label.{Label}
-use Rattle.acl_names.specs.Paths.{path_cmp}
-use Rattle.acl_edit.specs.declared.node.Node.{Node}
+use Rattle.acl_tree.specs.acl_entry.Mentions.{mentions, meets, is_one_of, AgreeOnMentions}
+use Rattle.acl_tree.specs.acl_entry.Person.{Person}
+use Rattle.acl_tree.specs.acl_entry.declared.label.Label.{Label}
+use Rattle.acl_tree.specs.acl_names.Paths.{path_cmp}
+use Rattle.acl_tree.specs.acl_edit.declared.node.Node.{Node}
 use Rattle.acl_tree.specs.Files.{PathOf, Files}
 use Rattle.acl_tree.specs.Changed.{same_label, changed_between, gone_between}
-use Rattle.acl_people.specs.Moves.{MovesUser, in_just_one}
-use Rattle.acl_files.proofs.Changes.{label_is_same}
+use Rattle.acl_tree.specs.acl_people.Moves.{MovesUser, in_just_one}
+use Rattle.acl_tree.proofs.of_acl_files.Changes.{label_is_same}
 use Rattle.path_map.specs.Entries.{IsInOrder}
 use Rattle.acl_rights.specs.Tables.{Verdict, cells_of, rows_of}
 use Rattle.acl_rights.specs.Stages.{mentions_one}
 use Rattle.path_map.specs.Merged.{merged, put_all}
 use Rattle.path_map.proofs.Merges.{in_order-put_all}
 use Rattle.path_map.proofs.Rows.{find_put_all, rows_merged}
-use Rattle.acl_group_files.proofs.Maps.{map_values, map_filter, find-values, find-filter, same_found, seen_at}
+use Rattle.acl_rights.proofs.Maps.{map_values, map_filter, find-values, find-filter, same_found, seen_at}
 
 -- ---- files that change
 

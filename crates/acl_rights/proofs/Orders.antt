@@ -3,7 +3,7 @@ use Rattle.std.proofs.Common.{◌≡◌, ◌&&◌, List, [], ◌∷◌, map, ref
 use Rattle.std.specs.Ordering.{is_lt}
 use Rattle.std.specs.FinMap.{is_sorted}
 use Rattle.std.specs.FinMap.Entries.{below_all}
-use Rattle.acl_names.specs.Paths.{path_cmp}
+use Rattle.acl_tree.specs.acl_names.Paths.{path_cmp}
 use Rattle.path_map.specs.Entries.{PathOf, IsInOrder}
 
 module _ {A : Type 0} where

@@ -5,20 +5,20 @@ use Rattle.std.specs.Option.{option_map_or}
 use Rattle.std.specs.FinMap.{find}
 use Rattle.std.proofs.lemmas.Bool.{ltb-true, ltb-false}
 use Rattle.std.proofs.lemmas.List.{length-map}
-use Rattle.acl_entry.specs.Check.{has}
-use Rattle.acl_entry.specs.Perms.{Perms}
-use Rattle.acl_entry.specs.Person.{Person}
-use Rattle.acl_names.specs.Paths.{path_cmp}
-use Rattle.acl_names.proofs.PathOrder.{exact_paths}
+use Rattle.acl_tree.specs.acl_entry.Check.{has}
+use Rattle.acl_tree.specs.acl_entry.Perms.{Perms}
+use Rattle.acl_tree.specs.acl_entry.Person.{Person}
+use Rattle.acl_tree.specs.acl_names.Paths.{path_cmp}
+use Rattle.acl_tree.proofs.of_acl_names.PathOrder.{exact_paths}
 use Rattle.std.specs.Ordering.{is_eq}
-use Rattle.acl_edit.specs.declared.node.Node.{Node}
-use Rattle.acl_load.specs.Below.{is_below}
+use Rattle.acl_tree.specs.acl_edit.declared.node.Node.{Node}
+use Rattle.acl_tree.specs.acl_files.Below.{is_below}
 use Rattle.acl_tree.specs.Files.{PathOf, Files}
-use Rattle.acl_people.specs.Registers.{person, persons}
+use Rattle.acl_tree.specs.acl_people.Registers.{person, persons}
 use Rattle.acl_tree.specs.Step.{State}
 use Rattle.acl_rights.specs.Tables.{Verdict, Table, IsWhole, Rows, cells_of, rows_of, places_from, who_in, grants_to, may_in}
 use Rattle.acl_rights.specs.Reach.{execute, passes, reach, reach_at, users_reaching, files_reached, can_search, passes_in, reach_cell, reached_from, reached_rows, reached_at}
-use Rattle.acl_group_files.proofs.Maps.{find-values}
+use Rattle.acl_rights.proofs.Maps.{find-values}
 use Rattle.acl_rights.proofs.Asked.{got-map, got, none_got}
 
 -- ---- values by paths and values

@@ -7,32 +7,32 @@ use Rattle.std.specs.FinMap.{find}
 use Rattle.std.proofs.lemmas.Bool.{eqb-true, eq-eqb}
 use Rattle.std.proofs.lemmas.List.{length-map}
 use Rattle.std.proofs.lemmas.List.Sums.{sum_by-cons}
-use Rattle.acl_entry.specs.Check.{has}
-use Rattle.acl_entry.specs.Mentions.{AgreeOnMentions}
-use Rattle.acl_entry.specs.Person.{Person}
-use Rattle.acl_entry.specs.declared.label.Label.{Label}
-use Rattle.acl_names.specs.Paths.{path_cmp}
-use Rattle.acl_edit.specs.declared.node.Node.{Node}
-use Rattle.acl_load.specs.Below.{is_within, is_below}
+use Rattle.acl_tree.specs.acl_entry.Check.{has}
+use Rattle.acl_tree.specs.acl_entry.Mentions.{AgreeOnMentions}
+use Rattle.acl_tree.specs.acl_entry.Person.{Person}
+use Rattle.acl_tree.specs.acl_entry.declared.label.Label.{Label}
+use Rattle.acl_tree.specs.acl_names.Paths.{path_cmp}
+use Rattle.acl_tree.specs.acl_edit.declared.node.Node.{Node}
+use Rattle.acl_tree.specs.acl_files.Below.{is_within, is_below}
 use Rattle.acl_tree.specs.Changed.{same_label, is_changed, changed_between, gone_between}
 use Rattle.acl_tree.specs.Files.{PathOf, Files, Recorded}
-use Rattle.acl_people.specs.Registers.{persons}
-use Rattle.acl_people.specs.Moves.{MovesUser}
+use Rattle.acl_tree.specs.acl_people.Registers.{persons}
+use Rattle.acl_tree.specs.acl_people.Moves.{MovesUser}
 use Rattle.acl_tree.specs.Sound.{holds_below}
 use Rattle.acl_tree.specs.Reports.{StagedState, UsersMoved}
 use Rattle.acl_tree.specs.declared.moved.UsersMove.{UsersMove}
 use Rattle.acl_tree.specs.declared.moved.UsersMove.TheVariants.{Same, Loaded, Moved, Joined, Left}
-use Rattle.acl_files.proofs.Changes.{label_is_same}
+use Rattle.acl_tree.proofs.of_acl_files.Changes.{label_is_same}
 use Rattle.path_map.specs.Entries.{IsInOrder}
 use Rattle.acl_rights.specs.Tables.{Verdict, Rows, cells_of, rows_of}
 use Rattle.acl_rights.specs.Stages.{mentions_one}
 use Rattle.acl_rights.specs.Reach.{execute, passes, reach, reached_from, reached_rows, place_left, lies_within, moves_refreshed, most_refreshed}
-use Rattle.acl_reach.specs.Differing.{place_before, is_as_before, is_as_in, fails_from, differing}
+use Rattle.acl_verdicts.specs.Differing.{place_before, is_as_before, is_as_in, fails_from, differing}
 use Rattle.acl_rights.specs.Kept.{GoesFrom}
 use Rattle.acl_rights.proofs.Lines.{agree, got_in, set_here}
 use Rattle.acl_rights.proofs.Reached.{reached_is, cell_reached}
 use Rattle.acl_rights.proofs.Goes.{moves, joins, leaves, old_order}
-use Rattle.acl_reach.proofs.Walks.{below_within, both}
+use Rattle.acl_verdicts.proofs.Walks.{below_within, both}
 use Rattle.acl_rights.proofs.Counts.{clash, false_from, missed_most, missed_none, missed_one, any_found, any_filter, each_found, alike_above, within_itself, within_cases, some_same, long_row, sum_le, map_twice, finds, times_one, times_none, sum_parts, set_other, joined_was, left_was, person_same}
 
 module _ (V : Verdict) (us ws : List Person) (fs gs : Files) (fo : IsInOrder fs) (go : IsInOrder gs) where

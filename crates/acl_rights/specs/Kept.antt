@@ -1,6 +1,6 @@
 -- For inner functions: rows of the state from which a line goes, and those after it.
 use Rattle.std.specs.Prelude.{◌≡◌, ⊤}
-use Rattle.acl_people.specs.Registers.{persons}
+use Rattle.acl_tree.specs.acl_people.Registers.{persons}
 use Rattle.path_map.specs.Merged.{merged, put_all}
 use Rattle.acl_tree.specs.Files.{Files}
 use Rattle.acl_tree.specs.Step.{State}

@@ -2,20 +2,20 @@
 use Rattle.std.specs.Prelude.{ℕ, ◌+◌, ◌*◌, ◌||◌, not, Bool, List, map, filter, length, slice_get, Option, Some, None, option_map, option_and_then, count_by, if◌then◌else◌}
 use Rattle.std.specs.List.{list_any, list_all}
 use Rattle.std.specs.FinMap.{find}
-use Rattle.acl_entry.specs.Perms.{Perms}
-use Rattle.acl_entry.specs.Check.{has}
-use Rattle.acl_entry.specs.Person.{Person}
-use Rattle.acl_names.specs.Paths.{path_cmp}
-use Rattle.acl_edit.specs.declared.node.Node.{Node}
-use Rattle.acl_people.specs.Registers.{persons}
-use Rattle.acl_load.specs.Below.{is_within, is_below}
+use Rattle.acl_tree.specs.acl_entry.Perms.{Perms}
+use Rattle.acl_tree.specs.acl_entry.Check.{has}
+use Rattle.acl_tree.specs.acl_entry.Person.{Person}
+use Rattle.acl_tree.specs.acl_names.Paths.{path_cmp}
+use Rattle.acl_tree.specs.acl_edit.declared.node.Node.{Node}
+use Rattle.acl_tree.specs.acl_people.Registers.{persons}
+use Rattle.acl_tree.specs.acl_files.Below.{is_within, is_below}
 use Rattle.acl_tree.specs.Files.{PathOf, Files}
 use Rattle.acl_tree.specs.Step.{State}
 use Rattle.acl_tree.specs.Reports.{StagedState}
 use Rattle.acl_tree.specs.declared.moved.UsersMove.{UsersMove}
 use Rattle.acl_tree.specs.declared.moved.UsersMove.TheVariants.{Same, Loaded, Moved, Joined, Left}
-pub use Rattle.acl_reach.specs.Reach.{execute, can_search, passes_in, reach_cell, reached_from, reached_rows, reached_at}
-use Rattle.acl_reach.specs.Differing.{differing}
+pub use Rattle.acl_verdicts.specs.Reach.{execute, can_search, passes_in, reach_cell, reached_from, reached_rows, reached_at}
+use Rattle.acl_verdicts.specs.Differing.{differing}
 use Rattle.acl_rights.specs.Tables.{Verdict, Rows, places_from}
 use Rattle.acl_rights.specs.Stages.{mentions_one}
 

@@ -5,7 +5,7 @@ use Rattle.acl_tree.specs.Step.{State}
 use Rattle.acl_tree.specs.Reports.{StagedState, Reports}
 use Rattle.acl_tree.specs.declared.moved.UsersMove.{UsersMove}
 use Rattle.acl_tree.specs.declared.moved.UsersMove.TheVariants.{Same, Loaded, Moved, Joined, Left}
-pub use Rattle.acl_group_files.specs.Groups.{mentions_one, mentioning, sum_mentioning}
+pub use Rattle.acl_rights.specs.Groups.{mentions_one, mentioning, sum_mentioning}
 use Rattle.acl_rights.specs.Tables.{Verdict, Table, IsWhole}
 
 -- the index is the whole table of some state, from which the line goes

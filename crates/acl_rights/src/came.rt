@@ -1,16 +1,15 @@
 //! The rows after a line by which a user comes.
 
 ghost use Rattle.std.specs.Prelude.{◌≡◌, ◌+◌, ◌++◌, ◌∷◌, [], ◌<◌, ◌≤◌, ◌^◌, List, length, map, IfOk};
-ghost use Rattle.acl_entry.specs.Person.{Person};
-ghost use Rattle.acl_people.specs.Registers.{persons};
+ghost use Rattle.acl_tree.specs.acl_entry.Person.{Person};
+ghost use Rattle.acl_tree.specs.acl_people.Registers.{persons};
 ghost use Rattle.acl_tree.specs.declared.moved.UsersMove.TheVariants.{Joined};
 ghost use Rattle.acl_rights.specs.Tables.{rows_of};
 ghost use Rattle.acl_rights.specs.Stages.{most_asked};
 ghost use Rattle.acl_rights.specs.Kept.{GoesFrom};
 
 use crate::judged::last_row;
-use acl_entry::Subject;
-use acl_tree::{Record, Staged, Tree};
+use acl_tree::{Record, Staged, Subject, Tree};
 use acl_verdicts::{Cells, Judge, judged_last};
 use path_map::{Entry, PathMap};
 use std::alloc::{AllocError, Global};

@@ -3,7 +3,7 @@
 ghost use Rattle.std.specs.Prelude.{◌≡◌, ◌+◌, ◌<◌, ◌≤◌, ◌^◌, map, IfOk};
 ghost use Rattle.path_map.specs.Entries.{IsInOrder};
 ghost use Rattle.path_map.specs.Merged.{merged};
-ghost use Rattle.acl_people.specs.Registers.{persons};
+ghost use Rattle.acl_tree.specs.acl_people.Registers.{persons};
 ghost use Rattle.acl_tree.specs.declared.moved.UsersMove.TheVariants.{Same};
 ghost use Rattle.acl_rights.specs.Tables.{rows_of};
 ghost use Rattle.acl_rights.specs.Stages.{most_asked};

@@ -3,20 +3,16 @@
 ghost use Rattle.std.specs.Prelude.{◌≡◌, ◌+◌, ◌*◌, ◌<◌, ◌≤◌, ◌^◌, ◌↔◌, ℕ, List, length, map, IfOk, OnOk, option_map, if◌then◌else◌, nat_lt, true, Some, None};
 ghost use Rattle.std.specs.Option.{option_copied};
 ghost use Rattle.std.specs.FinMap.{find};
-ghost use Rattle.acl_entry.specs.Person.{Person};
-ghost use Rattle.acl_names.specs.Paths.{path_cmp};
+ghost use Rattle.acl_tree.specs.acl_entry.Person.{Person};
+ghost use Rattle.acl_tree.specs.acl_names.Paths.{path_cmp};
 ghost use Rattle.acl_tree.specs.Step as step;
 
 use crate::judged::judged_tree;
+use crate::lists::GroupLists;
 use crate::reach::staged_reached;
 use crate::rows::{NewRows, staged_rows};
-use acl_entry::{Perm, Requests};
-use acl_group_files::GroupLists;
-use acl_names::Path;
-use acl_people::People;
-use acl_reach::{Again, reached_of};
-use acl_tree::{Staged, Tree};
-use acl_verdicts::{Cells, Judge, granted_paths, granted_users};
+use acl_tree::{Path, People, Perm, Requests, Staged, Tree};
+use acl_verdicts::{Again, Cells, Judge, granted_paths, granted_users, reached_of};
 use path_map::PathMap;
 use std::alloc::{AllocError, Global};
 use std::marker::{Model, PhantomData};
@@ -37,7 +33,7 @@ pub struct Index<J> {
 impl<J> Model for Index<J> {
     ghost use Rattle.acl_rights.specs.Tables.{Table, coded_table};
     ghost use Rattle.std.specs.Prelude.{◌≡◌};
-    ghost use Rattle.acl_group_files.specs.Groups.{AreLists};
+    ghost use Rattle.acl_rights.specs.Groups.{AreLists};
     ghost use Rattle.acl_rights.specs.Reach.{reached_rows};
 
     ghost Value = { Table };

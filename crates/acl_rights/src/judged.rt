@@ -1,12 +1,11 @@
 //! Rows of files on which all verdicts are asked for.
 
 ghost use Rattle.std.specs.Prelude.{◌≡◌, ◌+◌, ◌-◌, ◌*◌, ◌∷◌, ◌<◌, ◌≤◌, ◌^◌, List, length, map, take, IfOk, IfSome, OnOk};
-ghost use Rattle.acl_entry.specs.Person.{Person};
+ghost use Rattle.acl_tree.specs.acl_entry.Person.{Person};
 ghost use Rattle.acl_rights.specs.Tables.{Verdict, cells_of, rows_of};
 ghost use Rattle.acl_rights.specs.declared.judged.TheConstants.{KEPT};
 
-use acl_entry::Subject;
-use acl_tree::{Record, Tree};
+use acl_tree::{Record, Subject, Tree};
 use acl_verdicts::{Cells, Judge, judged};
 use path_map::{Entry, PathMap};
 use std::alloc::{AllocError, Global};

@@ -2,22 +2,21 @@
 
 ghost use Rattle.std.specs.Prelude.{◌≡◌, ◌+◌, ◌<◌, ◌≤◌, ◌^◌, true, ℕ, List, length, map, filter, is_some, Some, slice_get, slice_set, IfOk};
 ghost use Rattle.std.specs.FinMap.{find};
-ghost use Rattle.acl_names.specs.Paths.{path_cmp};
+ghost use Rattle.acl_tree.specs.acl_names.Paths.{path_cmp};
 ghost use Rattle.path_map.specs.Entries.{IsInOrder};
 ghost use Rattle.path_map.specs.Merged.{put_all};
-ghost use Rattle.acl_edit.specs.declared.node.Node as node_types;
-ghost use Rattle.acl_people.specs.Registers.{persons};
+ghost use Rattle.acl_tree.specs.acl_edit.declared.node.Node as node_types;
+ghost use Rattle.acl_tree.specs.acl_people.Registers.{persons};
 ghost use Rattle.acl_tree.specs.declared.moved.UsersMove.TheVariants.{Moved};
-ghost use Rattle.acl_group_files.specs.Groups.{AreLists};
+ghost use Rattle.acl_rights.specs.Groups.{AreLists};
 ghost use Rattle.acl_rights.specs.Tables.{rows_of};
 ghost use Rattle.acl_rights.specs.Stages.{mentions_one, sum_mentioning, most_asked};
 ghost use Rattle.acl_rights.specs.Kept.{GoesFrom};
 
+use crate::lists::GroupLists;
 use crate::rows::NewRows;
-use acl_entry::Subject;
-use acl_group_files::{GroupLists, touched_paths};
-use acl_names::Path;
-use acl_tree::{GroupIds, Staged, Tree};
+use crate::touched::touched_paths;
+use acl_tree::{GroupIds, Path, Staged, Subject, Tree};
 use acl_verdicts::{Cells, Judge, judged_at};
 use path_map::{Entry, PathMap};
 use std::alloc::{AllocError, Global};

@@ -3,15 +3,14 @@
 ghost use Rattle.std.specs.Prelude.{◌≡◌, ◌≤◌, ◌<◌, ◌*◌, ◌^◌, None, length, map, IfOk};
 ghost use Rattle.path_map.specs.Entries.{IsInOrder};
 ghost use Rattle.path_map.specs.Merged.{merged};
-ghost use Rattle.acl_people.specs.Registers.{persons};
-ghost use Rattle.acl_reach.specs.Subtrees.{IsApart};
+ghost use Rattle.acl_tree.specs.acl_people.Registers.{persons};
+ghost use Rattle.acl_verdicts.specs.Subtrees.{IsApart};
 ghost use Rattle.acl_rights.specs.Tables.{rows_of};
 ghost use Rattle.acl_rights.specs.Reach.{reached_rows, unlike, most_refreshed, place_left};
 ghost use Rattle.acl_rights.specs.Kept.{GoesFrom, IsAgain};
 
-use acl_reach::{Again, differing, reached_again, reached_of};
 use acl_tree::{Record, Staged, UsersMove};
-use acl_verdicts::{Cells, Judge};
+use acl_verdicts::{Again, Cells, Judge, differing, reached_again, reached_of};
 use path_map::{Entry, PathMap};
 use std::alloc::{AllocError, Global};
 use std::rc::Rc;

@@ -2,8 +2,8 @@
 
 ghost use Rattle.std.specs.Prelude.{◌≡◌, ◌+◌, ◌<◌, ◌≤◌, ◌^◌, true, [], map, IfOk};
 ghost use Rattle.path_map.specs.Entries.{IsInOrder};
-ghost use Rattle.acl_people.specs.Registers.{persons};
-ghost use Rattle.acl_group_files.specs.Groups.{AreLists};
+ghost use Rattle.acl_tree.specs.acl_people.Registers.{persons};
+ghost use Rattle.acl_rights.specs.Groups.{AreLists};
 ghost use Rattle.acl_rights.specs.Tables.{rows_of};
 ghost use Rattle.acl_rights.specs.Stages.{most_asked, most_looked, moves_groups};
 ghost use Rattle.acl_rights.specs.Kept.{GoesFrom, IsAgain};
@@ -11,8 +11,8 @@ ghost use Rattle.acl_rights.specs.Kept.{GoesFrom, IsAgain};
 use crate::came::joined_rows;
 use crate::changed::changed_rows;
 use crate::left::shorter_rows;
+use crate::lists::GroupLists;
 use crate::moved::moved_rows;
-use acl_group_files::GroupLists;
 use acl_tree::{Staged, UsersMove};
 use acl_verdicts::{Cells, Judge};
 use path_map::{Entry, PathMap};

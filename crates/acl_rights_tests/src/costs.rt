@@ -1,7 +1,7 @@
 //! What lines cost.
 use crate::lines::Line;
 use crate::world::{Row, Verdict, asked_by_build, first_wrong, nothing};
-use acl_tree::Table;
+use acl_rights::Table;
 
 const PASSWD: &[u8] = b"lisa:x:1001:50:Lisa:/home/lisa:/bin/sh\n\
 joe:x:1000:100:Joe:/home/joe:/bin/sh\nann:x:1002:100:Ann:/home/ann:/bin/sh\n";

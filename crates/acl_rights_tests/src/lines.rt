@@ -1,11 +1,9 @@
 //! Commands as they are written.
 
-use acl_edit::{Change, Edit, Specs};
-use acl_entry::Id;
-use acl_names::{Name, Path, read_path};
-use acl_people::People;
-use acl_text::{Sep, Want, read_entries};
-use acl_tree::{Command, Membership, NewUser, Paths, Table, UserName};
+use acl_rights::{
+    Change, Command, Edit, Id, Membership, Name, NewUser, Path, Paths, People, Sep, Specs, Table,
+    UserName, Want, read_entries, read_path,
+};
 use std::alloc::Global;
 
 /// A command, its operands and texts as they are written.

@@ -9,19 +9,19 @@ use Rattle.std.specs.FinMap.{find, put}
 use Rattle.std.specs.FinMap.Entries.{by_order}
 use Rattle.std.proofs.lemmas.Bool.{and_parts, eqb-true}
 use Rattle.std.proofs.lemmas.Cmp.{tied_itself, nat_list_cmp_total}
-use Rattle.acl_names.specs.Paths.{path_cmp}
-use Rattle.acl_names.proofs.PathOrder.{exact_paths}
-use Rattle.acl_edit.specs.declared.node.Node.{Node}
-use Rattle.acl_text.specs.declared.rows.PasswdRow.{PasswdRow}
-use Rattle.acl_edit.specs.Creation.{inherit}
-use Rattle.acl_edit.specs.Nodes.{IsSound, is_directory}
-use Rattle.acl_edit.specs.declared.node.Kind.{Kind}
-use Rattle.acl_edit.specs.declared.node.Kind.TheVariants.{Plain, Directory}
-use Rattle.path_map.specs.Merged.{has}
-use Rattle.path_map.proofs.Convex.{not_before}
-use Rattle.path_map.proofs.Differences.{Fail, put_passes, Leads, leads_all, has_put_all}
+use Rattle.acl_files.specs.acl_names.Paths.{path_cmp}
+use Rattle.acl_files.proofs.of_acl_names.PathOrder.{exact_paths}
+use Rattle.acl_files.specs.acl_edit.declared.node.Node.{Node}
+use Rattle.acl_files.specs.acl_text.declared.rows.PasswdRow.{PasswdRow}
+use Rattle.acl_files.specs.acl_edit.Creation.{inherit}
+use Rattle.acl_files.specs.acl_edit.Nodes.{IsSound, is_directory}
+use Rattle.acl_files.specs.acl_edit.declared.node.Kind.{Kind}
+use Rattle.acl_files.specs.acl_edit.declared.node.Kind.TheVariants.{Plain, Directory}
+use Rattle.acl_files.specs.path_map.Merged.{has}
+use Rattle.acl_files.proofs.of_path_map.Convex.{not_before}
+use Rattle.acl_files.proofs.of_path_map.Differences.{Fail, put_passes, Leads, leads_all, has_put_all}
 use Rattle.acl_files.specs.Files.{PathOf, Files, Recorded, max_files}
-use Rattle.acl_load.specs.Below.{is_below, is_within}
+use Rattle.acl_files.specs.Below.{is_below, is_within}
 use Rattle.acl_files.specs.Changed.{same_label, is_changed, changed_between, gone_between}
 use Rattle.acl_tree.specs.Creat.{exists, parent, only_directory, directory_at, creat_in, creat_by}
 use Rattle.acl_tree.specs.declared.command.NewFile.{NewFile}
@@ -30,8 +30,8 @@ use Rattle.acl_files.specs.declared.fault.TreeFault.TheVariants.{NotDirectory, E
 use Rattle.acl_tree.specs.Inner.{IsNewIn}
 use Rattle.acl_files.specs.Sound.{holds_below, IsPlaced, ArePlaced, IsSoundTree}
 use Rattle.acl_files.proofs.Changes.{label_itself}
-use Rattle.acl_load.proofs.Follows.{below_within, within_below, not_below_itself}
-use Rattle.acl_load.proofs.Shared.{in_order-put}
+use Rattle.acl_files.proofs.Follows.{below_within, within_below, not_below_itself}
+use Rattle.acl_files.proofs.Shared.{in_order-put}
 
 -- ---- tests of lists
 

@@ -4,22 +4,22 @@ use Rattle.std.specs.List.{AllByRecursion}
 use Rattle.std.specs.Option.{option_map_or, option_or}
 use Rattle.std.specs.Ordering.{eq_by_cmp}
 use Rattle.std.specs.FinMap.{find}
-use Rattle.acl_names.specs.Paths.{path_cmp}
-use Rattle.acl_edit.specs.Nodes.{is_directory}
-use Rattle.acl_edit.specs.declared.node.Node.{Node}
-use Rattle.path_map.specs.Merged.{has, without_all}
-use Rattle.path_map.proofs.Differences.{Leads, leads_all, has_where}
-pub use Rattle.path_map.proofs.Rows.{in_order-filter}
+use Rattle.acl_files.specs.acl_names.Paths.{path_cmp}
+use Rattle.acl_files.specs.acl_edit.Nodes.{is_directory}
+use Rattle.acl_files.specs.acl_edit.declared.node.Node.{Node}
+use Rattle.acl_files.specs.path_map.Merged.{has, without_all}
+use Rattle.acl_files.proofs.of_path_map.Differences.{Leads, leads_all, has_where}
+pub use Rattle.acl_files.proofs.of_path_map.Rows.{in_order-filter}
 use Rattle.acl_files.specs.declared.fault.TreeFault.{TreeFault}
 use Rattle.acl_files.specs.declared.fault.TreeFault.TheVariants.{IsDirectory}
 use Rattle.acl_files.specs.Files.{PathOf, Files, Recorded, IsInOrder}
-use Rattle.acl_load.specs.Below.{is_below, is_within}
+use Rattle.acl_files.specs.Below.{is_below, is_within}
 use Rattle.acl_files.specs.Changed.{same_label, is_changed, changed_between, gone_between}
 use Rattle.acl_files.specs.Operands.{is_file, files_meant}
 use Rattle.acl_tree.specs.Rm.{refusal, first_refused, without_files}
 use Rattle.acl_files.specs.Sound.{holds_below, IsPlaced, ArePlaced, IsSoundTree}
 use Rattle.acl_files.proofs.Changes.{label_itself}
-use Rattle.acl_load.proofs.Follows.{below_within}
+use Rattle.acl_files.proofs.Follows.{below_within}
 use Rattle.acl_files.proofs.Selected.{within_trans, same_path}
 
 and_true : (a b : Bool) → b ≡ true → (a && b) ≡ a

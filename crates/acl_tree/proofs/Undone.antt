@@ -6,15 +6,15 @@ use Rattle.std.specs.FinMap.{find, put}
 use Rattle.std.specs.FinMap.Entries.{by_order, find-put}
 use Rattle.std.specs.Ordering.{is_eq}
 use Rattle.std.proofs.lemmas.Cmp.{tied_itself}
-use Rattle.acl_names.specs.Paths.{path_cmp}
-use Rattle.acl_names.proofs.PathOrder.{path_total, exact_paths}
-use Rattle.acl_edit.specs.Nodes.{is_directory}
-use Rattle.acl_edit.specs.declared.node.Node.{Node}
+use Rattle.acl_files.specs.acl_names.Paths.{path_cmp}
+use Rattle.acl_files.proofs.of_acl_names.PathOrder.{path_total, exact_paths}
+use Rattle.acl_files.specs.acl_edit.Nodes.{is_directory}
+use Rattle.acl_files.specs.acl_edit.declared.node.Node.{Node}
 use Rattle.acl_tree.specs.declared.command.Command.TheVariants.{Creat, Rm}
 use Rattle.acl_tree.specs.declared.command.NewFile.{NewFile}
 use Rattle.acl_files.specs.declared.fault.TreeFault.TheVariants.{IsDirectory}
 use Rattle.acl_files.specs.Files.{PathOf, Files}
-use Rattle.acl_load.specs.Below.{is_within}
+use Rattle.acl_files.specs.Below.{is_within}
 use Rattle.acl_tree.specs.Creat.{row_of, exists, creat}
 use Rattle.acl_files.specs.Operands.{is_file}
 use Rattle.acl_tree.specs.Rm.{refusal, first_refused, without_files, or_refused}

@@ -3,12 +3,12 @@ use Rattle.std.proofs.Common.{◌≡◌, ℕ, Bool, true, false, not, cond, nat_
 use Rattle.std.specs.Prelude.{option_map}
 use Rattle.std.specs.FinMap.{find, put}
 use Rattle.std.specs.FinMap.Entries.{find-put, find-where_key}
-use Rattle.acl_names.specs.Paths.{path_cmp}
-use Rattle.acl_names.proofs.PathOrder.{path_total, exact_paths}
-use Rattle.acl_text.specs.declared.rows.PasswdRow.{PasswdRow}
-use Rattle.acl_edit.specs.Creation.{inherit}
-use Rattle.acl_edit.specs.Nodes as nodes
-use Rattle.acl_edit.specs.declared.node.Node.{Node}
+use Rattle.acl_files.specs.acl_names.Paths.{path_cmp}
+use Rattle.acl_files.proofs.of_acl_names.PathOrder.{path_total, exact_paths}
+use Rattle.acl_files.specs.acl_text.declared.rows.PasswdRow.{PasswdRow}
+use Rattle.acl_files.specs.acl_edit.Creation.{inherit}
+use Rattle.acl_files.specs.acl_edit.Nodes as nodes
+use Rattle.acl_files.specs.acl_edit.declared.node.Node.{Node}
 use Rattle.acl_people.specs.Registers.{Register, load_passwd, load_group}
 use Rattle.acl_people.specs.declared.fault.LoadFault.{LoadFault}
 use Rattle.acl_tree.specs.declared.command.Command.{Command}

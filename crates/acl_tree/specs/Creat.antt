@@ -2,18 +2,18 @@
 use Rattle.std.specs.Prelude.{ℕ, List, ◌-◌, length, take, slice_get, nat_lt, Bool, if◌then◌else◌, Option, Some, None, option_and_then, Result, Ok, Err}
 use Rattle.std.specs.List.{list_any}
 use Rattle.std.specs.FinMap.{find, put}
-use Rattle.acl_names.specs.Paths.{path_cmp}
-use Rattle.acl_text.specs.declared.rows.PasswdRow.{PasswdRow}
-use Rattle.acl_edit.specs.Nodes.{is_directory}
-use Rattle.acl_edit.specs.Creation.{inherit}
-use Rattle.acl_edit.specs.declared.node.Node.{Node}
+use Rattle.acl_files.specs.acl_names.Paths.{path_cmp}
+use Rattle.acl_files.specs.acl_text.declared.rows.PasswdRow.{PasswdRow}
+use Rattle.acl_files.specs.acl_edit.Nodes.{is_directory}
+use Rattle.acl_files.specs.acl_edit.Creation.{inherit}
+use Rattle.acl_files.specs.acl_edit.declared.node.Node.{Node}
 use Rattle.acl_people.specs.Rolls.{place_of_word}
 use Rattle.acl_people.specs.Registers.{Register, users_of}
 use Rattle.acl_tree.specs.declared.command.NewFile.{NewFile}
 use Rattle.acl_files.specs.declared.fault.TreeFault.{TreeFault}
 use Rattle.acl_files.specs.declared.fault.TreeFault.TheVariants.{NoSuchFile, NotDirectory, Exists, NoSuchUser, TooMany}
 use Rattle.acl_files.specs.Files.{PathOf, Files, Recorded, max_files}
-use Rattle.acl_load.specs.Below.{is_within}
+use Rattle.acl_files.specs.Below.{is_within}
 
 -- the row of the user that a word means
 abbrev pub row_of : Register → List ℕ → Option PasswdRow

@@ -1,10 +1,10 @@
 -- For inner functions: no public contract names these definitions.
 use Rattle.std.specs.Prelude.{◌≡◌, ◌<◌, length, Some, false, Result, IfOk}
 use Rattle.std.specs.FinMap.{find}
-use Rattle.acl_names.specs.Paths.{path_cmp}
-use Rattle.acl_edit.specs.Nodes as nodes
-use Rattle.acl_edit.specs.declared.node.Node.{Node}
-use Rattle.acl_edit.specs.declared.node.Kind.TheVariants.{Directory}
+use Rattle.acl_files.specs.acl_names.Paths.{path_cmp}
+use Rattle.acl_files.specs.acl_edit.Nodes as nodes
+use Rattle.acl_files.specs.acl_edit.declared.node.Node.{Node}
+use Rattle.acl_files.specs.acl_edit.declared.node.Kind.TheVariants.{Directory}
 use Rattle.acl_files.specs.Files.{PathOf, Files, max_files}
 use Rattle.acl_files.specs.Sound.{IsSoundTree}
 use Rattle.acl_files.specs.declared.fault.TreeFault.{TreeFault}

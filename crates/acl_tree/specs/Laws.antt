@@ -2,13 +2,13 @@
 use Rattle.std.specs.Prelude.{◌≡◌, List, Bool, true, false, Some, Result, Ok, option_map, unwrap_or}
 use Rattle.std.specs.Ordering.{eq_by_cmp}
 use Rattle.std.specs.FinMap.{find}
-use Rattle.acl_names.specs.Paths.{path_cmp}
-use Rattle.acl_dump.specs.declared.record.DumpRecord.{DumpRecord}
-use Rattle.acl_edit.specs.Edits.{no_flags}
-use Rattle.acl_edit.specs.Laws.{ShowsRecalculated, BoundsRecalculated, MakesMask}
-use Rattle.acl_edit.specs.declared.edit.Change.{Change}
-use Rattle.acl_edit.specs.declared.edit.EditFault.{EditFault}
-use Rattle.acl_edit.specs.declared.node.Node.{Node}
+use Rattle.acl_files.specs.acl_names.Paths.{path_cmp}
+use Rattle.acl_files.specs.acl_dump.declared.record.DumpRecord.{DumpRecord}
+use Rattle.acl_files.specs.acl_edit.Edits.{no_flags}
+use Rattle.acl_files.specs.acl_edit.Laws.{ShowsRecalculated, BoundsRecalculated, MakesMask}
+use Rattle.acl_files.specs.acl_edit.declared.edit.Change.{Change}
+use Rattle.acl_files.specs.acl_edit.declared.edit.EditFault.{EditFault}
+use Rattle.acl_files.specs.acl_edit.declared.node.Node.{Node}
 use Rattle.acl_tree.specs.declared.command.Command.{Command}
 use Rattle.acl_tree.specs.declared.command.Command.TheVariants.{Load, Chmod, Edit, Restore, Creat, Rm, Gpasswd, Usermod, Useradd, Userdel}
 use Rattle.acl_tree.specs.declared.command.Table.{Table}

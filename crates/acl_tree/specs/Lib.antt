@@ -13,3 +13,10 @@ pub mod EditCommand
 pub mod Restoring
 pub mod Inner
 pub mod Laws
+pub use Rattle.acl_files.specs.acl_dump
+pub use Rattle.acl_files.specs.acl_edit
+pub use Rattle.acl_files.specs.acl_entry
+pub use Rattle.acl_files.specs as acl_files
+pub use Rattle.acl_files.specs.acl_names
+pub use Rattle.acl_people.specs as acl_people
+pub use Rattle.acl_files.specs.acl_text

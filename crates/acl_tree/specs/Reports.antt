@@ -2,7 +2,7 @@
 use Rattle.std.specs.Prelude.{◌≡◌, ◌≢◌, ℕ, List, [], ◌∷◌, false, Result, Ok, Err, refl}
 use Rattle.std.specs.List.{AllByRecursion}
 use Rattle.std.specs.Coded.{Coded, code_by, coded×, coded_ℕ, coded_list}
-use Rattle.acl_edit.specs.contracts.node.Node as node_contracts
+use Rattle.acl_files.specs.acl_edit.contracts.node.Node as node_contracts
 use Rattle.acl_people.specs.Registers.{Register, persons}
 use Rattle.acl_people.specs.Moves.{moved_groups, MovesUser, JoinsUser, LeavesUser}
 use Rattle.acl_tree.specs.declared.moved.UsersMove.{UsersMove}

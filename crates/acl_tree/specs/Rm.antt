@@ -2,9 +2,9 @@
 use Rattle.std.specs.Prelude.{List, [], ◌∷◌, Bool, not, ◌&&◌, if◌then◌else◌, Option, Some, None, filter, Result, Ok, Err}
 use Rattle.std.specs.Option.{option_or}
 use Rattle.std.specs.FinMap.{find}
-use Rattle.acl_names.specs.Paths.{path_cmp}
-use Rattle.acl_edit.specs.Nodes.{is_directory}
-use Rattle.acl_edit.specs.declared.node.Node.{Node}
+use Rattle.acl_files.specs.acl_names.Paths.{path_cmp}
+use Rattle.acl_files.specs.acl_edit.Nodes.{is_directory}
+use Rattle.acl_files.specs.acl_edit.declared.node.Node.{Node}
 use Rattle.acl_files.specs.declared.fault.TreeFault.{TreeFault}
 use Rattle.acl_files.specs.declared.fault.TreeFault.TheVariants.{NoSuchFile, IsDirectory}
 use Rattle.acl_files.specs.Files.{PathOf, Files, Recorded}

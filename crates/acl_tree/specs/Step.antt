@@ -1,11 +1,11 @@
 -- The whole state, and what a command makes of it.
 use Rattle.std.specs.Prelude.{◌≡◌, ◌≢◌, ℕ, List, length, Bool, true, false, nat_lt, ◌||◌, if◌then◌else◌, Option, Some, None, Result, Ok, Err, MatchResult, refl}
 use Rattle.std.specs.Coded.{Coded, code_by, coded×}
-use Rattle.acl_text.specs.declared.fault.TextFault.{TextFault}
-use Rattle.acl_dump.specs.declared.record.DumpRecord.{DumpRecord}
-use Rattle.acl_dump.specs.declared.record.DumpUse.TheVariants as uses
-use Rattle.acl_dump.specs.Records.{dump_of}
-use Rattle.acl_edit.specs.Nodes as nodes
+use Rattle.acl_files.specs.acl_text.declared.fault.TextFault.{TextFault}
+use Rattle.acl_files.specs.acl_dump.declared.record.DumpRecord.{DumpRecord}
+use Rattle.acl_files.specs.acl_dump.declared.record.DumpUse.TheVariants as uses
+use Rattle.acl_files.specs.acl_dump.Records.{dump_of}
+use Rattle.acl_files.specs.acl_edit.Nodes as nodes
 use Rattle.acl_people.specs.declared.fault.LoadFault.{LoadFault}
 use Rattle.acl_people.specs.declared.fault.LoadFault.TheVariants as loads
 use Rattle.acl_people.specs.contracts.people.People as people_contracts
@@ -18,7 +18,7 @@ use Rattle.acl_tree.specs.declared.command.Table.TheVariants.{Passwd, Group, Dum
 use Rattle.acl_files.specs.declared.fault.TreeFault.{TreeFault}
 use Rattle.acl_files.specs.declared.fault.TreeFault.TheVariants.{NoSuchFile, TooMany, AlreadyLoaded, Text, NoMemory}
 use Rattle.acl_files.specs.Files.{PathOf, Recorded, coded_recorded, no_files, max_files}
-use Rattle.acl_load.specs.Loading.{files_of}
+use Rattle.acl_files.specs.Loading.{files_of}
 use Rattle.acl_tree.specs.Creat.{creat}
 use Rattle.acl_tree.specs.Rm.{rm}
 use Rattle.acl_tree.specs.Memberships.{UserChange, gpasswd, usermod}

@@ -7,9 +7,9 @@ ghost use Rattle.acl_tree.specs.declared.moved.UsersMove.TheVariants.{Same};
 
 use crate::moved::UsersMove;
 use crate::staged::Staged;
-use acl_edit::{EditFault, Node, chmod};
-use acl_files::{NodeEdit, Paths, Tree, TreeFault, edit_files, look_up};
-use acl_names::Path;
+use acl_files::{
+    EditFault, Node, NodeEdit, Path, Paths, Tree, TreeFault, chmod, edit_files, look_up,
+};
 use acl_people::People;
 use std::alloc::Global;
 
@@ -21,7 +21,7 @@ struct Mode {
 
 impl NodeEdit for Mode {
     ghost use Rattle.std.specs.Prelude.{Ok};
-    ghost use Rattle.acl_edit.specs.Nodes as nodes;
+    ghost use Rattle.acl_files.specs.acl_edit.Nodes as nodes;
 
     ghost edited = { λ mode _ n. Ok (nodes.chmod n mode.bits) };
 

@@ -2,9 +2,9 @@
 
 ghost use Rattle.std.specs.Prelude.{◌≡◌, ◌≢◌, ◌∷◌, [], None, Some, Ok, Err, IfOk, IfErr, OnErr, take, length};
 ghost use Rattle.std.specs.FinMap.{put};
-ghost use Rattle.acl_names.specs.Paths.{path_cmp};
-ghost use Rattle.acl_edit.specs.Creation.{inherit};
-ghost use Rattle.acl_edit.specs.Nodes.{IsSound};
+ghost use Rattle.acl_files.specs.acl_names.Paths.{path_cmp};
+ghost use Rattle.acl_files.specs.acl_edit.Creation.{inherit};
+ghost use Rattle.acl_files.specs.acl_edit.Nodes.{IsSound};
 ghost use Rattle.acl_tree.specs.Creat.{row_of, exists, parent, directory_at, creat_by, creat};
 ghost use Rattle.acl_tree.specs.Inner.{Prepares, IsNewIn};
 ghost use Rattle.acl_tree.specs.Step.{with_tree, state_from};
@@ -15,11 +15,8 @@ use crate::command::NewFile;
 use crate::dump::MAX_FILES;
 use crate::moved::UsersMove;
 use crate::staged::Staged;
-use acl_edit::{Kind, Node, create};
-use acl_files::{Record, Tree, TreeFault};
-use acl_names::{Name, Path};
+use acl_files::{Kind, Name, Node, PasswdRow, Path, Record, Tree, TreeFault, create};
 use acl_people::People;
-use acl_text::PasswdRow;
 use std::alloc::{AllocError, Global};
 use std::rc::Rc;
 

@@ -8,12 +8,10 @@ ghost use Rattle.acl_tree.specs.declared.moved.UsersMove.TheVariants.{Same};
 
 use crate::moved::UsersMove;
 use crate::staged::Staged;
-use acl_dump::{DumpUse, read_dump};
-use acl_files::{Record, Tree, TreeFault};
-use acl_load::files_of;
+use acl_files::{
+    DumpUse, FaultKind, PathMap, Record, TextFault, Tree, TreeFault, files_of, read_dump,
+};
 use acl_people::People;
-use acl_text::{FaultKind, TextFault};
-use path_map::PathMap;
 use std::alloc::{AllocError, Global};
 use std::rc::Rc;
 

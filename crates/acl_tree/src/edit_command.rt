@@ -12,9 +12,10 @@ ghost use Rattle.acl_tree.specs.declared.moved.UsersMove.TheVariants.{Same};
 
 use crate::moved::UsersMove;
 use crate::staged::Staged;
-use acl_edit::{Edit, EditFault, Node, apply};
-use acl_files::{FileFault, NodeEdit, Paths, Tree, TreeFault, edit_files, look_up};
-use acl_names::Path;
+use acl_files::{
+    Edit, EditFault, FileFault, Node, NodeEdit, Path, Paths, Tree, TreeFault, apply, edit_files,
+    look_up,
+};
 use acl_people::People;
 use std::alloc::Global;
 

@@ -4,8 +4,7 @@ ghost use Rattle.std.specs.Prelude.{◌≡◌, ◌≢◌, ◌<◌, length, Ok, E
 ghost use Rattle.acl_tree.specs.Memberships.{user_at, group_at};
 ghost use Rattle.acl_files.specs.declared.fault.TreeFault.TheVariants.{NoMemory};
 
-use acl_files::TreeFault;
-use acl_names::Name;
+use acl_files::{Name, TreeFault};
 use acl_people::People;
 use std::alloc::Global;
 

@@ -13,8 +13,7 @@ use crate::command::Membership;
 use crate::find_people::{find_group, find_user};
 use crate::stage_people::stage_user_change;
 use crate::staged::Staged;
-use acl_files::{Tree, TreeFault};
-use acl_names::Name;
+use acl_files::{Name, Tree, TreeFault};
 use acl_people::People;
 use std::alloc::Global;
 

@@ -21,8 +21,14 @@ mod useradd;
 mod userdel;
 mod usermod;
 
-pub use acl_files::{DumpRecords, Files, Found, Paths, Record, Tree, TreeFault};
-pub use acl_load::{each_record_is_a_file, is_below};
+pub use acl_files::{
+    Acl, Change, Draft, DumpRecord, DumpRecords, DumpUse, Edit, EditFault, Effective, Entry,
+    FaultKind, Files, Form, Found, Id, Key, Kind, Label, ListFault, Name, Names, NoNames, Node,
+    Path, Paths, Perm, Record, Requests, Sep, Spec, Specs, Subject, TextFault, Tree, TreeFault,
+    Want, Which, append_entry, append_header, append_id, append_list, append_name, append_path,
+    append_short, each_record_is_a_file, granted, is_below, read_dump, read_entries, read_id,
+    read_name, read_path, read_perms, records_are_read_again, trim, write_name,
+};
 pub use acl_people::{People, UserName};
 pub use command::{Command, Membership, NewFile, NewUser, Table};
 pub use laws::{

@@ -2,7 +2,7 @@
 
 ghost use Rattle.std.specs.Prelude.{◌≡◌};
 
-use acl_entry::Id;
+use acl_files::Id;
 use std::marker::Model;
 
 /// How a command moved the users: what it does to their ids and groups.

@@ -2,7 +2,7 @@
 
 ghost use Rattle.std.specs.Prelude.{◌≡◌, ◌≢◌, None, Some, map, IfOk, IfErr, OnOk};
 ghost use Rattle.std.specs.FinMap.{find};
-ghost use Rattle.acl_names.specs.Paths.{path_cmp};
+ghost use Rattle.acl_files.specs.acl_names.Paths.{path_cmp};
 ghost use Rattle.acl_tree.specs.Inner.{Prepares};
 ghost use Rattle.acl_files.specs.Inner.{file_of};
 ghost use Rattle.acl_tree.specs.Rm.{refusal, first_refused, rm};
@@ -12,9 +12,7 @@ ghost use Rattle.acl_tree.specs.declared.moved.UsersMove.TheVariants.{Same};
 
 use crate::moved::UsersMove;
 use crate::staged::Staged;
-use acl_edit::Kind;
-use acl_files::{Found, Paths, Record, Tree, TreeFault, select};
-use acl_names::Path;
+use acl_files::{Found, Kind, Path, Paths, Record, Tree, TreeFault, select};
 use acl_people::People;
 use std::alloc::{AllocError, Global};
 use std::rc::Rc;

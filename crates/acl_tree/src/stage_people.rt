@@ -9,8 +9,7 @@ ghost use Rattle.acl_tree.specs.Reports.{move_of, UsersMoved, Reports};
 
 use crate::moved::{GroupIds, UsersMove};
 use crate::staged::Staged;
-use acl_entry::Id;
-use acl_files::Tree;
+use acl_files::{Id, Tree};
 use acl_people::People;
 use std::alloc::{AllocError, Global};
 

@@ -9,8 +9,7 @@ use crate::find_people::find_user;
 use crate::moved::UsersMove;
 use crate::stage_people::stage_people;
 use crate::staged::Staged;
-use acl_files::{Tree, TreeFault};
-use acl_names::Name;
+use acl_files::{Name, Tree, TreeFault};
 use acl_people::People;
 use std::alloc::Global;
 

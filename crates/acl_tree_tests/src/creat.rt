@@ -1,8 +1,7 @@
 //! New files.
 use crate::rows::{Line, Row, after};
 use crate::texts::{FIVE, FOUR, PEOPLE};
-use acl_edit::Kind;
-use acl_tree::Table;
+use acl_tree::{Kind, Table};
 
 static FAULTS: [Row; 4] = [
     // Before what the path has.

@@ -2,9 +2,7 @@
 use crate::rows::{Line, after, command, paths};
 use crate::shown::{expect_text, listing};
 use crate::texts::{FOUR, PEOPLE};
-use acl_names::append_path;
-use acl_text::append_id;
-use acl_tree::{Found, State, each_record_is_a_file};
+use acl_tree::{Found, State, append_id, append_path, each_record_is_a_file};
 use std::alloc::Global;
 use std::process::Abort;
 

@@ -2,13 +2,11 @@
 //!
 //! A row is data. What comes of a command and what a file is are compared as texts, so a new test needs no code.
 use crate::shown::{expect_files, expect_text, listing, outcome};
-use acl_dump::{DumpUse, read_dump};
-use acl_edit::{Change, Edit, Kind, Specs};
-use acl_entry::Id;
-use acl_names::{Name, Path, read_path};
-use acl_people::People;
-use acl_text::{Sep, Want, read_entries};
-use acl_tree::{Command, DumpRecords, Membership, NewFile, NewUser, Paths, State, Table, UserName};
+use acl_tree::{
+    Change, Command, DumpRecords, DumpUse, Edit, Id, Kind, Membership, Name, NewFile, NewUser,
+    Path, Paths, People, Sep, Specs, State, Table, UserName, Want, read_dump, read_entries,
+    read_path,
+};
 use std::alloc::Global;
 use std::process::Abort;
 

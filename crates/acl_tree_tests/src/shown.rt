@@ -1,11 +1,9 @@
 //! What comes of a command, and what files are, as texts.
 use crate::rows::path;
-use acl_edit::{Kind, Node};
-use acl_entry::{Acl, Id, Label, Perm, Requests, Subject, granted};
-use acl_names::{Name, Path, append_path};
-use acl_people::People;
-use acl_text::{Names, append_id, append_short};
-use acl_tree::{Command, Record, Staged, State, Tree, TreeFault, UsersMove};
+use acl_tree::{
+    Acl, Command, Id, Kind, Label, Name, Names, Node, Path, People, Perm, Record, Requests, Staged,
+    State, Subject, Tree, TreeFault, UsersMove, append_id, append_path, append_short, granted,
+};
 use std::alloc::Global;
 use std::process::Abort;
 

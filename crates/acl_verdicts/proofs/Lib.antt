@@ -1,1 +1,7 @@
 pub mod Places
+pub mod Orders
+pub mod Walks
+mod Begins
+mod Nearest
+mod Changes
+mod Tops

@@ -4,7 +4,7 @@ ghost use Rattle.std.specs.Prelude.{◌≡◌, ◌+◌, ◌++◌, ◌∷◌, [],
 ghost use Rattle.std.specs.List.{remove};
 
 use crate::judge::Judge;
-use acl_entry::{Label, Requests, Subject};
+use acl_files::{Label, Requests, Subject};
 use std::alloc::{AllocError, Global};
 use std::marker::Model;
 use std::rc::Rc;

@@ -1,11 +1,11 @@
 //! Who decides on a user and a file.
 
 ghost use Rattle.std.specs.Prelude.{◌≡◌, ◌+◌, ◌<◌, ◌^◌, ℕ};
-ghost use Rattle.acl_entry.specs.Person.{Person};
-ghost use Rattle.acl_entry.specs.declared.label.Label.{Label};
-ghost use Rattle.acl_entry.specs.Mentions.{AgreeOnMentions};
+ghost use Rattle.acl_files.specs.acl_entry.Person.{Person};
+ghost use Rattle.acl_files.specs.acl_entry.declared.label.Label.{Label};
+ghost use Rattle.acl_files.specs.acl_entry.Mentions.{AgreeOnMentions};
 
-use acl_entry::{Label, Requests, Subject};
+use acl_files::{Label, Requests, Subject};
 
 /// Decides what a user may do with a file, by one definition for all values of the type, and counts its
 /// verdicts.

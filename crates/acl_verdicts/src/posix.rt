@@ -1,11 +1,11 @@
 //! The access check of acl(5) as a judge.
 
 ghost use Rattle.std.specs.Prelude.{◌≡◌};
-ghost use Rattle.acl_entry.specs.Check.{rights};
-ghost use Rattle.acl_entry.specs.Mentions.{rights_local};
+ghost use Rattle.acl_files.specs.acl_entry.Check.{rights};
+ghost use Rattle.acl_files.specs.acl_entry.Mentions.{rights_local};
 
 use crate::judge::Judge;
-use acl_entry::{Label, Requests, Subject, granted};
+use acl_files::{Label, Requests, Subject, granted};
 
 /// The access check of acl(5).
 #[derive(Drop)]

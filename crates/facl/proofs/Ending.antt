@@ -1,13 +1,13 @@
 -- How a run ends that stops in its script.
 use Rattle.std.proofs.Common.{◌≡◌, ℕ, List, Option, Result, Ok, inr, subst}
 use Rattle.std.specs.Prelude.{IfSome}
-use Rattle.acl_tree.specs.Step.{State}
-use Rattle.facl_script.specs.Run.{StopsWith}
-use Rattle.facl_script.specs.declared.fault.ScriptFault.{ScriptFault}
-use Rattle.facl_script.specs.declared.fault.ScriptFault.TheVariants.{Read, Write, TooLong, NoMemory}
-use Rattle.facl_usage.specs.TextWords.{line_asks}
-use Rattle.facl_messages.specs.Faults.{run_fault_of_script}
-use Rattle.facl_messages.specs.declared.fault.RunFault.{RunFault}
+use Rattle.facl_tools.specs.acl_tree.Step.{State}
+use Rattle.facl_tools.specs.facl_script.Run.{StopsWith}
+use Rattle.facl_tools.specs.facl_script.declared.fault.ScriptFault.{ScriptFault}
+use Rattle.facl_tools.specs.facl_script.declared.fault.ScriptFault.TheVariants.{Read, Write, TooLong, NoMemory}
+use Rattle.facl_tools.specs.facl_words.TextWords.{line_asks}
+use Rattle.facl_tools.specs.facl_messages.Faults.{run_fault_of_script}
+use Rattle.facl_tools.specs.facl_messages.declared.fault.RunFault.{RunFault}
 use Rattle.facl_tools.specs.Tools.{Verdict}
 use Rattle.facl.specs.Costs.{all_pairs}
 use Rattle.facl.specs.Units.{answered}

@@ -1,13 +1,13 @@
 -- Lines that are refused before their words are known, and what a session returns for a unit.
 use Rattle.std.proofs.Common.{◌≡◌, ◌≢◌, ◌∙◌, ◌+◌, ◌≤◌, ℕ, Bool, true, false, [], Err, ap, sym, subst, refl, arith, true≢false}
-use Rattle.acl_tree.specs.Step.{State}
-use Rattle.acl_rights.specs.Tables.{Verdict}
-use Rattle.facl_script.specs.Play.{Answer}
-use Rattle.facl_script.specs.Run.{IsAnswer}
-use Rattle.facl_script.specs.Units.{ScriptUnit}
-use Rattle.facl_messages.specs.Messages.{message}
-use Rattle.facl_messages.specs.declared.fault.LineFault.{LineFault}
-use Rattle.facl_messages.specs.declared.fault.LineFault.TheVariants.{NoMemory}
+use Rattle.facl_tools.specs.acl_tree.Step.{State}
+use Rattle.facl_tools.specs.acl_rights.Tables.{Verdict}
+use Rattle.facl_tools.specs.facl_script.Play.{Answer}
+use Rattle.facl_tools.specs.facl_script.Run.{IsAnswer}
+use Rattle.facl_tools.specs.facl_script.Units.{ScriptUnit}
+use Rattle.facl_tools.specs.facl_messages.Messages.{message}
+use Rattle.facl_tools.specs.facl_messages.declared.fault.LineFault.{LineFault}
+use Rattle.facl_tools.specs.facl_messages.declared.fault.LineFault.TheVariants.{NoMemory}
 use Rattle.facl.specs.declared.session.Facl.{Facl}
 use Rattle.facl.specs.Sessions.{state_of, out_of, err_of, IsAtAnswer}
 use Rattle.facl.specs.Units.{is_silent, words_of_line, refused, answer_of_words, unless_out_of_memory, answered_line, answered}

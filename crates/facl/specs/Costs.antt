@@ -1,11 +1,11 @@
 -- How many verdicts a line asks of the judge.
 use Rattle.std.specs.Prelude.{ℕ, ◌+◌, ◌*◌, ◌^◌, ◌<◌, ◌≤◌, length}
-use Rattle.acl_tree.specs.Changed.{changed_between}
-use Rattle.acl_tree.specs.Step.{State}
-use Rattle.acl_tree.specs.declared.moved.UsersMove.{UsersMove}
-use Rattle.facl_script.specs.Limits.{script_limit}
-use Rattle.acl_rights.specs.Tables.{Verdict, Table, IsWhole}
-use Rattle.acl_rights.specs.Stages.{moves_asked}
+use Rattle.facl_tools.specs.acl_tree.Changed.{changed_between}
+use Rattle.facl_tools.specs.acl_tree.Step.{State}
+use Rattle.facl_tools.specs.acl_tree.declared.moved.UsersMove.{UsersMove}
+use Rattle.facl_tools.specs.facl_script.Limits.{script_limit}
+use Rattle.facl_tools.specs.acl_rights.Tables.{Verdict, Table, IsWhole}
+use Rattle.facl_tools.specs.acl_rights.Stages.{moves_asked}
 
 -- every user on every file
 abbrev pub all_pairs : State → ℕ

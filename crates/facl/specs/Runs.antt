@@ -1,15 +1,15 @@
 -- What a run writes.
 use Rattle.std.specs.Prelude.{◌≡◌, ◌+◌, ◌≤◌, ℕ, Bool, true, false, List, Option, Result, Ok, Err, ◌⊎◌, length, IfSome}
-use Rattle.acl_tree.specs.Step.{State}
-use Rattle.facl_script.specs.Limits.{script_limit}
-use Rattle.facl_script.specs.Play.{session}
-use Rattle.facl_script.specs.Run.{StopsWith}
-use Rattle.facl_script.specs.Write.{Writes}
-use Rattle.facl_script.specs.declared.fault.ScriptFault.{ScriptFault}
-use Rattle.facl_script.specs.declared.fault.ScriptFault.TheVariants as scripts
-use Rattle.facl_usage.specs.TextWords.{line_asks}
-use Rattle.facl_messages.specs.declared.fault.RunFault.{RunFault}
-use Rattle.facl_messages.specs.declared.fault.RunFault.TheVariants.{Read, Write, Setup, ScriptTooLong, NoMemory}
+use Rattle.facl_tools.specs.acl_tree.Step.{State}
+use Rattle.facl_tools.specs.facl_script.Limits.{script_limit}
+use Rattle.facl_tools.specs.facl_script.Play.{session}
+use Rattle.facl_tools.specs.facl_script.Run.{StopsWith}
+use Rattle.facl_tools.specs.facl_script.Write.{Writes}
+use Rattle.facl_tools.specs.facl_script.declared.fault.ScriptFault.{ScriptFault}
+use Rattle.facl_tools.specs.facl_script.declared.fault.ScriptFault.TheVariants as scripts
+use Rattle.facl_tools.specs.facl_words.TextWords.{line_asks}
+use Rattle.facl_tools.specs.facl_messages.declared.fault.RunFault.{RunFault}
+use Rattle.facl_tools.specs.facl_messages.declared.fault.RunFault.TheVariants.{Read, Write, Setup, ScriptTooLong, NoMemory}
 use Rattle.facl.specs.declared.status.Status.{Status}
 use Rattle.facl.specs.declared.status.Status.TheVariants.{Accepted, Refused}
 use Rattle.facl_tools.specs.Tools.{Verdict}

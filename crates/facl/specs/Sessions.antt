@@ -1,8 +1,8 @@
 -- What a contract sees of a session: its state, its index, and the output and the message of the last line.
 use Rattle.std.specs.Prelude.{◌≡◌, ℕ, Bool, false, if◌then◌else◌, List, []}
-use Rattle.acl_tree.specs.Step.{State}
-use Rattle.acl_rights.specs.Tables.{Table}
-use Rattle.facl_script.specs.Play.{Answer}
+use Rattle.facl_tools.specs.acl_tree.Step.{State}
+use Rattle.facl_tools.specs.acl_rights.Tables.{Table}
+use Rattle.facl_tools.specs.facl_script.Play.{Answer}
 use Rattle.facl.specs.declared.session.Facl.{Facl}
 
 abbrev pub state_of : {J : Type 0} → Facl J → State

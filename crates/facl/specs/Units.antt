@@ -1,20 +1,20 @@
 -- What a unit of a script does: a line, with its text if it takes one.
 use Rattle.std.specs.Prelude.{ℕ, Bool, true, false, if◌then◌else◌, List, [], ◌∷◌, Option, None, Some, Result, Ok, Err}
-use Rattle.facl_script.specs.Play.{Answer, quiet}
-use Rattle.facl_script.specs.Units.{ScriptUnit, UnitText, none, whole, too_long, unended}
-use Rattle.facl_script.specs.Words.{has_no_words, line_words}
-use Rattle.facl_script.specs.declared.words.SplitFault.{SplitFault}
-use Rattle.facl_words.specs.Forms.{Text}
-use Rattle.facl_words.specs.Tools.{tool_named}
-use Rattle.facl_words.specs.Words.{words_for}
-use Rattle.facl_usage.specs.declared.tool.Tool.{Tool}
-use Rattle.facl_usage.specs.declared.words.Words.{Words}
-use Rattle.acl_tree.specs.Step.{State}
-use Rattle.facl_messages.specs.Faults.{line_fault_of_split}
-use Rattle.facl_messages.specs.Messages.{message, warning}
-use Rattle.facl_messages.specs.declared.fault.LineFault.{LineFault}
-use Rattle.facl_messages.specs.declared.fault.LineFault.TheVariants.{LineTooLong, UnknownTool, UnendedText, TextLineTooLong, Usage, NoMemory}
-use Rattle.facl_replies.specs.Replies.{Reply, after, or_fault, printed}
+use Rattle.facl_tools.specs.facl_script.Play.{Answer, quiet}
+use Rattle.facl_tools.specs.facl_script.Units.{ScriptUnit, UnitText, none, whole, too_long, unended}
+use Rattle.facl_tools.specs.facl_script.Words.{has_no_words, line_words}
+use Rattle.facl_tools.specs.facl_script.declared.words.SplitFault.{SplitFault}
+use Rattle.facl_tools.specs.facl_words.Forms.{Text}
+use Rattle.facl_tools.specs.facl_words.Tools.{tool_named}
+use Rattle.facl_tools.specs.facl_words.Words.{words_for}
+use Rattle.facl_tools.specs.facl_words.declared.tool.Tool.{Tool}
+use Rattle.facl_tools.specs.facl_words.declared.words.Words.{Words}
+use Rattle.facl_tools.specs.acl_tree.Step.{State}
+use Rattle.facl_tools.specs.facl_messages.Faults.{line_fault_of_split}
+use Rattle.facl_tools.specs.facl_messages.Messages.{message, warning}
+use Rattle.facl_tools.specs.facl_messages.declared.fault.LineFault.{LineFault}
+use Rattle.facl_tools.specs.facl_messages.declared.fault.LineFault.TheVariants.{LineTooLong, UnknownTool, UnendedText, TextLineTooLong, Usage, NoMemory}
+use Rattle.facl_tools.specs.Replies.{Reply, after, or_fault, printed}
 use Rattle.facl_tools.specs.Tools.{Verdict, tool_line}
 use Rattle.facl.specs.Costs.{most_between}
 

@@ -1,17 +1,14 @@
 //! Lines are answered one by one.
 
 ghost use Rattle.std.specs.Prelude.{◌≡◌};
-ghost use Rattle.facl_usage.specs.TextWords.{line_asks};
+ghost use Rattle.facl_tools.specs.facl_words.TextWords.{line_asks};
 ghost use Rattle.facl.specs.Costs.{IsReady};
 ghost use Rattle.facl.specs.Units.{answered};
 ghost use Rattle.facl.specs.Sessions.{state_of, index_of, out_of, err_of};
 
 use crate::line::is_silent;
 use crate::session::Facl;
-use acl_rights::Judge;
-use acl_tree::State;
-use facl_script::{Session, UnitFound};
-use facl_usage::asks_for_text;
+use facl_tools::{Judge, Session, State, UnitFound, asks_for_text};
 
 /// A session with the judge that it asks, who is borrowed for the whole script. The session is a type parameter so that
 /// the owner of the borrowed judge learns what became of it.

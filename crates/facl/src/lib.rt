@@ -13,11 +13,10 @@ mod setup;
 mod status;
 mod world;
 
-pub use acl_rights::{Judge, Posix};
-pub use facl_messages::{LineFault, RunFault, Source, append_message, append_run_fault};
-pub use facl_script::{Feed, Sink, StdFeed, StdSink};
-pub use facl_words::{
-    Flags, Operands, Tool, Values, Word, Words, WordsFault, places, read_args, read_words,
+pub use facl_tools::{
+    Feed, Flags, Judge, Key, Label, LineFault, Operands, Perm, Posix, Requests, RunFault,
+    ScriptFault, Sink, Source, StdFeed, StdSink, Subject, Tool, Values, Word, Words, WordsFault,
+    append_message, append_run_fault, places, read_args, read_words, write_whole,
 };
 pub use program::{run, run_judged};
 pub use setup::Setup;

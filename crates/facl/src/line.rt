@@ -1,20 +1,18 @@
 //! A line of a script: its words, its tool, its text, and what they do.
 
 ghost use Rattle.std.specs.Prelude.{◌≡◌, ℕ, List, Option, IfOk, map, string_bytes};
-ghost use Rattle.facl_script.specs.Units.{UnitText};
-ghost use Rattle.facl_script.specs.ReadText.{IsTextFound};
-ghost use Rattle.facl_script.specs.ReadUnit.{IsLineFound};
-ghost use Rattle.acl_rights.specs.Tables.{IsWhole};
-ghost use Rattle.facl_replies.specs.Replies.{Gives, IsPrepared, Replies};
+ghost use Rattle.facl_tools.specs.facl_script.Units.{UnitText};
+ghost use Rattle.facl_tools.specs.facl_script.ReadText.{IsTextFound};
+ghost use Rattle.facl_tools.specs.facl_script.ReadUnit.{IsLineFound};
+ghost use Rattle.facl_tools.specs.acl_rights.Tables.{IsWhole};
+ghost use Rattle.facl_tools.specs.Replies.{Gives, IsPrepared, Replies};
 ghost use Rattle.facl.specs.Units.{is_silent, words_of_line, tool_or_fault, text_or_fault, words_or_fault, tool_reply, reply, tool_word};
 
 use crate::world::World;
-use acl_rights::Judge;
-use facl_messages::LineFault;
-use facl_replies::Effect;
-use facl_script::{TextFound, has_no_words, split_words};
-use facl_tools::tool_line;
-use facl_words::{Tool, Words, read_words};
+use facl_tools::{
+    Effect, Judge, LineFault, TextFound, Tool, Words, has_no_words, read_words, split_words,
+    tool_line,
+};
 use std::alloc::Global;
 
 /// Whether a line within the limit is blank or a comment.

@@ -2,7 +2,7 @@
 
 ghost use Rattle.std.specs.Prelude.{◌≡◌, ◌⊎◌, ℕ, true, false, IfOk, IfErr, IfSome, OnOk, Err};
 ghost use Rattle.std.specs.Io.KnownBytes.{IsAtEnd};
-ghost use Rattle.acl_entry.specs.Check.{rights};
+ghost use Rattle.facl_tools.specs.acl_entry.Check.{rights};
 ghost use Rattle.facl.specs.Setups.{initial_state};
 ghost use Rattle.facl.specs.Runs.{RunsTo, EndsBy};
 
@@ -10,9 +10,7 @@ use crate::answer::Judged;
 use crate::session::Facl;
 use crate::setup::{Setup, start};
 use crate::status::Status;
-use acl_rights::{Judge, Posix};
-use facl_messages::RunFault;
-use facl_script::{Feed, Sink, run_session};
+use facl_tools::{Feed, Judge, Posix, RunFault, Sink, run_session};
 use std::alloc::Global;
 
 /// [`run`] with a judge of who may do what in the place of acl(5)'s check. The index asks the judge about every user

@@ -1,23 +1,21 @@
 //! The session of a script: the state with its index, and the output and the message of the last line.
 
 ghost use Rattle.std.specs.Prelude.{◌≡◌, ◌+◌, ◌≤◌, ℕ, [], true, false, map, string_bytes, IfOk, OnOk, OnErr};
-ghost use Rattle.facl_script.specs.Units.{ScriptUnit, UnitText};
-ghost use Rattle.facl_script.specs.ReadText.{IsTextFound};
-ghost use Rattle.facl_script.specs.ReadUnit.{IsUnitFound};
-ghost use Rattle.facl_usage.specs.TextWords.{line_asks};
-ghost use Rattle.facl_messages.specs.declared.fault.LineFault.TheVariants.{NoMemory};
-ghost use Rattle.facl_replies.specs.Replies.{reply_of, IsPrepared};
+ghost use Rattle.facl_tools.specs.facl_script.Units.{ScriptUnit, UnitText};
+ghost use Rattle.facl_tools.specs.facl_script.ReadText.{IsTextFound};
+ghost use Rattle.facl_tools.specs.facl_script.ReadUnit.{IsUnitFound};
+ghost use Rattle.facl_tools.specs.facl_words.TextWords.{line_asks};
+ghost use Rattle.facl_tools.specs.facl_messages.declared.fault.LineFault.TheVariants.{NoMemory};
+ghost use Rattle.facl_tools.specs.Replies.{reply_of, IsPrepared};
 ghost use Rattle.facl.specs.Costs.{IsReady, IsReadyAfter, all_pairs};
 ghost use Rattle.facl.specs.Units.{accepted, refused, answer_of, reply, tool_word, unless_out_of_memory, warning_if, answered_line};
 ghost use Rattle.facl.specs.Sessions.{state_of, index_of, out_of, err_of, ran_out_of_memory, IsQuiet, IsAtAnswer};
 
 use crate::line::{reply, tool_word, words_of_line};
 use crate::world::World;
-use acl_rights::Judge;
-use acl_tree::State;
-use facl_messages::{LineFault, Spare, append_message, append_warning};
-use facl_replies::Effect;
-use facl_script::{TextFound, UnitFound};
+use facl_tools::{
+    Effect, Judge, LineFault, Spare, State, TextFound, UnitFound, append_message, append_warning,
+};
 use std::alloc::{AllocError, Global};
 
 /// The state of a script with its index, and the output and the message of its last line.

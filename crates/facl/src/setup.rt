@@ -1,13 +1,12 @@
 //! The texts that are loaded before a script.
 
 ghost use Rattle.std.specs.Prelude.{◌≡◌, ◌≢◌, Ok, Err, MatchResult, option_map};
-ghost use Rattle.acl_tree.specs.Step.{load};
-ghost use Rattle.acl_files.specs.declared.fault.TreeFault.TheVariants as trees;
-ghost use Rattle.facl_messages.specs.declared.fault.RunFault.TheVariants as runs;
+ghost use Rattle.facl_tools.specs.acl_tree.Step.{load};
+ghost use Rattle.facl_tools.specs.acl_files.declared.fault.TreeFault.TheVariants as trees;
+ghost use Rattle.facl_tools.specs.facl_messages.declared.fault.RunFault.TheVariants as runs;
 ghost use Rattle.facl.specs.Setups.{set_up, with_text, initial_state};
 
-use acl_tree::{Command, State, Table, TreeFault};
-use facl_messages::RunFault;
+use facl_tools::{Command, RunFault, State, Table, TreeFault};
 use std::alloc::Global;
 
 /// The texts that are loaded before the first line of a script, each if it is there, in this order.

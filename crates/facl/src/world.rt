@@ -2,14 +2,13 @@
 
 ghost use Rattle.std.specs.Prelude.{◌≡◌, ◌+◌, ◌<◌, ◌≤◌, ◌^◌, IfOk, OnOk, OnErr};
 ghost use Rattle.std.specs.Option.{option_map_or};
-ghost use Rattle.acl_tree.specs.Reports.{Reports};
-ghost use Rattle.acl_tree.specs.declared.moved.UsersMove.TheVariants.{Same};
-ghost use Rattle.facl_replies.specs.Replies.{IsPrepared};
-ghost use Rattle.acl_rights.specs.Tables.{IsWhole};
+ghost use Rattle.facl_tools.specs.acl_tree.Reports.{Reports};
+ghost use Rattle.facl_tools.specs.acl_tree.declared.moved.UsersMove.TheVariants.{Same};
+ghost use Rattle.facl_tools.specs.Replies.{IsPrepared};
+ghost use Rattle.facl_tools.specs.acl_rights.Tables.{IsWhole};
 ghost use Rattle.facl.specs.Costs.{all_pairs, most_pairs, most_between};
 
-use acl_rights::{Index, Judge};
-use acl_tree::{Staged, State};
+use facl_tools::{Index, Judge, Staged, State};
 use std::alloc::{AllocError, Global};
 
 /// A state with its index of who may do what. Between two lines the index is the whole table of the state.

@@ -1,7 +1,7 @@
 -- What the program does, from its words to its last byte.
 use Rattle.std.specs.Prelude.{◌≡◌, ℕ, List, Option, None, Some, ⊤}
-use Rattle.acl_entry.specs.Check.{rights}
-use Rattle.facl_messages.specs.declared.fault.RunFault.{RunFault}
+use Rattle.facl.specs.acl_entry.Check.{rights}
+use Rattle.facl.specs.facl_messages.declared.fault.RunFault.{RunFault}
 use Rattle.facl.specs.Runs.{EndsBy, IsUntouched, RunsTo}
 use Rattle.facl.specs.Setups.{initial_state}
 use Rattle.facl.specs.declared.setup.Setup.{Setup}

@@ -6,7 +6,7 @@ ghost use Rattle.std.specs.Process.{exit_status};
 ghost use Rattle.facl_cli.specs.Files.{texts_of};
 ghost use Rattle.facl_cli.specs.Lines.{IsReported, status_of};
 ghost use Rattle.facl_cli.specs.Program.{FailsBy, HaveTexts, IsUnloaded, Ran};
-ghost use Rattle.facl_messages.specs.declared.fault.RunFault.TheVariants as runs;
+ghost use Rattle.facl.specs.facl_messages.declared.fault.RunFault.TheVariants as runs;
 
 use crate::args::files_named;
 use crate::fault::{ProgramFault, write_fault};

@@ -2,8 +2,7 @@
 //! a time.
 
 use crate::played::play;
-use acl_rights::Posix;
-use facl::Setup;
+use facl::{Posix, Setup};
 use std::process::Abort;
 
 /// A line with its text, and the verdicts that it asks for, at least and at most.

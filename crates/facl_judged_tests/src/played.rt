@@ -2,8 +2,7 @@
 
 ghost use Rattle.std.specs.Prelude.{◌≡◌};
 
-use acl_rights::Judge;
-use facl::{Setup, Status, StdFeed, StdSink, run_judged};
+use facl::{Judge, Setup, Status, StdFeed, StdSink, run_judged};
 use std::alloc::Global;
 
 /// What a script prints, how it ends, and how many verdicts its setup and its lines ask for.

@@ -3,3 +3,10 @@ pub mod Rising
 pub mod Reloaded
 pub mod RestoredAgain
 pub mod Parts
+pub mod Asked
+pub mod UserLines
+pub mod FileLines
+pub mod IndexLines
+pub mod Walk
+pub use Rattle.acl_rights.proofs.of_acl_entry
+pub use Rattle.acl_rights.proofs.of_acl_names

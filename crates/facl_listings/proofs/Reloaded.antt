@@ -4,29 +4,29 @@ use Rattle.std.specs.Prelude.{filter, is_some, unwrap_or, ◌==◌}
 use Rattle.std.specs.List.{list_any, AllByRecursion}
 use Rattle.std.specs.Ordering.{is_eq}
 use Rattle.std.proofs.lemmas.Cmp.{tied_itself}
-use Rattle.acl_entry.specs.Lists.{KeyMap}
-use Rattle.acl_names.specs.Paths.{path_cmp}
-use Rattle.acl_names.proofs.PathOrder.{path_total}
-use Rattle.acl_edit.specs.Nodes as nodes
-use Rattle.acl_edit.specs.declared.node.Kind.{Kind}
-use Rattle.acl_edit.specs.declared.node.Kind.TheVariants.{Plain, Directory}
-use Rattle.acl_edit.specs.declared.node.Node.{Node}
-use Rattle.acl_people.specs.Registers.{Register}
-use Rattle.acl_dump.specs.declared.record.DumpRecord.{DumpRecord}
-use Rattle.acl_dump.specs.declared.record.DumpUse.{DumpUse}
-use Rattle.acl_dump.specs.declared.record.DumpUse.TheVariants.{Load, Restore}
-use Rattle.acl_dump.specs.Writing.{record_text}
-use Rattle.acl_dump.specs.Again.{AreApart, AreFlags, IsReadable, HasHeaders, paths, placed, dump_text, line_count}
-use Rattle.acl_dump.proofs.WrittenRecords.{dump_again}
-use Rattle.acl_files.specs.declared.fault.TreeFault.{TreeFault}
-use Rattle.acl_files.specs.declared.fault.TreeFault.TheVariants.{TooMany}
-use Rattle.acl_tree.specs.Files.{PathOf, Files, IsInOrder, no_files}
-use Rattle.acl_load.specs.Below.{is_below}
-use Rattle.acl_load.specs.Loading.{node_of, has_below, as_files, files_of}
-use Rattle.acl_tree.specs.Operands.{is_file}
-use Rattle.acl_tree.specs.Sound.{holds_below, IsPlaced, ArePlaced}
-use Rattle.acl_tree.specs.Found.{FoundFile, found_in, files_found}
-use Rattle.acl_tree.specs.Step.{State, with_records}
+use Rattle.acl_rights.specs.acl_entry.Lists.{KeyMap}
+use Rattle.acl_rights.specs.acl_names.Paths.{path_cmp}
+use Rattle.acl_rights.proofs.of_acl_names.PathOrder.{path_total}
+use Rattle.acl_rights.specs.acl_edit.Nodes as nodes
+use Rattle.acl_rights.specs.acl_edit.declared.node.Kind.{Kind}
+use Rattle.acl_rights.specs.acl_edit.declared.node.Kind.TheVariants.{Plain, Directory}
+use Rattle.acl_rights.specs.acl_edit.declared.node.Node.{Node}
+use Rattle.acl_rights.specs.acl_people.Registers.{Register}
+use Rattle.acl_rights.specs.acl_dump.declared.record.DumpRecord.{DumpRecord}
+use Rattle.acl_rights.specs.acl_dump.declared.record.DumpUse.{DumpUse}
+use Rattle.acl_rights.specs.acl_dump.declared.record.DumpUse.TheVariants.{Load, Restore}
+use Rattle.acl_rights.specs.acl_dump.Writing.{record_text}
+use Rattle.acl_rights.specs.acl_dump.Again.{AreApart, AreFlags, IsReadable, HasHeaders, paths, placed, dump_text, line_count}
+use Rattle.acl_rights.proofs.of_acl_dump.WrittenRecords.{dump_again}
+use Rattle.acl_rights.specs.acl_files.declared.fault.TreeFault.{TreeFault}
+use Rattle.acl_rights.specs.acl_files.declared.fault.TreeFault.TheVariants.{TooMany}
+use Rattle.acl_rights.specs.acl_tree.Files.{PathOf, Files, IsInOrder, no_files}
+use Rattle.acl_rights.specs.acl_files.Below.{is_below}
+use Rattle.acl_rights.specs.acl_files.Loading.{node_of, has_below, as_files, files_of}
+use Rattle.acl_rights.specs.acl_tree.Operands.{is_file}
+use Rattle.acl_rights.specs.acl_tree.Sound.{holds_below, IsPlaced, ArePlaced}
+use Rattle.acl_rights.specs.acl_tree.Found.{FoundFile, found_in, files_found}
+use Rattle.acl_rights.specs.acl_tree.Step.{State, with_records}
 use Rattle.facl_listings.specs.Listings.{listing, plain, has_slash, flags_shown}
 use Rattle.facl_listings.specs.Again.{user_id, group_id, user_name, group_name, IsReadAgain, IsLoadedAs, listing_of, all_paths_listing, root_listing}
 use Rattle.facl_listings.proofs.Rising.{Rising, paths_of, rising, apart, in_order_already}

@@ -1,20 +1,20 @@
 -- What is printed of files is restored as these files.
 use Rattle.std.proofs.Common.{◌≡◌, ℕ, ◌+◌, Bool, true, false, cond, List, [], ◌∷◌, filter, Ok, refl, sym, ap, subst, ◌∙◌}
 use Rattle.std.specs.List.{AllByRecursion}
-use Rattle.acl_dump.specs.declared.record.DumpRecord.{DumpRecord}
-use Rattle.acl_dump.specs.declared.record.DumpUse.TheVariants.{Restore}
-use Rattle.acl_dump.specs.Again.{AreApart, IsReadable, paths, placed, dump_text, line_count}
-use Rattle.acl_dump.specs.Records.{dump_of}
-use Rattle.acl_edit.specs.declared.node.Node.{Node}
-use Rattle.acl_people.specs.Registers.{Register}
-use Rattle.acl_tree.proofs.AsItIs.{Leads, leads_all}
-use Rattle.acl_tree.proofs.Removals.{in_order-filter}
-use Rattle.acl_tree.specs.declared.command.Command.TheVariants as commands
-use Rattle.acl_tree.specs.Files.{PathOf, Files, IsInOrder}
-use Rattle.acl_tree.specs.Found.{found_in, files_found}
-use Rattle.acl_tree.specs.Laws.{IsAsRecorded}
-use Rattle.acl_tree.specs.Operands.{is_file, files_meant}
-use Rattle.acl_tree.specs.Step.{State, step}
+use Rattle.acl_rights.specs.acl_dump.declared.record.DumpRecord.{DumpRecord}
+use Rattle.acl_rights.specs.acl_dump.declared.record.DumpUse.TheVariants.{Restore}
+use Rattle.acl_rights.specs.acl_dump.Again.{AreApart, IsReadable, paths, placed, dump_text, line_count}
+use Rattle.acl_rights.specs.acl_dump.Records.{dump_of}
+use Rattle.acl_rights.specs.acl_edit.declared.node.Node.{Node}
+use Rattle.acl_rights.specs.acl_people.Registers.{Register}
+use Rattle.acl_rights.proofs.of_acl_tree.AsItIs.{Leads, leads_all}
+use Rattle.acl_rights.proofs.of_acl_tree.Removals.{in_order-filter}
+use Rattle.acl_rights.specs.acl_tree.declared.command.Command.TheVariants as commands
+use Rattle.acl_rights.specs.acl_tree.Files.{PathOf, Files, IsInOrder}
+use Rattle.acl_rights.specs.acl_tree.Found.{found_in, files_found}
+use Rattle.acl_rights.specs.acl_tree.Laws.{IsAsRecorded}
+use Rattle.acl_rights.specs.acl_tree.Operands.{is_file, files_meant}
+use Rattle.acl_rights.specs.acl_tree.Step.{State, step}
 use Rattle.facl_listings.specs.Again.{user_id, group_id, user_name, group_name, IsReadAgain, listing_of, IsRestoredAsItIs}
 use Rattle.facl_listings.proofs.Reloaded.{record_of, found, records_of, printed, flags_again, paths_same, readable}
 use Rattle.facl_listings.proofs.Rising.{paths_of, rising, apart}

@@ -1,20 +1,20 @@
 -- Where what getfacl(1) prints of all files is loaded as these files.
 use Rattle.std.specs.Prelude.{◌≡◌, ℕ, List, [], ◌∷◌, map, length, true, false, Option, Ok}
 use Rattle.std.specs.List.{list_all}
-use Rattle.acl_entry.specs.Lists.{KeyMap}
-use Rattle.acl_names.specs.Paths.{is_component}
-use Rattle.acl_edit.specs.declared.node.Node.{Node}
-use Rattle.acl_people.specs.Rolls.{id_named, name_shown}
-use Rattle.acl_people.specs.Registers.{Register, users_of, groups_of}
-use Rattle.acl_dump.specs.declared.record.DumpRecord.{DumpRecord}
-use Rattle.acl_dump.specs.declared.record.DumpUse.TheVariants as uses
-use Rattle.acl_dump.specs.Again.{IsFound, IsList, IsListIf}
-use Rattle.acl_dump.specs.Records.{dump_of}
-use Rattle.acl_tree.specs.Files.{PathOf, Files, no_files}
-use Rattle.acl_tree.specs.Found.{FoundFile, files_found}
-use Rattle.acl_tree.specs.Step.{State, load, step}
-use Rattle.acl_tree.specs.declared.command.Command.TheVariants as commands
-use Rattle.acl_tree.specs.declared.command.Table.TheVariants.{Dump}
+use Rattle.acl_rights.specs.acl_entry.Lists.{KeyMap}
+use Rattle.acl_rights.specs.acl_names.Paths.{is_component}
+use Rattle.acl_rights.specs.acl_edit.declared.node.Node.{Node}
+use Rattle.acl_rights.specs.acl_people.Rolls.{id_named, name_shown}
+use Rattle.acl_rights.specs.acl_people.Registers.{Register, users_of, groups_of}
+use Rattle.acl_rights.specs.acl_dump.declared.record.DumpRecord.{DumpRecord}
+use Rattle.acl_rights.specs.acl_dump.declared.record.DumpUse.TheVariants as uses
+use Rattle.acl_rights.specs.acl_dump.Again.{IsFound, IsList, IsListIf}
+use Rattle.acl_rights.specs.acl_dump.Records.{dump_of}
+use Rattle.acl_rights.specs.acl_tree.Files.{PathOf, Files, no_files}
+use Rattle.acl_rights.specs.acl_tree.Found.{FoundFile, files_found}
+use Rattle.acl_rights.specs.acl_tree.Step.{State, load, step}
+use Rattle.acl_rights.specs.acl_tree.declared.command.Command.TheVariants as commands
+use Rattle.acl_rights.specs.acl_tree.declared.command.Table.TheVariants.{Dump}
 use Rattle.facl_listings.specs.Listings.{listing, plain}
 
 -- who is called what, by the rows that are known

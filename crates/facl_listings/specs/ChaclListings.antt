@@ -1,9 +1,9 @@
 -- What chacl(1) `-l` prints of files.
 use Rattle.std.specs.Prelude.{ℕ, List, [], ◌∷◌, ◌++◌, Option, Some, None, codes}
 use Rattle.std.specs.List.{flat_map}
-use Rattle.acl_entry.specs.Lists.{KeyMap, entries}
-use Rattle.acl_text.specs.Writing.{short}
-use Rattle.acl_tree.specs.Found.{FoundFile}
+use Rattle.acl_rights.specs.acl_entry.Lists.{KeyMap, entries}
+use Rattle.acl_rights.specs.acl_text.Writing.{short}
+use Rattle.acl_rights.specs.acl_tree.Found.{FoundFile}
 use Rattle.facl_listings.specs.Listings.{path_shown}
 
 module _ (user_name group_name : ℕ → Option (List ℕ)) where

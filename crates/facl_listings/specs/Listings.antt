@@ -1,14 +1,14 @@
 -- What getfacl(1) prints of files.
 use Rattle.std.specs.Prelude.{ℕ, List, [], ◌∷◌, ◌++◌, length, filter, Bool, true, false, not, ◌&&◌, ◌||◌, ◌==◌, if◌then◌else◌, Option, Some, None, is_some, is_none}
 use Rattle.std.specs.List.{list_any, flat_map}
-use Rattle.acl_entry.specs.Lists.{is_minimal}
-use Rattle.acl_edit.specs.Nodes.{is_directory}
-use Rattle.acl_edit.specs.declared.node.Node.{Node}
-use Rattle.acl_text.specs.declared.fault.Which.TheVariants.{Access}
-use Rattle.acl_dump.specs.declared.effective.Effective.TheVariants.{WhereMasked}
-use Rattle.acl_names.specs.Paths.{path_text}
-use Rattle.acl_dump.specs.Writing.{header_text, list_text, default_text, slash_text}
-use Rattle.acl_tree.specs.Found.{FoundFile}
+use Rattle.acl_rights.specs.acl_entry.Lists.{is_minimal}
+use Rattle.acl_rights.specs.acl_edit.Nodes.{is_directory}
+use Rattle.acl_rights.specs.acl_edit.declared.node.Node.{Node}
+use Rattle.acl_rights.specs.acl_text.declared.fault.Which.TheVariants.{Access}
+use Rattle.acl_rights.specs.acl_dump.declared.effective.Effective.TheVariants.{WhereMasked}
+use Rattle.acl_rights.specs.acl_names.Paths.{path_text}
+use Rattle.acl_rights.specs.acl_dump.Writing.{header_text, list_text, default_text, slash_text}
+use Rattle.acl_rights.specs.acl_tree.Found.{FoundFile}
 use Rattle.facl_listings.specs.declared.options.Options.{Options}
 
 -- a file has no more than its mode shows: a minimal access list and no default list

@@ -1,12 +1,12 @@
 -- What setfacl(1) prints with `--test`: files with the lists that they would have.
 use Rattle.std.specs.Prelude.{ℕ, List, [], ◌∷◌, ◌++◌, Option, Some, None, codes}
 use Rattle.std.specs.List.{flat_map}
-use Rattle.acl_entry.specs.declared.entry.Entry.{Entry}
-use Rattle.acl_entry.specs.Lists.{KeyMap, entries}
-use Rattle.acl_edit.specs.declared.node.Node.{Node}
-use Rattle.acl_text.specs.declared.form.Form.TheVariants.{Short}
-use Rattle.acl_text.specs.Writing.{entry_text, short}
-use Rattle.acl_tree.specs.Found.{FoundFile}
+use Rattle.acl_rights.specs.acl_entry.declared.entry.Entry.{Entry}
+use Rattle.acl_rights.specs.acl_entry.Lists.{KeyMap, entries}
+use Rattle.acl_rights.specs.acl_edit.declared.node.Node.{Node}
+use Rattle.acl_rights.specs.acl_text.declared.form.Form.TheVariants.{Short}
+use Rattle.acl_rights.specs.acl_text.Writing.{entry_text, short}
+use Rattle.acl_rights.specs.acl_tree.Found.{FoundFile}
 use Rattle.facl_listings.specs.Listings.{path_shown}
 
 module _ (user_name group_name : ℕ → Option (List ℕ)) where

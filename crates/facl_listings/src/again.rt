@@ -3,13 +3,11 @@
 
 ghost use Rattle.std.specs.Prelude.{◌≡◌, length};
 ghost use Rattle.std.specs.List.{AllByRecursion};
-ghost use Rattle.acl_text.specs.Writing.{IsKeyNamed};
-ghost use Rattle.acl_dump.specs.Again.{IsFound};
+ghost use Rattle.acl_rights.specs.acl_text.Writing.{IsKeyNamed};
+ghost use Rattle.acl_rights.specs.acl_dump.Again.{IsFound};
 ghost use Rattle.facl_listings.specs.Again.{user_id, group_id, user_name, group_name, IsListAgain, IsReadAgain};
 
-use acl_entry::{Acl, Id, Key};
-use acl_people::People;
-use acl_tree::{Record, Tree};
+use acl_rights::{Acl, Id, Key, People, Record, Tree};
 
 fn flags_are_three(flags: [bool; 3])
     ensures { length flags ≡ 3 }

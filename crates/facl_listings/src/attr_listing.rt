@@ -3,17 +3,13 @@
 ghost use Rattle.std.specs.Prelude.{◌≡◌, ◌++◌, IfOk, OnOk, string_bytes};
 ghost use Rattle.hex.specs.Hex.{encode_lower};
 ghost use Rattle.acl_attr.specs.Attr.{attr_bytes};
-ghost use Rattle.acl_dump.specs.Writing.{file_text};
+ghost use Rattle.acl_rights.specs.acl_dump.Writing.{file_text};
 ghost use Rattle.facl_listings.specs.Listings.{has_slash};
 ghost use Rattle.facl_listings.specs.AttrListings.{attr_line, default_line, attr_lines, attr_text, attr_listing};
 
 use crate::listing::has_slash;
 use acl_attr::encode_attr;
-use acl_dump::append_header;
-use acl_edit::Node;
-use acl_entry::Acl;
-use acl_text::NoNames;
-use acl_tree::Found;
+use acl_rights::{Acl, Found, NoNames, Node, append_header};
 use std::alloc::{AllocError, Global};
 
 /// The bytes of a list as hex digits.

@@ -4,9 +4,7 @@ ghost use Rattle.std.specs.Prelude.{◌≡◌, ◌++◌, IfOk, OnOk};
 ghost use Rattle.facl_listings.specs.ChaclListings.{default_part, chacl_line, chacl_listing};
 
 use crate::listing::push_path_shown;
-use acl_entry::Acl;
-use acl_text::{Names, append_short};
-use acl_tree::Found;
+use acl_rights::{Acl, Found, Names, append_short};
 use std::alloc::{AllocError, Global};
 
 fn push_default<N: Names>(

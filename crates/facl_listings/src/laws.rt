@@ -1,15 +1,13 @@
 //! Laws of the definitions, each proved as the contract of a function that only looks.
 
 ghost use Rattle.std.specs.Prelude.{List, Bool};
-ghost use Rattle.acl_tree.specs.Files.{PathOf};
-ghost use Rattle.acl_tree.specs.Found.{files_found};
-ghost use Rattle.acl_tree.specs.Step.{state_from};
+ghost use Rattle.acl_rights.specs.acl_tree.Files.{PathOf};
+ghost use Rattle.acl_rights.specs.acl_tree.Found.{files_found};
+ghost use Rattle.acl_rights.specs.acl_tree.Step.{state_from};
 ghost use Rattle.facl_listings.specs.Again.{listing_of, all_paths_listing, root_listing, IsLoadedAs, IsRestoredAsItIs};
 
 use crate::again::files_are_read_again;
-use acl_dump::records_are_read_again;
-use acl_people::People;
-use acl_tree::{Tree, restore_of_what_is_changes_nothing};
+use acl_rights::{People, Tree, records_are_read_again, restore_of_what_is_changes_nothing};
 
 /// Proof only. What getfacl(1) prints without options of all files of a tree, loaded as a dump by the
 /// same people where no dump is loaded, gives these files back: every path, kind, owner, group, flag and

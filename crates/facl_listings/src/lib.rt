@@ -1,20 +1,37 @@
 //! What is printed of files and of requests: the listings of getfacl(1), of setfacl(1) with `--test`, of chacl(1)
-//! and of extended attributes, and the requests that a user is granted.
+//! and of extended attributes; and what `can`, `who`, `may` and `index` answer, out of the index of who may do what.
 #![tactic(auto)]
 
 mod again;
 mod attr_listing;
 mod chacl_listing;
+mod files;
+mod granted;
 mod laws;
 mod listing;
+mod may;
 mod options;
 mod requests;
+mod table;
 mod test_listing;
+mod who;
 
+pub use acl_attr::decode_attr;
+pub use acl_rights::{
+    Acl, Change, Command, Draft, DumpRecord, DumpRecords, DumpUse, Edit, Effective, Entry,
+    FaultKind, Found, Id, Index, Judge, Key, Kind, Label, Membership, Name, NewFile, NewUser, Path,
+    Paths, People, Perm, Posix, Record, Requests, Sep, Spec, Specs, Staged, State, Subject, Table,
+    TextFault, Tree, TreeFault, UserName, Want, Which, each_file_is_edited, read_dump,
+    read_entries, read_id, read_name, read_path, read_perms, trim,
+};
 pub use attr_listing::write_attributes;
 pub use chacl_listing::write_chacl_listing;
+pub use granted::can_requests;
 pub use laws::{listing_is_loaded_again, listing_is_restored_as_it_is};
 pub use listing::{append_listing, push_path_shown};
+pub use may::write_may;
 pub use options::Options;
 pub use requests::append_requests;
+pub use table::write_index;
 pub use test_listing::append_test_listing;
+pub use who::write_who;

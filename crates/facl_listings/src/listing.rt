@@ -5,11 +5,9 @@ ghost use Rattle.std.specs.Io.{StartsWith};
 ghost use Rattle.facl_listings.specs.Listings.{has_base_alone, is_listed, has_slash, path_shown, flags_shown, headers, default_entries, file_text, files_text, listing};
 
 use crate::options::Options;
-use acl_dump::{append_header, append_list};
-use acl_edit::{Kind, Node};
-use acl_names::append_path;
-use acl_text::{Names, NoNames, Which};
-use acl_tree::Found;
+use acl_rights::{
+    Found, Kind, Names, NoNames, Node, Which, append_header, append_list, append_path,
+};
 use std::alloc::AllocError;
 
 fn has_base_alone(node: &Node) -> bool

@@ -1,6 +1,6 @@
 //! The options of getfacl(1).
 
-use acl_dump::Effective;
+use acl_rights::Effective;
 
 /// What getfacl(1) prints of its files.
 #[derive(Clone, Copy, Debug, PartialEq, Eq)]

@@ -4,7 +4,7 @@ ghost use Rattle.std.specs.Prelude.{◌≡◌, ◌++◌, OnOk, OnErr};
 ghost use Rattle.std.specs.Io.{StartsWith};
 ghost use Rattle.facl_listings.specs.Requests.{request_text, requests_granted, requests_text, requests_line};
 
-use acl_entry::{Perm, Requests};
+use acl_rights::{Perm, Requests};
 use std::alloc::AllocError;
 
 /// The numbers of the requests other than none.

@@ -6,10 +6,7 @@ ghost use Rattle.std.specs.List.{flat_map};
 ghost use Rattle.facl_listings.specs.TestListing.{default_entry, default_entries, lists_text, file_line, test_listing};
 
 use crate::listing::push_path_shown;
-use acl_edit::Node;
-use acl_entry::{Acl, Entry};
-use acl_text::{Form, Names, append_entry, append_short};
-use acl_tree::Found;
+use acl_rights::{Acl, Entry, Form, Found, Names, Node, append_entry, append_short};
 use std::alloc::AllocError;
 
 fn push_default_entry<N: Names>(

@@ -1,11 +1,16 @@
-//! Worked listings, and each public call of `facl_listings` once.
+//! Worked listings and worked answers of `can`, `who`, `may` and `index`, and each public call of `facl_listings` once.
 //!
 //! They are in a crate of their own, since a crate with tests is proved twice.
 #![tactic(auto)]
 
+#[cfg(test)]
+mod answers;
+mod asked;
 #[cfg(test)]
 mod listings;
 #[cfg(test)]
 mod made;
 #[cfg(test)]
 mod requests;
+
+pub use asked::{after, can, index, may, who};

@@ -1,6 +1,5 @@
 //! Short ways to make a state and its files in tests.
-use acl_names::{Path, read_path};
-use acl_tree::{Command, Found, Record, State, Table, Tree};
+use facl_listings::{Command, Found, Path, Record, State, Table, Tree, read_path};
 use std::alloc::Global;
 use std::process::Abort;
 use std::rc::Rc;

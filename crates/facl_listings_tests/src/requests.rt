@@ -1,6 +1,5 @@
 //! The line of the requests that are granted.
-use acl_entry::{Perm, Requests};
-use facl_listings::append_requests;
+use facl_listings::{Perm, Requests, append_requests};
 use std::alloc::Global;
 use std::process::Abort;
 

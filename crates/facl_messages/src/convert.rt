@@ -6,10 +6,8 @@ ghost use Rattle.facl_messages.specs.declared.fault.LineFault.TheVariants as lin
 ghost use Rattle.facl_messages.specs.declared.fault.RunFault.TheVariants as run;
 
 use crate::fault::{LineFault, RunFault, Source};
-use acl_text::{FaultKind, TextFault};
-use acl_tree::TreeFault;
-use facl_script::{ScriptFault, SplitFault};
-use facl_words::WordsFault;
+use acl_tree::{FaultKind, TextFault, TreeFault};
+use facl_words::{ScriptFault, SplitFault, WordsFault};
 use std::alloc::{AllocError, AllocFailed};
 
 impl LineFault {

@@ -1,7 +1,6 @@
 //! Why a line, or a whole run, is refused.
 
-use acl_text::TextFault;
-use acl_tree::{Table, TreeFault};
+use acl_tree::{Table, TextFault, TreeFault};
 use thiserror::Error;
 
 /// Where a faulty entry, line or operand is.

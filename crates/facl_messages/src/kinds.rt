@@ -6,8 +6,7 @@ ghost use Rattle.facl_messages.specs.Texts.{is_of_whole_list, kind_text, list_na
 
 use crate::fault::Source;
 use crate::lists::{push_list_fault, push_numbered};
-use acl_entry::ListFault;
-use acl_text::{FaultKind, TextFault, Which};
+use acl_tree::{FaultKind, ListFault, TextFault, Which};
 use std::alloc::AllocError;
 
 fn list_name(which: Which) -> &'static [u8]

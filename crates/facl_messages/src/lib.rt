@@ -10,6 +10,15 @@ mod run_fault;
 mod spare;
 mod trees;
 
+pub use acl_tree::{
+    EditFault, FaultKind, Id, Key, ListFault, Name, Path, Table, TextFault, TreeFault, Which,
+    read_path,
+};
+pub use facl_words::{
+    Feed, Flags, OperandPlace, Operands, ScriptFault, Session, Sink, StdFeed, StdSink, TextFound,
+    Tool, UnitFound, Values, Word, Words, WordsFault, asks_for_text, forms, has_no_words, places,
+    read_args, read_words, run_session, split_words, write_whole,
+};
 pub use fault::{LineFault, RunFault, Source};
 pub use message::{append_message, append_warning};
 pub use run_fault::append_run_fault;

@@ -2,11 +2,11 @@
 
 ghost use Rattle.std.specs.Prelude.{◌≡◌, ◌++◌, OnOk, OnErr, codes, decimal};
 ghost use Rattle.std.specs.Io.{StartsWith};
-ghost use Rattle.acl_text.specs.declared.form.Form.TheVariants.{Long};
-ghost use Rattle.acl_text.specs.Writing.{tag_text};
+ghost use Rattle.acl_tree.specs.acl_text.declared.form.Form.TheVariants.{Long};
+ghost use Rattle.acl_tree.specs.acl_text.Writing.{tag_text};
 ghost use Rattle.facl_messages.specs.Texts.{list_text};
 
-use acl_entry::{Key, ListFault};
+use acl_tree::{Key, ListFault};
 use itoa::Buffer;
 use std::alloc::AllocError;
 

@@ -2,18 +2,14 @@
 
 ghost use Rattle.std.specs.Prelude.{◌≡◌, ◌++◌, OnOk, OnErr, codes, decimal};
 ghost use Rattle.std.specs.Io.{StartsWith};
-ghost use Rattle.acl_names.specs.Names.{escaped};
-ghost use Rattle.acl_names.specs.Paths.{path_text};
+ghost use Rattle.acl_tree.specs.acl_names.Names.{escaped};
+ghost use Rattle.acl_tree.specs.acl_names.Paths.{path_text};
 ghost use Rattle.facl_messages.specs.declared.fault.Source.TheVariants.{TextLine};
 ghost use Rattle.facl_messages.specs.Texts.{placed, edit_text, tree_text};
 
 use crate::kinds::{push_file_list, push_kind};
 use crate::lists::push_numbered;
-use acl_edit::EditFault;
-use acl_entry::Id;
-use acl_names::{Name, Path, append_name, append_path};
-use acl_text::TextFault;
-use acl_tree::TreeFault;
+use acl_tree::{EditFault, Id, Name, Path, TextFault, TreeFault, append_name, append_path};
 use itoa::Buffer;
 use std::alloc::AllocError;
 

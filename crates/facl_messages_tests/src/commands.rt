@@ -1,10 +1,8 @@
 //! The messages of refused commands.
-use acl_edit::EditFault;
-use acl_entry::{Id, Key, ListFault};
-use acl_names::{Name, Path, read_path};
-use acl_text::{FaultKind, TextFault, Which};
-use acl_tree::TreeFault;
-use facl_messages::{LineFault, append_message};
+use facl_messages::{
+    EditFault, FaultKind, Id, Key, LineFault, ListFault, Name, Path, TextFault, TreeFault, Which,
+    append_message, read_path,
+};
 use std::alloc::Global;
 use std::process::Abort;
 

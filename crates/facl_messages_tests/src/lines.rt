@@ -1,6 +1,7 @@
 //! The messages of lines and of runs, but for those of texts and commands.
-use acl_tree::{Table, TreeFault};
-use facl_messages::{LineFault, RunFault, Spare, append_message, append_run_fault};
+use facl_messages::{
+    LineFault, RunFault, Spare, Table, TreeFault, append_message, append_run_fault,
+};
 use std::alloc::Global;
 use std::process::Abort;
 

@@ -1,7 +1,7 @@
 //! The messages of faulty texts: each kind of fault and each source.
-use acl_entry::{Key, ListFault};
-use acl_text::{FaultKind, TextFault, Which};
-use facl_messages::{LineFault, Source, append_message};
+use facl_messages::{
+    FaultKind, Key, LineFault, ListFault, Source, TextFault, Which, append_message,
+};
 use std::alloc::Global;
 use std::process::Abort;
 

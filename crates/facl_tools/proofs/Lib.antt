@@ -1,2 +1,4 @@
 pub mod StillThere
 pub mod SameEntries
+pub mod Listed
+pub mod Modes

@@ -4,12 +4,12 @@ use Rattle.std.specs.Prelude.{fold, is_some}
 use Rattle.std.specs.Bool.{beq}
 use Rattle.std.specs.FinMap as maps
 use Rattle.std.specs.List.{find, list_any}
-use Rattle.acl_entry.proofs.KeyLaws.{key_total}
-use Rattle.acl_entry.specs.Keys.{key_cmp, same_key}
-use Rattle.acl_entry.specs.Lists.{KeyMap}
-use Rattle.acl_entry.specs.Perms.{Perms, none}
-use Rattle.acl_entry.specs.declared.key.Key.{Key}
-use Rattle.acl_text.specs.declared.entries.Spec.{Spec}
+use Rattle.facl_listings.proofs.of_acl_entry.KeyLaws.{key_total}
+use Rattle.facl_listings.specs.acl_entry.Keys.{key_cmp, same_key}
+use Rattle.facl_listings.specs.acl_entry.Lists.{KeyMap}
+use Rattle.facl_listings.specs.acl_entry.Perms.{Perms, none}
+use Rattle.facl_listings.specs.acl_entry.declared.key.Key.{Key}
+use Rattle.facl_listings.specs.acl_text.declared.entries.Spec.{Spec}
 use Rattle.facl_tools.specs.RemovedKeys.{keys_of, removes, with_key}
 use Rattle.facl_tools.specs.Setfacl.{is_same_entry}
 use Rattle.facl_tools.specs.declared.removed_keys.RemovedKeys.{RemovedKeys}

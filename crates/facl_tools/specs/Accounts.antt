@@ -1,19 +1,19 @@
 -- useradd(8) and userdel(8): users come and go.
 use Rattle.std.specs.Prelude.{ℕ, if◌then◌else◌, codes, Option, Some, None, option_and_then, Result, Ok}
-use Rattle.acl_names.specs.Names.{decoded}
-use Rattle.acl_people.specs.UserNames.{is_user_name}
-use Rattle.acl_text.specs.Ids.{id_of}
-use Rattle.acl_tree.specs.declared.command.Command.TheVariants as commands
-use Rattle.acl_tree.specs.declared.command.NewUser.{NewUser}
-use Rattle.acl_tree.specs.Step.{State}
-use Rattle.facl_usage.specs.Forms.{Text}
-use Rattle.facl_usage.specs.Places.{value, operand}
-use Rattle.facl_usage.specs.declared.tool.Tool.TheVariants as tools
-use Rattle.facl_usage.specs.declared.words.Words.{Words}
+use Rattle.facl_listings.specs.acl_names.Names.{decoded}
+use Rattle.facl_listings.specs.acl_people.UserNames.{is_user_name}
+use Rattle.facl_listings.specs.acl_text.Ids.{id_of}
+use Rattle.facl_listings.specs.acl_tree.declared.command.Command.TheVariants as commands
+use Rattle.facl_listings.specs.acl_tree.declared.command.NewUser.{NewUser}
+use Rattle.facl_listings.specs.acl_tree.Step.{State}
+use Rattle.facl_messages.specs.facl_words.Forms.{Text}
+use Rattle.facl_messages.specs.facl_words.Places.{value, operand}
+use Rattle.facl_messages.specs.facl_words.declared.tool.Tool.TheVariants as tools
+use Rattle.facl_messages.specs.facl_words.declared.words.Words.{Words}
 use Rattle.facl_messages.specs.declared.fault.LineFault.{LineFault}
 use Rattle.facl_messages.specs.declared.fault.LineFault.TheVariants.{Usage}
-use Rattle.facl_replies.specs.Replies.{Reply, after, or_fault, done}
-use Rattle.facl_replies.specs.Operands.{name_meant}
+use Rattle.facl_tools.specs.Replies.{Reply, after, or_fault, done}
+use Rattle.facl_tools.specs.Operands.{name_meant}
 
 -- digits alone
 abbrev pub uid_of : Words → Option ℕ

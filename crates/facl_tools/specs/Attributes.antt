@@ -4,25 +4,25 @@ use Rattle.std.specs.List.{starts_with}
 use Rattle.std.specs.Option.{option_or}
 use Rattle.hex.specs.Hex.{decode_of}
 use Rattle.hex.specs.declared.error.FromHexError.{FromHexError}
-use Rattle.acl_entry.specs.Lists.{KeyMap}
-use Rattle.acl_text.specs.declared.fault.Which.{Which}
-use Rattle.acl_text.specs.declared.fault.Which.TheVariants.{Access, Default}
-use Rattle.acl_attr.specs.Attr.{attr_of, bad_attr}
-use Rattle.acl_edit.specs.declared.edit.Edit.{Edit}
-use Rattle.acl_edit.specs.declared.edit.Edit.TheVariants.{Put}
-use Rattle.acl_tree.specs.Found.{files_found}
-use Rattle.acl_tree.specs.Operands.{first_missing}
-use Rattle.acl_tree.specs.Step.{State}
-use Rattle.facl_usage.specs.Forms.{Text}
-use Rattle.facl_usage.specs.Places.{operand, operands_from}
-use Rattle.facl_usage.specs.declared.tool.Tool.TheVariants as tools
-use Rattle.facl_usage.specs.declared.words.Words.{Words}
+use Rattle.facl_listings.specs.acl_entry.Lists.{KeyMap}
+use Rattle.facl_listings.specs.acl_text.declared.fault.Which.{Which}
+use Rattle.facl_listings.specs.acl_text.declared.fault.Which.TheVariants.{Access, Default}
+use Rattle.facl_listings.specs.acl_attr.Attr.{attr_of, bad_attr}
+use Rattle.facl_listings.specs.acl_edit.declared.edit.Edit.{Edit}
+use Rattle.facl_listings.specs.acl_edit.declared.edit.Edit.TheVariants.{Put}
+use Rattle.facl_listings.specs.acl_tree.Found.{files_found}
+use Rattle.facl_listings.specs.acl_tree.Operands.{first_missing}
+use Rattle.facl_listings.specs.acl_tree.Step.{State}
+use Rattle.facl_messages.specs.facl_words.Forms.{Text}
+use Rattle.facl_messages.specs.facl_words.Places.{operand, operands_from}
+use Rattle.facl_messages.specs.facl_words.declared.tool.Tool.TheVariants as tools
+use Rattle.facl_messages.specs.facl_words.declared.words.Words.{Words}
 use Rattle.facl_messages.specs.declared.fault.LineFault.{LineFault}
 use Rattle.facl_messages.specs.declared.fault.LineFault.TheVariants as faults
 use Rattle.facl_messages.specs.declared.fault.Source.TheVariants.{AttributeEntry}
 use Rattle.facl_listings.specs.AttrListings.{attr_listing}
-use Rattle.facl_replies.specs.Replies.{Reply, after, or_fault, printed}
-use Rattle.facl_replies.specs.Operands.{paths_from, recorded_or_fault}
+use Rattle.facl_tools.specs.Replies.{Reply, after, or_fault, printed}
+use Rattle.facl_tools.specs.Operands.{paths_from, recorded_or_fault}
 use Rattle.facl_tools.specs.Edits.{edited}
 use Rattle.facl_tools.specs.Lists.{text_or_fault}
 

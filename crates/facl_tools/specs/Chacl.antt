@@ -1,22 +1,22 @@
 -- chacl(1).
 use Rattle.std.specs.Prelude.{ℕ, List, [], ◌∷◌, Bool, true, false, if◌then◌else◌, codes, Some, None, Result, Err}
-use Rattle.acl_edit.specs.declared.edit.Edit.TheVariants.{Put, Flatten}
-use Rattle.acl_text.specs.declared.fault.Which.TheVariants.{Access, Default}
-use Rattle.acl_people.specs.Registers.{Register, users_of, groups_of}
-use Rattle.acl_people.specs.Rolls.{name_shown}
-use Rattle.acl_tree.specs.Found.{FoundFile, files_found}
-use Rattle.acl_tree.specs.Operands.{first_missing}
-use Rattle.acl_tree.specs.Step.{State}
-use Rattle.facl_usage.specs.Forms.{Text}
-use Rattle.facl_usage.specs.Places.{has, operands_from}
-use Rattle.facl_usage.specs.declared.tool.Tool.TheVariants as tools
-use Rattle.facl_usage.specs.declared.words.Words.{Words}
+use Rattle.facl_listings.specs.acl_edit.declared.edit.Edit.TheVariants.{Put, Flatten}
+use Rattle.facl_listings.specs.acl_text.declared.fault.Which.TheVariants.{Access, Default}
+use Rattle.facl_listings.specs.acl_people.Registers.{Register, users_of, groups_of}
+use Rattle.facl_listings.specs.acl_people.Rolls.{name_shown}
+use Rattle.facl_listings.specs.acl_tree.Found.{FoundFile, files_found}
+use Rattle.facl_listings.specs.acl_tree.Operands.{first_missing}
+use Rattle.facl_listings.specs.acl_tree.Step.{State}
+use Rattle.facl_messages.specs.facl_words.Forms.{Text}
+use Rattle.facl_messages.specs.facl_words.Places.{has, operands_from}
+use Rattle.facl_messages.specs.facl_words.declared.tool.Tool.TheVariants as tools
+use Rattle.facl_messages.specs.facl_words.declared.words.Words.{Words}
 use Rattle.facl_messages.specs.declared.fault.LineFault.{LineFault}
 use Rattle.facl_messages.specs.declared.fault.LineFault.TheVariants.{Usage}
 use Rattle.facl_messages.specs.declared.fault.Source.TheVariants.{Entry, DefaultEntry}
 use Rattle.facl_listings.specs.ChaclListings.{chacl_listing}
-use Rattle.facl_replies.specs.Replies.{Reply, after, printed}
-use Rattle.facl_replies.specs.Operands.{paths_from, recorded_or_fault}
+use Rattle.facl_tools.specs.Replies.{Reply, after, printed}
+use Rattle.facl_tools.specs.Operands.{paths_from, recorded_or_fault}
 use Rattle.facl_tools.specs.Edits.{edited}
 use Rattle.facl_tools.specs.Lists.{list_of}
 use Rattle.facl_tools.specs.declared.chacl.ChaclLine.{ChaclLine}

@@ -1,19 +1,19 @@
 -- creat: a new file, with what it inherits from its directory.
 use Rattle.std.specs.Prelude.{if◌then◌else◌, codes, Option, Some, option_and_then, Result, Ok}
-use Rattle.acl_edit.specs.declared.node.Kind.{Kind}
-use Rattle.acl_edit.specs.declared.node.Kind.TheVariants.{Plain, Directory}
-use Rattle.acl_tree.specs.declared.command.Command.TheVariants as commands
-use Rattle.acl_tree.specs.declared.command.NewFile.{NewFile}
-use Rattle.acl_tree.specs.Step.{State}
-use Rattle.facl_usage.specs.Forms.{Text}
-use Rattle.facl_usage.specs.Places.{has, value, operand}
-use Rattle.facl_usage.specs.declared.tool.Tool.TheVariants as tools
-use Rattle.facl_usage.specs.declared.words.Words.{Words}
+use Rattle.facl_listings.specs.acl_edit.declared.node.Kind.{Kind}
+use Rattle.facl_listings.specs.acl_edit.declared.node.Kind.TheVariants.{Plain, Directory}
+use Rattle.facl_listings.specs.acl_tree.declared.command.Command.TheVariants as commands
+use Rattle.facl_listings.specs.acl_tree.declared.command.NewFile.{NewFile}
+use Rattle.facl_listings.specs.acl_tree.Step.{State}
+use Rattle.facl_messages.specs.facl_words.Forms.{Text}
+use Rattle.facl_messages.specs.facl_words.Places.{has, value, operand}
+use Rattle.facl_messages.specs.facl_words.declared.tool.Tool.TheVariants as tools
+use Rattle.facl_messages.specs.facl_words.declared.words.Words.{Words}
 use Rattle.facl_messages.specs.declared.fault.LineFault.{LineFault}
 use Rattle.facl_messages.specs.declared.fault.LineFault.TheVariants.{Usage}
-use Rattle.facl_replies.specs.Replies.{Reply, after, or_fault, done}
-use Rattle.facl_replies.specs.Modes.{permission_mode_of}
-use Rattle.facl_replies.specs.Operands.{path_at, name_meant}
+use Rattle.facl_tools.specs.Replies.{Reply, after, or_fault, done}
+use Rattle.facl_tools.specs.Modes.{permission_mode_of}
+use Rattle.facl_tools.specs.Operands.{path_at, name_meant}
 use Rattle.facl_tools.specs.declared.creat.Modes.{Modes}
 
 -- the permissions that a line asks for, and those that it withholds

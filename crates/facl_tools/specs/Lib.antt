@@ -10,3 +10,14 @@ pub mod Memberships
 pub mod Accounts
 pub mod RemovedKeys
 pub mod Tools
+pub mod Replies
+pub mod Operands
+pub mod Modes
+pub mod Queries
+pub use Rattle.facl_listings.specs.acl_entry
+pub use Rattle.facl_listings.specs.acl_files
+pub use Rattle.facl_listings.specs.acl_rights
+pub use Rattle.facl_listings.specs.acl_tree
+pub use Rattle.facl_messages.specs as facl_messages
+pub use Rattle.facl_messages.specs.facl_script
+pub use Rattle.facl_messages.specs.facl_words

@@ -1,23 +1,23 @@
 -- Lists as chacl(1) reads them: the entries of a text, which have to be a valid list.
 use Rattle.std.specs.Prelude.{List, map, Result, Ok, Err}
 use Rattle.std.specs.Option.{option_map_or}
-use Rattle.acl_entry.specs.Lists.{KeyMap, fault, map_of}
-use Rattle.acl_entry.specs.Perms.{none}
-use Rattle.acl_entry.specs.declared.entry.Entry.{Entry}
-use Rattle.acl_text.specs.Entries.{entries_of}
-use Rattle.acl_text.specs.InTurn.{of_list}
-use Rattle.acl_text.specs.declared.entries.Sep.TheVariants.{Comma}
-use Rattle.acl_text.specs.declared.entries.Spec.{Spec}
-use Rattle.acl_text.specs.declared.entries.Want.TheVariants.{Plain}
-use Rattle.acl_text.specs.declared.fault.TextFault.{TextFault}
-use Rattle.acl_text.specs.declared.fault.Which.{Which}
-use Rattle.acl_people.specs.Registers.{Register, users_of, groups_of}
-use Rattle.acl_people.specs.Rolls.{id_named}
-use Rattle.facl_usage.specs.Forms.{Text}
+use Rattle.facl_listings.specs.acl_entry.Lists.{KeyMap, fault, map_of}
+use Rattle.facl_listings.specs.acl_entry.Perms.{none}
+use Rattle.facl_listings.specs.acl_entry.declared.entry.Entry.{Entry}
+use Rattle.facl_listings.specs.acl_text.Entries.{entries_of}
+use Rattle.facl_listings.specs.acl_text.InTurn.{of_list}
+use Rattle.facl_listings.specs.acl_text.declared.entries.Sep.TheVariants.{Comma}
+use Rattle.facl_listings.specs.acl_text.declared.entries.Spec.{Spec}
+use Rattle.facl_listings.specs.acl_text.declared.entries.Want.TheVariants.{Plain}
+use Rattle.facl_listings.specs.acl_text.declared.fault.TextFault.{TextFault}
+use Rattle.facl_listings.specs.acl_text.declared.fault.Which.{Which}
+use Rattle.facl_listings.specs.acl_people.Registers.{Register, users_of, groups_of}
+use Rattle.facl_listings.specs.acl_people.Rolls.{id_named}
+use Rattle.facl_messages.specs.facl_words.Forms.{Text}
 use Rattle.facl_messages.specs.Faults.{line_fault_of_text}
 use Rattle.facl_messages.specs.declared.fault.LineFault.{LineFault}
 use Rattle.facl_messages.specs.declared.fault.Source.{Source}
-use Rattle.facl_replies.specs.Replies.{after}
+use Rattle.facl_tools.specs.Replies.{after}
 
 -- what a text contains, or its fault as one of the line
 abbrev pub text_or_fault : Source → {A : Type 0} → Result A TextFault → Result A LineFault

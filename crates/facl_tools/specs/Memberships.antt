@@ -1,17 +1,17 @@
 -- gpasswd(1) and usermod(8): the groups of one user.
 use Rattle.std.specs.Prelude.{codes, Option, Some, None, Result}
-use Rattle.acl_tree.specs.declared.command.Command.TheVariants as commands
-use Rattle.acl_tree.specs.declared.command.Membership.{Membership}
-use Rattle.acl_tree.specs.declared.command.Membership.TheVariants.{Add, Remove}
-use Rattle.acl_tree.specs.Step.{State}
-use Rattle.facl_usage.specs.Forms.{Text}
-use Rattle.facl_usage.specs.Places.{value, operand}
-use Rattle.facl_usage.specs.declared.tool.Tool.TheVariants as tools
-use Rattle.facl_usage.specs.declared.words.Words.{Words}
+use Rattle.facl_listings.specs.acl_tree.declared.command.Command.TheVariants as commands
+use Rattle.facl_listings.specs.acl_tree.declared.command.Membership.{Membership}
+use Rattle.facl_listings.specs.acl_tree.declared.command.Membership.TheVariants.{Add, Remove}
+use Rattle.facl_listings.specs.acl_tree.Step.{State}
+use Rattle.facl_messages.specs.facl_words.Forms.{Text}
+use Rattle.facl_messages.specs.facl_words.Places.{value, operand}
+use Rattle.facl_messages.specs.facl_words.declared.tool.Tool.TheVariants as tools
+use Rattle.facl_messages.specs.facl_words.declared.words.Words.{Words}
 use Rattle.facl_messages.specs.declared.fault.LineFault.{LineFault}
 use Rattle.facl_messages.specs.declared.fault.LineFault.TheVariants.{Usage}
-use Rattle.facl_replies.specs.Replies.{Reply, after, or_fault, done}
-use Rattle.facl_replies.specs.Operands.{name_meant}
+use Rattle.facl_tools.specs.Replies.{Reply, after, or_fault, done}
+use Rattle.facl_tools.specs.Operands.{name_meant}
 
 -- the user who is added or removed, where the line gives one alone
 abbrev pub member_of : Option Text → Option Text → Option (Membership × Text)

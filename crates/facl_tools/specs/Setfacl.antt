@@ -2,35 +2,35 @@
 use Rattle.std.specs.Prelude.{ℕ, List, Bool, false, not, ◌&&◌, ◌||◌, [], Option, Some, None, Result, Ok, Err, option_map, if◌then◌else◌}
 use Rattle.std.specs.Bool.{beq}
 use Rattle.std.specs.List.{find, list_any}
-use Rattle.acl_entry.specs.Keys.{same_key}
-use Rattle.acl_text.specs.Entries.{entries_of}
-use Rattle.acl_text.specs.declared.entries.Spec.{Spec}
-use Rattle.acl_text.specs.declared.entries.Want.{Want}
-use Rattle.acl_text.specs.declared.entries.Want.TheVariants.{WithPerms, WithoutPerms}
-use Rattle.acl_text.specs.declared.fault.TextFault.{TextFault}
-use Rattle.acl_dump.specs.Records.{dump_of}
-use Rattle.acl_dump.specs.declared.record.DumpRecord.{DumpRecord}
-use Rattle.acl_dump.specs.declared.record.DumpUse.TheVariants as uses
-use Rattle.acl_edit.specs.declared.edit.Change.{Change}
-use Rattle.acl_edit.specs.declared.edit.Edit.TheVariants as edits
-use Rattle.acl_people.specs.Registers.{Register, users_of, groups_of}
-use Rattle.acl_people.specs.Rolls.{id_named, name_shown}
-use Rattle.acl_tree.specs.Files.{Files}
-use Rattle.acl_tree.specs.Found.{FoundFile, files_found}
-use Rattle.acl_tree.specs.Restoring.{paths_of}
-use Rattle.acl_tree.specs.Step.{State, step}
-use Rattle.acl_tree.specs.declared.command.Command.{Command}
-use Rattle.acl_tree.specs.declared.command.Command.TheVariants.{Edit, Restore}
-use Rattle.acl_files.specs.declared.fault.TreeFault.{TreeFault}
-use Rattle.facl_usage.specs.declared.words.Words.{Words}
+use Rattle.facl_listings.specs.acl_entry.Keys.{same_key}
+use Rattle.facl_listings.specs.acl_text.Entries.{entries_of}
+use Rattle.facl_listings.specs.acl_text.declared.entries.Spec.{Spec}
+use Rattle.facl_listings.specs.acl_text.declared.entries.Want.{Want}
+use Rattle.facl_listings.specs.acl_text.declared.entries.Want.TheVariants.{WithPerms, WithoutPerms}
+use Rattle.facl_listings.specs.acl_text.declared.fault.TextFault.{TextFault}
+use Rattle.facl_listings.specs.acl_dump.Records.{dump_of}
+use Rattle.facl_listings.specs.acl_dump.declared.record.DumpRecord.{DumpRecord}
+use Rattle.facl_listings.specs.acl_dump.declared.record.DumpUse.TheVariants as uses
+use Rattle.facl_listings.specs.acl_edit.declared.edit.Change.{Change}
+use Rattle.facl_listings.specs.acl_edit.declared.edit.Edit.TheVariants as edits
+use Rattle.facl_listings.specs.acl_people.Registers.{Register, users_of, groups_of}
+use Rattle.facl_listings.specs.acl_people.Rolls.{id_named, name_shown}
+use Rattle.facl_listings.specs.acl_tree.Files.{Files}
+use Rattle.facl_listings.specs.acl_tree.Found.{FoundFile, files_found}
+use Rattle.facl_listings.specs.acl_tree.Restoring.{paths_of}
+use Rattle.facl_listings.specs.acl_tree.Step.{State, step}
+use Rattle.facl_listings.specs.acl_tree.declared.command.Command.{Command}
+use Rattle.facl_listings.specs.acl_tree.declared.command.Command.TheVariants.{Edit, Restore}
+use Rattle.facl_listings.specs.acl_files.declared.fault.TreeFault.{TreeFault}
+use Rattle.facl_messages.specs.facl_words.declared.words.Words.{Words}
 use Rattle.facl_messages.specs.Faults.{line_fault_of_text, line_fault_of_tree}
 use Rattle.facl_messages.specs.declared.fault.LineFault.{LineFault}
 use Rattle.facl_messages.specs.declared.fault.LineFault.TheVariants as faults
 use Rattle.facl_messages.specs.declared.fault.Source.{Source}
 use Rattle.facl_messages.specs.declared.fault.Source.TheVariants.{Entry, TextLine}
 use Rattle.facl_listings.specs.TestListing.{test_listing}
-use Rattle.facl_replies.specs.Replies.{Reply, after, done, printed}
-use Rattle.facl_replies.specs.Operands.{paths_from}
+use Rattle.facl_tools.specs.Replies.{Reply, after, done, printed}
+use Rattle.facl_tools.specs.Operands.{paths_from}
 use Rattle.facl_tools.specs.SetfaclLine.{Asked, EntryText, asked}
 use Rattle.facl_tools.specs.declared.setfacl_entries.Given.{Given}
 

@@ -1,11 +1,11 @@
 -- What the words of a setfacl(1) line ask for.
 use Rattle.std.specs.Prelude.{ℕ, List, Bool, Option, Some, None, codes, if◌then◌else◌}
-use Rattle.acl_text.specs.declared.entries.Sep.{Sep}
-use Rattle.acl_text.specs.declared.entries.Sep.TheVariants.{Comma, Line}
-use Rattle.facl_usage.specs.Forms.{Text}
-use Rattle.facl_usage.specs.Places.{gives, has, value, operands_from}
-use Rattle.facl_usage.specs.declared.tool.Tool.TheVariants.{Setfacl}
-use Rattle.facl_usage.specs.declared.words.Words.{Words}
+use Rattle.facl_listings.specs.acl_text.declared.entries.Sep.{Sep}
+use Rattle.facl_listings.specs.acl_text.declared.entries.Sep.TheVariants.{Comma, Line}
+use Rattle.facl_messages.specs.facl_words.Forms.{Text}
+use Rattle.facl_messages.specs.facl_words.Places.{gives, has, value, operands_from}
+use Rattle.facl_messages.specs.facl_words.declared.tool.Tool.TheVariants.{Setfacl}
+use Rattle.facl_messages.specs.facl_words.declared.words.Words.{Words}
 
 -- entries that a line gives: in a word they are separated by commas, in the text after the line each has a line
 pub record EntryText : Type 0 where

@@ -1,30 +1,30 @@
 -- What each tool does, by the words that it was given.
 use Rattle.std.specs.Prelude.{ℕ, List, Bool, if◌then◌else◌, codes, Result}
 use Rattle.std.specs.Str.{bytes_eq}
-use Rattle.acl_dump.specs.declared.effective.Effective.{Effective}
-use Rattle.acl_dump.specs.declared.effective.Effective.TheVariants.{WhereMasked, Always, Never}
-use Rattle.acl_tree.specs.declared.command.Command.TheVariants.{Chmod}
-use Rattle.acl_tree.specs.declared.command.Table.{Table}
-use Rattle.acl_tree.specs.declared.command.Table.TheVariants.{Passwd, Group, Dump}
-use Rattle.acl_tree.specs.Operands.{first_missing}
-pub use Rattle.acl_rights.specs.Tables.{Verdict}
-use Rattle.acl_people.specs.Registers.{Register, users_of, groups_of}
-use Rattle.acl_people.specs.Rolls.{name_shown}
-use Rattle.acl_tree.specs.Found.{FoundFile, files_found}
-use Rattle.acl_tree.specs.Step.{State, load}
-use Rattle.acl_tree.specs.Reports.{load_moves}
-use Rattle.facl_usage.specs.Forms.{Text}
-use Rattle.facl_usage.specs.Places.{has, operand, operands_from}
-use Rattle.facl_usage.specs.declared.tool.Tool.{Tool}
-use Rattle.facl_usage.specs.declared.tool.Tool.TheVariants as tools
-use Rattle.facl_usage.specs.declared.words.Words.{Words}
+use Rattle.facl_listings.specs.acl_dump.declared.effective.Effective.{Effective}
+use Rattle.facl_listings.specs.acl_dump.declared.effective.Effective.TheVariants.{WhereMasked, Always, Never}
+use Rattle.facl_listings.specs.acl_tree.declared.command.Command.TheVariants.{Chmod}
+use Rattle.facl_listings.specs.acl_tree.declared.command.Table.{Table}
+use Rattle.facl_listings.specs.acl_tree.declared.command.Table.TheVariants.{Passwd, Group, Dump}
+use Rattle.facl_listings.specs.acl_tree.Operands.{first_missing}
+pub use Rattle.facl_listings.specs.acl_rights.Tables.{Verdict}
+use Rattle.facl_listings.specs.acl_people.Registers.{Register, users_of, groups_of}
+use Rattle.facl_listings.specs.acl_people.Rolls.{name_shown}
+use Rattle.facl_listings.specs.acl_tree.Found.{FoundFile, files_found}
+use Rattle.facl_listings.specs.acl_tree.Step.{State, load}
+use Rattle.facl_listings.specs.acl_tree.Reports.{load_moves}
+use Rattle.facl_messages.specs.facl_words.Forms.{Text}
+use Rattle.facl_messages.specs.facl_words.Places.{has, operand, operands_from}
+use Rattle.facl_messages.specs.facl_words.declared.tool.Tool.{Tool}
+use Rattle.facl_messages.specs.facl_words.declared.tool.Tool.TheVariants as tools
+use Rattle.facl_messages.specs.facl_words.declared.words.Words.{Words}
 use Rattle.facl_messages.specs.declared.fault.LineFault.{LineFault}
 use Rattle.facl_messages.specs.declared.fault.LineFault.TheVariants.{Usage}
 use Rattle.facl_listings.specs.declared.options.Options.{Options}
 use Rattle.facl_listings.specs.Listings.{listing}
-use Rattle.facl_replies.specs.Replies.{Reply, after, or_fault, done, printed, replied}
-use Rattle.facl_replies.specs.Modes.{mode_of}
-use Rattle.facl_questions.specs.Queries.{can_line, who_line, may_line, index_line}
+use Rattle.facl_tools.specs.Replies.{Reply, after, or_fault, done, printed, replied}
+use Rattle.facl_tools.specs.Modes.{mode_of}
+use Rattle.facl_tools.specs.Queries.{can_line, who_line, may_line, index_line}
 use Rattle.facl_tools.specs.Setfacl.{setfacl_line}
 use Rattle.facl_tools.specs.Chacl.{chacl_line}
 use Rattle.facl_tools.specs.Creation.{creat_line}
@@ -32,7 +32,7 @@ use Rattle.facl_tools.specs.Removal.{rm_line}
 use Rattle.facl_tools.specs.Attributes.{attr_line, setattr_line}
 use Rattle.facl_tools.specs.Memberships.{gpasswd_line, usermod_line}
 use Rattle.facl_tools.specs.Accounts.{useradd_line, userdel_line}
-use Rattle.facl_replies.specs.Operands.{paths_from, recorded_or_fault}
+use Rattle.facl_tools.specs.Operands.{paths_from, recorded_or_fault}
 
 -- ---- load
 
@@ -83,7 +83,7 @@ getfacl_line s w =
 
 -- ---- all tools
 
-abbrev pub tool_line : Verdict → State → Tool → Words → List ℕ → Result Reply LineFault
+unfoldable pub tool_line : Verdict → State → Tool → Words → List ℕ → Result Reply LineFault
 tool_line verdict s tools.Load w text = load_line s w text
 tool_line verdict s tools.Getfacl w text = getfacl_line s w
 tool_line verdict s tools.Setfacl w text = setfacl_line s w text

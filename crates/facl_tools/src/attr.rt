@@ -1,14 +1,13 @@
 //! The tool `attr`: the lists of a file as extended attributes.
 
-ghost use Rattle.facl_replies.specs.Replies.{Replies};
+ghost use Rattle.facl_tools.specs.Replies.{Replies};
 ghost use Rattle.facl_tools.specs.Attributes.{attr_line};
 
-use acl_tree::State;
-use facl_listings::write_attributes;
-use facl_messages::LineFault;
-use facl_replies::{Effect, paths_of};
-use facl_usage::Words;
-use facl_usage::places::attr::FILE;
+use crate::effect::Effect;
+use crate::operands::paths_of;
+use facl_listings::{State, write_attributes};
+use facl_messages::places::attr::FILE;
+use facl_messages::{LineFault, Words};
 use std::alloc::Global;
 
 /// Prints the attributes of a file.

@@ -1,21 +1,18 @@
 //! The tool chacl(1).
 
 ghost use Rattle.std.specs.Prelude.{◌≡◌};
-ghost use Rattle.facl_replies.specs.Replies.{Replies};
+ghost use Rattle.facl_tools.specs.Replies.{Replies};
 ghost use Rattle.facl_tools.specs.Chacl.{line_of, put_access, put_default, put_both, list_files, line_at, chacl_line};
 
 use crate::edits::edit_files;
+use crate::effect::Effect;
 use crate::lists::list_of;
-use acl_edit::Edit;
-use acl_text::Which;
-use acl_tree::State;
-use facl_listings::write_chacl_listing;
-use facl_messages::{LineFault, Source};
-use facl_replies::{Effect, paths_of};
-use facl_usage::places::chacl::{
+use crate::operands::paths_of;
+use facl_listings::{Edit, State, Which, write_chacl_listing};
+use facl_messages::places::chacl::{
     LIST, PUT_BOTH, PUT_DEFAULT, RECURSIVE, REMOVE_ACCESS, REMOVE_BOTH, REMOVE_DEFAULT, WORDS,
 };
-use facl_usage::{Word, Words};
+use facl_messages::{LineFault, Source, Word, Words};
 use std::alloc::Global;
 
 /// What a line does with its files.

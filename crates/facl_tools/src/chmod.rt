@@ -1,16 +1,18 @@
 //! The tool chmod(1), with an octal mode.
 
 ghost use Rattle.std.specs.Prelude.{◌≡◌, codes};
-ghost use Rattle.facl_usage.specs.Places.{operand};
-ghost use Rattle.facl_usage.specs.declared.tool.Tool.TheVariants as tools;
-ghost use Rattle.facl_replies.specs.Replies.{Replies};
+ghost use Rattle.facl_messages.specs.facl_words.Places.{operand};
+ghost use Rattle.facl_messages.specs.facl_words.declared.tool.Tool.TheVariants as tools;
+ghost use Rattle.facl_tools.specs.Replies.{Replies};
 ghost use Rattle.facl_tools.specs.Tools.{chmod_files, chmod_line};
 
-use acl_tree::{Command, State};
-use facl_messages::LineFault;
-use facl_replies::{Effect, mode_of, paths_of, prepare};
-use facl_usage::Words;
-use facl_usage::places::chmod::{FILES, MODE, RECURSIVE};
+use crate::change::prepare;
+use crate::effect::Effect;
+use crate::mode::mode_of;
+use crate::operands::paths_of;
+use facl_listings::{Command, State};
+use facl_messages::places::chmod::{FILES, MODE, RECURSIVE};
+use facl_messages::{LineFault, Words};
 use std::alloc::Global;
 
 /// Puts a mode into the files of a line.

@@ -1,16 +1,16 @@
 //! The tool `creat`: a new file, with what it inherits from its directory.
 
 ghost use Rattle.std.specs.Prelude.{◌≡◌};
-ghost use Rattle.facl_replies.specs.Replies.{Replies, Gives};
+ghost use Rattle.facl_tools.specs.Replies.{Replies, Gives};
 ghost use Rattle.facl_tools.specs.Creation.{modes_of, kind_of, user_of, new_file, creat_line};
 
-use acl_edit::Kind;
-use acl_names::Name;
-use acl_tree::{Command, NewFile, State};
-use facl_messages::LineFault;
-use facl_replies::{Effect, name_meant, path_at, permission_mode_of, prepare};
-use facl_usage::Words;
-use facl_usage::places::creat::{DIRECTORY, FILE, MODE, UMASK, USER};
+use crate::change::prepare;
+use crate::effect::Effect;
+use crate::mode::permission_mode_of;
+use crate::operands::{name_meant, path_at};
+use facl_listings::{Command, Kind, Name, NewFile, State};
+use facl_messages::places::creat::{DIRECTORY, FILE, MODE, UMASK, USER};
+use facl_messages::{LineFault, Words};
 use std::alloc::Global;
 
 /// The permissions that a line asks for, and those that it withholds.

@@ -1,13 +1,13 @@
 //! Edits of the files that a line names.
 
-ghost use Rattle.facl_replies.specs.Replies.{Replies};
+ghost use Rattle.facl_tools.specs.Replies.{Replies};
 ghost use Rattle.facl_tools.specs.Edits.{edited};
 
-use acl_edit::Edit;
-use acl_tree::{Command, State};
-use facl_messages::LineFault;
-use facl_replies::{Effect, paths_of, prepare};
-use facl_usage::Word;
+use crate::change::prepare;
+use crate::effect::Effect;
+use crate::operands::paths_of;
+use facl_listings::{Command, Edit, State};
+use facl_messages::{LineFault, Word};
 use std::alloc::Global;
 
 /// Edits the files that words name, with `recursive` also all below them.

@@ -1,18 +1,16 @@
 //! The tool getfacl(1).
 
 ghost use Rattle.std.specs.Prelude.{◌≡◌};
-ghost use Rattle.facl_replies.specs.Replies.{Replies};
+ghost use Rattle.facl_tools.specs.Replies.{Replies};
 ghost use Rattle.facl_tools.specs.Tools.{effective_for, options_of, getfacl_line};
 
-use acl_dump::Effective;
-use acl_tree::State;
-use facl_listings::{Options, append_listing};
-use facl_messages::LineFault;
-use facl_replies::{Effect, paths_of};
-use facl_usage::Words;
-use facl_usage::places::getfacl::{
+use crate::effect::Effect;
+use crate::operands::paths_of;
+use facl_listings::{Effective, Options, State, append_listing};
+use facl_messages::places::getfacl::{
     ACCESS, ALL_EFFECTIVE, FILES, NO_EFFECTIVE, NUMERIC, OMIT_HEADER, RECURSIVE, SKIP_BASE,
 };
+use facl_messages::{LineFault, Words};
 use std::alloc::Global;
 
 fn effective_for(always: bool, never: bool) -> Effective

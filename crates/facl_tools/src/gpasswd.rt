@@ -1,16 +1,17 @@
 //! The tool gpasswd(1): a user is added to a group, or removed from it.
 
 ghost use Rattle.std.specs.Prelude.{◌≡◌, codes, option_map};
-ghost use Rattle.facl_usage.specs.Places.{value};
-ghost use Rattle.facl_usage.specs.declared.tool.Tool.TheVariants.{Gpasswd};
-ghost use Rattle.facl_replies.specs.Replies.{Replies};
+ghost use Rattle.facl_messages.specs.facl_words.Places.{value};
+ghost use Rattle.facl_messages.specs.facl_words.declared.tool.Tool.TheVariants.{Gpasswd};
+ghost use Rattle.facl_tools.specs.Replies.{Replies};
 ghost use Rattle.facl_tools.specs.Memberships.{member_of, gpasswd_user, gpasswd_line};
 
-use acl_tree::{Command, Membership, State};
-use facl_messages::LineFault;
-use facl_replies::{Effect, name_at, name_meant, prepare};
-use facl_usage::Words;
-use facl_usage::places::gpasswd::{ADD, DELETE, GROUP};
+use crate::change::prepare;
+use crate::effect::Effect;
+use crate::operands::{name_at, name_meant};
+use facl_listings::{Command, Membership, State};
+use facl_messages::places::gpasswd::{ADD, DELETE, GROUP};
+use facl_messages::{LineFault, Words};
 use std::alloc::Global;
 
 /// The user who is added or removed. `None` where the line gives none, or one of each.

@@ -1,12 +1,12 @@
 //! Lists as chacl(1) reads them: the entries of a text, which have to be a valid list.
 
 ghost use Rattle.std.specs.Prelude.{◌≡◌, IfOk, map};
-ghost use Rattle.facl_replies.specs.Replies.{Gives};
+ghost use Rattle.facl_tools.specs.Replies.{Gives};
 ghost use Rattle.facl_tools.specs.Lists.{entry_of, list_from, specs_of, list_of};
 
-use acl_entry::{Acl, Entry, Perm};
-use acl_people::People;
-use acl_text::{FaultKind, Sep, Spec, TextFault, Want, Which, read_entries};
+use facl_listings::{
+    Acl, Entry, FaultKind, People, Perm, Sep, Spec, TextFault, Want, Which, read_entries,
+};
 use facl_messages::{LineFault, Source};
 use std::alloc::{AllocError, Global};
 

@@ -1,16 +1,16 @@
 //! The tool `load`: a text is read as users, groups or files.
 
 ghost use Rattle.std.specs.Prelude.{◌≡◌, codes};
-ghost use Rattle.facl_usage.specs.Places.{operand};
-ghost use Rattle.facl_usage.specs.declared.tool.Tool.TheVariants as tools;
-ghost use Rattle.facl_replies.specs.Replies.{Replies};
+ghost use Rattle.facl_messages.specs.facl_words.Places.{operand};
+ghost use Rattle.facl_messages.specs.facl_words.declared.tool.Tool.TheVariants as tools;
+ghost use Rattle.facl_tools.specs.Replies.{Replies};
 ghost use Rattle.facl_tools.specs.Tools.{table_named, load_line};
 
-use acl_tree::{Command, State, Table};
-use facl_messages::LineFault;
-use facl_replies::{Effect, prepare};
-use facl_usage::Words;
-use facl_usage::places::load::TABLE;
+use crate::change::prepare;
+use crate::effect::Effect;
+use facl_listings::{Command, State, Table};
+use facl_messages::places::load::TABLE;
+use facl_messages::{LineFault, Words};
 use std::alloc::Global;
 
 fn table_named(name: &str) -> Table

@@ -3,8 +3,7 @@
 ghost use Rattle.std.specs.Prelude.{◌≡◌, true, false, IfOk, OnOk};
 ghost use Rattle.facl_tools.specs.RemovedKeys.{keys_of, removes, with_key};
 
-use acl_entry::{Draft, Perm};
-use acl_text::Spec;
+use facl_listings::{Draft, Perm, Spec};
 use std::alloc::{AllocError, Global};
 
 /// The keys that are removed from each list, so that one is found by search.

@@ -1,13 +1,14 @@
 //! The tool rm(1).
 
-ghost use Rattle.facl_replies.specs.Replies.{Replies};
+ghost use Rattle.facl_tools.specs.Replies.{Replies};
 ghost use Rattle.facl_tools.specs.Removal.{rm_line};
 
-use acl_tree::{Command, State};
-use facl_messages::LineFault;
-use facl_replies::{Effect, paths_of, prepare};
-use facl_usage::Words;
-use facl_usage::places::rm::{FILES, RECURSIVE};
+use crate::change::prepare;
+use crate::effect::Effect;
+use crate::operands::paths_of;
+use facl_listings::{Command, State};
+use facl_messages::places::rm::{FILES, RECURSIVE};
+use facl_messages::{LineFault, Words};
 use std::alloc::Global;
 
 /// Removes files.

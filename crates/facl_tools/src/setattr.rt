@@ -1,19 +1,14 @@
 //! The tool `setattr`: an extended attribute is put into a file as a list.
 
 ghost use Rattle.std.specs.Prelude.{◌≡◌, option_map};
-ghost use Rattle.facl_replies.specs.Replies.{Replies, Gives};
+ghost use Rattle.facl_tools.specs.Replies.{Replies, Gives};
 ghost use Rattle.facl_tools.specs.Attributes.{rest_of, digits_of, attribute_of, bytes_of, list_of, put_of, set_files, setattr_line};
 
 use crate::edits::edit_files;
-use acl_attr::decode_attr;
-use acl_edit::Edit;
-use acl_entry::Acl;
-use acl_text::{FaultKind, TextFault, Which};
-use acl_tree::State;
-use facl_messages::{LineFault, Source};
-use facl_replies::Effect;
-use facl_usage::Words;
-use facl_usage::places::setattr::{ATTRIBUTE, FILE};
+use crate::effect::Effect;
+use facl_listings::{Acl, Edit, FaultKind, State, TextFault, Which, decode_attr};
+use facl_messages::places::setattr::{ATTRIBUTE, FILE};
+use facl_messages::{LineFault, Source, Words};
 use hex::FromHexError;
 use std::alloc::Global;
 

@@ -1,20 +1,17 @@
 //! The tool setfacl(1).
 
 ghost use Rattle.std.specs.Prelude.{◌≡◌};
-ghost use Rattle.acl_tree.specs.declared.command.Command.TheVariants.{Restore};
-ghost use Rattle.facl_replies.specs.Replies.{Replies, Gives};
+ghost use Rattle.facl_listings.specs.acl_tree.declared.command.Command.TheVariants.{Restore};
+ghost use Rattle.facl_tools.specs.Replies.{Replies, Gives};
 ghost use Rattle.facl_tools.specs.Setfacl.{change_files, change_line, done_or_tested, records_or_fault, restore_line, setfacl_line};
 
+use crate::effect::Effect;
+use crate::operands::paths_of;
 use crate::setfacl_entries::Given;
 use crate::setfacl_line::SetfaclLine;
 use crate::tested::do_or_test;
-use acl_dump::{DumpUse, read_dump};
-use acl_edit::Edit;
-use acl_people::People;
-use acl_tree::{Command, DumpRecords, State};
-use facl_messages::{LineFault, Source};
-use facl_replies::{Effect, paths_of};
-use facl_usage::Words;
+use facl_listings::{Command, DumpRecords, DumpUse, Edit, People, State, read_dump};
+use facl_messages::{LineFault, Source, Words};
 use std::alloc::Global;
 
 /// Changes the lists of the files of a line.

@@ -3,14 +3,12 @@
 ghost use Rattle.std.specs.Prelude.{◌≡◌, option_map, IfOk};
 ghost use Rattle.std.specs.List.{find};
 ghost use Rattle.facl_tools.specs.RemovedKeys.{removes};
-ghost use Rattle.facl_replies.specs.Replies.{Gives};
+ghost use Rattle.facl_tools.specs.Replies.{Gives};
 ghost use Rattle.facl_tools.specs.Setfacl.{both_at, change_of, drops, entries_given, given, has_default};
 
 use crate::removed_keys::RemovedKeys;
 use crate::setfacl_line::{EntryText, SetfaclLine};
-use acl_edit::{Change, Specs};
-use acl_people::People;
-use acl_text::{Spec, Want, read_entries};
+use facl_listings::{Change, People, Spec, Specs, Want, read_entries};
 use facl_messages::{LineFault, Source};
 use std::alloc::{AllocError, Global};
 

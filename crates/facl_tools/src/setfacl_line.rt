@@ -1,16 +1,16 @@
 //! What the words of a setfacl(1) line ask for.
 
 ghost use Rattle.std.specs.Prelude.{◌≡◌, option_map, codes};
-ghost use Rattle.facl_usage.specs.Places.{gives, value};
-ghost use Rattle.facl_usage.specs.declared.tool.Tool.TheVariants.{Setfacl};
+ghost use Rattle.facl_messages.specs.facl_words.Places.{gives, value};
+ghost use Rattle.facl_messages.specs.facl_words.declared.tool.Tool.TheVariants.{Setfacl};
 ghost use Rattle.facl_tools.specs.SetfaclLine.{asked, entries_from, text_if};
 
-use acl_text::Sep;
-use facl_usage::places::setfacl::{
+use facl_listings::Sep;
+use facl_messages::places::setfacl::{
     DEFAULT, FILES, MASK, MODIFY, MODIFY_FILE, NO_MASK, RECURSIVE, REMOVE, REMOVE_ALL,
     REMOVE_DEFAULT, REMOVE_FILE, RESTORE, SET, SET_FILE, TEST,
 };
-use facl_usage::{Word, Words};
+use facl_messages::{Word, Words};
 use std::marker::Model;
 
 /// A text of entries that a line gives.

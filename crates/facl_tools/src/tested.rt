@@ -1,19 +1,20 @@
 //! Commands that are tried out: setfacl(1) `--test`.
 
 ghost use Rattle.std.specs.Prelude.{◌≡◌, false, None, Ok, IfOk};
-ghost use Rattle.facl_replies.specs.Replies.{Replies, Gives};
+ghost use Rattle.facl_tools.specs.Replies.{Replies, Gives};
 ghost use Rattle.facl_tools.specs.Setfacl.{command_files, done_or_tested, tested, tested_or_fault};
-ghost use Rattle.acl_tree.specs.Found.{files_found};
-ghost use Rattle.acl_tree.specs.Operands.{first_missing};
-ghost use Rattle.acl_tree.specs.Restoring.{paths_of};
-ghost use Rattle.acl_tree.specs.Step.{step};
+ghost use Rattle.facl_listings.specs.acl_tree.Found.{files_found};
+ghost use Rattle.facl_listings.specs.acl_tree.Operands.{first_missing};
+ghost use Rattle.facl_listings.specs.acl_tree.Restoring.{paths_of};
+ghost use Rattle.facl_listings.specs.acl_tree.Step.{step};
 
-use acl_dump::DumpRecord;
-use acl_names::Path;
-use acl_tree::{Command, DumpRecords, Found, Paths, Staged, State, Tree, each_file_is_edited};
-use facl_listings::append_test_listing;
+use crate::change::prepare;
+use crate::effect::Effect;
+use facl_listings::{
+    Command, DumpRecord, DumpRecords, Found, Path, Paths, Staged, State, Tree, append_test_listing,
+    each_file_is_edited,
+};
 use facl_messages::LineFault;
-use facl_replies::{Effect, prepare};
 use std::alloc::{AllocError, Global};
 
 /// The paths of records.

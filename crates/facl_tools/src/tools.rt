@@ -1,31 +1,33 @@
 //! What the tools do, by the words that they were given.
 
-ghost use Rattle.acl_rights.specs.Tables.{IsWhole};
-ghost use Rattle.facl_replies.specs.Replies.{Replies};
+ghost use Rattle.facl_listings.specs.acl_rights.Tables.{IsWhole};
+ghost use Rattle.facl_tools.specs.Replies.{Replies};
 ghost use Rattle.facl_tools.specs.Tools.{tool_line};
 
 use crate::attr::attr;
+use crate::can::can_line;
 use crate::chacl::chacl;
 use crate::chmod::chmod;
 use crate::creat::creat;
+use crate::effect::Effect;
 use crate::getfacl::getfacl;
 use crate::gpasswd::gpasswd;
+use crate::index::index_line;
 use crate::load::load;
+use crate::may::may_line;
 use crate::rm::rm;
 use crate::setattr::setattr;
 use crate::setfacl::setfacl;
 use crate::useradd::useradd;
 use crate::userdel::userdel;
 use crate::usermod::usermod;
-use acl_rights::{Index, Judge};
-use acl_tree::State;
-use facl_messages::LineFault;
-use facl_questions::{can_line, index_line, may_line, who_line};
-use facl_replies::Effect;
-use facl_usage::{Tool, Words};
+use crate::who::who_line;
+use facl_listings::{Index, Judge, State};
+use facl_messages::{LineFault, Tool, Words};
 use std::alloc::Global;
 
 /// What a tool does at a state. Questions of who may do what are answered from the index of the state.
+#[tactic(auto, unfolding(crate::specs::Tools::tool_line))]
 pub fn tool_line<J: Judge>(
     alloc: Global,
     state: &State,

@@ -1,18 +1,15 @@
 //! The tool useradd(8): a new user.
 
 ghost use Rattle.std.specs.Prelude.{◌≡◌};
-ghost use Rattle.facl_replies.specs.Replies.{Replies, Gives};
+ghost use Rattle.facl_tools.specs.Replies.{Replies, Gives};
 ghost use Rattle.facl_tools.specs.Accounts.{uid_of, name_of, group_of, new_user, useradd_line};
 
-use acl_entry::Id;
-use acl_names::{Name, read_name};
-use acl_people::UserName;
-use acl_text::read_id;
-use acl_tree::{Command, NewUser, State};
-use facl_messages::LineFault;
-use facl_replies::{Effect, name_meant, prepare};
-use facl_usage::Words;
-use facl_usage::places::useradd::{GROUP, NAME, UID};
+use crate::change::prepare;
+use crate::effect::Effect;
+use crate::operands::name_meant;
+use facl_listings::{Command, Id, Name, NewUser, State, UserName, read_id, read_name};
+use facl_messages::places::useradd::{GROUP, NAME, UID};
+use facl_messages::{LineFault, Words};
 use std::alloc::Global;
 
 /// The id that a line gives: digits alone.

@@ -1,13 +1,14 @@
 //! The tool userdel(8): a user goes.
 
-ghost use Rattle.facl_replies.specs.Replies.{Replies};
+ghost use Rattle.facl_tools.specs.Replies.{Replies};
 ghost use Rattle.facl_tools.specs.Accounts.{userdel_line};
 
-use acl_tree::{Command, State};
-use facl_messages::LineFault;
-use facl_replies::{Effect, name_at, prepare};
-use facl_usage::Words;
-use facl_usage::places::userdel::USER;
+use crate::change::prepare;
+use crate::effect::Effect;
+use crate::operands::name_at;
+use facl_listings::{Command, State};
+use facl_messages::places::userdel::USER;
+use facl_messages::{LineFault, Words};
 use std::alloc::Global;
 
 /// Removes a user.

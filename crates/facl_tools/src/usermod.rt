@@ -1,13 +1,14 @@
 //! The tool usermod(8): a user gets another primary group.
 
-ghost use Rattle.facl_replies.specs.Replies.{Replies};
+ghost use Rattle.facl_tools.specs.Replies.{Replies};
 ghost use Rattle.facl_tools.specs.Memberships.{usermod_group, usermod_line};
 
-use acl_tree::{Command, State};
-use facl_messages::LineFault;
-use facl_replies::{Effect, name_at, name_meant, prepare};
-use facl_usage::Words;
-use facl_usage::places::usermod::{GROUP, USER};
+use crate::change::prepare;
+use crate::effect::Effect;
+use crate::operands::{name_at, name_meant};
+use facl_listings::{Command, State};
+use facl_messages::places::usermod::{GROUP, USER};
+use facl_messages::{LineFault, Words};
 use std::alloc::Global;
 
 /// Makes a group the primary group of the user of a line.

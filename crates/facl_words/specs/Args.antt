@@ -1,7 +1,7 @@
 -- The program's own words.
 use Rattle.std.specs.Prelude.{List, Option, option_map}
-use Rattle.facl_usage.specs.Forms.{Text}
-use Rattle.facl_usage.specs.Tools.{program_line}
+use Rattle.facl_words.specs.Forms.{Text}
+use Rattle.facl_words.specs.Tools.{program_line}
 use Rattle.facl_words.specs.Commands.{taken, values_in}
 
 -- the files of `--passwd`, `--group` and `--dump`, where clap takes the words

@@ -9,7 +9,7 @@ use Rattle.clap.specs.Simple.{App, matches_of, new_app, new_rule, on_top}
 use Rattle.clap.specs.Faults.{fault_of}
 use Rattle.clap.specs.declared.builder.action.ArgAction.{ArgAction}
 use Rattle.clap.specs.declared.builder.action.ArgAction.TheVariants.{Append, Set, SetTrue}
-use Rattle.facl_usage.specs.Lines.{Line, Operand, Switch}
+use Rattle.facl_words.specs.Lines.{Line, Operand, Switch}
 
 -- ---- the command of a row
 

@@ -1,12 +1,12 @@
 -- What a tool's words mean.
 use Rattle.std.specs.Prelude.{List, Option, Some, None, if◌then◌else◌, option_and_then, option_map}
 use Rattle.clap.specs.Walk.{Row}
-use Rattle.facl_usage.specs.Forms.{Text}
-use Rattle.facl_usage.specs.Lines.{Line}
-use Rattle.facl_usage.specs.Tools.{line_for}
-use Rattle.facl_usage.specs.Rules.{fits}
-use Rattle.facl_usage.specs.declared.tool.Tool.{Tool}
-use Rattle.facl_usage.specs.declared.words.Words.{Words}
+use Rattle.facl_words.specs.Forms.{Text}
+use Rattle.facl_words.specs.Lines.{Line}
+use Rattle.facl_words.specs.Tools.{line_for}
+use Rattle.facl_words.specs.Rules.{fits}
+use Rattle.facl_words.specs.declared.tool.Tool.{Tool}
+use Rattle.facl_words.specs.declared.words.Words.{Words}
 use Rattle.facl_words.specs.Commands.{flags_in, operands_in, taken, values_in}
 
 abbrev pub words_in : Line → List Row → Words

@@ -5,7 +5,7 @@ ghost use Rattle.facl_words.specs.Refusals.{IsRefusal};
 
 use crate::commands::{matches_for, value_of};
 use crate::fault::WordsFault;
-use facl_usage::program_rows;
+use crate::table::program_rows;
 use std::alloc::Global;
 
 /// The files of `--passwd`, `--group` and `--dump`, in this order, from the words after the program's

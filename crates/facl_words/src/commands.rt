@@ -2,13 +2,13 @@
 ghost use Rattle.std.specs.Prelude.{◌≡◌, false, true, IfOk, MatchResult, Some, map, option_map};
 ghost use Rattle.std.specs.Prelude.{string_bytes};
 ghost use Rattle.clap.specs.Words.{app_of, first_of, found_of, is_simple_and_free, rows_of, rule_of};
-ghost use Rattle.facl_usage.specs.Rows.{line_of, operand_of, switch_of};
+ghost use Rattle.facl_words.specs.Rows.{line_of, operand_of, switch_of};
 ghost use Rattle.facl_words.specs.Commands.{app_for, operand_rule, switch_rule, taken};
 ghost use Rattle.facl_words.specs.Refusals.{IsRefusal};
 
 use crate::fault::WordsFault;
+use crate::rows::{LineRows, OperandRow, SwitchRow};
 use clap::{Arg, ArgAction, ArgMatches, Command};
-use facl_usage::{LineRows, OperandRow, SwitchRow};
 use std::alloc::{AllocError, Global};
 
 /// A flag or an option, as an argument of `clap`.

@@ -2,7 +2,7 @@
 ghost use Rattle.std.specs.Prelude.{◌≡◌, ◌++◌, [], IfOk, MatchResult, OnOk, Some, map};
 ghost use Rattle.std.specs.Prelude.{string_bytes, true, unwrap_or};
 ghost use Rattle.clap.specs.Words.{all_of, first_of, found_of, is_simple_and_free, rows_of};
-ghost use Rattle.facl_usage.specs.Rows.{line_of, switch_of};
+ghost use Rattle.facl_words.specs.Rows.{line_of, switch_of};
 ghost use Rattle.facl_words.specs.Commands.{app_for, is_on};
 ghost use Rattle.facl_words.specs.Commands.{flags_in, operands_in, value_or, values_in};
 ghost use Rattle.facl_words.specs.Refusals.{IsRefusal};
@@ -10,8 +10,9 @@ ghost use Rattle.facl_words.specs.Words.{words_read};
 
 use crate::commands::matches_for;
 use crate::fault::WordsFault;
+use crate::rows::{LineRows, SwitchRow};
+use crate::words::{Flags, Operands, Values, Word, Words};
 use clap::ArgMatches;
-use facl_usage::{Flags, LineRows, Operands, SwitchRow, Values, Word, Words};
 use std::alloc::{AllocError, Global};
 
 fn is_flag_on(matches: &ArgMatches<'_>, id: &str) -> bool

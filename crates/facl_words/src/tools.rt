@@ -1,12 +1,15 @@
 //! A tool line's words.
 ghost use Rattle.std.specs.Prelude.{◌≡◌, IfOk, IsTrue, MatchResult, Some, map, string_bytes};
-ghost use Rattle.facl_usage.specs.Rules.{fits};
+ghost use Rattle.facl_words.specs.Rules.{fits};
 ghost use Rattle.facl_words.specs.Refusals.{IsRefusal};
 ghost use Rattle.facl_words.specs.Words.{words_for};
 
 use crate::fault::WordsFault;
 use crate::reading::words_by_clap;
-use facl_usage::{Tool, Words, fits, rows_for};
+use crate::rules::fits;
+use crate::table::rows_for;
+use crate::tool::Tool;
+use crate::words::Words;
 use std::alloc::Global;
 
 /// The words after a tool's name, read as the tool takes them: flags, options and operands.

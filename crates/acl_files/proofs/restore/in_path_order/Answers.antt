@@ -2,7 +2,7 @@ use Rattle.std.proofs.Common.{rules, of_calls}
 use Rattle.std.proofs.lemmas.Fn.{always_returns_same}
 use Rattle.std.proofs.lemmas.List.Sorted.{ranks_by, IsPermutation-map}
 use Rattle.acl_names.proofs.PathOrder.{path_total}
-use Rattle.acl_load.proofs.SortedRecords.{is_before, sorted_are}
+use Rattle.acl_files.proofs.SortedRecords.{is_before, sorted_are}
 use Rattle.acl_files.specs.Inner.{RestoredFile}
 use Rattle.acl_files.proofs.Restored.{sorted_map}
 use Rattle.acl_files.proofs.restore.in_path_order.Goals as goal

@@ -7,7 +7,7 @@ use Rattle.acl_dump.specs.OwnPaths.{have_own_paths}
 use Rattle.acl_dump.specs.declared.record.DumpRecord.{DumpRecord}
 use Rattle.path_map.specs.Merged.{put_all}
 use Rattle.acl_edit.specs.declared.node.Node.{Node}
-use Rattle.acl_load.specs.Loading.{in_path_order, record_at}
+use Rattle.acl_files.specs.Loading.{in_path_order, record_at}
 use Rattle.acl_files.specs.Files.{PathOf, Files, Recorded, IsInOrder}
 use Rattle.acl_files.specs.Sound.{IsSoundTree}
 use Rattle.acl_files.specs.Changed.{changed_between, gone_between}

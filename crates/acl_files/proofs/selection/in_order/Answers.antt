@@ -5,7 +5,7 @@ use Rattle.std.proofs.lemmas.List.Sorted.{ranks_by, list_any-IsPermutation}
 use Rattle.acl_names.specs.Paths.{path_cmp}
 use Rattle.acl_names.proofs.PathOrder.{path_total}
 use Rattle.acl_files.specs.Operands.{means, is_file}
-use Rattle.acl_load.proofs.Shared.{any-map}
+use Rattle.acl_files.proofs.Shared.{any-map}
 use Rattle.acl_files.proofs.Selected.{ascend_sorted}
 use Rattle.acl_files.proofs.selection.in_order.Goals as goal
 

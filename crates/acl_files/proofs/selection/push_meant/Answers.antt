@@ -5,7 +5,7 @@ use Rattle.acl_files.specs.Files.{PathOf, Files}
 use Rattle.acl_files.specs.Operands.{means}
 use Rattle.acl_files.specs.Sound.{holds_below}
 use Rattle.acl_files.specs.Found.{found_file, found_in}
-use Rattle.acl_load.specs.Inner.{next_file_below}
+use Rattle.acl_files.specs.Inner.{next_file_below}
 use Rattle.acl_files.proofs.Selected.{IsAtEnd, end_begins, end_more, meant_from, none_meant, next_at_end}
 use Rattle.acl_files.proofs.selection.push_meant.Goals as goal
 

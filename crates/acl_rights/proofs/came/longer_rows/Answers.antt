@@ -1,9 +1,9 @@
 use Rattle.std.proofs.Common.{map, sym, subst}
 use Rattle.acl_tree.specs.Files.{PathOf}
 use Rattle.std.proofs.Common.{ℕ, List}
-use Rattle.acl_edit.specs.declared.node.Node.{Node}
+use Rattle.acl_tree.specs.acl_edit.declared.node.Node.{Node}
 use Rattle.path_map.specs.Entries.{IsInOrder}
-use Rattle.acl_group_files.proofs.Maps.{whole_at_end, none_seen}
+use Rattle.acl_rights.proofs.Maps.{whole_at_end, none_seen}
 use Rattle.acl_rights.proofs.Orders.{same_order}
 use Rattle.acl_rights.proofs.came.longer_rows.Goals as goal
 

@@ -1,5 +1,5 @@
 use Rattle.std.proofs.Common.{◌≡◌, ◌+◌, ◌≤◌, ◌++◌, ◌∷◌, [], List, length, map}
-use Rattle.acl_entry.specs.Person.{Person}
+use Rattle.acl_tree.specs.acl_entry.Person.{Person}
 use Rattle.acl_rights.specs.Tables.{rows_of}
 use Rattle.acl_rights.proofs.came.longer_rows.Given as goal
 

@@ -1,7 +1,7 @@
 use Rattle.std.proofs.Common.{map, ap, subst, ◌∙◌}
 use Rattle.path_map.specs.Entries.{IsInOrder}
 use Rattle.path_map.specs.Merged.{merged}
-use Rattle.acl_people.specs.Registers.{persons}
+use Rattle.acl_tree.specs.acl_people.Registers.{persons}
 use Rattle.acl_tree.specs.Files.{Recorded}
 use Rattle.acl_rights.specs.Tables.{rows_of}
 use Rattle.acl_rights.proofs.Goes.{puts_order, gone_order, changed_goes}

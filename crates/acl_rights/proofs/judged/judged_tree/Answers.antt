@@ -1,9 +1,9 @@
 use Rattle.std.proofs.Common.{ℕ, List, sym, subst, ap, length, map, ◌∙◌}
-use Rattle.acl_edit.specs.declared.node.Node.{Node}
+use Rattle.acl_tree.specs.acl_edit.declared.node.Node.{Node}
 use Rattle.acl_tree.specs.Files.{PathOf}
 use Rattle.path_map.specs.Entries.{IsInOrder}
 use Rattle.acl_rights.specs.Tables.{cells_of, rows_of}
-use Rattle.acl_group_files.proofs.Maps.{map_values, whole_at_end, counted, walked}
+use Rattle.acl_rights.proofs.Maps.{map_values, whole_at_end, counted, walked}
 use Rattle.acl_rights.proofs.judged.judged_tree.Goals as goal
 
 pub loop-file-preserved : goal.loop-file-preserved

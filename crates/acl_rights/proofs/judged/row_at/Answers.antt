@@ -1,5 +1,5 @@
 use Rattle.std.proofs.Common.{ℕ, List, ◌<◌, length, arith, refl, sym, ap, ◌∙◌}
-use Rattle.acl_edit.specs.declared.node.Node.{Node}
+use Rattle.acl_tree.specs.acl_edit.declared.node.Node.{Node}
 use Rattle.path_map.specs.Entries.{PathOf}
 use Rattle.acl_rights.proofs.Lines.{same_label_row}
 use Rattle.acl_rights.proofs.judged.row_at.Goals as goal

@@ -2,7 +2,7 @@ use Rattle.std.proofs.Common.{ℕ, List, sym, subst, map}
 use Rattle.path_map.specs.Entries.{IsInOrder}
 use Rattle.std.specs.List.{remove}
 use Rattle.acl_tree.specs.Files.{PathOf}
-use Rattle.acl_group_files.proofs.Maps.{map_values, whole_at_end}
+use Rattle.acl_rights.proofs.Maps.{map_values, whole_at_end}
 use Rattle.acl_rights.proofs.left.shorter_rows.Goals as goal
 
 pub from_sorted-requires : goal.from_sorted-requires

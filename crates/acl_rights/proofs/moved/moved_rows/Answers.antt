@@ -1,15 +1,15 @@
 use Rattle.std.proofs.Common.{ℕ, List, length, map, filter, ap, sym, subst, ◌∙◌, arith}
-use Rattle.acl_names.specs.declared.path.Path.{Path}
-use Rattle.acl_edit.specs.declared.node.Node.{Node}
+use Rattle.acl_tree.specs.acl_names.declared.path.Path.{Path}
+use Rattle.acl_tree.specs.acl_edit.declared.node.Node.{Node}
 use Rattle.acl_tree.specs.Files.{PathOf, Recorded}
-use Rattle.acl_people.specs.Registers.{persons}
+use Rattle.acl_tree.specs.acl_people.Registers.{persons}
 use Rattle.path_map.specs.Entries.{IsInOrder}
 use Rattle.path_map.specs.Merged.{put_all}
 use Rattle.acl_rights.specs.Tables.{cells_of}
 use Rattle.acl_rights.specs.Stages.{mentions_one}
-use Rattle.acl_group_files.proofs.Maps.{map_values, map_filter, same_length}
+use Rattle.acl_rights.proofs.Maps.{map_values, map_filter, same_length}
 use Rattle.acl_rights.proofs.Costs.{moved_cost}
-use Rattle.acl_group_files.proofs.Listed.{looked_le}
+use Rattle.acl_rights.proofs.Listed.{looked_le}
 use Rattle.std.specs.declared.rc.Rc.{Rc}
 use Rattle.std.proofs.Common.{Global}
 use Rattle.acl_rights.proofs.Goes.{moved_goes}

@@ -1,9 +1,9 @@
 use Rattle.std.proofs.Common.{ℕ, List, filter, is_some, ap, subst, ◌∙◌, arith}
 use Rattle.std.specs.FinMap.{find}
-use Rattle.acl_names.specs.Paths.{path_cmp}
-use Rattle.acl_edit.specs.declared.node.Node.{Node}
+use Rattle.acl_tree.specs.acl_names.Paths.{path_cmp}
+use Rattle.acl_tree.specs.acl_edit.declared.node.Node.{Node}
 use Rattle.acl_tree.specs.Files.{PathOf, Recorded}
-use Rattle.acl_people.specs.Registers.{persons}
+use Rattle.acl_tree.specs.acl_people.Registers.{persons}
 use Rattle.path_map.specs.Entries.{IsInOrder}
 use Rattle.acl_rights.specs.Stages.{mentions_one}
 use Rattle.acl_rights.specs.Tables.{cells_of}

@@ -1,5 +1,5 @@
 use Rattle.std.proofs.Common.{map, ap, sym, subst, ◌∙◌}
-use Rattle.acl_people.specs.Registers.{persons}
+use Rattle.acl_tree.specs.acl_people.Registers.{persons}
 use Rattle.acl_tree.specs.Files.{Files}
 use Rattle.acl_rights.specs.Tables.{Rows}
 use Rattle.acl_rights.specs.Kept.{IsAgain}

@@ -1,7 +1,7 @@
 use Rattle.std.proofs.Common.{◌≡◌, ◌≤◌, ◌<◌, ◌^◌, arith, ◌∙◌, sym, ap, subst}
 use Rattle.acl_tree.specs.Files.{Recorded}
 use Rattle.path_map.specs.Entries.{IsInOrder}
-use Rattle.acl_reach.specs.Differing.{differing}
+use Rattle.acl_verdicts.specs.Differing.{differing}
 use Rattle.acl_rights.specs.Reach.{reached_rows, most_refreshed, unlike, place_left}
 use Rattle.acl_rights.proofs.Refreshed.{line_most, line_fits}
 use Rattle.acl_rights.proofs.reach.whole_reached.Goals as goal

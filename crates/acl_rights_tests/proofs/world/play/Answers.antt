@@ -1,8 +1,8 @@
 use Rattle.std.proofs.Common.{◌*◌, ◌≤◌, length, subst, sym, arith}
-use Rattle.acl_entry.specs.Check.{rights}
-use Rattle.acl_people.specs.Registers.{Register}
-use Rattle.acl_tree.specs.Files.{Recorded}
-use Rattle.acl_tree.specs.Step.{State}
+use Rattle.acl_rights.specs.acl_entry.Check.{rights}
+use Rattle.acl_rights.specs.acl_people.Registers.{Register}
+use Rattle.acl_rights.specs.acl_tree.Files.{Recorded}
+use Rattle.acl_rights.specs.acl_tree.Step.{State}
 use Rattle.acl_rights.specs.Tables.{Table, IsWhole}
 use Rattle.acl_rights.proofs.Costs.{times_le}
 use Rattle.acl_rights_tests.proofs.world.play.Goals as goal

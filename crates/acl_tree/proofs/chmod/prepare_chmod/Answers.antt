@@ -1,5 +1,5 @@
 use Rattle.std.proofs.Common.{◌≡◌, ◌++◌, Ok, map, sym, ap, subst, ◌∙◌}
-use Rattle.acl_edit.specs.Nodes as nodes
+use Rattle.acl_files.specs.acl_edit.Nodes as nodes
 use Rattle.acl_people.specs.Registers.{Register}
 use Rattle.acl_files.specs.Files.{Recorded}
 use Rattle.acl_files.specs.Sound.{IsSoundTree}

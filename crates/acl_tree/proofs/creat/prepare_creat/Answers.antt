@@ -1,8 +1,8 @@
 use Rattle.std.proofs.Common.{◌≡◌, ◌∷◌, ◌++◌, [], Ok, map, ap, sym, subst, ◌∙◌}
 use Rattle.std.specs.FinMap.{put}
-use Rattle.acl_names.specs.Paths.{path_cmp}
-use Rattle.acl_edit.specs.declared.node.Node.{Node}
-use Rattle.path_map.specs.Merged.{put_all}
+use Rattle.acl_files.specs.acl_names.Paths.{path_cmp}
+use Rattle.acl_files.specs.acl_edit.declared.node.Node.{Node}
+use Rattle.acl_files.specs.path_map.Merged.{put_all}
 use Rattle.acl_files.specs.Files.{PathOf, Files, Recorded}
 use Rattle.acl_files.specs.Sound.{IsSoundTree}
 use Rattle.acl_tree.specs.Creat.{creat_by}

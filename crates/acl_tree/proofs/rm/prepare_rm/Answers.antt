@@ -1,7 +1,7 @@
 use Rattle.std.proofs.Common.{◌≡◌, false, None, Ok, map, not, ap, sym, subst, ◌∙◌}
 use Rattle.std.specs.List.{AllByRecursion}
-use Rattle.path_map.specs.Merged.{without_all}
-use Rattle.path_map.proofs.Rows.{in_order-filter}
+use Rattle.acl_files.specs.path_map.Merged.{without_all}
+use Rattle.acl_files.proofs.of_path_map.Rows.{in_order-filter}
 use Rattle.acl_files.specs.Files.{Files, Recorded, IsInOrder}
 use Rattle.acl_files.specs.Changed.{changed_between, gone_between}
 use Rattle.acl_files.specs.Inner.{file_of}

@@ -1,7 +1,7 @@
 use Rattle.std.proofs.Common.{rules, ◌∙◌, ℕ, sym, ap, subst, Ok}
 use Rattle.std.proofs.lemmas.Result.{err_from_is_err_and}
-use Rattle.acl_tree.specs.Step.{State}
-use Rattle.facl_messages.specs.Faults.{run_fault_of_script}
+use Rattle.facl_tools.specs.acl_tree.Step.{State}
+use Rattle.facl_tools.specs.facl_messages.Faults.{run_fault_of_script}
 use Rattle.facl.specs.Runs.{EndsBy}
 use Rattle.facl.specs.Sessions.{state_of}
 use Rattle.facl.specs.Costs.{all_pairs}

@@ -1,10 +1,10 @@
 use Rattle.std.proofs.Common.{◌≡◌, length, true, sym, subst}
 use Rattle.std.specs.List.{list_all}
-use Rattle.acl_names.specs.Paths.{is_component}
-use Rattle.acl_dump.specs.Again.{IsListIf}
-use Rattle.acl_edit.specs.declared.node.Node.{Node}
-use Rattle.acl_tree.specs.Files.{PathOf}
-use Rattle.acl_people.specs.Registers.{Register}
+use Rattle.acl_rights.specs.acl_names.Paths.{is_component}
+use Rattle.acl_rights.specs.acl_dump.Again.{IsListIf}
+use Rattle.acl_rights.specs.acl_edit.declared.node.Node.{Node}
+use Rattle.acl_rights.specs.acl_tree.Files.{PathOf}
+use Rattle.acl_rights.specs.acl_people.Registers.{Register}
 use Rattle.facl_listings.specs.Again.{user_id, group_id, user_name, group_name, IsReadAgain}
 use Rattle.facl_listings.proofs.again.file_is_read_again.Goals as goal
 

@@ -1,6 +1,6 @@
-use Rattle.acl_dump.specs.declared.record.DumpUse.TheVariants.{Restore}
-use Rattle.acl_tree.specs.Operands.{files_meant}
-use Rattle.acl_tree.specs.Step.{State, state_from}
+use Rattle.acl_rights.specs.acl_dump.declared.record.DumpUse.TheVariants.{Restore}
+use Rattle.acl_rights.specs.acl_tree.Operands.{files_meant}
+use Rattle.acl_rights.specs.acl_tree.Step.{State, state_from}
 use Rattle.facl_listings.specs.Again.{user_id, group_id, user_name, group_name}
 use Rattle.facl_listings.proofs.Reloaded.{records_of}
 use Rattle.facl_listings.proofs.RestoredAgain.{restored_again}

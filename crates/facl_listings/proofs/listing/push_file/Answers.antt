@@ -1,8 +1,8 @@
 use Rattle.std.proofs.Common.{◌≡◌, ◌++◌, ℕ, List, ap, ◌∙◌, append_assoc, arith}
 use Rattle.std.proofs.lemmas.Grind.{common_steps}
-use Rattle.acl_names.proofs.Appended.{still_begins}
-use Rattle.acl_text.specs.declared.fault.Which.TheVariants.{Access}
-use Rattle.acl_dump.specs.Writing.{list_text}
+use Rattle.acl_rights.proofs.of_acl_names.Appended.{still_begins}
+use Rattle.acl_rights.specs.acl_text.declared.fault.Which.TheVariants.{Access}
+use Rattle.acl_rights.specs.acl_dump.Writing.{list_text}
 use Rattle.facl_listings.specs.Listings.{headers}
 use Rattle.facl_listings.proofs.listing.push_file.Goals as goal
 

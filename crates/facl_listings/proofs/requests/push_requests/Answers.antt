@@ -1,8 +1,8 @@
 use Rattle.std.proofs.Common.{◌+◌, ◌++◌, ◌∷◌, [], ℕ, List, get_or, take, lit<, sym, ap, ◌∙◌, arith}
 use Rattle.std.proofs.lemmas.Grind.{common_steps}
-use Rattle.acl_entry.specs.Perms.{numbered}
-use Rattle.acl_entry.specs.Check.{has}
-use Rattle.acl_names.proofs.Appended.{still_begins}
+use Rattle.acl_rights.specs.acl_entry.Perms.{numbered}
+use Rattle.acl_rights.specs.acl_entry.Check.{has}
+use Rattle.acl_rights.proofs.of_acl_names.Appended.{still_begins}
 use Rattle.facl_listings.proofs.Spaced.{spaced, is_empty, among, not_empty, one_granted, one_refused, below_eight, text_step}
 use Rattle.facl_listings.proofs.requests.push_requests.Goals as goal
 use Rattle.facl_listings.proofs.requests.push_requests.Goals.{in-Some+then-has+in_ok-push_request, in-Some+else-has, in_default}

@@ -1,6 +1,6 @@
 use Rattle.std.proofs.Common.{take, arith}
 use Rattle.std.proofs.lemmas.Grind.{common_steps}
-use Rattle.acl_names.proofs.Appended.{still_begins}
+use Rattle.acl_rights.proofs.of_acl_names.Appended.{still_begins}
 use Rattle.facl_listings.specs.TestListing.{test_listing}
 use Rattle.facl_listings.proofs.test_listing.push_files.Goals as goal
 

@@ -1,8 +1,8 @@
 use Rattle.std.proofs.Common.{ℕ, List, [], subst}
 use Rattle.std.specs.List.{slice_index_or}
-use Rattle.acl_tree.specs.declared.command.Command.TheVariants.{Gpasswd}
-use Rattle.facl_replies.specs.Operands.{name_meant}
-use Rattle.facl_replies.specs.Replies.{Replies, done}
+use Rattle.facl_listings.specs.acl_tree.declared.command.Command.TheVariants.{Gpasswd}
+use Rattle.facl_tools.specs.Operands.{name_meant}
+use Rattle.facl_tools.specs.Replies.{Replies, done}
 use Rattle.facl_tools.proofs.gpasswd.gpasswd_user.Goals as goal
 
 pub returns : goal.returns

@@ -1,8 +1,8 @@
 use Rattle.std.proofs.Common.{◌≡◌, sym, None, Ok, subst}
-use Rattle.acl_tree.specs.Files.{IsInOrder}
-use Rattle.acl_tree.specs.Operands.{first_missing}
-use Rattle.acl_tree.specs.Restoring.{paths_of}
-use Rattle.acl_tree.specs.Step.{step}
+use Rattle.facl_listings.specs.acl_tree.Files.{IsInOrder}
+use Rattle.facl_listings.specs.acl_tree.Operands.{first_missing}
+use Rattle.facl_listings.specs.acl_tree.Restoring.{paths_of}
+use Rattle.facl_listings.specs.acl_tree.Step.{step}
 use Rattle.facl_tools.proofs.StillThere.{edited_are_there, restored_are_there}
 use Rattle.facl_tools.proofs.tested.files_after.Goals as goal
 

@@ -1,7 +1,7 @@
 use Rattle.std.proofs.Common.{◌∙◌, ap, false, Ok, subst}
-use Rattle.acl_tree.specs.Found.{files_found}
-use Rattle.acl_tree.specs.Restoring.{paths_of}
-use Rattle.facl_replies.specs.Replies.{Gives}
+use Rattle.facl_listings.specs.acl_tree.Found.{files_found}
+use Rattle.facl_listings.specs.acl_tree.Restoring.{paths_of}
+use Rattle.facl_tools.specs.Replies.{Gives}
 use Rattle.facl_tools.proofs.tested.files_of_records.Goals as goal
 
 pub returns : goal.returns

@@ -1,6 +1,6 @@
 use Rattle.std.proofs.Common.{ℕ, List, subst}
-use Rattle.acl_tree.specs.declared.command.Command.TheVariants.{Userdel}
-use Rattle.facl_replies.specs.Replies.{Replies, done}
+use Rattle.facl_listings.specs.acl_tree.declared.command.Command.TheVariants.{Userdel}
+use Rattle.facl_tools.specs.Replies.{Replies, done}
 use Rattle.facl_tools.proofs.userdel.userdel.Goals as goal
 
 pub returns : goal.returns

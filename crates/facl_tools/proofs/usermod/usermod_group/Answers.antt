@@ -1,7 +1,7 @@
 use Rattle.std.proofs.Common.{ℕ, List, subst}
-use Rattle.acl_tree.specs.declared.command.Command.TheVariants.{Usermod}
-use Rattle.facl_replies.specs.Operands.{name_meant}
-use Rattle.facl_replies.specs.Replies.{Replies, done}
+use Rattle.facl_listings.specs.acl_tree.declared.command.Command.TheVariants.{Usermod}
+use Rattle.facl_tools.specs.Operands.{name_meant}
+use Rattle.facl_tools.specs.Replies.{Replies, done}
 use Rattle.facl_tools.proofs.usermod.usermod_group.Goals as goal
 
 pub returns : goal.returns

@@ -1,5 +1,5 @@
 use Rattle.std.proofs.Common.{true, subst, map, string_bytes}
-use Rattle.facl_replies.specs.Replies.{Gives}
+use Rattle.facl_tools.specs.Replies.{Gives}
 use Rattle.facl.specs.Sessions.{state_of, ran_out_of_memory}
 use Rattle.facl.specs.Units.{words_of_line}
 use Rattle.facl.proofs.Refusing.{refused_line}

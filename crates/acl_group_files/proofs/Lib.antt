@@ -1,4 +1,0 @@
-pub mod Maps
-pub mod Listed
-pub mod Replaced
-pub mod Noting

@@ -1,5 +1,0 @@
-pub mod Shared
-pub mod Follows
-pub mod Loaded
-pub mod Mapped
-pub mod SortedRecords

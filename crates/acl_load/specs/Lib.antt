@@ -1,4 +1,0 @@
-pub mod Below
-pub mod Files
-pub mod Loading
-pub mod Inner

@@ -1,6 +1,0 @@
-pub mod Orders
-pub mod Walks
-mod Begins
-mod Nearest
-mod Changes
-mod Tops

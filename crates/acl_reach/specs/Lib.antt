@@ -1,4 +1,0 @@
-pub mod Reach
-pub mod Differing
-pub mod Walks
-pub mod Subtrees

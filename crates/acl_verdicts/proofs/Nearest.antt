@@ -1,0 +1,224 @@
+-- The nearest row above a path, by search.
+use Rattle.std.proofs.Common.{◌≡◌, ℕ, ◌<◌, Bool, true, false, cond, ◌&&◌, List, [], ◌∷◌, ◌++◌, length, Option, Some, None, Ordering, Less, Equal, Greater, IsTrue, refl, sym, ap, subst, ◌∙◌, arith}
+use Rattle.std.specs.Prelude.{if◌then◌else◌}
+use Rattle.std.specs.Option.{option_or}
+use Rattle.std.specs.List.{AllByRecursion, list_all}
+use Rattle.std.specs.Ordering.{is_gt, is_eq, is_lt, nat_cmp}
+use Rattle.std.specs.Cmp.Lexicographic.{slice_cmp}
+use Rattle.std.specs.FinMap.{is_sorted}
+use Rattle.std.specs.FinMap.Entries.{below_all}
+use Rattle.std.proofs.lemmas.Bool.{and_parts}
+use Rattle.std.proofs.lemmas.Cmp.{tied_itself, nat_list_cmp_total}
+use Rattle.acl_files.specs.acl_names.Paths.{path_cmp, is_component}
+use Rattle.acl_files.proofs.of_acl_names.PathOrder.{path_total, exact_paths}
+use Rattle.acl_files.specs.Below.{is_within, is_below}
+use Rattle.path_map.specs.Entries.{PathOf, IsInOrder}
+use Rattle.path_map.specs.Below.{up_to}
+use Rattle.path_map.proofs.Places.{above, below}
+use Rattle.path_map.proofs.Convex.{convex, not_before}
+use Rattle.acl_verdicts.specs.Rows.{Rows}
+use Rattle.acl_verdicts.specs.Walks.{nearest_from}
+use Rattle.acl_verdicts.specs.Subtrees.{IsNearest, common}
+use Rattle.acl_verdicts.proofs.Walks.{both, all-append, exact_names, below_less, below_within, within_below, within_trans, false_from}
+use Rattle.acl_verdicts.proofs.Begins.{clash, from_less, within_itself, early_not_within, parent, below_parent}
+
+less : (o : Ordering) → is_lt o ≡ true → o ≡ Less
+less Less h = refl
+less Equal h = cc
+less Greater h = cc
+
+-- ---- what two paths have in common
+
+-- it is above both, or one of them
+common_within : (p q : PathOf) → is_within (common p q) p ≡ true
+common_within [] q = refl
+common_within (x ∷ p) [] = refl
+common_within (x ∷ p) (y ∷ q) = by (is_eq (slice_cmp nat_cmp x y)) (common_within p q)
+  where
+    by : (b : Bool) → is_within (common p q) p ≡ true → is_within (cond b (x ∷ common p q) []) (x ∷ p) ≡ true
+    by true more = both _ _ (ap is_eq (tied_itself nat_list_cmp_total x)) more
+    by false more = refl
+
+pub common_shorter : (p q : PathOf) → is_within p q ≡ false → length (common p q) < length p
+common_shorter [] q h = cc
+common_shorter (x ∷ p) [] h = omega arith
+common_shorter (x ∷ p) (y ∷ q) h = by (is_eq (slice_cmp nat_cmp x y)) h (common_shorter p q)
+  where
+    by : (b : Bool) → (b && is_within p q) ≡ false → (is_within p q ≡ false → length (common p q) < length p) → length (cond b (x ∷ common p q) []) < length (x ∷ p)
+    by true out more = let lt = more out in omega (arith, lt)
+    by false out more = omega arith
+
+-- what is above both is above it, or is it
+common_above : (e p q : PathOf) → is_within e p ≡ true → is_within e q ≡ true → is_within e (common p q) ≡ true
+common_above [] p q h k = refl
+common_above (a ∷ e) [] q h k = cc
+common_above (a ∷ e) (x ∷ p) [] h k = cc
+common_above (a ∷ e) (x ∷ p) (y ∷ q) h k =
+    let in_p = and_parts (is_eq (slice_cmp nat_cmp a x)) (is_within e p) h in
+    let in_q = and_parts (is_eq (slice_cmp nat_cmp a y)) (is_within e q) k in
+    let first : a ≡ x = exact_names a x (equal _ in_p.0) in
+    let same : is_eq (slice_cmp nat_cmp x y) ≡ true = ap (λ z. is_eq (slice_cmp nat_cmp z y)) (sym first) ∙ in_q.0 in
+    ap (λ b. is_within (a ∷ e) (cond b (x ∷ common p q) [])) same ∙ both _ _ in_p.0 (common_above e p q in_p.1 in_q.1)
+  where
+    equal : (o : Ordering) → is_eq o ≡ true → o ≡ Equal
+    equal Less h = cc
+    equal Equal h = refl
+    equal Greater h = cc
+
+-- ---- the last row that is not after a path
+
+after_out : (t e : PathOf) → is_lt (path_cmp t e) ≡ true → is_within e t ≡ false
+after_out t e lt = early_not_within e t (ap is_gt (above t e (less (path_cmp t e) lt)))
+
+-- entries that are all after a path
+abbrev AllAfter : {A : Type 0} → PathOf → List (PathOf × A) → Type 0
+AllAfter t es = AllByRecursion (λ e. is_lt (path_cmp t e.0) ≡ true) es
+
+-- what is above a path is at or above another
+abbrev pub Alike : {A : Type 0} → PathOf → PathOf → List (PathOf × A) → Type 0
+Alike p t es = AllByRecursion (λ e. is_below e.0 p ≡ is_within e.0 t) es
+
+-- those up to a path are up to another
+abbrev Bounded : {A : Type 0} → PathOf → PathOf → List (PathOf × A) → Type 0
+Bounded t r es = AllByRecursion (λ e. is_lt (path_cmp t e.0) ≡ false → is_gt (path_cmp e.0 r) ≡ false) es
+
+module _ {A : Type 0} where
+  none_above : (t : PathOf) (es : List (PathOf × A)) → up_to t es ≡ None → AllAfter t es
+  none_above t [] h = tt
+  none_above t (e ∷ es) h = by (up_to t es) refl (is_lt (path_cmp t e.0)) refl h (none_above t es)
+    where
+      by : (u : Option (PathOf × A)) → up_to t es ≡ u → (b : Bool) → is_lt (path_cmp t e.0) ≡ b → option_or u (cond b None (Some e)) ≡ None → (up_to t es ≡ None → AllAfter t es) → AllAfter t (e ∷ es)
+      by None is true lt k more = (lt, more is)
+      by None is false lt k more = cc
+      by (Some r) is b lt k more = cc
+
+  skip_after : (o : Option A) (p t : PathOf) (es : List (PathOf × A)) → Alike p t es → AllAfter t es → nearest_from o p es ≡ o
+  skip_after o p t [] a h = refl
+  skip_after o p t (e ∷ es) a h = ap (λ b. nearest_from (if b then Some e.1 else o) p es) (a.0 ∙ after_out t e.0 h.0) ∙ skip_after o p t es a.1 h.1
+
+  found_last : (o : Option A) (p t : PathOf) (es : List (PathOf × A)) (r : PathOf × A) → Alike p t es → up_to t es ≡ Some r → is_within r.0 t ≡ true → nearest_from o p es ≡ Some r.1
+  found_last o p t [] r a h w = cc
+  found_last o p t (e ∷ es) r a h w = by (up_to t es) refl (is_lt (path_cmp t e.0)) h (λ k. found_last (if is_below e.0 p then Some e.1 else o) p t es r a.1 k w)
+    where
+      by : (u : Option (PathOf × A)) → up_to t es ≡ u → (b : Bool) → option_or u (cond b None (Some e)) ≡ Some r
+          → (up_to t es ≡ Some r → nearest_from (if is_below e.0 p then Some e.1 else o) p es ≡ Some r.1)
+          → nearest_from (if is_below e.0 p then Some e.1 else o) p es ≡ Some r.1
+      by (Some s) is b k more = more (is ∙ k)
+      by None is true k more = cc
+      by None is false k more =
+          let same : e ≡ r = cc in
+          ap (λ b. nearest_from (if b then Some e.1 else o) p es) (a.0 ∙ ap (λ x. is_within x.0 t) same ∙ w)
+          ∙ skip_after (Some e.1) p t es a.1 (none_above t es is)
+          ∙ ap (λ x. Some x.1) same
+
+  last_early : (t : PathOf) (es : List (PathOf × A)) (r : PathOf × A) → up_to t es ≡ Some r → is_lt (path_cmp t r.0) ≡ false
+  last_early t [] r h = cc
+  last_early t (e ∷ es) r h = by (up_to t es) refl (is_lt (path_cmp t e.0)) refl h (last_early t es r)
+    where
+      by : (u : Option (PathOf × A)) → up_to t es ≡ u → (b : Bool) → is_lt (path_cmp t e.0) ≡ b → option_or u (cond b None (Some e)) ≡ Some r
+          → (up_to t es ≡ Some r → is_lt (path_cmp t r.0) ≡ false) → is_lt (path_cmp t r.0) ≡ false
+      by (Some s) is b lt k more = more (is ∙ k)
+      by None is true lt k more = cc
+      by None is false lt k more = let same : e ≡ r = cc in ap (λ x. is_lt (path_cmp t x.0)) (sym same) ∙ lt
+
+  last_later : (x t : PathOf) (es : List (PathOf × A)) (r : PathOf × A) → IsTrue (below_all path_cmp x es) → up_to t es ≡ Some r → path_cmp x r.0 ≡ Less
+  last_later x t [] r b h = cc
+  last_later x t (e ∷ es) r b h =
+      let parts = and_parts (is_lt (path_cmp x e.0)) (below_all path_cmp x es) b in
+      by (up_to t es) refl (is_lt (path_cmp t e.0)) h parts.0 (last_later x t es r parts.1)
+    where
+      by : (u : Option (PathOf × A)) → up_to t es ≡ u → (c : Bool) → option_or u (cond c None (Some e)) ≡ Some r → is_lt (path_cmp x e.0) ≡ true
+          → (up_to t es ≡ Some r → path_cmp x r.0 ≡ Less) → path_cmp x r.0 ≡ Less
+      by (Some s) is c k here more = more (is ∙ k)
+      by None is true k here more = cc
+      by None is false k here more = let same : e ≡ r = cc in ap (λ z. path_cmp x z.0) (sym same) ∙ less _ here
+
+  -- an entry that is not after a path is not after the last such
+  last_bound : (t : PathOf) (es : List (PathOf × A)) (r : PathOf × A) → IsInOrder es → up_to t es ≡ Some r → Bounded t r.0 es
+  last_bound t [] r o h = tt
+  last_bound t (e ∷ es) r o h =
+      let parts = and_parts (below_all path_cmp e.0 es) (is_sorted path_cmp es) o in
+      by (up_to t es) refl (is_lt (path_cmp t e.0)) h parts.0 (last_bound t es r parts.1)
+    where
+      vacuous : (fs : List (PathOf × A)) → AllAfter t fs → Bounded t r.0 fs
+      vacuous [] a = tt
+      vacuous (f ∷ fs) a = ((λ k. absurd (clash (is_lt (path_cmp t f.0)) a.0 k)), vacuous fs a.1)
+
+      by : (u : Option (PathOf × A)) → up_to t es ≡ u → (c : Bool) → option_or u (cond c None (Some e)) ≡ Some r → IsTrue (below_all path_cmp e.0 es)
+          → (up_to t es ≡ Some r → Bounded t r.0 es) → Bounded t r.0 (e ∷ es)
+      by (Some s) is c k first more = ((λ z. ap is_gt (last_later e.0 t es r first (is ∙ k))), more (is ∙ k))
+      by None is true k first more = cc
+      by None is false k first more =
+          let same : e ≡ r = cc in
+          ((λ z. ap (λ x. is_gt (path_cmp e.0 x.0)) (sym same) ∙ ap is_gt (tied_itself path_total e.0)), vacuous es (none_above t es is))
+
+-- ---- the search
+
+within_then_below : (p s t : PathOf) → is_within p s ≡ true → is_below s t ≡ true → is_below p t ≡ true
+within_then_below p s t w b = within_below p t (within_trans p s t w (below_within s t b)) (from_less p s t (not_before p s w) (below_less s t b))
+
+order_cases : (t r : PathOf) → is_lt (path_cmp t r) ≡ false → is_within r t ≡ false → path_cmp r t ≡ Less
+order_cases t r early out = by (path_cmp t r) refl
+  where
+    by : (o : Ordering) → path_cmp t r ≡ o → path_cmp r t ≡ Less
+    by Less is = absurd (clash (is_lt (path_cmp t r)) (ap is_lt is) early)
+    by Equal is = absurd (clash (is_within r t) (ap (is_within r) (exact_paths t r is) ∙ within_itself r) out)
+    by Greater is = below t r is
+
+-- the rows above a path are those at or above another path, which is above it
+pub record IsAhead (p : PathOf) (rows : Rows) (t : PathOf) : Type 0 where
+  pub inside : is_below t p ≡ true
+  pub alike : Alike p t rows
+
+pub ahead_begins : (p : PathOf) (rows : Rows) (t : PathOf) → (p ≡ [] → ⊥) → t ≡ parent p → IsAhead p rows t
+ahead_begins p rows t some is = subst (IsAhead p rows) (sym is) (record {
+  inside = below_parent (parent p) p some ∙ within_itself (parent p);
+  alike = all rows;
+})
+  where
+    all : (es : Rows) → Alike p (parent p) es
+    all [] = tt
+    all (e ∷ es) = (below_parent e.0 p some, all es)
+
+pub ahead_found : (p : PathOf) (rows : Rows) (t : PathOf) (r : PathOf × List ℕ) → IsAhead p rows t → up_to t rows ≡ Some r → is_within r.0 t ≡ true → IsNearest p rows (r ∷ [])
+ahead_found p rows t r w is inside = record {
+  below = (within_then_below r.0 t p inside w.inside, tt);
+  last = sym (found_last None p t rows r w.alike is inside);
+}
+
+pub ahead_ends : (p : PathOf) (rows : Rows) (t : PathOf) → IsAhead p rows t → up_to t rows ≡ None → IsNearest p rows []
+ahead_ends p rows t w is = record { below = tt; last = sym (skip_after None p t rows w.alike (none_above t rows is)) }
+
+module _ (p : PathOf) (rows : Rows) (t : PathOf) (r : PathOf × List ℕ) (order : IsInOrder rows) (is : up_to t rows ≡ Some r) (out : is_within r.0 t ≡ false) where
+  early : is_lt (path_cmp t r.0) ≡ false
+  early = last_early t rows r is
+
+  before : path_cmp r.0 t ≡ Less
+  before = order_cases t r.0 early out
+
+  pub ahead_shorter : length (common t r.0) < length t
+  ahead_shorter = common_shorter t r.0 (early_not_within t r.0 (ap is_gt (above r.0 t before)))
+
+  cut_alike : (e : PathOf) → (is_lt (path_cmp t e) ≡ false → is_gt (path_cmp e r.0) ≡ false) → is_within e t ≡ is_within e (common t r.0)
+  cut_alike e bound = by (is_within e t) refl
+    where
+      by : (b : Bool) → is_within e t ≡ b → b ≡ is_within e (common t r.0)
+      by true w = sym (common_above e t r.0 w (convex e r.0 t (bound (not_after w)) before w))
+        where
+          not_after : is_within e t ≡ true → is_lt (path_cmp t e) ≡ false
+          not_after w = false_from (is_lt (path_cmp t e)) (λ lt. clash (is_within e t) w (after_out t e lt))
+      by false w = sym (false_from (is_within e (common t r.0)) (λ k. clash (is_within e t) (within_trans e (common t r.0) t k (common_within t r.0)) w))
+
+  pub ahead_on : (next : PathOf) → next ≡ common t r.0 → IsAhead p rows t → IsAhead p rows next
+  ahead_on next same w = subst (IsAhead p rows) (sym same) (record {
+    inside = within_then_below (common t r.0) t p (common_within t r.0) w.inside;
+    alike = all rows w.alike (last_bound t rows r order is);
+  })
+    where
+      all : (es : Rows) → Alike p t es → Bounded t r.0 es → Alike p (common t r.0) es
+      all [] a b = tt
+      all (e ∷ es) a b = (a.0 ∙ cut_alike e.0 b.0, all es a.1 b.1)
+
+-- the first names of a path are components
+pub front_valid : (names more path : PathOf) → names ++ more ≡ path → IsTrue (list_all is_component path) → list_all is_component names ≡ true
+front_valid names more path is h = (and_parts (list_all is_component names) (list_all is_component more) (sym (all-append is_component names more) ∙ ap (list_all is_component) is ∙ h)).0

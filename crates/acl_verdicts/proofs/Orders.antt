@@ -1,0 +1,19 @@
+-- Path order, where values are made by paths and values.
+use Rattle.std.proofs.Common.{◌≡◌, ◌&&◌, List, [], ◌∷◌, map, refl, ap, ◌∙◌}
+use Rattle.std.specs.Ordering.{is_lt}
+use Rattle.std.specs.FinMap.{is_sorted}
+use Rattle.std.specs.FinMap.Entries.{below_all}
+use Rattle.acl_files.specs.acl_names.Paths.{path_cmp}
+use Rattle.path_map.specs.Entries.{PathOf, IsInOrder}
+
+module _ {A B : Type 0} (g : PathOf × A → B) where
+  below-values : (x : PathOf) (es : List (PathOf × A)) → below_all path_cmp x (map (λ e. (e.0, g e)) es) ≡ below_all path_cmp x es
+  below-values x [] = refl
+  below-values x (e ∷ es) = ap (λ b. is_lt (path_cmp x e.0) && b) (below-values x es)
+
+  sorted-values : (es : List (PathOf × A)) → is_sorted path_cmp (map (λ e. (e.0, g e)) es) ≡ is_sorted path_cmp es
+  sorted-values [] = refl
+  sorted-values (e ∷ es) = λ i. below-values e.0 es i && sorted-values es i
+
+  pub in_order-values : (es : List (PathOf × A)) → IsInOrder es → IsInOrder (map (λ e. (e.0, g e)) es)
+  in_order-values es h = sorted-values es ∙ h

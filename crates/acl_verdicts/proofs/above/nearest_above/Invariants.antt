@@ -1,0 +1,12 @@
+use Rattle.std.proofs.Common.{◌≡◌, [], length}
+use Rattle.acl_verdicts.proofs.Nearest.{IsAhead}
+use Rattle.acl_verdicts.proofs.above.nearest_above.Given as goal
+
+abbrev pub invariant-loop-row : goal.invariant-loop-row
+invariant-loop-row l = record {
+  ahead : IsAhead l.fn.path l.rows l.top;
+  none : l.above.items ≡ [];
+}
+
+abbrev pub decreases-loop-row : goal.decreases-loop-row
+decreases-loop-row l = length l.top

@@ -1,0 +1,69 @@
+-- The lines of all files, by the rows of a whole table.
+use Rattle.std.proofs.Common.{◌≡◌, ℕ, zero, suc, ◌+◌, ◌<◌, ◌++◌, append_assoc, arith, false, length, take, List, [], ◌∷◌, map, Some, None, refl, sym, ap, subst, ◌∙◌}
+use Rattle.std.specs.Prelude.{option_map, slice_get}
+use Rattle.std.specs.List.{flat_map}
+use Rattle.std.specs.Option.{option_map_or}
+use Rattle.std.specs.FinMap.{find}
+use Rattle.acl_rights.specs.acl_names.Names.{escaped}
+use Rattle.acl_rights.specs.acl_names.Paths.{path_cmp}
+use Rattle.acl_rights.specs.acl_text.declared.rows.PasswdRow.{PasswdRow}
+use Rattle.acl_rights.specs.acl_edit.declared.node.Node.{Node}
+use Rattle.acl_rights.specs.acl_people.Registers.{person, persons}
+use Rattle.acl_rights.specs.acl_tree.Files.{Files, IsInOrder}
+use Rattle.acl_rights.specs.acl_tree.Found.{FoundFile, found_file, found_in}
+use Rattle.acl_rights.specs.acl_tree.Sound.{holds_below}
+use Rattle.acl_rights.specs.acl_tree.Step.{State}
+use Rattle.acl_rights.proofs.of_acl_files.Changes.{find_it}
+use Rattle.acl_rights.specs.Tables.{Verdict, Table, IsWhole, cells_of}
+use Rattle.acl_rights.proofs.Asked.{row_is}
+use Rattle.facl_listings.specs.Listings.{path_shown}
+use Rattle.facl_listings.specs.Answers.{granted, verdict_line, all_files, index_text}
+use Rattle.facl_listings.specs.Inner.{row_lines, lines_in}
+
+-- one more of some rows
+pub one_more : {A B : Type 0} (f : A → B) (xs : List A) (i : ℕ) (x : A) → slice_get xs i ≡ Some x → map f (take (i + 1) xs) ≡ map f (take i xs) ++ f x ∷ []
+one_more f [] i x h = absurd (cc h)
+one_more f (y ∷ xs) zero x h = let same : y ≡ x = cc in ap (λ z. f z ∷ []) same
+one_more f (y ∷ xs) (suc i) x h = let on : suc i + 1 ≡ suc (i + 1) = omega arith in ap (λ k. map f (take k (y ∷ xs))) on ∙ ap (λ l. f y ∷ l) (one_more f xs i x h)
+
+-- there is a row at each place
+pub is_there : {A : Type 0} (xs : List A) (i : ℕ) → slice_get xs i ≡ None → i < length xs → ⊥
+is_there [] i h lt = omega arith
+is_there (x ∷ xs) zero h lt = cc h
+is_there (x ∷ xs) (suc i) h lt = is_there xs i h (omega arith)
+
+-- one name more, and the verdict on its user
+pub row_more : (path name : List ℕ) (names : List (List ℕ)) (cell : ℕ) (rest more : List ℕ) → rest ≡ cell ∷ more → row_lines path (name ∷ names) rest ≡ verdict_line cell name path ++ row_lines path names more
+row_more path name names cell rest more is = ap (row_lines path (name ∷ names)) is
+
+pub no_cell_left : (path : List ℕ) (names : List (List ℕ)) → row_lines path names [] ≡ []
+no_cell_left path [] = refl
+no_cell_left path (name ∷ names) = refl
+
+module _ (V : Verdict) (s : State) (t : Table) (whole : IsWhole V s t) (order : IsInOrder s.tree.files) where
+  abbrev written : List (List ℕ)
+  written = map (λ row. escaped row.name) s.people.users
+
+  -- the lines of a file, user by user
+  abbrev file_lines : FoundFile → List ℕ
+  file_lines file = flat_map (λ row. verdict_line (granted V false s row (file.path, file.node)) (escaped row.name) (path_shown file)) s.people.users
+
+  each_user : (path : List ℕ) (n : Node) (rows : List PasswdRow)
+      → row_lines path (map (λ row. escaped row.name) rows) (map (λ u. V u n.label) (map (person s.people.groups) rows))
+      ≡ flat_map (λ row. verdict_line (V (person s.people.groups row) n.label) (escaped row.name) path) rows
+  each_user path n [] = refl
+  each_user path n (row ∷ rows) = ap (λ l. verdict_line (V (person s.people.groups row) n.label) (escaped row.name) path ++ l) (each_user path n rows)
+
+  each_file : (done es : Files) → s.tree.files ≡ done ++ es → flat_map (lines_in t.rows written) (found_in s.tree.files es) ≡ flat_map file_lines (found_in s.tree.files es)
+  each_file done [] all = refl
+  each_file done (e ∷ es) all =
+      let file : FoundFile = found_file (holds_below s.tree.files e.0) e in
+      let recorded : find path_cmp e.0 s.tree.files ≡ Some e.1 = ap (find path_cmp e.0) all ∙ find_it done e es (subst IsInOrder all order) in
+      let row : find path_cmp e.0 t.rows ≡ Some (cells_of V (persons s.people) e.1) = row_is V s t whole e.0 ∙ ap (option_map (cells_of V (persons s.people))) recorded in
+      let here : lines_in t.rows written file ≡ file_lines file = ap (λ o. option_map_or (row_lines (path_shown file) written) o []) row ∙ each_user (path_shown file) e.1 s.people.users in
+      let more = each_file (done ++ e ∷ []) es (all ∙ sym (append_assoc done (e ∷ []) es)) in
+      λ i. here i ++ more i
+
+  -- the lines of all files
+  pub index_lines : flat_map (lines_in t.rows written) (all_files s) ≡ index_text V s
+  index_lines = each_file [] s.tree.files refl

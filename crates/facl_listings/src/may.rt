@@ -1,0 +1,71 @@
+//! The tool `may`: the files on which a user is granted a request.
+
+ghost use Rattle.std.specs.Prelude.{◌≡◌, ◌++◌, map, IfOk, OnOk, option_map};
+ghost use Rattle.std.specs.List.{flat_map};
+ghost use Rattle.acl_rights.specs.Tables.{IsWhole};
+ghost use Rattle.facl_listings.specs.Answers.{file_line, may_text};
+ghost use Rattle.facl_listings.specs.Inner.{is_first, in_step};
+
+use crate::files::all_files;
+use crate::granted::paths_granted;
+use crate::listing::push_path_shown;
+use acl_rights::{Found, Index, Judge, Path, Perm, State};
+use std::alloc::{AllocError, Global};
+use std::cmp::Ordering;
+use std::rc::Rc;
+
+/// Whether the first of some paths is this one.
+fn is_first(paths: &[Rc<Path>], path: &Path) -> bool
+    ensures { result ≡ is_first path.now (map (λ p. p.value) paths.now) }
+{
+    match paths {
+        [first, ..] => first.order(path) == Ordering::Equal,
+        [] => false,
+    }
+}
+
+fn push_file(text: &mut Vec<u8>, file: &Found) -> Result<(), AllocError>
+    ensures { OnOk result (text.new.items ≡ text.old.items ++ file_line file.now) }
+{
+    push_path_shown(text, file)?;
+    text.push(b'\n')?;
+    Ok(())
+}
+
+/// Adds the files of some paths, in one walk over both.
+fn push_files(text: &mut Vec<u8>, files: &[Found], paths: &[Rc<Path>]) -> Result<(), AllocError>
+    ensures { OnOk result (text.new.items ≡ text.old.items ++ flat_map file_line (in_step (map (λ p. p.value) paths.now) files.now)) }
+{
+    let mut rest = paths;
+    for file in files {
+        if is_first(rest, file.path()) {
+            push_file(text, file)?;
+            rest = &rest[1..];
+        }
+    }
+    Ok(())
+}
+
+/// What `may` prints: the files on which a user is granted a request, a line each, in path order. With `along` only
+/// those whose recorded directories above the user can search. None past the last user. Fails only if memory runs
+/// out.
+pub fn write_may<J: Judge>(
+    alloc: Global,
+    state: &State,
+    index: &Index<J>,
+    user: usize,
+    request: Perm,
+    along: bool,
+) -> Result<Option<Vec<u8>>, AllocError>
+    requires whole { IsWhole J.verdict_of state.now index.now }
+    ensures { IfOk result (λ text. option_map (λ t. t.items) text ≡ may_text J.verdict_of along state.now request user) }
+{
+    let Some(paths) = paths_granted(alloc, index, user, request, along)? else {
+        return Ok(None);
+    };
+    state.tree().is_sound();
+    let files = all_files(alloc, state.tree())?;
+    let mut text = Vec::new(alloc);
+    push_files(&mut text, &files, &paths)?;
+    Ok(Some(text))
+}

@@ -1,0 +1,70 @@
+-- What is answered to a line: a reply, or the line's first fault.
+use Rattle.std.specs.Option.{option_map_or}
+use Rattle.std.specs.Prelude.{◌≡◌, ◌≢◌, ℕ, Bool, false, List, [], Option, None, Some, IfSome, Result, Ok, Err, MatchResult}
+use Rattle.facl_listings.specs.acl_tree.Sound.{IsSoundTree}
+use Rattle.facl_listings.specs.acl_tree.Step.{State, step}
+use Rattle.facl_listings.specs.acl_tree.Reports.{StagedState, Reports, users_move}
+use Rattle.facl_listings.specs.acl_tree.declared.command.Command.{Command}
+use Rattle.facl_listings.specs.acl_files.declared.fault.TreeFault.{TreeFault}
+use Rattle.facl_listings.specs.acl_tree.declared.moved.UsersMove.{UsersMove}
+use Rattle.facl_listings.specs.acl_tree.declared.moved.UsersMove.TheVariants.{Same}
+use Rattle.facl_messages.specs.declared.fault.LineFault.{LineFault}
+use Rattle.facl_messages.specs.declared.fault.LineFault.TheVariants.{NoMemory}
+use Rattle.facl_messages.specs.Faults.{line_fault_of_tree}
+use Rattle.facl_tools.specs.declared.effect.Effect.{Effect}
+
+-- what an accepted line leaves: the state, how it moved the users, what is printed, and whether it warns of default
+-- entries that were dropped
+pub record Reply : Type 0 where
+  pub state : State
+  pub moved : UsersMove
+  pub out : List ℕ
+  pub warns : Bool
+
+-- what comes next, where nothing was wrong so far
+abbrev pub after : {A B E : Type 0} → Result A E → (A → Result B E) → Result B E
+after (Ok a) next = next a
+after (Err fault) next = Err fault
+
+-- what is there, or this fault
+abbrev pub or_fault : {A E : Type 0} → E → Option A → Result A E
+or_fault fault None = Err fault
+or_fault fault (Some a) = Ok a
+
+-- the reply to a line that makes this of the state, and moves the users so; it prints nothing
+abbrev pub replied : UsersMove → Result State TreeFault → Result Reply LineFault
+replied moved (Ok s) = Ok (record { state = s; moved = moved; out = []; warns = false })
+replied moved (Err fault) = Err (line_fault_of_tree fault)
+
+-- a command is done
+abbrev pub done : State → Command → Result Reply LineFault
+done s command = replied (users_move s command) (step s command)
+
+-- the state stays, and this is printed
+abbrev pub printed : State → List ℕ → Reply
+printed s out = record { state = s; moved = Same; out = out; warns = false }
+
+-- ---- what is done to answer a line
+
+-- the reply of a line that does this at a state
+abbrev pub reply_of : State → Effect → Reply
+reply_of s effect = record {
+  state = option_map_or (λ staged. staged.state) effect.staged s;
+  moved = option_map_or (λ staged. staged.moved) effect.staged Same;
+  out = effect.out.items;
+  warns = effect.warns;
+}
+
+-- a staged state was prepared from this one: it reports what differs, and its tree is sound
+abbrev pub IsPrepared : State → Option StagedState → Type 0
+IsPrepared s staged = IfSome staged (λ new. Reports s new × IsSoundTree new.state.tree)
+
+-- A call gives what is to be given, or returns exactly the fault, unless memory ran out.
+abbrev pub Gives : {A B : Type 0} → (A → B) → Result A LineFault → Result B LineFault → Type 0
+Gives view result is = MatchResult result (λ a. is ≡ Ok (view a)) (λ fault. fault ≢ NoMemory → is ≡ Err fault)
+
+-- A call gives the effect of a line whose reply at a state is this, with its state prepared; or returns exactly the
+-- fault, unless memory ran out.
+abbrev pub Replies : State → Result Effect LineFault → Result Reply LineFault → Type 0
+Replies s result is =
+    MatchResult result (λ effect. (is ≡ Ok (reply_of s effect)) × IsPrepared s effect.staged) (λ fault. fault ≢ NoMemory → is ≡ Err fault)

@@ -1,0 +1,65 @@
+//! What an accepted line does.
+
+ghost use Rattle.std.specs.Prelude.{◌≡◌, [], false, Some, None};
+ghost use Rattle.facl_listings.specs.acl_tree.Step.{State};
+ghost use Rattle.facl_tools.specs.Replies.{reply_of, printed};
+
+use facl_listings::Staged;
+use std::alloc::Global;
+
+/// What an accepted line does. It is used up by whoever answers the line.
+pub struct Effect {
+    /// What is printed.
+    pub out: Vec<u8>,
+    /// The state that replaces the present one; `None` where the state stays.
+    pub staged: Option<Staged>,
+    /// Whether default entries were dropped, which setfacl(1) warns of.
+    pub warns: bool,
+}
+
+impl Effect {
+    /// The state stays, and this is printed.
+    pub fn prints(out: Vec<u8>) -> Effect
+        ensures reply_of { (s : State) → reply_of s result ≡ printed s out.items }
+        ensures staged { result.staged ≡ None }
+    {
+        Effect {
+            out,
+            staged: None,
+            warns: false,
+        }
+    }
+
+    /// The state becomes this one, and nothing is printed.
+    pub fn changes(alloc: Global, staged: Staged) -> Effect
+        ensures reply_of { (s : State) → reply_of s result ≡ record { state = staged.state; moved = staged.moved; out = []; warns = false } }
+        ensures staged { result.staged ≡ Some staged }
+    {
+        Effect {
+            out: Vec::new(alloc),
+            staged: Some(staged),
+            warns: false,
+        }
+    }
+
+    /// The same, with a warning or without one.
+    pub fn warning(mut self, warns: bool) -> Effect
+        ensures reply_of { (s : State) → reply_of s result ≡ record (reply_of s self) { warns = warns } }
+        ensures staged { result.staged ≡ self.staged }
+    {
+        self.warns = warns;
+        self
+    }
+
+    /// Nothing is done, and the state stays as it is.
+    pub fn discard(self) {
+        let Effect {
+            out: _out,
+            staged,
+            warns: _warns,
+        } = self;
+        if let Some(staged) = staged {
+            staged.give_up();
+        }
+    }
+}

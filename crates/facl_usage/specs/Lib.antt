@@ -1,9 +1,0 @@
-pub mod Forms
-pub mod Lines
-pub mod Rows
-pub mod Tools
-pub mod Places
-pub mod Setfacl
-pub mod TextWords
-pub mod Beginning
-pub mod Rules

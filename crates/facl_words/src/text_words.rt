@@ -1,0 +1,103 @@
+//! Which lines of a script ask for the lines after them as their text. It is decided without memory.
+ghost use Rattle.std.specs.Prelude.{◌≡◌, ◌≤◌, [], ◌∷◌, ◌++◌, take};
+ghost use Rattle.facl_words.specs.TextWords.{is_text_word as is_text_spelling};
+ghost use Rattle.facl_words.specs.TextWords.{word_asks, line_asks};
+ghost use Rattle.facl_words.specs.declared.text_words.TheConstants.{BEGINNING};
+
+use facl_script::{Effect, Place, has_no_words};
+
+/// Whether a word of a tool line names standard input as a file of entries or as a dump, as setfacl(1) spells it:
+/// `-`, `-M-`, `-X-`, `--modify-file=-`, `--remove-file=-`, `--set-file=-` or `--restore=-`.
+pub fn is_text_word(word: &[u8]) -> bool
+    ensures { result ≡ is_text_spelling word.now }
+{
+    word == b"-".as_slice()
+        || word == b"-M-".as_slice()
+        || word == b"-X-".as_slice()
+        || word == b"--modify-file=-".as_slice()
+        || word == b"--remove-file=-".as_slice()
+        || word == b"--set-file=-".as_slice()
+        || word == b"--restore=-".as_slice()
+}
+
+/// Whether one word asks for a text: the first where it is `load`, a later one where it names standard input.
+fn asks(is_first: bool, word: &[u8]) -> bool
+    ensures { result ≡ word_asks is_first word.now }
+{
+    if is_first {
+        word == b"load".as_slice()
+    } else {
+        is_text_word(word)
+    }
+}
+
+/// How many bytes of a word are kept: one more than the longest word that asks for a text has.
+const BEGINNING: usize = 16;
+
+/// The first bytes of a word.
+#[derive(Drop)]
+struct Beginning {
+    bytes: [u8; BEGINNING],
+    len: usize,
+    ghost within: { len ≤ BEGINNING },
+}
+
+impl Beginning {
+    ghost use Rattle.facl_words.specs.Beginning.{first_bytes};
+
+    fn new() -> Beginning
+        ensures { first_bytes result ≡ [] }
+    {
+        Beginning {
+            bytes: [0; BEGINNING],
+            len: 0,
+        }
+    }
+
+    /// Adds a byte of the word, where there is room.
+    fn push(&mut self, byte: u8)
+        ensures { first_bytes self.new ≡ take BEGINNING (first_bytes self.old ++ byte ∷ []) }
+    {
+        if self.len < BEGINNING {
+            self.bytes[self.len] = byte;
+            self.len += 1;
+        }
+    }
+
+    fn as_slice(&self) -> &[u8]
+        ensures { result.now ≡ first_bytes self.now }
+    {
+        &self.bytes[..self.len]
+    }
+}
+
+/// Whether a line asks for the lines after it, up to a line `.`, as its text: its first word is `load`, or a later one
+/// names standard input, once quotes are taken off. No line does that is blank, a comment, or has an open quote.
+pub fn asks_for_text(line: &[u8]) -> bool
+    ensures { result ≡ line_asks line.now }
+{
+    if has_no_words(line) {
+        return false;
+    }
+    let mut place = Place::Between;
+    let mut beginning = Beginning::new();
+    let mut is_first = true;
+    let mut takes = false;
+    for b in line {
+        match place.effect(*b as char) {
+            Effect::Skips => {}
+            Effect::Joins => beginning.push(*b),
+            Effect::Ends => {
+                takes |= asks(is_first, beginning.as_slice());
+                is_first = false;
+                beginning = Beginning::new();
+            }
+        }
+        place = place.after(*b as char);
+    }
+    match place {
+        Place::Between => takes,
+        Place::Within => takes || asks(is_first, beginning.as_slice()),
+        Place::Quoted => false,
+    }
+}
