@@ -9,10 +9,14 @@ set -eu
 top=$(cd "$(dirname "$0")/.." && pwd)
 program=${1:-$top/crates/facl_cli/out/facl_cli}
 if [ $# -eq 0 ]; then
-    "$top/tools/prove.py" || {
+    "$top/tools/prove.py" &
+    proof=$!
+    trap 'kill -TERM $proof 2>/dev/null; wait $proof; exit 143' INT TERM HUP
+    wait $proof || {
         echo "tools/demo.sh: facl is not built" >&2
         exit 2
     }
+    trap - INT TERM HUP
 fi
 demo=$top/demo
 exec "$program" --passwd "$demo/passwd" --group "$demo/group" --dump "$demo/dump" <"$demo/script"
