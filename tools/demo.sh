@@ -11,12 +11,15 @@ program=${1:-$top/crates/facl_cli/out/facl_cli}
 if [ $# -eq 0 ]; then
     "$top/tools/prove.py" &
     proof=$!
-    trap 'kill -TERM $proof 2>/dev/null; wait $proof; exit 143' INT TERM HUP
+    for signal in 1 2 15; do
+        # shellcheck disable=SC2064  # this turn's signal
+        trap "kill -TERM $proof 2>/dev/null || true; wait $proof || true; exit $((128 + signal))" $signal
+    done
     wait $proof || {
         echo "tools/demo.sh: facl is not built" >&2
         exit 2
     }
-    trap - INT TERM HUP
+    trap - 1 2 15
 fi
 demo=$top/demo
 exec "$program" --passwd "$demo/passwd" --group "$demo/group" --dump "$demo/dump" <"$demo/script"

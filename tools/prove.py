@@ -17,6 +17,7 @@ rt prints of a crate goes to out/logs/. The exit status is 0 where all crates ar
 one is not, and 128 and the signal's number where it is interrupted; then no check runs on, and no lane is left.
 """
 import argparse
+import contextlib
 import fcntl
 import os
 import shutil
@@ -77,8 +78,8 @@ def ways_up(uses, wanted):
     return ways
 
 
-def has_members(session):
-    """Whether a process of this session is left."""
+def members(session):
+    """The processes of this session that are left."""
     for process in filter(str.isdigit, os.listdir("/proc")):
         try:
             with open(f"/proc/{process}/stat", encoding="utf-8", errors="replace") as stat:
@@ -86,8 +87,16 @@ def has_members(session):
         except (FileNotFoundError, ProcessLookupError):
             continue
         if its == str(session) and state != "Z":
-            return True
-    return False
+            yield int(process)
+
+
+def end_session(session):
+    """Ends all processes of this session, and waits until they are gone."""
+    while left := list(members(session)):
+        for process in left:
+            with contextlib.suppress(ProcessLookupError):
+                os.kill(process, signal.SIGKILL)
+        time.sleep(0.05)
 
 
 class How(NamedTuple):
@@ -138,11 +147,8 @@ class Lane:
 
     def end(self):
         """Ends the check if it runs, moves the kept work back, and removes the lane."""
-        if self.run.poll() is None:
-            self.run.kill()
-            self.run.wait()
-        while has_members(self.run.pid):
-            time.sleep(0.05)
+        end_session(self.run.pid)
+        self.run.wait()
         if os.path.isdir(self.out):
             os.rename(self.out, folder_of(self.crate, "out"))
         shutil.rmtree(self.top)
