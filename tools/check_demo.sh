@@ -6,14 +6,9 @@
 #
 # It is no part of the gate, which runs the program without FILEs.
 set -eu
-top=$(cd "$(dirname "$0")/.." && pwd)
-program=${1:-$top/crates/facl_cli/out/facl_cli}
-[ $# -gt 0 ] || "$top/tools/prove.py"
-program=$(realpath "$program")
-work=$(mktemp -d)
-trap 'rm -rf "$work"' EXIT
+# shellcheck source=tools/checks.sh
+. "$(dirname "$0")/checks.sh"
 cd "$work"
-faults=0
 
 # compares the outcome of a run with a status and the files wanted_out and wanted_err
 compare() {
@@ -21,8 +16,7 @@ compare() {
     shift 2
     "$program" "$@" <script >out 2>err || status=$?
     if [ $status -ne $wanted_status ] || ! diff wanted_out out >&2 || ! diff wanted_err err >&2; then
-        echo "tools/check_demo.sh: $name: status $status, and not as it has to be" >&2
-        faults=$((faults + 1))
+        fault "$name: status $status, and not as it has to be"
     fi
 }
 
@@ -58,5 +52,4 @@ ends_with 'facl: too_long: cannot read' --passwd too_long
 ends_with 'facl: setup: passwd: text line 1: bad row' --passwd longest
 ends_with 'facl: usage' --passwd
 
-[ $faults -eq 0 ] || exit 1
-echo "tools/check_demo.sh: all as it has to be"
+end_of_checks

@@ -6,20 +6,8 @@
 #
 # It makes its files in a folder of its own, and asks about the user nobody.
 set -eu
-top=$(cd "$(dirname "$0")/.." && pwd)
-program=${1:-$top/crates/facl_cli/out/facl_cli}
-[ $# -gt 0 ] || "$top/tools/prove.py"
-program=$(realpath "$program")
-work=$(mktemp -d)
-trap 'rm -rf "$work"' EXIT
-trap 'exit 130' INT
-trap 'exit 143' TERM HUP
-faults=0
-
-fault() {
-    echo "tools/check_snapshot.sh: $1" >&2
-    faults=$((faults + 1))
-}
+# shellcheck source=tools/checks.sh
+. "$(dirname "$0")/checks.sh"
 
 # answers_are LINE..: what nobody may do with the note, without and with search on the directories above
 answers_are() {
@@ -45,5 +33,4 @@ status=0
 [ $status -eq 2 ] || fault "status $status where a FOLDER is missing"
 [ ! -e "$work/other" ] || fault "written, though a FOLDER is missing"
 
-[ $faults -eq 0 ] || exit 1
-echo "tools/check_snapshot.sh: all as it has to be"
+end_of_checks

@@ -1,5 +1,5 @@
 #!/bin/sh
-# Answers a session by the program before its proof: it is compiled with run-time checks, in about a minute and a half.
+# Answers a session by the program before its proof: it is compiled with run-time checks, in one and a half to two minutes.
 #
 # usage: tools/try.sh                                                       the worked session of demo/
 #        tools/try.sh [--passwd FILE] [--group FILE] [--dump FILE] <SCRIPT  a script and texts of your own
@@ -35,9 +35,9 @@ end_early() {
 wait_for_rt() {
     note="tools/try.sh: unproved, at most 60 s and 1 MiB of output;"
     seconds=0
-    [ -t 2 ] || echo "$note some 90 s" >&2
+    [ -t 2 ] || echo "$note some 100 s" >&2
     while kill -0 "$run" 2>/dev/null; do
-        [ ! -t 2 ] || printf '\r%s %d of some 90 s' "$note" $seconds >&2
+        [ ! -t 2 ] || printf '\r%s %d of some 100 s' "$note" $seconds >&2
         sleep 1
         seconds=$((seconds + 1))
     done

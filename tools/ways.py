@@ -5,8 +5,8 @@ usage: tools/ways.py [CRATES.TXT]
 
 Before and after its work, rt asks for each crate below whether it is built. For that it reads all files of that crate
 and of all below it, once for each way of edges that leads there, and keeps no answer. So what a command with nothing to
-do takes grows with the ways, and not with the crates: it is below five seconds in every crate while there are at most
-MAX_WAYS ways from one crate. A chain is the most crates that one way has, which are proved one after another.
+do takes grows with the ways, and not with the crates: it is below five seconds in each crate of the program while there
+are at most MAX_WAYS ways from one crate. A chain is the most crates that one way has, which are proved one after another.
 
 Prints for each crate how many crates it lists, how many are below it, its longest chain, and the ways from it. The exit
 status is 1 where a crate has more ways than MAX_WAYS, or a longer chain than MAX_CHAIN.
@@ -44,7 +44,7 @@ def main():
     print(f"{'crate':20} lists below chain  ways")
     for crate, (ways, chain) in counts(crates).items():
         print(f"{crate:20} {len(crates.uses[crate]):5} {len(crates.needed(crate)) - 1:5} {chain:5} {ways:5}")
-        if ways > MAX_WAYS or chain > MAX_CHAIN and not crate.endswith(("_tests", "_rows")):
+        if ways > MAX_WAYS or chain > MAX_CHAIN:
             too_many.append(crate)
     if too_many:
         sys.exit(f"tools/ways.py: more than {MAX_WAYS} ways or a chain of more than {MAX_CHAIN}: {' '.join(too_many)}")
