@@ -13,7 +13,8 @@ set -eu
 answers_are() {
     "$top/tools/snapshot.sh" "$work/before" "$work/closed/share/team" "$work/closed/share" "$work/closed/share" >"$work/counts"
     printf 'can nobody %s\ncan --reach nobody %s\n' "$work/closed/share/note" "$work/closed/share/note" |
-        "$program" --passwd "$work/before/passwd" --group "$work/before/group" --dump "$work/before/dump" >"$work/answers"
+        "$program" --passwd "$work/before/passwd" --group "$work/before/group" --dump "$work/before/dump" >"$work/answers" ||
+        fault "the program ended with status $?"
     printf '%s\n' "$@" | diff - "$work/answers" >&2 || fault "not the answers that were wanted"
 }
 

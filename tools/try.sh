@@ -1,5 +1,5 @@
 #!/bin/sh
-# Answers a session by the program before its proof: it is compiled with run-time checks, in one and a half to two minutes.
+# Answers a session by the program before its proof: it is compiled with run-time checks, in one to two minutes.
 #
 # usage: tools/try.sh                                                       the worked session of demo/
 #        tools/try.sh [--passwd FILE] [--group FILE] [--dump FILE] <SCRIPT  a script and texts of your own
