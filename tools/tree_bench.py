@@ -19,7 +19,7 @@ import tempfile
 
 TOP = os.path.dirname(os.path.dirname(os.path.abspath(__file__)))
 PROGRAM = "tree_bench"
-USES = ["acl_dump", "acl_edit", "acl_names", "acl_people", "acl_text", "acl_tree"]
+USES = ["acl_dump", "acl_edit", "acl_names", "acl_people", "acl_syntax", "acl_tree"]
 
 
 def read_crates():

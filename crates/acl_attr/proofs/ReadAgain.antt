@@ -23,8 +23,8 @@ use Rattle.acl_entry.specs.Perms.{number}
 use Rattle.acl_entry.proofs.KeyLaws.{key_total, exact_keys, above}
 use Rattle.acl_entry.proofs.Placed.{less}
 use Rattle.acl_entry.proofs.Maps.{get-map_of, map_of-entries, in_order-entries}
-use Rattle.acl_text.specs.InTurn.{at_place, read_each_from, or_fault}
-use Rattle.acl_text.specs.declared.fault.FaultKind.TheVariants.{BadAttr}
+use Rattle.acl_syntax.specs.InTurn.{at_place, read_each_from, or_fault}
+use Rattle.acl_syntax.specs.declared.fault.FaultKind.TheVariants.{BadAttr}
 use Rattle.byteorder.specs.Endian.{little_number, little_bytes}
 use Rattle.byteorder.specs.Numbers.{little_number-reads_back}
 use Rattle.acl_attr.specs.declared.decode.Reading.{Reading}

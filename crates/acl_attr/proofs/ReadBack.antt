@@ -17,11 +17,11 @@ use Rattle.acl_entry.specs.Lists.{KeyMap, IsValid, keys, pairs, is_among, repeat
 use Rattle.acl_entry.specs.Perms.{number}
 use Rattle.acl_entry.proofs.Maps.{get-map_of}
 use Rattle.acl_entry.proofs.Faults.{is_among-keys}
-use Rattle.acl_text.specs.declared.fault.FaultKind.{FaultKind}
-use Rattle.acl_text.specs.declared.fault.FaultKind.TheVariants.{BadAttr}
-use Rattle.acl_text.specs.declared.fault.TextFault.{TextFault}
-use Rattle.acl_text.specs.InTurn.{at_place, read_each_from, read_each, or_fault, IsFirstFault}
-use Rattle.acl_text.proofs.Judging.{fault_is_first}
+use Rattle.acl_syntax.specs.declared.fault.FaultKind.{FaultKind}
+use Rattle.acl_syntax.specs.declared.fault.FaultKind.TheVariants.{BadAttr}
+use Rattle.acl_syntax.specs.declared.fault.TextFault.{TextFault}
+use Rattle.acl_syntax.specs.InTurn.{at_place, read_each_from, read_each, or_fault, IsFirstFault}
+use Rattle.acl_syntax.proofs.Judging.{fault_is_first}
 use Rattle.byteorder.specs.Endian.{little_number}
 use Rattle.acl_attr.specs.declared.decode.Reading.{Reading}
 use Rattle.acl_attr.specs.Attr.{tag_of, id_from, key_of, perm_of, start, with_key, with_numbers, with_entry, one_entry, entries_in, has_head, list_from, list_of, list_in, attr_of, bad_attr}

@@ -12,10 +12,10 @@ use Rattle.acl_entry.specs.Ids.{nobody}
 use Rattle.acl_entry.specs.Keys.{named_id}
 use Rattle.acl_entry.specs.Lists.{KeyMap, entries, fault, most_entries}
 use Rattle.acl_entry.specs.Perms.{Perms, number, numbered}
-use Rattle.acl_text.specs.declared.fault.FaultKind.{FaultKind}
-use Rattle.acl_text.specs.declared.fault.FaultKind.TheVariants.{BadAttr}
-use Rattle.acl_text.specs.declared.fault.TextFault.{TextFault}
-use Rattle.acl_text.specs.InTurn.{read_each, or_fault}
+use Rattle.acl_syntax.specs.declared.fault.FaultKind.{FaultKind}
+use Rattle.acl_syntax.specs.declared.fault.FaultKind.TheVariants.{BadAttr}
+use Rattle.acl_syntax.specs.declared.fault.TextFault.{TextFault}
+use Rattle.acl_syntax.specs.InTurn.{read_each, or_fault}
 use Rattle.byteorder.specs.Endian.{little_number, little_bytes}
 use Rattle.acl_attr.specs.declared.decode.Reading.{Reading}
 

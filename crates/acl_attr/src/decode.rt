@@ -2,12 +2,12 @@
 
 ghost use Rattle.std.specs.Prelude.{◌≡◌, ◌≤◌, ◌<◌, ◌∷◌, length};
 ghost use Rattle.std.specs.FinMap as maps;
-ghost use Rattle.acl_text.specs.InTurn.{read_each, Gives, JudgesAt};
+ghost use Rattle.acl_syntax.specs.InTurn.{read_each, Gives, JudgesAt};
 ghost use Rattle.acl_attr.specs.Attr.{start, one_entry, bad_attr, has_head, perm_of, attr_of, entries_in, list_in};
 
 use crate::fields::{ENTRY_BYTES, HEAD_BYTES, VERSION, key_of};
 use acl_entry::{Acl, Draft, Key, MAX_ENTRIES, Perm};
-use acl_text::{FaultKind, TextFault};
+use acl_syntax::{FaultKind, TextFault};
 use byteorder::{ByteOrder, LittleEndian};
 use std::alloc::Global;
 

@@ -2,8 +2,8 @@
 
 ghost use Rattle.std.specs.Prelude.{◌≡◌, ◌↔◌, ℕ, List, Ok, Err};
 ghost use Rattle.acl_entry.specs.Lists.{KeyMap};
-ghost use Rattle.acl_text.specs.declared.fault.FaultKind.TheVariants.{BadAttr};
-ghost use Rattle.acl_text.specs.declared.fault.TextFault.{TextFault};
+ghost use Rattle.acl_syntax.specs.declared.fault.FaultKind.TheVariants.{BadAttr};
+ghost use Rattle.acl_syntax.specs.declared.fault.TextFault.{TextFault};
 ghost use Rattle.acl_attr.specs.Attr.{attr_of};
 ghost use Rattle.acl_attr.specs.Encoded.{IsAttribute, IsFaultyAt};
 

@@ -1,7 +1,7 @@
 use crate::slow::{Row, read};
 use acl_attr::{decode_attr, encode_attr};
 use acl_entry::{Acl, Entry, Id, Key, Perm};
-use acl_text::{FaultKind, TextFault};
+use acl_syntax::{FaultKind, TextFault};
 use std::alloc::Global;
 use std::process::Abort;
 use std::test::Fail;

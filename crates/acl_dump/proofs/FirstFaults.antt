@@ -3,7 +3,7 @@ use Rattle.std.proofs.Common.{◌≡◌, List, [], ◌∷◌, ◌++◌, Bool, tr
 use Rattle.std.specs.Prelude.{◌⊎◌}
 use Rattle.std.specs.List.{AllByRecursion}
 use Rattle.std.proofs.lemmas.Bool.{cases_Bool}
-use Rattle.acl_text.specs.declared.fault.TextFault.{TextFault}
+use Rattle.acl_syntax.specs.declared.fault.TextFault.{TextFault}
 use Rattle.acl_dump.specs.Groups.{next, in_turn, streamed}
 use Rattle.acl_dump.proofs.Streams.{next_assoc}
 

@@ -8,14 +8,14 @@ use Rattle.std.proofs.lemmas.Cmp.{tied_itself}
 use Rattle.std.proofs.lemmas.List.Elements.{Contains-append_left, Contains-append_right, Contains-append_cases, Contains-push, Contains-push_cases}
 use Rattle.acl_names.specs.Paths.{path_of, path_cmp}
 use Rattle.acl_names.proofs.PathOrder.{path_total, exact_paths}
-use Rattle.acl_text.specs.declared.fault.FaultKind.{FaultKind}
-use Rattle.acl_text.specs.declared.fault.FaultKind.TheVariants as kinds
-use Rattle.acl_text.specs.InTurn.{◌>>=◌, or_fault}
-use Rattle.acl_text.specs.Entries.{entry_of}
-use Rattle.acl_text.specs.Fields.{default_of, entry_fields}
-use Rattle.acl_text.specs.Words.{word_id}
-use Rattle.acl_text.specs.Lowest.{number, ReportsLowest, EntryHas}
-use Rattle.acl_text.proofs.Lowest.{alone, in_turn, made, or_fault-kind, fields-kind, entry_lowest}
+use Rattle.acl_syntax.specs.declared.fault.FaultKind.{FaultKind}
+use Rattle.acl_syntax.specs.declared.fault.FaultKind.TheVariants as kinds
+use Rattle.acl_syntax.specs.InTurn.{◌>>=◌, or_fault}
+use Rattle.acl_syntax.specs.Entries.{entry_of}
+use Rattle.acl_syntax.specs.Fields.{default_of, entry_fields}
+use Rattle.acl_syntax.specs.Words.{word_id}
+use Rattle.acl_syntax.specs.Lowest.{number, ReportsLowest, EntryHas}
+use Rattle.acl_syntax.proofs.Lowest.{alone, in_turn, made, or_fault-kind, fields-kind, entry_lowest}
 use Rattle.acl_dump.specs.declared.line.LineKind.{LineKind}
 use Rattle.acl_dump.specs.declared.line.LineKind.TheVariants.{Nothing, File, Owner, OwningGroup, Flags, Entry}
 use Rattle.acl_dump.specs.declared.draft.Draft.{Draft}

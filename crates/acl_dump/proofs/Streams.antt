@@ -1,6 +1,6 @@
 -- Groups that are read as a stream.
 use Rattle.std.proofs.Common.{◌≡◌, List, [], ◌∷◌, Bool, true, false, cond, Result, Ok, Err, refl, sym, ◌∙◌}
-use Rattle.acl_text.specs.declared.fault.TextFault.{TextFault}
+use Rattle.acl_syntax.specs.declared.fault.TextFault.{TextFault}
 use Rattle.acl_dump.specs.Groups.{next, in_turn, grouped, put_front, group_of, by_groups, streamed}
 
 pub next_assoc : {A B C : Type 0} (r : Result A TextFault) (f : A → Result B TextFault) (g : B → Result C TextFault) → next (next r f) g ≡ next r (λ x. next (f x) g)

@@ -5,11 +5,11 @@ use Rattle.std.specs.List.{AllByRecursion, IsDistinct}
 use Rattle.std.proofs.lemmas.List.{append-nil, map-append}
 use Rattle.std.proofs.lemmas.Map.Keys.{IsDistinct-head, IsDistinct-tail}
 use Rattle.acl_names.specs.Paths.{path_of}
-use Rattle.acl_text.specs.declared.fault.FaultKind.{FaultKind}
-use Rattle.acl_text.specs.declared.fault.FaultKind.TheVariants as kinds
-use Rattle.acl_text.specs.declared.fault.TextFault.{TextFault}
-use Rattle.acl_text.specs.declared.fault.Which.TheVariants.{Access}
-use Rattle.acl_text.specs.InTurn.{at_place, ◌>>=◌, or_fault}
+use Rattle.acl_syntax.specs.declared.fault.FaultKind.{FaultKind}
+use Rattle.acl_syntax.specs.declared.fault.FaultKind.TheVariants as kinds
+use Rattle.acl_syntax.specs.declared.fault.TextFault.{TextFault}
+use Rattle.acl_syntax.specs.declared.fault.Which.TheVariants.{Access}
+use Rattle.acl_syntax.specs.InTurn.{at_place, ◌>>=◌, or_fault}
 use Rattle.acl_dump.specs.declared.record.DumpUse.{DumpUse}
 use Rattle.acl_dump.specs.declared.record.DumpRecord.{DumpRecord}
 use Rattle.acl_dump.specs.declared.draft.Draft.{Draft}

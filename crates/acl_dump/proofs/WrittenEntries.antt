@@ -12,21 +12,21 @@ use Rattle.acl_entry.specs.Keys.{id_of, is_class}
 use Rattle.acl_entry.specs.Perms as perms
 use Rattle.acl_entry.specs.Perms.{Perms}
 use Rattle.acl_names.specs.Pieces.{pieces}
-use Rattle.acl_text.specs.declared.fault.FaultKind.{FaultKind}
-use Rattle.acl_text.specs.declared.fault.FaultKind.TheVariants.{BadTag}
-use Rattle.acl_text.specs.declared.fault.Which.{Which}
-use Rattle.acl_text.specs.declared.fault.Which.TheVariants.{Access, Default}
-use Rattle.acl_text.specs.declared.form.Form.TheVariants.{Long}
-use Rattle.acl_text.specs.declared.entries.Sep.TheVariants.{Line}
-use Rattle.acl_text.specs.declared.entries.PermSpec.{PermSpec}
-use Rattle.acl_text.specs.declared.entries.Spec.{Spec}
-use Rattle.acl_text.specs.InTurn.{◌>>=◌, or_fault}
-use Rattle.acl_text.specs.Blanks.{is_blank, trim_front, trim_back, trimmed}
-use Rattle.acl_text.specs.Fields.{EntryRow, entry_fields, row_of, is_default_word}
-use Rattle.acl_text.specs.Entries.{content, tagged, entry_from, wanted_perms, key_of, allowed_key}
-use Rattle.acl_text.specs.Writing.{tag_text, qualifier, entry_text, IsKeyNamed}
-use Rattle.acl_text.proofs.Plain.{is_plain, plain-line, plain-blank, plain-colon, plain-hash, none_of, all-append, trimmed_none, pieces_at, pieces_none, before_first_none}
-use Rattle.acl_text.proofs.WrittenLists.{plain_text, tag_plain, qualifier_plain, key_again, in_entry}
+use Rattle.acl_syntax.specs.declared.fault.FaultKind.{FaultKind}
+use Rattle.acl_syntax.specs.declared.fault.FaultKind.TheVariants.{BadTag}
+use Rattle.acl_syntax.specs.declared.fault.Which.{Which}
+use Rattle.acl_syntax.specs.declared.fault.Which.TheVariants.{Access, Default}
+use Rattle.acl_syntax.specs.declared.form.Form.TheVariants.{Long}
+use Rattle.acl_syntax.specs.declared.entries.Sep.TheVariants.{Line}
+use Rattle.acl_syntax.specs.declared.entries.PermSpec.{PermSpec}
+use Rattle.acl_syntax.specs.declared.entries.Spec.{Spec}
+use Rattle.acl_syntax.specs.InTurn.{◌>>=◌, or_fault}
+use Rattle.acl_syntax.specs.Blanks.{is_blank, trim_front, trim_back, trimmed}
+use Rattle.acl_syntax.specs.Fields.{EntryRow, entry_fields, row_of, is_default_word}
+use Rattle.acl_syntax.specs.Entries.{content, tagged, entry_from, wanted_perms, key_of, allowed_key}
+use Rattle.acl_syntax.specs.Writing.{tag_text, qualifier, entry_text, IsKeyNamed}
+use Rattle.acl_syntax.proofs.Plain.{is_plain, plain-line, plain-blank, plain-colon, plain-hash, none_of, all-append, trimmed_none, pieces_at, pieces_none, before_first_none}
+use Rattle.acl_syntax.proofs.WrittenLists.{plain_text, tag_plain, qualifier_plain, key_again, in_entry}
 use Rattle.acl_dump.specs.declared.line.LineKind.TheVariants as lines
 use Rattle.acl_dump.specs.declared.effective.Effective.{Effective}
 use Rattle.acl_dump.specs.declared.item.Item.TheVariants as item

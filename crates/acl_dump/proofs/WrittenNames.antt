@@ -13,7 +13,7 @@ use Rattle.acl_names.specs.Names.{decoded, escape, byte_text, escaped_where, is_
 use Rattle.acl_names.specs.Paths.{is_nothing, is_refused, is_component, components_of, path_of, after_slash, joined, path_text}
 use Rattle.acl_names.proofs.Escapes.{path_bytes_again}
 use Rattle.acl_names.proofs.PathText.{good, no_slash, joined_bytes, none_refused, all_kept, all-append, path_again}
-use Rattle.acl_text.proofs.Plain.{pieces_at, pieces_none}
+use Rattle.acl_syntax.proofs.Plain.{pieces_at, pieces_none}
 use Rattle.acl_dump.specs.Records.{ends_in_slash}
 use Rattle.acl_dump.specs.Writing.{slash_text}
 

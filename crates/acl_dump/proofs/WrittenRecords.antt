@@ -14,16 +14,16 @@ use Rattle.acl_entry.specs.Perms.{Perms}
 use Rattle.acl_entry.proofs.Maps.{map_of-entries}
 use Rattle.acl_names.specs.Pieces.{pieces}
 use Rattle.acl_names.specs.Paths.{path_of, path_text, is_component}
-use Rattle.acl_text.specs.declared.fault.FaultKind.{FaultKind}
-use Rattle.acl_text.specs.declared.fault.FaultKind.TheVariants.{UnknownUser, UnknownGroup, BadHeader, MissingHeader, BadPath, RepeatedFile}
-use Rattle.acl_text.specs.declared.fault.TextFault.{TextFault}
-use Rattle.acl_text.specs.declared.fault.Which.{Which}
-use Rattle.acl_text.specs.declared.fault.Which.TheVariants.{Access, Default}
-use Rattle.acl_text.specs.InTurn.{at_place, ◌>>=◌, or_fault}
-use Rattle.acl_text.specs.Blanks.{is_blank, trimmed}
-use Rattle.acl_text.specs.Writing.{id_text, IsKeyNamed}
-use Rattle.acl_text.proofs.Plain.{is_plain, plain-line, plain-blank, none_of, trimmed_none, pieces_at}
-use Rattle.acl_text.proofs.WrittenWords.{IsWordOf, word_again}
+use Rattle.acl_syntax.specs.declared.fault.FaultKind.{FaultKind}
+use Rattle.acl_syntax.specs.declared.fault.FaultKind.TheVariants.{UnknownUser, UnknownGroup, BadHeader, MissingHeader, BadPath, RepeatedFile}
+use Rattle.acl_syntax.specs.declared.fault.TextFault.{TextFault}
+use Rattle.acl_syntax.specs.declared.fault.Which.{Which}
+use Rattle.acl_syntax.specs.declared.fault.Which.TheVariants.{Access, Default}
+use Rattle.acl_syntax.specs.InTurn.{at_place, ◌>>=◌, or_fault}
+use Rattle.acl_syntax.specs.Blanks.{is_blank, trimmed}
+use Rattle.acl_syntax.specs.Writing.{id_text, IsKeyNamed}
+use Rattle.acl_syntax.proofs.Plain.{is_plain, plain-line, plain-blank, none_of, trimmed_none, pieces_at}
+use Rattle.acl_syntax.proofs.WrittenWords.{IsWordOf, word_again}
 use Rattle.acl_dump.specs.declared.line.LineKind.{LineKind}
 use Rattle.acl_dump.specs.declared.line.LineKind.TheVariants as lines
 use Rattle.acl_dump.specs.declared.record.DumpUse.{DumpUse}

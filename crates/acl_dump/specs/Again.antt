@@ -4,7 +4,7 @@ use Rattle.std.specs.List.{list_all, list_any, flat_map}
 use Rattle.acl_entry.specs.Ids.{nobody}
 use Rattle.acl_entry.specs.Lists.{KeyMap, entries, IsValid, HasIds}
 use Rattle.acl_names.specs.Paths.{is_component}
-use Rattle.acl_text.specs.Writing.{IsNamed, AreNamed}
+use Rattle.acl_syntax.specs.Writing.{IsNamed, AreNamed}
 use Rattle.acl_dump.specs.declared.record.DumpUse.{DumpUse}
 use Rattle.acl_dump.specs.declared.record.DumpUse.TheVariants.{Load, Restore}
 use Rattle.acl_dump.specs.declared.record.DumpRecord.{DumpRecord}

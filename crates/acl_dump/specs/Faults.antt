@@ -1,7 +1,7 @@
 -- The first fault of a dump, by its lines.
 use Rattle.std.specs.Prelude.{◌≡◌, ℕ, ◌⊎◌, List, [], ◌∷◌, ◌++◌, true, false, Option, None, Result, Ok, Err}
 use Rattle.std.specs.List.{AllByRecursion}
-use Rattle.acl_text.specs.declared.fault.TextFault.{TextFault}
+use Rattle.acl_syntax.specs.declared.fault.TextFault.{TextFault}
 use Rattle.acl_dump.specs.declared.record.DumpUse.{DumpUse}
 use Rattle.acl_dump.specs.declared.record.DumpRecord.{DumpRecord}
 use Rattle.acl_dump.specs.declared.draft.Draft.{Draft}

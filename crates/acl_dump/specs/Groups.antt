@@ -1,6 +1,6 @@
 -- Lines in groups: each group is opened by its first line, goes on line by line, and is closed as a whole.
 use Rattle.std.specs.Prelude.{List, [], ◌∷◌, Bool, true, false, if◌then◌else◌, Result, Ok, Err}
-use Rattle.acl_text.specs.declared.fault.TextFault.{TextFault}
+use Rattle.acl_syntax.specs.declared.fault.TextFault.{TextFault}
 
 -- goes on with the value, unless there is a fault
 abbrev pub next : {A B : Type 0} → Result A TextFault → (A → Result B TextFault) → Result B TextFault

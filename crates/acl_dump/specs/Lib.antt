@@ -8,4 +8,4 @@ pub mod Seen
 pub mod Watched
 pub mod Writing
 pub mod Again
-pub use Rattle.acl_text.specs as acl_text
+pub use Rattle.acl_syntax.specs as acl_syntax

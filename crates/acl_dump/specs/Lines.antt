@@ -1,9 +1,9 @@
 -- The lines of a dump, as getfacl(1) writes them and setfacl(1) --restore reads them.
 use Rattle.std.specs.Prelude.{ℕ, List, [], ◌∷◌, drop, Bool, true, false, ◌==◌, nat_eq, if◌then◌else◌, codes}
 use Rattle.std.specs.List.{starts_with}
-use Rattle.acl_text.specs.declared.entries.Sep.TheVariants.{Line}
-use Rattle.acl_text.specs.Blanks.{trim_front, trimmed}
-use Rattle.acl_text.specs.Entries.{content}
+use Rattle.acl_syntax.specs.declared.entries.Sep.TheVariants.{Line}
+use Rattle.acl_syntax.specs.Blanks.{trim_front, trimmed}
+use Rattle.acl_syntax.specs.Entries.{content}
 use Rattle.acl_dump.specs.declared.line.LineKind.{LineKind}
 use Rattle.acl_dump.specs.declared.line.LineKind.TheVariants.{Nothing, File, Owner, OwningGroup, Flags, Entry}
 

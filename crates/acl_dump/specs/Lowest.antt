@@ -2,10 +2,10 @@
 use Rattle.std.specs.Prelude.{◌≡◌, ℕ, ◌<◌, ◌⊎◌, List, [], length, map, Bool, true, false, not, Option, Some, None}
 use Rattle.std.specs.List.{Contains}
 use Rattle.acl_names.specs.Paths.{path_of}
-use Rattle.acl_text.specs.declared.fault.FaultKind.{FaultKind}
-use Rattle.acl_text.specs.declared.fault.FaultKind.TheVariants.{UnknownUser, UnknownGroup, BadHeader, MissingHeader, BadPath, RepeatedFile}
-use Rattle.acl_text.specs.Words.{word_id}
-use Rattle.acl_text.specs.Lowest.{EntryHas}
+use Rattle.acl_syntax.specs.declared.fault.FaultKind.{FaultKind}
+use Rattle.acl_syntax.specs.declared.fault.FaultKind.TheVariants.{UnknownUser, UnknownGroup, BadHeader, MissingHeader, BadPath, RepeatedFile}
+use Rattle.acl_syntax.specs.Words.{word_id}
+use Rattle.acl_syntax.specs.Lowest.{EntryHas}
 use Rattle.acl_dump.specs.declared.line.LineKind.{LineKind}
 use Rattle.acl_dump.specs.declared.line.LineKind.TheVariants.{Nothing, File, Owner, OwningGroup, Flags, Entry}
 use Rattle.acl_dump.specs.declared.draft.Draft.{Draft}

@@ -8,18 +8,18 @@ use Rattle.acl_entry.specs.Lists.{KeyMap, map_of, fault}
 use Rattle.acl_entry.specs.Perms.{Perms, none}
 use Rattle.acl_names.specs.Pieces.{pieces}
 use Rattle.acl_names.specs.Paths.{path_of, path_cmp}
-use Rattle.acl_text.specs.declared.fault.FaultKind.{FaultKind}
-use Rattle.acl_text.specs.declared.fault.FaultKind.TheVariants as kinds
-use Rattle.acl_text.specs.declared.fault.FaultKind.TheVariants.{UnknownUser, UnknownGroup, BadHeader, MissingHeader, BadPath, RepeatedFile, NoMemory}
-use Rattle.acl_text.specs.declared.fault.TextFault.{TextFault}
-use Rattle.acl_text.specs.declared.fault.Which.{Which}
-use Rattle.acl_text.specs.declared.fault.Which.TheVariants.{Access, Default}
-use Rattle.acl_text.specs.declared.entries.PermSpec.{PermSpec}
-use Rattle.acl_text.specs.declared.entries.Rules.{Rules}
-use Rattle.acl_text.specs.declared.entries.Spec.{Spec}
-use Rattle.acl_text.specs.InTurn.{at_place, ◌>>=◌, or_fault}
-use Rattle.acl_text.specs.Entries.{entry_of}
-use Rattle.acl_text.specs.Words.{word_id}
+use Rattle.acl_syntax.specs.declared.fault.FaultKind.{FaultKind}
+use Rattle.acl_syntax.specs.declared.fault.FaultKind.TheVariants as kinds
+use Rattle.acl_syntax.specs.declared.fault.FaultKind.TheVariants.{UnknownUser, UnknownGroup, BadHeader, MissingHeader, BadPath, RepeatedFile, NoMemory}
+use Rattle.acl_syntax.specs.declared.fault.TextFault.{TextFault}
+use Rattle.acl_syntax.specs.declared.fault.Which.{Which}
+use Rattle.acl_syntax.specs.declared.fault.Which.TheVariants.{Access, Default}
+use Rattle.acl_syntax.specs.declared.entries.PermSpec.{PermSpec}
+use Rattle.acl_syntax.specs.declared.entries.Rules.{Rules}
+use Rattle.acl_syntax.specs.declared.entries.Spec.{Spec}
+use Rattle.acl_syntax.specs.InTurn.{at_place, ◌>>=◌, or_fault}
+use Rattle.acl_syntax.specs.Entries.{entry_of}
+use Rattle.acl_syntax.specs.Words.{word_id}
 use Rattle.acl_dump.specs.declared.line.LineKind.{LineKind}
 use Rattle.acl_dump.specs.declared.line.LineKind.TheVariants.{Nothing, File, Owner, OwningGroup, Flags, Entry}
 use Rattle.acl_dump.specs.declared.record.DumpUse.{DumpUse}

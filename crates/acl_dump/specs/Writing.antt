@@ -9,10 +9,10 @@ use Rattle.acl_entry.specs.Lists.{KeyMap, entries}
 use Rattle.acl_entry.specs.Perms as perms
 use Rattle.acl_entry.specs.Perms.{Perms}
 use Rattle.acl_names.specs.Paths.{path_text}
-use Rattle.acl_text.specs.declared.fault.Which.{Which}
-use Rattle.acl_text.specs.declared.fault.Which.TheVariants.{Access, Default}
-use Rattle.acl_text.specs.declared.form.Form.TheVariants.{Long}
-use Rattle.acl_text.specs.Writing.{id_text, entry_text}
+use Rattle.acl_syntax.specs.declared.fault.Which.{Which}
+use Rattle.acl_syntax.specs.declared.fault.Which.TheVariants.{Access, Default}
+use Rattle.acl_syntax.specs.declared.form.Form.TheVariants.{Long}
+use Rattle.acl_syntax.specs.Writing.{id_text, entry_text}
 use Rattle.acl_dump.specs.declared.effective.Effective.{Effective}
 use Rattle.acl_dump.specs.declared.effective.Effective.TheVariants.{WhereMasked, Always, Never}
 use Rattle.acl_dump.specs.declared.record.DumpRecord.{DumpRecord}

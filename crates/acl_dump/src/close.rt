@@ -1,7 +1,7 @@
 //! Records as a whole.
 
 ghost use Rattle.std.specs.Prelude.{◌≡◌, Some, OnOk, List, is_some};
-ghost use Rattle.acl_text.specs.InTurn.{Gives, GivesAt};
+ghost use Rattle.acl_syntax.specs.InTurn.{Gives, GivesAt};
 ghost use Rattle.acl_dump.specs.Records.{list_of, default_list_of, has_headers, record_of, close};
 ghost use Rattle.acl_dump.specs.Seen.{SeenAre};
 
@@ -9,7 +9,7 @@ use crate::draft::Draft;
 use crate::record::{DumpRecord, DumpUse};
 use crate::seen::{Seen, watch};
 use acl_entry::{Acl, Entry, ListFault};
-use acl_text::{FaultKind, TextFault, Which};
+use acl_syntax::{FaultKind, TextFault, Which};
 use std::alloc::Global;
 
 /// The list of a record's entries, or its fault.

@@ -1,8 +1,8 @@
 //! An open record: the `# file:` line and the lines after it so far.
 
 ghost use Rattle.std.specs.Prelude.{◌≡◌, ◌++◌, ◌∷◌, [], List, IfOk, IfErr, OnOk, is_some};
-ghost use Rattle.acl_text.specs.declared.fault.FaultKind.TheVariants.{NoMemory};
-ghost use Rattle.acl_text.specs.InTurn.{GivesAt};
+ghost use Rattle.acl_syntax.specs.declared.fault.FaultKind.TheVariants.{NoMemory};
+ghost use Rattle.acl_syntax.specs.InTurn.{GivesAt};
 ghost use Rattle.acl_dump.specs.Records.{has_no_entry, with_entry, with_item, add};
 ghost use Rattle.acl_dump.specs.Watched.{opened_draft};
 ghost use Rattle.acl_dump.specs.Seen.{SeenAre};
@@ -12,7 +12,7 @@ use crate::item::{Item, bad_header};
 use crate::seen::{Seen, is_seen};
 use acl_entry::{Entry, Id, Key, Perm};
 use acl_names::{Path, read_path};
-use acl_text::{FaultKind, TextFault};
+use acl_syntax::{FaultKind, TextFault};
 use std::alloc::{AllocError, Global};
 use std::marker::Model;
 

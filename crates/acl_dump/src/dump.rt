@@ -1,7 +1,7 @@
 //! Reading dumps.
 
 ghost use Rattle.std.specs.Prelude.{◌≡◌, [], ◌∷◌, OnOk, IfOk, None, true, is_some};
-ghost use Rattle.acl_text.specs.InTurn.{Gives, GivesAt};
+ghost use Rattle.acl_syntax.specs.InTurn.{Gives, GivesAt};
 ghost use Rattle.acl_dump.specs.Records.{lines_of, line_in, begins, close, dump_of};
 ghost use Rattle.acl_dump.specs.Watched as watched;
 ghost use Rattle.acl_dump.specs.Groups.{stepped};
@@ -16,7 +16,7 @@ use crate::line::{LineKind, content_of};
 use crate::record::{DumpRecord, DumpUse};
 use crate::seen::Seen;
 use acl_names::cut::first_piece;
-use acl_text::{FaultKind, Names, TextFault};
+use acl_syntax::{FaultKind, Names, TextFault};
 use std::alloc::Global;
 
 /// The records of a dump, in their order: what getfacl(1) writes and setfacl(1) --restore reads.

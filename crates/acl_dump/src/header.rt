@@ -9,7 +9,7 @@ use crate::record::DumpRecord;
 use crate::writing::{append_default, append_list};
 use acl_entry::Id;
 use acl_names::{Path, append_path};
-use acl_text::{Names, Which, append_id};
+use acl_syntax::{Names, Which, append_id};
 use std::alloc::AllocError;
 
 /// The letter of a flag that is set, else `-`.

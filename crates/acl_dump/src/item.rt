@@ -1,13 +1,13 @@
 //! The content of a line: what it gives the record that it belongs to.
 
 ghost use Rattle.std.specs.Prelude.{◌≡◌};
-ghost use Rattle.acl_text.specs.InTurn.{GivesAt, or_fault};
-ghost use Rattle.acl_text.specs.declared.fault.FaultKind.TheVariants.{BadHeader, UnknownUser, UnknownGroup};
+ghost use Rattle.acl_syntax.specs.InTurn.{GivesAt, or_fault};
+ghost use Rattle.acl_syntax.specs.declared.fault.FaultKind.TheVariants.{BadHeader, UnknownUser, UnknownGroup};
 ghost use Rattle.acl_dump.specs.Records.{rules, perm_of_spec, entry_item, flag_of, flags_of, named, item_of};
 
 use crate::line::LineKind;
 use acl_entry::{Entry, Id, Perm};
-use acl_text::{
+use acl_syntax::{
     FaultKind, Names, PermSpec, Rules, Spec, TextFault, entry_of, read_group_word, read_user_word,
 };
 use std::alloc::Global;

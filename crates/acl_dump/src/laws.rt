@@ -4,8 +4,8 @@ ghost use Rattle.std.specs.Prelude.{◌≡◌, ◌↔◌, ℕ, List, [], Option,
 ghost use Rattle.std.specs.List.{AllByRecursion};
 ghost use Rattle.acl_dump.specs.declared.record.DumpUse.{DumpUse};
 ghost use Rattle.acl_dump.specs.declared.record.DumpRecord.{DumpRecord};
-ghost use Rattle.acl_text.specs.declared.fault.TextFault.{TextFault};
-ghost use Rattle.acl_text.specs.Lowest.{ReportsLowest};
+ghost use Rattle.acl_syntax.specs.declared.fault.TextFault.{TextFault};
+ghost use Rattle.acl_syntax.specs.Lowest.{ReportsLowest};
 ghost use Rattle.acl_dump.specs.declared.draft.Draft.{Draft};
 ghost use Rattle.acl_dump.specs.Records.{Numbered, begins, opened_draft, judged, lines_of, dump_of};
 ghost use Rattle.acl_dump.specs.Faults.{IsFirstFault};

@@ -15,7 +15,7 @@ mod record;
 mod seen;
 mod writing;
 
-pub use acl_text::{
+pub use acl_syntax::{
     FaultKind, Form, Names, NoNames, PasswdRow, Sep, Spec, TextFault, Want, Which, append_entry,
     append_id, append_short, read_entries, read_id, read_perms, trim,
 };

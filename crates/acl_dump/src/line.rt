@@ -3,7 +3,7 @@
 ghost use Rattle.std.specs.Prelude.{◌≡◌};
 ghost use Rattle.acl_dump.specs.Lines.{begins_with, without_space, header_of, content_of};
 
-use acl_text::{Sep, content, trim, trim_front};
+use acl_syntax::{Sep, content, trim, trim_front};
 
 /// What a line of a dump is.
 #[derive(Clone, Copy, Debug, PartialEq, Eq)]

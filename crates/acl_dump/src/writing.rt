@@ -4,12 +4,12 @@ ghost use Rattle.std.specs.Prelude.{◌≡◌, ◌++◌, ◌∷◌, [], OnOk, On
 ghost use Rattle.std.specs.Io.{StartsWith};
 ghost use Rattle.std.specs.List.{flat_map};
 ghost use Rattle.acl_entry.specs.Lists as lists;
-ghost use Rattle.acl_text.specs.declared.fault.Which.TheVariants.{Default};
+ghost use Rattle.acl_syntax.specs.declared.fault.Which.TheVariants.{Default};
 ghost use Rattle.acl_dump.specs.Writing.{is_shown, tab_count, tabs, comment, front, shown, entry_line, list_text, default_text};
 
 use crate::effective::Effective;
 use acl_entry::{Acl, Entry, Key, Perm};
-use acl_text::{Form, Names, Which, append_entry};
+use acl_syntax::{Form, Names, Which, append_entry};
 use std::alloc::AllocError;
 
 /// As many tabs as are ever written after an entry.

@@ -3,7 +3,7 @@
 use crate::people::People;
 use acl_dump::DumpUse;
 use acl_entry::{Entry, Key, ListFault, Perm};
-use acl_text::{FaultKind, Names, Which};
+use acl_syntax::{FaultKind, Names, Which};
 use std::alloc::Global;
 use std::process::Abort;
 

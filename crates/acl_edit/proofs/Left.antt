@@ -5,13 +5,13 @@ use Rattle.acl_entry.specs.Keys.{key_cmp, is_base}
 use Rattle.acl_entry.specs.Lists.{KeyMap, effective, or_else}
 use Rattle.acl_entry.specs.declared.key.Key.{Key}
 use Rattle.acl_entry.specs.declared.key.Key.TheVariants.{Mask}
-use Rattle.acl_text.specs.declared.fault.Which.TheVariants.{Access, Default}
+use Rattle.acl_syntax.specs.declared.fault.Which.TheVariants.{Access, Default}
 use Rattle.acl_edit.specs.Parts.{part, names, puts, is_given, is_mask}
 use Rattle.acl_edit.specs.Steps.{gives_execute, strip, replace, fill_from}
 use Rattle.acl_edit.specs.Masks.{takes_mask, with_mask}
 use Rattle.acl_edit.specs.Edits.{worked, access_after, default_after, access_before, default_before}
 use Rattle.acl_edit.specs.Laws.{left_at, mask_after, had_access, had_default, IsAccessLeft, IsDefaultLeft}
-use Rattle.acl_edit.specs.declared.edit.Change.{Change}
+use Rattle.acl_edit.specs.Changes.{Change}
 use Rattle.acl_edit.specs.declared.node.Node.{Node}
 use Rattle.acl_edit.proofs.Kept.{access_unnamed, default_unnamed}
 use Rattle.acl_edit.proofs.Given.{get-masked, unnamed_left, or_right}

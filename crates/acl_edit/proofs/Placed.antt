@@ -5,7 +5,7 @@ use Rattle.acl_entry.specs.Lists.{KeyMap, or_else}
 use Rattle.acl_edit.specs.Nodes.{IsSound, with_lists}
 use Rattle.acl_edit.specs.Edits as steps
 use Rattle.acl_edit.specs.Edits.{edit, allowed, changed_access, changed_default, is_misplaced, ◌>>=◌}
-use Rattle.acl_edit.specs.declared.edit.Change.{Change}
+use Rattle.acl_edit.specs.Changes.{Change, options}
 use Rattle.acl_edit.specs.declared.edit.Edit.{Edit}
 use Rattle.acl_edit.specs.declared.edit.Edit.TheVariants as edits
 use Rattle.acl_edit.specs.declared.edit.EditFault.{EditFault}
@@ -58,9 +58,9 @@ none_allowed Plain in_recursion None d is plain = sym (ap (list_or None) is)
 none_allowed Plain false (Some l) d is plain = absurd (err_is_not_ok d DefaultOnFile is)
 none_allowed Plain true (Some l) d is plain = sym (ap (list_or None) is)
 
-pub keeps_kind : (n : Node) (e : Edit) (in_recursion : Bool) (m : Node) → edit n e in_recursion ≡ Ok m → KeepsKind n m
-unfolding steps.change steps.put steps.flatten steps.restore
-keeps_kind n (edits.Change c) in_recursion m is = by (is_misplaced n c in_recursion) is
+line_keeps_kind : (n : Node) (c : Change) (in_recursion : Bool) (m : Node) → steps.change n c in_recursion ≡ Ok m → KeepsKind n m
+unfolding steps.change
+line_keeps_kind n c in_recursion m is = by (is_misplaced n c in_recursion) is
   where
     by : (b : Bool) → (if b then Err DefaultOnFile else (changed_access n c >>= λ acl. changed_default n.kind n c acl >>= λ dacl. Ok (with_lists n acl dacl))) ≡ Ok m → KeepsKind n m
     by true is = absurd (err_is_not_ok m DefaultOnFile is)
@@ -69,6 +69,11 @@ keeps_kind n (edits.Change c) in_recursion m is = by (is_misplaced n c in_recurs
         (λ acl _ m is. bound (KeepsKind n) (changed_default n.kind n c acl) (λ dacl. Ok (with_lists n acl dacl))
         (λ d left m is. made n (with_lists n acl d) m (record { kind = refl; sound = λ sound plain. default_left n.kind n c acl d left plain (sound plain) }) is) m is)
         m is
+
+pub keeps_kind : (n : Node) (e : Edit) (in_recursion : Bool) (m : Node) → edit n e in_recursion ≡ Ok m → KeepsKind n m
+unfolding steps.put steps.flatten steps.restore
+keeps_kind n (edits.Change strip drop_default as_default no_mask remask remove set modify) in_recursion m is =
+    line_keeps_kind n (options strip drop_default as_default no_mask remask remove set modify) in_recursion m is
 keeps_kind n (edits.Put access dacl) in_recursion m is =
     bound (KeepsKind n) (allowed n.kind in_recursion dacl) (λ d. Ok (with_lists n (unwrap_or access n.label.acl) (or_else d n.dacl)))
     (λ d given m is. made n (with_lists n (unwrap_or access n.label.acl) (or_else d n.dacl)) m

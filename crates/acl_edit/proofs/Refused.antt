@@ -5,15 +5,15 @@ use Rattle.std.specs.Option.{option_map_or}
 use Rattle.acl_entry.specs.Lists.{KeyMap, entries, fault}
 use Rattle.acl_entry.specs.declared.entry.Entry.{Entry}
 use Rattle.acl_entry.specs.declared.entry.ListFault.{ListFault}
-use Rattle.acl_text.specs.declared.entries.Spec.{Spec}
-use Rattle.acl_text.specs.declared.fault.Which.{Which}
-use Rattle.acl_text.specs.declared.fault.Which.TheVariants.{Access, Default}
+use Rattle.acl_syntax.specs.declared.entries.Spec.{Spec}
+use Rattle.acl_syntax.specs.declared.fault.Which.{Which}
+use Rattle.acl_syntax.specs.declared.fault.Which.TheVariants.{Access, Default}
 use Rattle.acl_edit.specs.Nodes.{is_directory, with_lists}
 use Rattle.acl_edit.specs.Parts.{is_given, is_for}
 use Rattle.acl_edit.specs.Edits as steps
-use Rattle.acl_edit.specs.Edits.{edit, checked_default, changed_default, is_misplaced, allowed, ◌>>=◌}
+use Rattle.acl_edit.specs.Edits.{edit, edit_of, checked_default, changed_default, is_misplaced, allowed, ◌>>=◌}
 use Rattle.acl_edit.specs.Laws.{OfLine, puts_default, misplaces_default, RefusesLists, RefusesNoList}
-use Rattle.acl_edit.specs.declared.edit.Change.{Change}
+use Rattle.acl_edit.specs.Changes.{Change, options}
 use Rattle.acl_edit.specs.declared.edit.Edit.{Edit}
 use Rattle.acl_edit.specs.declared.edit.Edit.TheVariants as edits
 use Rattle.acl_edit.specs.declared.edit.EditFault.{EditFault}
@@ -34,7 +34,7 @@ some_given p (s ∷ specs) = by_first (p s) (some_given p specs)
     by_first true h = refl
     by_first false h = h
 
-misplaced_is : (n : Node) (c : Change) (r : Bool) → is_misplaced n c r ≡ misplaces_default n (edits.Change c) r
+misplaced_is : (n : Node) (c : Change) (r : Bool) → is_misplaced n c r ≡ misplaces_default n (edit_of c) r
 misplaced_is n c r = λ i. not (is_directory n.kind) && not r && (some_given (is_for c.as_default Default) c.set i || some_given (is_for c.as_default Default) c.modify i)
 
 -- ---- a line
@@ -63,7 +63,7 @@ module _ (n : Node) (c : Change) (r : Bool) where
   outcome false (Some f) k z g = Err (ListIs Access f)
   outcome false None k z g = of_kind k z g >>= λ d. Ok (with_lists n left d)
 
-  outcome_is : edit n (edits.Change c) r ≡ outcome (misplaces_default n (edits.Change c) r) (fault (entries left)) n.kind none_given (fault (entries left_default))
+  outcome_is : edit n (edit_of c) r ≡ outcome (misplaces_default n (edit_of c) r) (fault (entries left)) n.kind none_given (fault (entries left_default))
   unfolding steps.change
   outcome_is = by_cases (is_misplaced n c r) (fault (entries left)) ∙ ap (λ b. outcome b (fault (entries left)) n.kind none_given (fault (entries left_default))) (misplaced_is n c r)
     where
@@ -109,8 +109,8 @@ module _ (n : Node) (c : Change) (r : Bool) where
   no_memory false None Directory false (Some g) = λ h. cc
   no_memory false None Directory false None = λ h. cc
 
-  pub line_takes_no_memory : edit n (edits.Change c) r ≢ Err NoMemory
-  line_takes_no_memory h = no_memory (misplaces_default n (edits.Change c) r) (fault (entries left)) n.kind none_given (fault (entries left_default)) (sym outcome_is ∙ h)
+  pub line_takes_no_memory : edit n (edit_of c) r ≢ Err NoMemory
+  line_takes_no_memory h = no_memory (misplaces_default n (edit_of c) r) (fault (entries left)) n.kind none_given (fault (entries left_default)) (sym outcome_is ∙ h)
 
   -- ---- lists with entries
 
@@ -128,12 +128,12 @@ module _ (n : Node) (c : Change) (r : Bool) where
 
   -- ---- the laws
 
-  in_directory : n.kind ≡ Directory → misplaces_default n (edits.Change c) r ≡ false
-  in_directory h = ap (λ k. not (is_directory k) && not r && puts_default (edits.Change c)) h
+  in_directory : n.kind ≡ Directory → misplaces_default n (edit_of c) r ≡ false
+  in_directory h = ap (λ k. not (is_directory k) && not r && puts_default (edit_of c)) h
 
-  pub line_misplaced : (edit n (edits.Change c) r ≡ Err DefaultOnFile) ↔ (misplaces_default n (edits.Change c) r ≡ true)
+  pub line_misplaced : (edit n (edit_of c) r ≡ Err DefaultOnFile) ↔ (misplaces_default n (edit_of c) r ≡ true)
   line_misplaced = (
-    (λ h. only_misplaced (misplaces_default n (edits.Change c) r) (fault (entries left)) n.kind none_given (fault (entries left_default)) (sym outcome_is ∙ h)),
+    (λ h. only_misplaced (misplaces_default n (edit_of c) r) (fault (entries left)) n.kind none_given (fault (entries left_default)) (sym outcome_is ∙ h)),
     (λ h. outcome_is ∙ ap (λ b. outcome b (fault (entries left)) n.kind none_given (fault (entries left_default))) h),
   )
 
@@ -144,11 +144,11 @@ module _ (n : Node) (c : Change) (r : Bool) where
     access_left = access_left n c;
     dacl_left = default_left n c left;
     access_fault = λ f. (
-      (λ h. only_access (misplaces_default n (edits.Change c) r) (fault (entries left)) n.kind none_given (fault (entries left_default)) f (sym outcome_is ∙ h)),
+      (λ h. only_access (misplaces_default n (edit_of c) r) (fault (entries left)) n.kind none_given (fault (entries left_default)) f (sym outcome_is ∙ h)),
       (λ h. outcome_is ∙ (λ i. outcome (h.0 i) (h.1 i) n.kind none_given (fault (entries left_default)))),
     );
     dacl_fault = λ f. (
-      (λ h. let is = only_default (misplaces_default n (edits.Change c) r) (fault (entries left)) n.kind none_given (fault (entries left_default)) f (sym outcome_is ∙ h) in
+      (λ h. let is = only_default (misplaces_default n (edit_of c) r) (fault (entries left)) n.kind none_given (fault (entries left_default)) f (sym outcome_is ∙ h) in
           record { directory = is.0; valid = is.1; given = some_entries (entries left_default) is.2; fault = is.3 }),
       (λ h. outcome_is ∙ (λ i. outcome (in_directory h.directory i) (h.valid i) (h.directory i) (not_none (entries left_default) h.given i) (h.fault i))),
     );
@@ -187,7 +187,8 @@ module _ (n : Node) (r : Bool) where
 
 pub misplaced : (n : Node) (e : Edit) (r : Bool) → (edit n e r ≡ Err DefaultOnFile) ↔ (misplaces_default n e r ≡ true)
 unfolding steps.put steps.restore
-misplaced n (edits.Change c) r = line_misplaced n c r
+misplaced n (edits.Change strip drop_default as_default no_mask remask remove set modify) r =
+    line_misplaced n (options strip drop_default as_default no_mask remask remove set modify) r
 misplaced n (edits.Put access dacl) r = (only_given n r n.kind r dacl _, given_only n r n.kind r dacl _)
 misplaced n (edits.Flatten access dacl) r = ((λ h. cc), (λ h. by_kind (is_directory n.kind) r h))
   where
@@ -198,14 +199,15 @@ misplaced n (edits.Flatten access dacl) r = ((λ h. cc), (λ h. by_kind (is_dire
 misplaced n (edits.Restore access dacl owner group flags) r = (only_given n r n.kind r dacl _, given_only n r n.kind r dacl _)
 
 pub refused_lines : (n : Node) (e : Edit) (r : Bool) → OfLine e (λ c. RefusesLists n c r)
-refused_lines n (edits.Change c) r = refuses_lists n c r
+refused_lines n (edits.Change strip drop_default as_default no_mask remask remove set modify) r =
+    refuses_lists n (options strip drop_default as_default no_mask remask remove set modify) r
 refused_lines n (edits.Put access dacl) r = tt
 refused_lines n (edits.Flatten access dacl) r = tt
 refused_lines n (edits.Restore access dacl owner group flags) r = tt
 
 pub refuses_no_list : (n : Node) (e : Edit) (r : Bool) → RefusesNoList n e r
 unfolding steps.put steps.restore
-refuses_no_list n (edits.Change c) r = tt
+refuses_no_list n (edits.Change strip drop_default as_default no_mask remask remove set modify) r = tt
 refuses_no_list n (edits.Put access dacl) r = λ which f. no_list n r n.kind r dacl _ which f
 refuses_no_list n (edits.Flatten access dacl) r = λ which f h. cc
 refuses_no_list n (edits.Restore access dacl owner group flags) r = λ which f. no_list n r n.kind r dacl _ which f
@@ -215,7 +217,8 @@ misplaces n e r h = (misplaced n e r).1 h
 
 pub takes_no_memory : (n : Node) (e : Edit) (r : Bool) → edit n e r ≢ Err NoMemory
 unfolding steps.put steps.restore
-takes_no_memory n (edits.Change c) r = line_takes_no_memory n c r
+takes_no_memory n (edits.Change strip drop_default as_default no_mask remask remove set modify) r =
+    line_takes_no_memory n (options strip drop_default as_default no_mask remask remove set modify) r
 takes_no_memory n (edits.Put access dacl) r = memory_given n r n.kind r dacl _
 takes_no_memory n (edits.Flatten access dacl) r = λ h. cc
 takes_no_memory n (edits.Restore access dacl owner group flags) r = memory_given n r n.kind r dacl _

@@ -3,13 +3,13 @@ use Rattle.std.specs.Prelude.{ℕ, ◌==◌, Bool, true, false, not, ◌&&◌, �
 use Rattle.std.specs.Option.{option_map_or}
 use Rattle.std.specs.FinMap as maps
 use Rattle.acl_entry.specs.Lists.{KeyMap, entries, fault, minimal, mode, or_else}
-use Rattle.acl_text.specs.declared.fault.Which.{Which}
-use Rattle.acl_text.specs.declared.fault.Which.TheVariants.{Access, Default}
+use Rattle.acl_syntax.specs.declared.fault.Which.{Which}
+use Rattle.acl_syntax.specs.declared.fault.Which.TheVariants.{Access, Default}
 use Rattle.acl_edit.specs.Nodes.{is_directory, with_lists}
 use Rattle.acl_edit.specs.Parts.{Part, part, puts, names}
 use Rattle.acl_edit.specs.Steps.{gives_execute, strip, remove, modify, replace, fill_from}
 use Rattle.acl_edit.specs.Masks.{takes_mask, with_mask}
-use Rattle.acl_edit.specs.declared.edit.Change.{Change}
+use Rattle.acl_edit.specs.Changes.{Change, options}
 use Rattle.acl_edit.specs.declared.edit.Edit.{Edit}
 use Rattle.acl_edit.specs.declared.edit.Edit.TheVariants as edits
 use Rattle.acl_edit.specs.declared.edit.EditFault.{EditFault}
@@ -109,7 +109,12 @@ restore n access dacl owner group flags in_recursion =
 
 -- what the edit makes of a file, or why it is refused
 abbrev pub edit : Node → Edit → Bool → Result Node EditFault
-edit n (edits.Change c) in_recursion = change n c in_recursion
+edit n (edits.Change strip drop_default as_default no_mask remask remove set modify) in_recursion =
+    change n (options strip drop_default as_default no_mask remask remove set modify) in_recursion
 edit n (edits.Put access dacl) in_recursion = put n access dacl in_recursion
 edit n (edits.Flatten access dacl) in_recursion = Ok (flatten n access dacl)
 edit n (edits.Restore access dacl owner group flags) in_recursion = restore n access dacl owner group flags in_recursion
+
+-- the edit that a line is
+abbrev pub edit_of : Change → Edit
+edit_of c = edits.Change c.strip c.drop_default c.as_default c.no_mask c.remask c.remove c.set c.modify

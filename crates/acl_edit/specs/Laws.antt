@@ -9,15 +9,15 @@ use Rattle.acl_entry.specs.Lists.{KeyMap, IsValid, entries, fault, effective, cl
 use Rattle.acl_entry.specs.declared.entry.ListFault.{ListFault}
 use Rattle.acl_entry.specs.declared.key.Key.{Key}
 use Rattle.acl_entry.specs.declared.key.Key.TheVariants.{OwningGroup, Mask}
-use Rattle.acl_text.specs.declared.fault.Which.{Which}
-use Rattle.acl_text.specs.declared.fault.Which.TheVariants.{Access, Default}
+use Rattle.acl_syntax.specs.declared.fault.Which.{Which}
+use Rattle.acl_syntax.specs.declared.fault.Which.TheVariants.{Access, Default}
 use Rattle.acl_edit.specs.Nodes.{is_directory}
 use Rattle.acl_edit.specs.Parts.{Part, part, names, puts, is_given, is_mask, is_for}
 use Rattle.acl_edit.specs.Steps.{perms_of, gives_execute}
-use Rattle.acl_text.specs.declared.entries.Spec.{Spec}
+use Rattle.acl_syntax.specs.declared.entries.Spec.{Spec}
 use Rattle.acl_edit.specs.Masks.{has_named, is_recalculated}
-use Rattle.acl_edit.specs.Edits.{edit}
-use Rattle.acl_edit.specs.declared.edit.Change.{Change}
+use Rattle.acl_edit.specs.Edits.{edit, edit_of}
+use Rattle.acl_edit.specs.Changes.{Change, options}
 use Rattle.acl_edit.specs.declared.edit.Edit.{Edit}
 use Rattle.acl_edit.specs.declared.edit.Edit.TheVariants as edits
 use Rattle.acl_edit.specs.declared.edit.EditFault.TheVariants.{List as ListIs}
@@ -149,7 +149,8 @@ module _ (old : Node) (c : Change) (new : Node) where
 
 -- the edit puts entries of a default list, or a whole one; a removed entry puts nothing
 abbrev pub puts_default : Edit → Bool
-puts_default (edits.Change c) = list_any (is_for c.as_default Default) c.set || list_any (is_for c.as_default Default) c.modify
+puts_default (edits.Change strip drop_default as_default no_mask remask remove set modify) =
+    list_any (is_for as_default Default) set || list_any (is_for as_default Default) modify
 puts_default (edits.Put access dacl) = is_some dacl
 puts_default (edits.Flatten access dacl) = false
 puts_default (edits.Restore access dacl owner group flags) = is_some dacl
@@ -187,13 +188,13 @@ pub record RefusesLists (n : Node) (c : Change) (in_recursion : Bool) : Type 0 w
   pub dacl : KeyMap
   pub access_left : IsAccessLeft n c access
   pub dacl_left : IsDefaultLeft n c access dacl
-  pub access_fault : (f : ListFault) → (edit n (edits.Change c) in_recursion ≡ Err (ListIs Access f))
-      ↔ ((misplaces_default n (edits.Change c) in_recursion ≡ false) × (fault (entries access) ≡ Some f))
-  pub dacl_fault : (f : ListFault) → (edit n (edits.Change c) in_recursion ≡ Err (ListIs Default f)) ↔ IsDefaultFault n access dacl f
+  pub access_fault : (f : ListFault) → (edit n (edit_of c) in_recursion ≡ Err (ListIs Access f))
+      ↔ ((misplaces_default n (edit_of c) in_recursion ≡ false) × (fault (entries access) ≡ Some f))
+  pub dacl_fault : (f : ListFault) → (edit n (edit_of c) in_recursion ≡ Err (ListIs Default f)) ↔ IsDefaultFault n access dacl f
 
 -- whole lists are lists already, so no edit that puts them is refused for their faults
 abbrev pub RefusesNoList : Node → Edit → Bool → Type 0
-RefusesNoList n (edits.Change c) in_recursion = Unit {0}
+RefusesNoList n (edits.Change strip drop_default as_default no_mask remask remove set modify) in_recursion = Unit {0}
 RefusesNoList n (edits.Put access dacl) in_recursion = (which : Which) (f : ListFault) → edit n (edits.Put access dacl) in_recursion ≢ Err (ListIs which f)
 RefusesNoList n (edits.Flatten access dacl) in_recursion = (which : Which) (f : ListFault) → edit n (edits.Flatten access dacl) in_recursion ≢ Err (ListIs which f)
 RefusesNoList n (edits.Restore access dacl owner group flags) in_recursion =
@@ -201,7 +202,8 @@ RefusesNoList n (edits.Restore access dacl owner group flags) in_recursion =
 
 -- a fact of the line that an edit is, if it is one
 abbrev pub OfLine : Edit → (Change → Type 0) → Type 0
-OfLine (edits.Change c) P = P c
+OfLine (edits.Change strip drop_default as_default no_mask remask remove set modify) P =
+    P (options strip drop_default as_default no_mask remask remove set modify)
 OfLine (edits.Put access dacl) P = Unit {0}
 OfLine (edits.Flatten access dacl) P = Unit {0}
 OfLine (edits.Restore access dacl owner group flags) P = Unit {0}

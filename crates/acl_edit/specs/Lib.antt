@@ -1,4 +1,5 @@
 pub mod Nodes
+pub mod Changes
 pub mod Parts
 pub mod Steps
 pub mod Masks

@@ -3,10 +3,10 @@ use Rattle.std.specs.Prelude.{Bool, true, false, not, ◌||◌, List, [], ◌∷
 use Rattle.std.specs.List.{list_any}
 use Rattle.acl_entry.specs.declared.key.Key.{Key}
 use Rattle.acl_entry.specs.declared.key.Key.TheVariants.{Owner, User, OwningGroup, Group, Mask, Other}
-use Rattle.acl_text.specs.declared.entries.Spec.{Spec}
-use Rattle.acl_text.specs.declared.fault.Which.{Which}
-use Rattle.acl_text.specs.declared.fault.Which.TheVariants.{Access, Default}
-use Rattle.acl_edit.specs.declared.edit.Change.{Change}
+use Rattle.acl_syntax.specs.declared.entries.Spec.{Spec}
+use Rattle.acl_syntax.specs.declared.fault.Which.{Which}
+use Rattle.acl_syntax.specs.declared.fault.Which.TheVariants.{Access, Default}
+use Rattle.acl_edit.specs.Changes.{Change}
 
 -- the entry is for this list: under -d plain entries are default ones, and default ones are dropped
 abbrev pub is_for : Bool → Which → Spec → Bool

@@ -7,23 +7,24 @@ ghost use Rattle.acl_edit.specs.Edits as edits;
 ghost use Rattle.acl_edit.specs.Edits.{worked, access_after, default_after, access_before, default_before, changed_access, changed_default, is_misplaced};
 ghost use Rattle.acl_edit.specs.Nodes.{IsSound};
 ghost use Rattle.acl_edit.specs.Rooms.{Fits, HasRoom, size, size_of, puts_of};
-ghost use Rattle.acl_text.specs.declared.fault.Which.TheVariants.{Access, Default};
+ghost use Rattle.acl_syntax.specs.declared.fault.Which.TheVariants.{Access, Default};
 ghost use Rattle.acl_edit.specs.Laws.{LeavesUnnamed, ShowsRecalculated, BoundsRecalculated, KeepsGranted, GivesModified, GoesByKey, LeavesByKey, CopiesBase, MakesMask, DropsDefault};
 ghost use Rattle.acl_edit.specs.declared.edit.EditFault.TheVariants.{DefaultOnFile, NoMemory};
 
+use crate::line::Line;
 use crate::masks::{complete_mask, has_mask};
 use crate::steps::{fill_from, gives_execute, modify, remove, replace, strip};
-use crate::{Change, EditFault, Kind, Node};
+use crate::{EditFault, Kind, Node};
 use acl_entry::{Acl, Draft};
-use acl_text::Which;
+use acl_syntax::Which;
 use std::alloc::{AllocError, Global};
 
-impl Change {
+impl Line<'_> {
     /// Whether the line takes the list's mask out.
     fn takes_mask(&self, which: Which, draft: &Draft) -> bool
         ensures { result ≡ takes_mask (part self.now which) draft.now }
     {
-        has_mask(draft) && self.scope(which).takes_mask(self.remove.as_slice())
+        has_mask(draft) && self.scope(which).takes_mask(self.remove)
     }
 
     /// Replaces, removes and modifies, and returns whether the list lost its mask.
@@ -40,10 +41,10 @@ impl Change {
         ensures room { Fits (size draft.old + puts_of (part self.now which)) → IsOk result }
     {
         let scope = self.scope(which);
-        replace(alloc, draft, scope, x, self.set.as_slice())?;
+        replace(alloc, draft, scope, x, self.set)?;
         let lost = self.takes_mask(which, draft);
-        remove(draft, scope, self.remove.as_slice());
-        modify(draft, scope, x, self.modify.as_slice())?;
+        remove(draft, scope, self.remove);
+        modify(draft, scope, x, self.modify)?;
         Ok(lost)
     }
 
@@ -142,14 +143,14 @@ fn checked_default(draft: Draft) -> Result<Option<Acl>, EditFault>
 }
 
 /// The access list that a line leaves.
-fn changed_access(alloc: Global, node: &Node, change: &Change, x: bool) -> Result<Acl, EditFault>
+fn changed_access(alloc: Global, node: &Node, line: &Line<'_>, x: bool) -> Result<Acl, EditFault>
     requires { x ≡ steps.gives_execute node.now }
-    ensures made { IfOk result (λ acl. changed_access node.now change.now ≡ Ok acl) }
-    ensures reported { IfErr result (λ fault. fault ≢ NoMemory → changed_access node.now change.now ≡ Err fault) }
-    ensures room { HasRoom node.now change.now → result ≢ Err NoMemory }
+    ensures made { IfOk result (λ acl. changed_access node.now line.now ≡ Ok acl) }
+    ensures reported { IfErr result (λ fault. fault ≢ NoMemory → changed_access node.now line.now ≡ Err fault) }
+    ensures room { HasRoom node.now line.now → result ≢ Err NoMemory }
 {
-    let mut draft = change.access_before(alloc, &node.label.acl)?;
-    change.edit_access(alloc, x, &mut draft)?;
+    let mut draft = line.access_before(alloc, &node.label.acl)?;
+    line.edit_access(alloc, x, &mut draft)?;
     checked(Which::Access, draft)
 }
 
@@ -157,20 +158,20 @@ fn changed_access(alloc: Global, node: &Node, change: &Change, x: bool) -> Resul
 fn changed_default(
     alloc: Global,
     node: &Node,
-    change: &Change,
+    line: &Line<'_>,
     x: bool,
     acl: &Acl,
 ) -> Result<Option<Acl>, EditFault>
     requires { x ≡ steps.gives_execute node.now }
-    ensures made { IfOk result (λ dacl. changed_default node.now.kind node.now change.now acl.now ≡ Ok dacl) }
-    ensures reported { IfErr result (λ fault. fault ≢ NoMemory → changed_default node.now.kind node.now change.now acl.now ≡ Err fault) }
-    ensures room { HasRoom node.now change.now → result ≢ Err NoMemory }
+    ensures made { IfOk result (λ dacl. changed_default node.now.kind node.now line.now acl.now ≡ Ok dacl) }
+    ensures reported { IfErr result (λ fault. fault ≢ NoMemory → changed_default node.now.kind node.now line.now acl.now ≡ Err fault) }
+    ensures room { HasRoom node.now line.now → result ≢ Err NoMemory }
 {
     if node.kind == Kind::Plain {
-        return Ok(change.kept_default(alloc, &node.dacl)?);
+        return Ok(line.kept_default(alloc, &node.dacl)?);
     }
-    let mut draft = change.default_before(alloc, &node.dacl)?;
-    change.edit_default(alloc, x, acl, &mut draft)?;
+    let mut draft = line.default_before(alloc, &node.dacl)?;
+    line.edit_default(alloc, x, acl, &mut draft)?;
     checked_default(draft)
 }
 
@@ -186,7 +187,7 @@ pub(crate) fn clone_of(alloc: Global, acl: &Option<Acl>) -> Result<Option<Acl>, 
 }
 
 /// Whether the line puts default entries into a file that is not a directory, and not in a recursion.
-fn is_misplaced(node: &Node, line: &Change, in_recursion: bool) -> bool
+fn is_misplaced(node: &Node, line: &Line<'_>, in_recursion: bool) -> bool
     ensures { result ≡ is_misplaced node.now line.now in_recursion }
 {
     node.kind != Kind::Directory && !in_recursion && line.puts(Which::Default)
@@ -197,7 +198,7 @@ fn is_misplaced(node: &Node, line: &Change, in_recursion: bool) -> bool
 pub(crate) fn change(
     alloc: Global,
     node: &Node,
-    line: &Change,
+    line: &Line<'_>,
     in_recursion: bool,
 ) -> Result<Node, EditFault>
     ensures made { IfOk result (λ n. edits.change node.now line.now in_recursion ≡ Ok n) }

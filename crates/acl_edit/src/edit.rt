@@ -4,35 +4,31 @@ ghost use Rattle.acl_edit.specs.declared.edit.EditFault.TheVariants.{NoMemory};
 
 use crate::Specs;
 use acl_entry::{Acl, Id, ListFault};
-use acl_text::Which;
+use acl_syntax::Which;
 use std::alloc::{AllocError, AllocFailed};
-
-/// The options of a setfacl(1) line but `--restore` and `--test`. Their order on the line has no meaning.
-#[derive(Debug, Drop)]
-pub struct Change {
-    /// `-b`: the access list keeps its base entries with what they grant, and the default list goes.
-    pub strip: bool,
-    /// `-k`: the default list goes.
-    pub drop_default: bool,
-    /// `-d`: plain entries are entries of the default list, and default entries are dropped.
-    pub as_default: bool,
-    /// `-n`: no mask is recalculated.
-    pub no_mask: bool,
-    /// `--mask`: the mask is recalculated even where one was given.
-    pub remask: bool,
-    /// `-x`, `-X`: the keys that are removed.
-    pub remove: Specs,
-    /// `--set`, `--set-file`: the entries that replace a list.
-    pub set: Specs,
-    /// `-m`, `-M`: the entries that are modified or added.
-    pub modify: Specs,
-}
 
 /// An edit of one file.
 #[derive(Debug, Drop)]
 pub enum Edit {
-    /// A setfacl(1) line.
-    Change(Change),
+    /// A setfacl(1) line: its options but `--restore` and `--test`. Their order on the line has no meaning.
+    Change {
+        /// `-b`: the access list keeps its base entries with what they grant, and the default list goes.
+        strip: bool,
+        /// `-k`: the default list goes.
+        drop_default: bool,
+        /// `-d`: plain entries are entries of the default list, and default entries are dropped.
+        as_default: bool,
+        /// `-n`: no mask is recalculated.
+        no_mask: bool,
+        /// `--mask`: the mask is recalculated even where one was given.
+        remask: bool,
+        /// `-x`, `-X`: the keys that are removed.
+        remove: Specs,
+        /// `--set`, `--set-file`: the entries that replace a list.
+        set: Specs,
+        /// `-m`, `-M`: the entries that are modified or added.
+        modify: Specs,
+    },
     /// chacl(1) with lists: each that is given is put in place of the file's.
     Put {
         access: Option<Acl>,

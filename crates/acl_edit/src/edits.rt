@@ -8,6 +8,7 @@ ghost use Rattle.acl_edit.specs.Laws.{LeavesUnnamed, ShowsRecalculated, BoundsRe
 ghost use Rattle.acl_edit.specs.declared.edit.EditFault.TheVariants.{DefaultOnFile, NoMemory};
 
 use crate::change::{change, clone_of};
+use crate::line::Line;
 use crate::{Edit, EditFault, Kind, Node};
 use acl_entry::{Acl, Id, Label};
 use std::alloc::{AllocError, Global};
@@ -43,7 +44,28 @@ pub fn apply(alloc: Global, node: &Node, edit: &Edit, in_recursion: bool) -> Res
     ensures dropped { IfOk result (λ n. OfLine edit.now (λ c. DropsDefault node.now c n)) }
 {
     let edited = match edit {
-        Edit::Change(line) => change(alloc, node, line, in_recursion)?,
+        Edit::Change {
+            strip,
+            drop_default,
+            as_default,
+            no_mask,
+            remask,
+            remove,
+            set,
+            modify,
+        } => {
+            let line = Line {
+                strip: *strip,
+                drop_default: *drop_default,
+                as_default: *as_default,
+                no_mask: *no_mask,
+                remask: *remask,
+                remove: remove.as_slice(),
+                set: set.as_slice(),
+                modify: modify.as_slice(),
+            };
+            change(alloc, node, &line, in_recursion)?
+        }
         Edit::Put { access, dacl } => put(alloc, node, access, dacl, in_recursion)?,
         Edit::Flatten { access, dacl } => flatten(alloc, node, *access, *dacl)?,
         Edit::Restore {

@@ -9,6 +9,7 @@ mod creation;
 mod edit;
 mod edits;
 mod laws;
+mod line;
 mod masks;
 mod node;
 mod parts;
@@ -16,7 +17,7 @@ mod steps;
 mod written;
 
 pub use creation::create;
-pub use edit::{Change, Edit, EditFault};
+pub use edit::{Edit, EditFault};
 pub use edits::apply;
 pub use laws::edits_are_refused_for_their_lists;
 pub use node::{Kind, Node, chmod};

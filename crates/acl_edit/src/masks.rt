@@ -6,9 +6,9 @@ ghost use Rattle.acl_edit.specs.Parts.{part};
 ghost use Rattle.acl_edit.specs.Masks as masks;
 ghost use Rattle.acl_edit.specs.Masks.{has_mask, has_named, is_recalculated};
 
-use crate::Change;
+use crate::line::Line;
 use acl_entry::{Draft, Key};
-use acl_text::Which;
+use acl_syntax::Which;
 use std::alloc::AllocError;
 
 /// Whether the list has a mask.
@@ -50,26 +50,26 @@ fn recalculate(draft: &mut Draft) -> Result<(), AllocError>
 }
 
 /// Whether the line has the list's mask recalculated.
-fn is_recalculated(change: &Change, which: Which) -> bool
-    ensures { result ≡ is_recalculated change.now (part change.now which) }
+fn is_recalculated(line: &Line<'_>, which: Which) -> bool
+    ensures { result ≡ is_recalculated line.now (part line.now which) }
 {
-    !change.no_mask && (change.remask || !change.gives_mask(which))
+    !line.no_mask && (line.remask || !line.gives_mask(which))
 }
 
 /// Completes a list with its mask, where `lost` means that the line took one out.
 pub(crate) fn complete_mask(
     draft: &mut Draft,
-    change: &Change,
+    line: &Line<'_>,
     which: Which,
     lost: bool,
 ) -> Result<(), AllocError>
-    ensures completed { OnOk result (draft.new ≡ masks.with_mask change.now (part change.now which) lost draft.old) }
+    ensures completed { OnOk result (draft.new ≡ masks.with_mask line.now (part line.now which) lost draft.old) }
     ensures room { size draft.old < inline_entries → IsOk result }
 {
     if !lost {
         add_mask(draft)?;
     }
-    if is_recalculated(change, which) {
+    if is_recalculated(line, which) {
         recalculate(draft)?;
     }
     Ok(())

@@ -4,9 +4,9 @@ ghost use Rattle.std.specs.List.{list_any};
 ghost use Rattle.acl_edit.specs.Parts as parts;
 ghost use Rattle.acl_edit.specs.Parts.{is_mask, is_given, part, is_for, is_of_mask};
 
-use crate::Change;
+use crate::line::Line;
 use acl_entry::Key;
-use acl_text::{Spec, Which};
+use acl_syntax::{Spec, Which};
 
 /// The entries for one list.
 #[derive(Clone, Copy)]
@@ -59,7 +59,7 @@ pub(crate) fn is_mask(key: &Key) -> bool
     matches!(key, Key::Mask)
 }
 
-impl Change {
+impl Line<'_> {
     /// The entries for this list.
     pub(crate) fn scope(&self, which: Which) -> Scope
         ensures { result ≡ record { which = which; as_default = self.now.as_default } }
@@ -75,14 +75,14 @@ impl Change {
         ensures { result ≡ parts.puts (part self.now which) }
     {
         let scope = self.scope(which);
-        scope.takes_some(self.set.as_slice()) || scope.takes_some(self.modify.as_slice())
+        scope.takes_some(self.set) || scope.takes_some(self.modify)
     }
 
     /// Whether the line names an entry of the list.
     pub(crate) fn names(&self, which: Which) -> bool
         ensures { result ≡ parts.names (part self.now which) }
     {
-        self.scope(which).takes_some(self.remove.as_slice()) || self.puts(which)
+        self.scope(which).takes_some(self.remove) || self.puts(which)
     }
 
     /// Whether the line gives the list a mask.
@@ -90,6 +90,6 @@ impl Change {
         ensures { result ≡ parts.gives_mask (part self.now which) }
     {
         let scope = self.scope(which);
-        scope.takes_mask(self.set.as_slice()) || scope.takes_mask(self.modify.as_slice())
+        scope.takes_mask(self.set) || scope.takes_mask(self.modify)
     }
 }

@@ -10,7 +10,7 @@ ghost use Rattle.acl_edit.specs.Steps.{execute, gives_execute, perms_of, may_exe
 use crate::parts::{Scope, is_mask};
 use crate::{Kind, Node};
 use acl_entry::{Acl, Draft, Entry, Key, Perm};
-use acl_text::{PermSpec, Spec};
+use acl_syntax::{PermSpec, Spec};
 use std::alloc::{AllocError, Global};
 
 fn execute() -> Perm

@@ -1,20 +1,20 @@
 //! Entries as a command line or a text gives them.
 ghost use Rattle.std.specs.Prelude.{◌≡◌};
 
-use acl_text::Spec;
+use acl_syntax::Spec;
 use std::marker::Model;
 
 /// Entries in the order in which they were written; contracts see them as a list.
 #[derive(Debug, Drop)]
 pub struct Specs {
-    list: Vec<Spec>,
+    pub list: Vec<Spec>,
 }
 
 impl Model for Specs {
     ghost use Rattle.std.specs.Prelude.{List};
     ghost use Rattle.std.specs.Coded.{coded_list};
-    ghost use Rattle.acl_text.specs.declared.entries.Spec.{Spec};
-    ghost use Rattle.acl_text.specs.contracts.entries.Spec as spec_contracts;
+    ghost use Rattle.acl_syntax.specs.declared.entries.Spec.{Spec};
+    ghost use Rattle.acl_syntax.specs.contracts.entries.Spec as spec_contracts;
 
     ghost Value = { List Spec };
 

@@ -1,7 +1,7 @@
 //! Lines of setfacl, each with the lists that it leaves, or its fault.
 use crate::made::{expect, specs};
-use acl_edit::{Change, Edit, Specs};
-use acl_text::Want;
+use acl_edit::{Edit, Specs};
+use acl_syntax::Want;
 use std::alloc::Global;
 use std::process::Abort;
 
@@ -231,7 +231,7 @@ fn value<'a>(line: &'a str, option: &str) -> &'a str {
 }
 
 fn change(rt: &impl Abort, alloc: Global, line: &str) -> Edit {
-    Edit::Change(Change {
+    Edit::Change {
         strip: has(line, "-b"),
         drop_default: has(line, "-k"),
         as_default: has(line, "-d"),
@@ -240,7 +240,7 @@ fn change(rt: &impl Abort, alloc: Global, line: &str) -> Edit {
         remove: Specs::new(specs(rt, alloc, value(line, "-x"), Want::WithoutPerms)),
         set: Specs::new(specs(rt, alloc, value(line, "--set"), Want::WithPerms)),
         modify: Specs::new(specs(rt, alloc, value(line, "-m"), Want::WithPerms)),
-    })
+    }
 }
 
 #[test]

@@ -15,20 +15,18 @@ ghost use Rattle.std.specs.Option.{option_map_or};
 use crate::{Entry, Id, Key, Label, Perm, Subject};
 use std::marker::Model;
 
-/// A set of requests. There are eight, numbered as permission sets are: bit i is request i.
+/// A set of requests, as any byte is one. There are eight, numbered as permission sets are: bit i is request i.
 #[derive(Clone, Copy, PartialEq, Eq, Debug)]
-pub struct Requests {
-    bits: u8,
-}
+pub struct Requests(pub u8);
 
 impl Model for Requests {
     ghost use Rattle.std.specs.Prelude.{ℕ};
 
     ghost Value = { ℕ };
 
-    ghost view = { λ r. r.bits };
+    ghost view = { λ r. r.0 };
 
-    ghost inverse = { λ n. record { bits = n } };
+    ghost inverse = { λ n. record { 0 = n } };
 }
 
 /// For each permission set, the byte whose bit i is set if request i is a subset.
@@ -39,46 +37,42 @@ impl Requests {
     pub fn has(self, request: Perm) -> bool
         ensures { result ≡ has self request }
     {
-        self.bits >> request.number() & 1 == 1
+        self.0 >> request.number() & 1 == 1
     }
 
     /// The byte whose bit i is set if request i is one of them.
     pub fn bits(self) -> u8
         ensures { result ≡ self }
     {
-        self.bits
+        self.0
     }
 
     /// The requests of a byte whose bit i is set if request i is one of them.
     pub fn from_byte(byte: u8) -> Requests
         ensures { result ≡ byte }
     {
-        Requests { bits: byte }
+        Requests(byte)
     }
 
     /// No request.
     pub fn none() -> Requests
         ensures { result ≡ 0 }
     {
-        Requests { bits: 0 }
+        Requests(0)
     }
 
     /// The requests that a permission set contains.
     pub fn within(perm: Perm) -> Requests
         ensures { result ≡ byte_of (contains perm) }
     {
-        Requests {
-            bits: SUBSETS[perm.number() as usize],
-        }
+        Requests(SUBSETS[perm.number() as usize])
     }
 
     /// The requests of either.
     pub fn union(self, other: Requests) -> Requests
         ensures { result ≡ bit_or self other }
     {
-        Requests {
-            bits: self.bits | other.bits,
-        }
+        Requests(self.0 | other.0)
     }
 }
 

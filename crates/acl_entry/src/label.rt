@@ -59,6 +59,16 @@ impl Subject {
         Ok(Subject::new(uid, rising))
     }
 
+    /// A copy. Fails only if memory runs out.
+    pub fn try_clone(&self, alloc: Global) -> Result<Subject, AllocError>
+        ensures { IfOk result (λ subject. subject ≡ self.now) }
+    {
+        Ok(Subject {
+            uid: self.uid,
+            groups: self.groups.to_vec(alloc)?,
+        })
+    }
+
     /// The user's id.
     pub fn uid(&self) -> Id
         ensures { result ≡ self.now.uid }

@@ -22,3 +22,6 @@ pub use entry::{Entry, ListFault};
 pub use key::{Id, Key, NOBODY};
 pub use label::{Label, Subject};
 pub use perm::Perm;
+
+/// What is returned where memory runs out: std's error under the name that the crates above use for it.
+pub type NoMemory = std::alloc::AllocError;

@@ -11,10 +11,10 @@ ghost use Rattle.acl_files.specs.Inner.{file_of, node_after, changed_one, change
 ghost use Rattle.acl_files.specs.declared.edit.FileFault.TheVariants.{NoMemory};
 
 use crate::fault::TreeFault;
-use crate::files::Record;
+use crate::files::Files;
 use crate::found::Found;
+use crate::records::Record;
 use crate::selection::select;
-use crate::tree::Tree;
 use acl_edit::{EditFault, Node};
 use acl_names::Path;
 use std::alloc::{AllocError, AllocFailed, Global};
@@ -142,13 +142,13 @@ fn edit_each<E: NodeEdit>(
 
 /// The tree with the files of a command edited, and the files whose label that changes. None is gone.
 pub fn edit_files<E: NodeEdit>(
-    tree: &Tree,
+    tree: &Files,
     alloc: Global,
     changed: &mut Vec<Rc<Record>>,
     operands: &[Path],
     recursive: bool,
     edit: &E,
-) -> Result<Tree, FileFault>
+) -> Result<Files, FileFault>
     ensures made { IfOk result (λ new. edit_all (E.edited edit.now) recursive operands.now tree.now ≡ Ok new) }
     ensures fault { IfErr result (λ fault. fault ≢ NoMemory → edit_all (E.edited edit.now) recursive operands.now tree.now ≡ Err fault) }
     ensures reported { IfOk result (λ new. map (λ r. r.value) changed.new.items ≡ map (λ r. r.value) changed.old.items ++ changed_between tree.now.files new.files) }
@@ -158,5 +158,5 @@ pub fn edit_files<E: NodeEdit>(
     let files = select(tree, alloc, operands, recursive)?;
     let edits = edit_each(alloc, changed, &files, edit)?;
     let by_path = tree.files_by_path().put_all(alloc, &edits)?;
-    Ok(Tree::of(by_path, tree.is_loaded()))
+    Ok(Files::of(by_path, tree.is_loaded()))
 }

@@ -35,14 +35,14 @@ pub enum TreeFault {
     AlreadyLoaded,
     /// The text's first fault, which is not `NoMemory`.
     Text(TextFault),
+    /// Memory ran out.
+    NoMemory,
     /// A new user has the name of another one.
     UserExists { name: Name },
     /// A new user has the id of another one.
     UidExists { id: Id },
     /// There are 65,536 users.
     TooManyUsers,
-    /// Memory ran out.
-    NoMemory,
 }
 
 impl From<AllocError> for TreeFault {

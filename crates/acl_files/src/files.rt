@@ -1,103 +1,107 @@
-//! The files of a dump's records.
+//! The recorded files, in path order.
 
-ghost use Rattle.std.specs.Prelude.{◌≡◌, true, map, reverse, IfOk, unwrap_or};
-ghost use Rattle.acl_dump.specs.OwnPaths.{have_own_paths};
-ghost use Rattle.acl_files.specs.Loading.{node_of, files_of};
-ghost use Rattle.acl_files.specs.Inner.{next_file_below, files_from};
+ghost use Rattle.std.specs.Prelude.{◌≡◌, IfOk};
+ghost use Rattle.std.specs.Option.{option_copied};
+ghost use Rattle.std.specs.FinMap.{find};
+ghost use Rattle.acl_names.specs.Paths.{path_cmp};
+ghost use Rattle.acl_files.specs.Files.{no_files};
+ghost use Rattle.acl_files.specs.Sound.{IsSoundTree};
 
-use crate::below::is_below;
-use crate::sorting::in_path_order;
-use acl_dump::DumpRecord;
-use acl_edit::{Kind, Node};
-use acl_entry::{Id, Label};
+use crate::records::Record;
+use acl_edit::Node;
 use acl_names::Path;
-use path_map::Entry;
+use path_map::{Entries, PathMap};
 use std::alloc::{AllocError, Global};
-use std::rc::Rc;
+use std::marker::Model;
 
-/// A file: its path, and its node.
-pub type Record = Entry<Node>;
+/// A cursor over recorded files: those that are still to come, in path order.
+pub type FilesIter<'a> = Entries<'a, Node>;
 
-/// A directory where a file is below it, or its record has a default list.
-fn kind_of(has_below: bool, entry: &DumpRecord) -> Kind
-    ensures { result ≡ (node_of has_below entry.now).kind }
-{
-    if entry.slash || entry.path.components().is_empty() || entry.dacl.is_some() || has_below {
-        Kind::Directory
-    } else {
-        Kind::Plain
+/// The files that a dump recorded, in path order, and whether a dump was loaded. Files and those made from them share
+/// what is the same, by chunks. What is always true of them is the clause of [`Files::is_sound`].
+#[derive(Drop)]
+pub struct Files {
+    files: PathMap<Node>,
+    loaded: bool,
+}
+
+impl Model for Files {
+    ghost use Rattle.acl_files.specs.Files.{Recorded, coded_recorded};
+    ghost use Rattle.acl_files.specs.Sound.{IsSoundTree};
+
+    ghost Value = { Recorded };
+
+    ghost coded = { coded_recorded };
+
+    ghost view = { λ f. record { files = f.files; loaded = f.loaded } };
+
+    ghost invariant = { λ f. IsSoundTree (record { files = f.files; loaded = f.loaded }) };
+}
+
+impl Files {
+    /// No files: no dump is loaded. Fails only if memory runs out.
+    pub fn new(alloc: Global) -> Result<Files, AllocError>
+        ensures { IfOk result (λ files. files ≡ no_files) }
+    {
+        Ok(Files {
+            files: PathMap::new(alloc),
+            loaded: false,
+        })
     }
-}
 
-fn id_or_root(id: Option<Id>) -> Id
-    ensures { result ≡ unwrap_or id 0 }
-{
-    match id {
-        Some(id) => id,
-        None => Id::new(0).unwrap(),
+    /// These files.
+    pub fn of(files: PathMap<Node>, loaded: bool) -> Files
+        requires { IsSoundTree (record { files = files; loaded = loaded }) }
+        ensures { result ≡ record { files = files; loaded = loaded } }
+    {
+        Files { files, loaded }
     }
-}
 
-/// The file of a record.
-fn file_of(alloc: Global, has_below: bool, entry: DumpRecord) -> Result<Rc<Record>, AllocError>
-    ensures { IfOk result (λ file. file.value ≡ (entry.path, node_of has_below entry)) }
-{
-    let kind = kind_of(has_below, &entry);
-    let node = Node {
-        kind,
-        label: Label {
-            owner: id_or_root(entry.owner),
-            group: id_or_root(entry.group),
-            acl: entry.access,
-        },
-        flags: entry.flags.unwrap_or([false; 3]),
-        dacl: entry.dacl,
-    };
-    Ok(Rc::new(alloc, Record::new(Rc::new(alloc, entry.path)?, node))?)
-}
-
-/// Whether the first of the files that follow in path order, which are given from the last to the first, is below a path.
-fn next_below(path: &Path, following: &[Rc<Record>]) -> bool
-    ensures { result ≡ next_file_below path.now (reverse (map (λ r. r.value) following.now)) }
-{
-    match following {
-        [.., next] => is_below(path, next.path()),
-        [] => false,
+    /// A copy that shares the files. Fails only if memory runs out.
+    pub fn share(&self) -> Result<Files, AllocError>
+        ensures { IfOk result (λ files. files ≡ self.now) }
+    {
+        Ok(Files {
+            files: self.files.share()?,
+            loaded: self.loaded,
+        })
     }
-}
 
-/// How many records are moved out before the memory that they took is freed.
-const FREED_AT_ONCE: usize = 1024;
-
-/// Frees the memory of records that were moved out, once they are many.
-fn free_moved(left: &mut Vec<DumpRecord>)
-    ensures { left.new.items ≡ left.old.items }
-{
-    if left.len() % FREED_AT_ONCE == 0 {
-        left.shrink_to_fit();
+    /// The files.
+    pub fn files_by_path(&self) -> &PathMap<Node>
+        ensures all { result.now ≡ self.now.files }
+        ensures sound { IsSoundTree self.now }
+    {
+        &self.files
     }
-}
 
-/// The files of records that are in path order. Paths and lists are moved out of the records, from the last one on, so
-/// that records and files do not both take memory for long.
-fn files_from(alloc: Global, sorted: Vec<DumpRecord>) -> Result<Vec<Rc<Record>>, AllocError>
-    ensures { IfOk result (λ files. map (λ r. r.value) files.items ≡ files_from sorted.items) }
-{
-    let mut files = Vec::with_capacity(alloc, sorted.len())?;
-    let mut left = sorted;
-    while let Some(entry) = left.pop() {
-        let has_below = next_below(&entry.path, &files);
-        files.push(file_of(alloc, has_below, entry)?)?;
-        free_moved(&mut left);
+    /// Proof only: the files are in path order, each path once, and there are at most 1,048,576; there is none
+    /// before a dump is loaded; the root and what has a file below it are directories, and only directories
+    /// have default lists.
+    pub fn is_sound(&self)
+        ensures { IsSoundTree self.now }
+    {
+        let _files = self.files_by_path();
     }
-    files.reverse();
-    Ok(files)
-}
 
-/// The files of a dump's records, in path order. Fails only if memory runs out.
-pub fn files_of(alloc: Global, records: Vec<DumpRecord>) -> Result<Vec<Rc<Record>>, AllocError>
-    requires { have_own_paths records.items ≡ true }
-    ensures { IfOk result (λ files. map (λ r. r.value) files.items ≡ files_of records.items) }
-{
-    files_from(alloc, in_path_order(records))
+    /// Whether a dump was loaded.
+    pub fn is_loaded(&self) -> bool
+        ensures { result ≡ self.now.loaded }
+    {
+        self.loaded
+    }
+
+    /// The node of a path, where it is recorded.
+    pub fn get(&self, path: &Path) -> Option<&Node>
+        ensures { option_copied result ≡ find path_cmp path.now self.now.files }
+    {
+        self.files.get(path)
+    }
+
+    /// The files in path order. Allocates nothing.
+    pub fn iter(&self) -> FilesIter<'_>
+        ensures { result ≡ self.now.files }
+    {
+        self.files.iter()
+    }
 }

@@ -2,7 +2,7 @@
 
 ghost use Rattle.std.specs.Prelude.{◌≡◌};
 
-use crate::files::Record;
+use crate::records::Record;
 use acl_edit::Node;
 use acl_names::Path;
 use std::marker::Model;

@@ -9,10 +9,10 @@ mod files;
 mod found;
 mod laws;
 mod paths;
+mod records;
 mod restore;
 mod selection;
 mod sorting;
-mod tree;
 mod walks;
 
 pub use acl_dump::{
@@ -20,20 +20,20 @@ pub use acl_dump::{
     TextFault, Want, Which, append_entry, append_header, append_id, append_list, append_short,
     read_dump, read_entries, read_id, read_perms, records_are_read_again, trim,
 };
-pub use acl_edit::{Change, Edit, EditFault, Kind, Node, Specs, apply, chmod, create};
+pub use acl_edit::{Edit, EditFault, Kind, Node, Specs, apply, chmod, create};
 pub use acl_entry::{
-    Acl, Draft, Entry, Id, Key, Label, ListFault, Perm, Requests, Subject, granted,
+    Acl, Draft, Entry, Id, Key, Label, ListFault, NoMemory, Perm, Requests, Subject, granted,
 };
 pub use acl_names::{Name, Path, append_name, append_path, read_name, read_path, write_name};
 pub use below::is_below;
 pub use edit::{FileFault, NodeEdit, edit_files};
 pub use fault::TreeFault;
-pub use files::{Record, files_of};
+pub use files::{Files, FilesIter};
 pub use found::Found;
 pub use laws::each_record_is_a_file;
 pub use path_map::PathMap;
 pub use paths::Paths;
+pub use records::{Record, files_of};
 pub use restore::{DumpRecords, restore_files};
 pub use selection::{look_up, select};
 pub use sorting::in_path_order;
-pub use tree::{Files, Tree};

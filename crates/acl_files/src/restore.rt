@@ -18,8 +18,8 @@ ghost use Rattle.acl_files.specs.declared.edit.FileFault.TheVariants as of_files
 
 use crate::edit::{FileFault, NodeEdit, edit_one, push_edited};
 use crate::fault::TreeFault;
-use crate::files::Record;
-use crate::tree::Tree;
+use crate::files::Files;
+use crate::records::Record;
 use acl_dump::DumpRecord;
 use acl_edit::{EditFault, Kind, Node};
 use acl_entry::{Acl, Label};
@@ -128,7 +128,7 @@ impl NodeEdit for Restored<'_> {
 }
 
 /// The file of a path.
-fn file_at<'a>(tree: &'a Tree, path: &Path) -> Option<&'a Rc<Record>>
+fn file_at<'a>(tree: &'a Files, path: &Path) -> Option<&'a Rc<Record>>
     ensures { MatchOption result (find path_cmp path.now tree.now.files ≡ None) (λ file. (file.now.value.0 ≡ path.now) × (find path_cmp path.now tree.now.files ≡ Some file.now.value.1)) }
 {
     tree.is_sound();
@@ -144,7 +144,7 @@ fn file_at<'a>(tree: &'a Tree, path: &Path) -> Option<&'a Rc<Record>>
 
 /// The files of records, in the order of the records; or the first path that is not recorded.
 fn files_of<'a>(
-    tree: &'a Tree,
+    tree: &'a Files,
     alloc: Global,
     records: &'a [DumpRecord],
 ) -> Result<Vec<Restored<'a>>, TreeFault>
@@ -200,11 +200,11 @@ fn restore_each(
 
 /// The tree with the files of records restored, and the files whose label that changes. None is gone.
 pub fn restore_files(
-    tree: &Tree,
+    tree: &Files,
     alloc: Global,
     changed: &mut Vec<Rc<Record>>,
     records: &DumpRecords,
-) -> Result<Tree, TreeFault>
+) -> Result<Files, TreeFault>
     ensures made { IfOk result (λ new. restored_tree records.now tree.now ≡ Ok new) }
     ensures fault { IfErr result (λ fault. fault ≢ NoMemory → restored_tree records.now tree.now ≡ Err fault) }
     ensures reported { IfOk result (λ new. map (λ r. r.value) changed.new.items ≡ map (λ r. r.value) changed.old.items ++ changed_between tree.now.files new.files) }
@@ -215,5 +215,5 @@ pub fn restore_files(
     let sorted = in_path_order(found);
     let edits = restore_each(alloc, changed, &sorted)?;
     let by_path = tree.files_by_path().put_all(alloc, &edits)?;
-    Ok(Tree::of(by_path, tree.is_loaded()))
+    Ok(Files::of(by_path, tree.is_loaded()))
 }

@@ -10,9 +10,9 @@ ghost use Rattle.acl_files.specs.declared.fault.TreeFault.TheVariants.{NoMemory}
 
 use crate::below::is_below;
 use crate::fault::TreeFault;
+use crate::files::{Files, FilesIter};
 use crate::found::Found;
 use crate::paths::Paths;
-use crate::tree::{Files, Tree};
 use acl_names::Path;
 use path_map::is_within;
 use std::alloc::{AllocError, Global};
@@ -57,7 +57,7 @@ fn in_order<'a>(alloc: Global, operands: &'a [Path]) -> Result<Vec<&'a Path>, Al
 }
 
 /// Whether the next file is below a path.
-fn is_next_below(path: &Path, rest: &Files<'_>) -> bool
+fn is_next_below(path: &Path, rest: &FilesIter<'_>) -> bool
     ensures { result ≡ next_file_below path.now rest.now }
 {
     match rest.peek() {
@@ -69,7 +69,7 @@ fn is_next_below(path: &Path, rest: &Files<'_>) -> bool
 /// Adds the files that one operand means.
 fn push_meant(
     files: &mut Vec<Found>,
-    tree: &Tree,
+    tree: &Files,
     recursive: bool,
     operand: &Path,
 ) -> Result<(), AllocError>
@@ -90,7 +90,7 @@ fn push_meant(
 /// The files that operands in path order mean. What an operand means is either all meant by the one before it,
 /// or comes after all of that.
 fn select_in_order(
-    tree: &Tree,
+    tree: &Files,
     alloc: Global,
     operands: &[&Path],
     recursive: bool,
@@ -113,7 +113,7 @@ fn select_in_order(
 
 /// The files that operands mean.
 pub fn select(
-    tree: &Tree,
+    tree: &Files,
     alloc: Global,
     operands: &[Path],
     recursive: bool,
@@ -125,7 +125,7 @@ pub fn select(
 }
 
 /// Whether each operand is recorded; else the first that isn't.
-pub fn look_up(tree: &Tree, alloc: Global, operands: &[Path]) -> Result<(), TreeFault>
+pub fn look_up(tree: &Files, alloc: Global, operands: &[Path]) -> Result<(), TreeFault>
     ensures all { OnOk result (first_missing operands.now tree.now.files ≡ None) }
     ensures reported { IfErr result (λ fault. fault ≢ NoMemory → IsMissing fault (first_missing operands.now tree.now.files)) }
 {
@@ -139,14 +139,14 @@ pub fn look_up(tree: &Tree, alloc: Global, operands: &[Path]) -> Result<(), Tree
     Ok(())
 }
 
-impl Tree {
+impl Files {
     /// The files of a command: its operands, and with `recursive` all files below them, each once, in path
     /// order, each with whether another recorded file is below it.
     ///
     /// # Errors
     ///
     /// `NoSuchFile` of the first operand that is not recorded, or `NoMemory`.
-    pub fn files(
+    pub fn selected(
         &self,
         alloc: Global,
         paths: &Paths,

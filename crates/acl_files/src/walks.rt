@@ -5,7 +5,7 @@ ghost use Rattle.std.specs.List.{list_all};
 ghost use Rattle.acl_names.specs.Paths.{is_component};
 ghost use Rattle.acl_files.specs.Walks.{within, ancestors};
 
-use crate::tree::Tree;
+use crate::files::Files;
 use acl_names::Path;
 use std::alloc::{AllocError, Global};
 
@@ -31,7 +31,7 @@ fn child_of(alloc: Global, path: &Path, name: &[u8]) -> Result<Path, AllocError>
     Ok(Path::new(parts).unwrap())
 }
 
-impl Tree {
+impl Files {
     /// The paths of the recorded files at or below a path, in path order. Fails only if memory runs out.
     pub fn within(&self, alloc: Global, path: &Path) -> Result<Vec<Path>, AllocError>
         ensures { IfOk result (λ paths. paths.items ≡ within path.now self.now.files) }

@@ -25,11 +25,17 @@ impl<'a> Model for Components<'a> {
     ghost view = { λ c. map (λ v. v.items) c.parts.now ++ unpacked c.bytes.now };
 }
 
-impl<'a> Components<'a> {
+impl<'a> Iterator for Components<'a> {
+    ghost use Rattle.std.specs.Iterator.{YieldsFirstRef, item_count};
+
+    type Item = &'a [u8];
+
+    ghost next_gives = { YieldsFirstRef (λ names. names) };
+
+    ghost remaining = { item_count (λ names. names) };
+
     /// The next component. Allocates nothing.
-    pub fn next(&mut self) -> Option<&'a [u8]>
-        ensures { MatchOption result ((self.old ≡ []) × (self.new ≡ [])) (λ name. self.old ≡ name.now ∷ self.new) }
-    {
+    fn next(&mut self) -> Option<&'a [u8]> {
         if let [name, more @ ..] = self.parts {
             self.parts = more;
             return Some(name);
@@ -42,7 +48,9 @@ impl<'a> Components<'a> {
             }
         }
     }
+}
 
+impl<'a> Components<'a> {
     /// Whether no component is to come. Allocates nothing.
     pub fn is_empty(&self) -> bool
         ensures { result ≡ (length self.now == 0) }

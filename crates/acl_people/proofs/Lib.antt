@@ -2,7 +2,6 @@ pub mod Pointers
 pub mod Changed
 pub mod Places
 pub mod Rolled
-pub mod ByName
 pub mod Joined
 pub mod Gids
 pub mod Bytes

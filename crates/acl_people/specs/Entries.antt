@@ -1,6 +1,6 @@
 -- The names and ids of rows.
-use Rattle.acl_text.specs.declared.rows.PasswdRow.{PasswdRow}
-use Rattle.acl_text.specs.declared.rows.GroupRow.{GroupRow}
+use Rattle.acl_syntax.specs.declared.rows.PasswdRow.{PasswdRow}
+use Rattle.acl_syntax.specs.declared.rows.GroupRow.{GroupRow}
 use Rattle.acl_people.specs.Rolls.{Named}
 
 abbrev pub user_entry : PasswdRow → Named

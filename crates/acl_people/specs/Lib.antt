@@ -1,9 +1,9 @@
 pub mod Rolls
-pub mod Orders
 pub mod Entries
+pub mod Hashes
 pub mod Registers
 pub mod Members
 pub mod Changes
 pub mod Moves
 pub mod Laws
-pub use Rattle.acl_text.specs.UserNames
+pub use Rattle.acl_syntax.specs.UserNames

@@ -9,7 +9,7 @@ use Rattle.std.specs.BTreeMap.{BTreeMap, get_by}
 use Rattle.std.specs.Cmp.Lexicographic.{slice_cmp}
 use Rattle.std.specs.declared.alloc.Global.{Global}
 use denote.Ref.{Bor}
-use Rattle.acl_text.specs.declared.rows.GroupRow.{GroupRow}
+use Rattle.acl_syntax.specs.declared.rows.GroupRow.{GroupRow}
 
 abbrev pub Members : Type 0
 Members = BTreeMap (Bor (List ℕ)) (Vec ℕ Global)

@@ -3,7 +3,7 @@
 ghost use Rattle.std.specs.Prelude.{◌≡◌, ◌<◌, nat_le, true, false, length, IfOk, OnOk};
 ghost use Rattle.std.specs.List.{list_all};
 ghost use Rattle.acl_names.specs.Pieces.{is_byte};
-ghost use Rattle.acl_text.specs.Rows.{most_rows};
+ghost use Rattle.acl_syntax.specs.Rows.{most_rows};
 ghost use Rattle.acl_people.specs.Rolls.{has_name, has_id};
 ghost use Rattle.acl_people.specs.Registers.{users_of, persons};
 ghost use Rattle.acl_people.specs.Changes.{gid_of, with_user, without_user};
@@ -13,7 +13,7 @@ use crate::people::People;
 use crate::user_name::UserName;
 use acl_entry::Id;
 use acl_names::Name;
-use acl_text::{MAX_ROWS, PasswdRow};
+use acl_syntax::{MAX_ROWS, PasswdRow};
 use std::alloc::{AllocError, Global};
 use std::rc::Rc;
 

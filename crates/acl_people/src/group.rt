@@ -8,7 +8,7 @@ ghost use Rattle.acl_people.specs.Changes.{name_added, name_removed};
 use crate::shared::shared;
 use acl_entry::Id;
 use acl_names::Name;
-use acl_text::GroupRow;
+use acl_syntax::GroupRow;
 use std::alloc::{AllocError, Global};
 use std::marker::Model;
 use std::rc::Rc;
@@ -23,7 +23,7 @@ pub struct Group {
 
 impl Model for Group {
     ghost use Rattle.std.specs.Prelude.{map};
-    ghost use Rattle.acl_text.specs.declared.rows.GroupRow.{GroupRow};
+    ghost use Rattle.acl_syntax.specs.declared.rows.GroupRow.{GroupRow};
 
     ghost Value = { GroupRow };
 

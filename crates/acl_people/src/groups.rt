@@ -1,16 +1,17 @@
 //! The rows of group(5), looked up by name and by id.
 
 ghost use Rattle.std.specs.Prelude.{◌≡◌, ◌<◌, [], map, length, slice_set, IfOk};
-ghost use Rattle.acl_text.specs.InTurn.{Gives};
-ghost use Rattle.acl_text.specs.Rows.{group_of};
-ghost use Rattle.acl_people.specs.Rolls.{AreNames, AreCounted};
+ghost use Rattle.acl_syntax.specs.InTurn.{Gives};
+ghost use Rattle.acl_syntax.specs.Rows.{group_of};
+ghost use Rattle.acl_people.specs.Rolls.{AreCounted};
 ghost use Rattle.acl_people.specs.Entries.{group_entry};
 ghost use Rattle.acl_people.specs.Changes.{change_at, name_added, name_removed};
 
-use crate::entries::Entries;
 use crate::group::Group;
+use crate::named_row::NamedRow;
 use crate::roll::Roll;
-use acl_text::{GroupRow, TextFault, read_group};
+use acl_entry::Id;
+use acl_syntax::{GroupRow, TextFault, read_group};
 use std::alloc::{AllocError, Global};
 use std::marker::Model;
 use std::rc::Rc;
@@ -24,7 +25,7 @@ pub struct Groups {
 
 impl Model for Groups {
     ghost use Rattle.std.specs.Prelude.{◌≡◌, List, map};
-    ghost use Rattle.acl_text.specs.declared.rows.GroupRow.{GroupRow};
+    ghost use Rattle.acl_syntax.specs.declared.rows.GroupRow.{GroupRow};
     ghost use Rattle.acl_people.specs.Rolls.{AreCounted};
     ghost use Rattle.acl_people.specs.Entries.{group_entry};
 
@@ -35,16 +36,16 @@ impl Model for Groups {
     ghost invariant = { λ g. (g.roll.value ≡ map group_entry (map (λ r. r.value) g.rows.items)) × AreCounted (map group_entry (map (λ r. r.value) g.rows.items)) };
 }
 
-/// The names and ids of the rows.
-fn roll_of(alloc: Global, rows: &[GroupRow]) -> Result<Roll, AllocError>
-    requires { AreNames (map group_entry rows.now) }
-    ensures { IfOk result (λ roll. roll ≡ map group_entry rows.now) }
-{
-    let mut entries = Entries::new(alloc);
-    for row in rows {
-        entries = entries.with(alloc, row.name.as_bytes(), row.gid)?;
+impl NamedRow for GroupRow {
+    ghost named = { group_entry };
+
+    fn name(&self) -> &[u8] {
+        self.name.as_bytes()
     }
-    Roll::of(alloc, entries)
+
+    fn id(&self) -> Id {
+        self.gid
+    }
 }
 
 /// The rows, shared among copies.
@@ -91,7 +92,7 @@ impl Groups {
     {
         Ok(Groups {
             rows: Vec::new(alloc),
-            roll: Rc::new(alloc, roll_of(alloc, &[])?)?,
+            roll: Rc::new(alloc, Roll::of::<GroupRow>(alloc, &[])?)?,
         })
     }
 
@@ -100,7 +101,7 @@ impl Groups {
         ensures { Gives (λ groups. groups) result (group_of bytes.now) }
     {
         let rows = read_group(alloc, bytes)?;
-        let roll = Rc::new(alloc, roll_of(alloc, &rows)?)?;
+        let roll = Rc::new(alloc, Roll::of(alloc, &rows)?)?;
         let rows = shared_rows(alloc, rows)?;
         Ok(Groups { rows, roll })
     }

@@ -3,7 +3,6 @@
 #![tactic(auto)]
 
 mod accounts;
-mod entries;
 mod fault;
 mod group;
 mod groups;
@@ -11,6 +10,8 @@ mod laws;
 mod members;
 mod memberships;
 mod moves;
+mod name_hashes;
+mod named_row;
 mod people;
 mod roll;
 mod shared;

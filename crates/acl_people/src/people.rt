@@ -14,7 +14,7 @@ use crate::groups::Groups;
 use crate::subjects::{person_of, subjects_of};
 use crate::users::Users;
 use acl_entry::{Id, Subject};
-use acl_text::{Names, PasswdRow};
+use acl_syntax::{Names, PasswdRow};
 use std::alloc::{AllocError, Global};
 use std::marker::Model;
 use std::rc::Rc;
@@ -127,8 +127,19 @@ impl People {
         }
     }
 
-    /// The user's id and groups; `None` past the last user.
-    pub fn subject(&self, user: usize) -> Option<&Subject>
+    /// A copy of the user's id and groups; `None` past the last user. Fails only if memory runs out;
+    /// [`People::subject_at`] borrows them, and takes none.
+    pub fn subject(&self, alloc: Global, user: usize) -> Result<Option<Subject>, AllocError>
+        ensures { IfOk result (λ found. found ≡ subject self.now user) }
+    {
+        match self.subject_at(user) {
+            Some(subject) => Ok(Some(subject.try_clone(alloc)?)),
+            None => Ok(None),
+        }
+    }
+
+    /// The user's id and groups; `None` past the last user. Allocates nothing.
+    pub fn subject_at(&self, user: usize) -> Option<&Subject>
         ensures { option_copied result ≡ subject self.now user }
     {
         match self.subjects().get(user) {

@@ -1,86 +1,108 @@
 //! Names with their ids, looked up by name and by id.
 
-ghost use Rattle.std.specs.Prelude.{◌≡◌, ◌<◌, length, position, IfOk, IfSome};
-ghost use Rattle.std.specs.List.{range_with_len};
-ghost use Rattle.std.specs.Option.{option_copied};
-ghost use Rattle.acl_people.specs.Rolls.{is_name, is_id, id_named, name_shown, place_of_word, AreNames};
-ghost use Rattle.acl_people.specs.Orders.{AreByName};
+ghost use Rattle.std.specs.Prelude.{◌≡◌, ◌<◌, ◌++◌, ◌∷◌, [], ℕ, ◌==◌, map, length, position, Some, None, IfOk, IfSome, OnOk, option_map, slice_get, if◌then◌else◌};
+ghost use Rattle.std.specs.Ordering.{nat_cmp};
+ghost use Rattle.std.specs.BTreeMap.{get};
+ghost use Rattle.std.specs.Option.{option_copied, option_or};
+ghost use Rattle.acl_people.specs.Rolls.{is_name, is_id, prints, id_named, name_shown, place_of_word, AreNames};
 
-use crate::entries::Entries;
+use crate::name_hashes::NameHashes;
+use crate::named_row::NamedRow;
 use acl_entry::Id;
-use acl_text::{is_number, read_id};
+use acl_syntax::{is_number, read_id};
+use indexmap::IndexMap;
 use std::alloc::{AllocError, Global};
+use std::collections::BTreeMap;
 use std::marker::Model;
 
-/// Names in the order of their rows, each once, with their ids. Their places in the order of the names are
-/// kept beside them, so that a name is found by halving.
+/// Names in the order of their rows, each once, with their ids. The first place of each id, and the first
+/// place of each id whose name is not digits alone, are kept beside them.
 #[derive(Drop)]
 pub struct Roll {
-    entries: Entries,
-    by_name: Vec<usize>,
+    ids: IndexMap<Vec<u8>, Id, NameHashes>,
+    first: BTreeMap<u32, usize>,
+    shown: BTreeMap<u32, usize>,
 }
 
 impl Model for Roll {
-    ghost use Rattle.std.specs.Prelude.{ℕ, List};
-    ghost use Rattle.acl_people.specs.Rolls.{AreNames};
-    ghost use Rattle.acl_people.specs.Orders.{AreByName};
+    ghost use Rattle.std.specs.Prelude.{◌≡◌, ℕ, List, map, position};
+    ghost use Rattle.std.specs.Ordering.{nat_cmp};
+    ghost use Rattle.std.specs.BTreeMap.{get};
+    ghost use Rattle.acl_people.specs.Rolls.{Named, is_id, prints};
 
     ghost Value = { List (List ℕ × ℕ) };
 
-    ghost view = { λ r. r.entries };
+    ghost view = { λ r. map (λ e. (e.0.items, e.1)) r.ids.entries };
 
-    ghost invariant = { λ r. AreNames r.entries × AreByName r.entries r.by_name.items };
+    ghost invariant = { λ r.
+        ((id : ℕ) → get nat_cmp r.first id ≡ position (is_id id) (map (λ e. (e.0.items, e.1)) r.ids.entries))
+        × ((id : ℕ) → get nat_cmp r.shown id ≡ position (prints id) (map (λ e. (e.0.items, e.1)) r.ids.entries)) };
 }
 
-/// The first places, in their order.
-fn places(alloc: Global, count: usize) -> Result<Vec<usize>, AllocError>
-    ensures { IfOk result (λ all. all.items ≡ range_with_len 0 count) }
+/// Keeps the place for the id, unless it has one. Fails only if memory runs out.
+fn note(places: &mut BTreeMap<u32, usize>, id: u32, place: usize) -> Result<(), AllocError>
+    ensures { OnOk result ((q : ℕ) → get nat_cmp places.new q ≡ option_or (get nat_cmp places.old q) (if id == q then Some place else None)) }
 {
-    let mut all = Vec::with_capacity(alloc, count)?;
-    for place in 0..count {
-        all.push(place)?;
-    }
-    Ok(all)
-}
-
-/// The places of the names in the order of the names.
-fn in_name_order(alloc: Global, entries: &Entries) -> Result<Vec<usize>, AllocError>
-    ensures { IfOk result (λ all. AreByName entries.now all.items) }
-{
-    let mut all = places(alloc, entries.count())?;
-    all.sort_unstable_by(|a, b| entries.name_or_empty(*a).cmp(entries.name_or_empty(*b)));
-    Ok(all)
+    places.entry(id)?.or_insert(place);
+    Ok(())
 }
 
 impl Roll {
-    /// The names. Fails only if memory runs out.
-    pub fn of(alloc: Global, entries: Entries) -> Result<Roll, AllocError>
-        requires { AreNames entries }
-        ensures { IfOk result (λ roll. roll ≡ entries) }
+    /// The names of the rows, hashed with a key that all of them make. A user that comes or goes makes a new
+    /// roll, so a name is never added under a key that was known before. Fails only if memory runs out.
+    pub fn of<R: NamedRow>(alloc: Global, rows: &[R]) -> Result<Roll, AllocError>
+        requires { AreNames (map R.named rows.now) }
+        ensures { IfOk result (λ roll. roll ≡ map R.named rows.now) }
     {
-        let by_name = in_name_order(alloc, &entries)?;
-        Ok(Roll { entries, by_name })
+        let mut roll = Roll::with_room(alloc, rows.len(), NameHashes::of(rows))?;
+        for row in rows {
+            roll = roll.with(alloc, row.name(), row.id())?;
+        }
+        Ok(roll)
+    }
+
+    /// No names, and room for some.
+    fn with_room(alloc: Global, count: usize, hashes: NameHashes) -> Result<Roll, AllocError>
+        ensures { IfOk result (λ roll. roll ≡ []) }
+    {
+        Ok(Roll {
+            ids: IndexMap::with_capacity_and_hasher(alloc, count, hashes)?,
+            first: BTreeMap::new(alloc),
+            shown: BTreeMap::new(alloc),
+        })
+    }
+
+    /// The names and one more, which is not among them.
+    fn with(self, alloc: Global, name: &[u8], id: Id) -> Result<Roll, AllocError>
+        requires { position (is_name name.now) self ≡ None }
+        ensures { IfOk result (λ roll. roll ≡ self ++ (name.now, id) ∷ []) }
+    {
+        let Roll {
+            mut ids,
+            mut first,
+            mut shown,
+        } = self;
+        let place = ids.len();
+        note(&mut first, id.number(), place)?;
+        if !is_number(name) {
+            note(&mut shown, id.number(), place)?;
+        }
+        ids.insert(Vec::from_slice(alloc, name)?, id)?;
+        Ok(Roll { ids, first, shown })
     }
 
     /// The place of a name.
     pub fn place_of_name(&self, name: &[u8]) -> Option<usize>
         ensures { result ≡ position (is_name name.now) self.now }
     {
-        let entries = &self.entries;
-        let found = self
-            .by_name
-            .binary_search_by(|place| entries.name_or_empty(*place).cmp(name));
-        match found {
-            Ok(at) => Some(self.by_name[at]),
-            Err(_) => None,
-        }
+        self.ids.get_index_of(name)
     }
 
     /// The first place of an id.
     pub fn place_of_id(&self, id: Id) -> Option<usize>
         ensures { result ≡ position (is_id id) self.now }
     {
-        self.entries.place_of_id(id)
+        self.first.get(&id.number()).copied()
     }
 
     /// The place that a word stands for: digits alone are an id, any other word is a name.
@@ -98,19 +120,46 @@ impl Roll {
         }
     }
 
+    /// The id at a place.
+    fn id_at(&self, place: usize) -> Option<Id>
+        ensures { result ≡ option_map (λ e. e.1) (slice_get self.now place) }
+    {
+        match self.ids.get_index(place) {
+            Some((_, id)) => Some(*id),
+            None => None,
+        }
+    }
+
+    /// The name at a place.
+    fn name_at(&self, place: usize) -> Option<&[u8]>
+        ensures { option_copied result ≡ option_map (λ e. e.0) (slice_get self.now place) }
+    {
+        match self.ids.get_index(place) {
+            Some((name, _)) => Some(name),
+            None => None,
+        }
+    }
+
     /// The id of a name.
     pub fn id_named(&self, name: &[u8]) -> Option<Id>
         ensures { result ≡ id_named name.now self.now }
     {
         let place = self.place_of_name(name)?;
-        self.entries.id_at(place)
+        self.id_at(place)
+    }
+
+    /// The place of the name that an id prints as.
+    fn place_shown(&self, id: Id) -> Option<usize>
+        ensures { result ≡ position (prints id) self.now }
+    {
+        self.shown.get(&id.number()).copied()
     }
 
     /// The name that an id prints as.
     pub fn name_shown(&self, id: Id) -> Option<&[u8]>
         ensures { option_copied result ≡ name_shown id self.now }
     {
-        let place = self.entries.place_shown(id)?;
-        self.entries.name_at(place)
+        let place = self.place_shown(id)?;
+        self.name_at(place)
     }
 }

@@ -8,7 +8,7 @@ ghost use Rattle.acl_people.specs.Registers.{person};
 use crate::group::Group;
 use crate::members::members_of;
 use acl_entry::{Id, Subject};
-use acl_text::PasswdRow;
+use acl_syntax::PasswdRow;
 use std::alloc::{AllocError, Global};
 use std::collections::BTreeMap;
 use std::rc::Rc;

@@ -2,17 +2,17 @@
 
 ghost use Rattle.std.specs.Prelude.{◌≡◌, ◌<◌, ◌++◌, ◌∷◌, [], map, length, IfOk};
 ghost use Rattle.std.specs.List.{remove};
-ghost use Rattle.acl_text.specs.InTurn.{Gives};
-ghost use Rattle.acl_text.specs.Rows.{passwd_of};
-ghost use Rattle.acl_people.specs.Rolls.{AreNames, AreCounted};
+ghost use Rattle.acl_syntax.specs.InTurn.{Gives};
+ghost use Rattle.acl_syntax.specs.Rows.{passwd_of};
+ghost use Rattle.acl_people.specs.Rolls.{AreCounted};
 ghost use Rattle.acl_people.specs.Entries.{user_entry};
 ghost use Rattle.acl_people.specs.Changes.{change_at, with_gid};
 
-use crate::entries::Entries;
+use crate::named_row::NamedRow;
 use crate::roll::Roll;
 use crate::shared::shared;
 use acl_entry::Id;
-use acl_text::{PasswdRow, TextFault, read_passwd};
+use acl_syntax::{PasswdRow, TextFault, read_passwd};
 use std::alloc::{AllocError, Global};
 use std::marker::Model;
 use std::rc::Rc;
@@ -26,7 +26,7 @@ pub struct Users {
 
 impl Model for Users {
     ghost use Rattle.std.specs.Prelude.{◌≡◌, List, map};
-    ghost use Rattle.acl_text.specs.declared.rows.PasswdRow.{PasswdRow};
+    ghost use Rattle.acl_syntax.specs.declared.rows.PasswdRow.{PasswdRow};
     ghost use Rattle.acl_people.specs.Rolls.{AreCounted};
     ghost use Rattle.acl_people.specs.Entries.{user_entry};
 
@@ -37,16 +37,16 @@ impl Model for Users {
     ghost invariant = { λ u. (u.roll.value ≡ map user_entry (map (λ r. r.value) u.rows.items)) × AreCounted (map user_entry (map (λ r. r.value) u.rows.items)) };
 }
 
-/// The names and ids of the rows.
-fn roll_of(alloc: Global, rows: &[Rc<PasswdRow>]) -> Result<Roll, AllocError>
-    requires { AreNames (map user_entry (map (λ r. r.value) rows.now)) }
-    ensures { IfOk result (λ roll. roll ≡ map user_entry (map (λ r. r.value) rows.now)) }
-{
-    let mut entries = Entries::new(alloc);
-    for row in rows {
-        entries = entries.with(alloc, row.name.as_bytes(), row.uid)?;
+impl NamedRow for Rc<PasswdRow> {
+    ghost named = { λ row. user_entry row.value };
+
+    fn name(&self) -> &[u8] {
+        self.name.as_bytes()
     }
-    Roll::of(alloc, entries)
+
+    fn id(&self) -> Id {
+        self.uid
+    }
 }
 
 impl Users {
@@ -62,7 +62,7 @@ impl Users {
         requires { AreCounted (map user_entry (map (λ r. r.value) rows.items)) }
         ensures { IfOk result (λ users. users ≡ map (λ r. r.value) rows.items) }
     {
-        let roll = Rc::new(alloc, roll_of(alloc, &rows)?)?;
+        let roll = Rc::new(alloc, Roll::of(alloc, &rows)?)?;
         Ok(Users { rows, roll })
     }
 

@@ -3,7 +3,7 @@ use acl_entry::Id;
 use acl_people::{
     People, UserName, added_member_is_removed, added_user_is_removed, group_held_otherwise_stays,
 };
-use acl_text::{Name, Names};
+use acl_syntax::{Name, Names};
 use std::alloc::Global;
 use std::process::Abort;
 
@@ -195,7 +195,7 @@ fn changed(rt: &impl Abort, alloc: Global, people: &People, step: &Step) -> Peop
 /// These are the user's groups.
 fn expect_groups(rt: &impl Abort, people: &People, name: &[u8], numbers: &[u32]) {
     let user = people.find_user(name).expect(rt, "a user");
-    let subject = people.subject(user).expect(rt, "a user");
+    let subject = people.subject_at(user).expect(rt, "a user");
     assert!(rt; are(subject.groups(), numbers));
 }
 

@@ -1,7 +1,7 @@
 //! Users, groups, and the words and ids that stand for them.
 use acl_entry::Id;
 use acl_people::{LoadFault, People};
-use acl_text::{FaultKind, Names, TextFault};
+use acl_syntax::{FaultKind, Names, TextFault};
 use std::alloc::Global;
 use std::process::Abort;
 
@@ -98,7 +98,7 @@ fn shared(rt: &impl Abort, alloc: Global) -> People {
 fn users_have_their_groups(rt: HostRuntime) {
     let shared = shared(&rt, rt.alloc());
     for (user, group, want) in &GROUPS {
-        let subject = shared.subject(*user).expect(&rt, "a user");
+        let subject = shared.subject_at(*user).expect(&rt, "a user");
         assert!(rt; subject.is_of(id(&rt, *group)) == *want);
     }
 }
@@ -107,9 +107,9 @@ fn users_have_their_groups(rt: HostRuntime) {
 fn people_are_shared(rt: HostRuntime) {
     let shared = shared(&rt, rt.alloc());
     assert!(rt; shared.subjects().len() == 4);
-    let lisa = shared.subject(0).expect(&rt, "lisa");
+    let lisa = shared.subject_at(0).expect(&rt, "lisa");
     assert!(rt; lisa.uid() == id(&rt, 1001));
-    assert!(rt; shared.subject(4).is_none());
+    assert!(rt; shared.subject_at(4).is_none());
 }
 
 fn expect_fault(rt: &impl Abort, loaded: Result<People, LoadFault>, want: LoadFault) {

@@ -13,8 +13,8 @@ use Rattle.acl_tree.specs.Changed.{same_label, is_changed, changed_between}
 use Rattle.acl_tree.proofs.of_acl_files.Changes.{label_itself}
 use Rattle.acl_tree.specs.acl_people.Registers.{persons}
 use Rattle.acl_tree.specs.Reports.{StagedState}
-use Rattle.acl_tree.specs.declared.moved.UsersMove.{UsersMove}
-use Rattle.acl_tree.specs.declared.moved.UsersMove.TheVariants.{Same, Loaded, Moved, Joined, Left}
+use Rattle.acl_tree.specs.declared.user_change.UserChange.{UserChange}
+use Rattle.acl_tree.specs.declared.user_change.UserChange.TheVariants.{Unchanged, Loaded, Memberships, Added, Removed}
 use Rattle.path_map.specs.Entries.{IsInOrder}
 use Rattle.acl_rights.specs.Tables.{Verdict, Rows}
 use Rattle.acl_rights.specs.Kept.{GoesFrom}
@@ -32,7 +32,7 @@ pub all_users : (known : Register) → length (persons known) ≡ length known.u
 all_users known = length-map known.users _
 
 pub within : (t : StagedState) → length t.changed * length t.state.people.users ≤ most_asked t
-within t = left_le (length t.changed * length t.state.people.users) (moves_asked t.moved t.state.tree.files) _ (most_asked t) refl refl
+within t = left_le (length t.changed * length t.state.people.users) (moves_asked t.user_change t.state.tree.files) _ (most_asked t) refl refl
 
 -- the changed files, by every user
 pub changed_cost : (t : StagedState) {A : Type 0} (f : A → PathOf × Node) (files : List A) (n : ℕ) → map f files ≡ t.changed → n ≡ length t.state.people.users → length files * n ≤ most_asked t
@@ -40,15 +40,15 @@ changed_cost t f files n is users =
     subst (λ k. k ≤ most_asked t) (sym (ap (λ k. k * n) (sym (length-map files f)) ∙ (λ i. length (is i) * users i))) (within t)
 
 -- the files that mention a group that joined or left
-pub moved_cost : (t : StagedState) (at : ℕ) (groups : List ℕ) → t.moved ≡ Moved at groups → length (filter (mentions_one groups) t.state.tree.files) ≤ most_asked t
+pub moved_cost : (t : StagedState) (at : ℕ) (groups : List ℕ) → t.user_change ≡ Memberships at groups → length (filter (mentions_one groups) t.state.tree.files) ≤ most_asked t
 moved_cost t at groups is =
-    right_le (length t.changed * length t.state.people.users) (moves_asked t.moved t.state.tree.files) _ (most_asked t) refl
+    right_le (length t.changed * length t.state.people.users) (moves_asked t.user_change t.state.tree.files) _ (most_asked t) refl
     (ap (λ m. moves_asked m t.state.tree.files) is ∙ sym (length-filter (mentions_one groups) t.state.tree.files))
 
 -- all files, for a user who joined
-pub joined_cost : (t : StagedState) → t.moved ≡ Joined → length t.state.tree.files ≤ most_asked t
+pub joined_cost : (t : StagedState) → t.user_change ≡ Added → length t.state.tree.files ≤ most_asked t
 joined_cost t is =
-    right_le (length t.changed * length t.state.people.users) (moves_asked t.moved t.state.tree.files) _ (most_asked t) refl (ap (λ m. moves_asked m t.state.tree.files) is)
+    right_le (length t.changed * length t.state.people.users) (moves_asked t.user_change t.state.tree.files) _ (most_asked t) refl (ap (λ m. moves_asked m t.state.tree.files) is)
 
 -- ---- a line costs no more than every user at every file
 
@@ -95,19 +95,19 @@ module _ (V : Verdict) (rows : Rows) (t : StagedState) (goes : GoesFrom V rows t
       let zero_times : length t.changed * length t.state.people.users ≡ 0 = ap (λ k. k * length t.state.people.users) none ∙ no_times (length t.state.people.users) in
       omega (arith, zero_times, le, some_times (length t.state.tree.files) (length t.state.people.users) some)
 
-  by_move : (m : UsersMove) → t.moved ≡ m → length t.changed * length t.state.people.users + moves_asked m t.state.tree.files ≤ length t.state.tree.files * length t.state.people.users
-  by_move Same is = omega (arith, times_le (length t.changed) (length t.state.tree.files) (length t.state.people.users) few_changed)
+  by_move : (m : UserChange) → t.user_change ≡ m → length t.changed * length t.state.people.users + moves_asked m t.state.tree.files ≤ length t.state.tree.files * length t.state.people.users
+  by_move Unchanged is = omega (arith, times_le (length t.changed) (length t.state.tree.files) (length t.state.people.users) few_changed)
   by_move Loaded is = omega (arith, times_le (length t.changed) (length t.state.tree.files) (length t.state.people.users) few_changed)
-  by_move (Moved user groups) is =
+  by_move (Memberships user groups) is =
       let m = moves V rows t goes user groups is in
       let some : 0 < length t.state.people.users = omega (arith, moved_user_in V rows t goes user groups is, all_users t.state.people) in
       with_user (count_by (mentions_one groups) t.state.tree.files)
       (subst (λ n. n ≤ length t.state.tree.files) (length-filter (mentions_one groups) t.state.tree.files) (few_pass (mentions_one groups) t.state.tree.files)) some (no_change m.0)
-  by_move Joined is =
+  by_move Added is =
       let j = joins V rows t goes is in
       let some : 0 < length t.state.people.users = omega (arith, ap length j.1.becomes ∙ length-append (persons goes.state.people) (j.1.next ∷ []), all_users t.state.people) in
       with_user (length t.state.tree.files) (omega arith) some (no_change j.0)
-  by_move (Left user) is = omega (arith, times_le (length t.changed) (length t.state.tree.files) (length t.state.people.users) few_changed)
+  by_move (Removed user) is = omega (arith, times_le (length t.changed) (length t.state.tree.files) (length t.state.people.users) few_changed)
 
   pub most_le : most_asked t ≤ length t.state.tree.files * length t.state.people.users
-  most_le = by_move t.moved refl
+  most_le = by_move t.user_change refl

@@ -19,7 +19,7 @@ use Rattle.acl_tree.specs.Changed.{is_changed, changed_between}
 use Rattle.acl_tree.specs.acl_people.Registers.{persons}
 use Rattle.acl_tree.specs.acl_people.Moves.{MovesUser, JoinsUser, LeavesUser}
 use Rattle.acl_tree.specs.Reports.{StagedState, UsersMoved}
-use Rattle.acl_tree.specs.declared.moved.UsersMove.TheVariants.{Same, Moved, Joined, Left}
+use Rattle.acl_tree.specs.declared.user_change.UserChange.TheVariants.{Unchanged, Memberships, Added, Removed}
 use Rattle.path_map.specs.Entries.{IsInOrder}
 use Rattle.acl_rights.specs.Tables.{Verdict, Rows, cells_of, rows_of}
 use Rattle.acl_rights.specs.Stages.{mentions_one}
@@ -35,7 +35,7 @@ module _ (V : Verdict) (rows : Rows) (t : StagedState) (goes : GoesFrom V rows t
   pub old_order : IsInOrder rows → IsInOrder goes.state.tree.files
   old_order = same_order goes.state.tree.files rows (sym old_paths)
 
-  module _ (is : t.moved ≡ Same) where
+  module _ (is : t.user_change ≡ Unchanged) where
     same_users : persons t.state.people ≡ persons goes.state.people
     same_users = subst (λ m. UsersMoved goes.state t.state m) is goes.reports.users
 
@@ -56,7 +56,7 @@ module _ (V : Verdict) (rows : Rows) (t : StagedState) (goes : GoesFrom V rows t
         let rows_are = goes.rows_are ∙ ap (λ (l : List Person). rows_of V l goes.state.tree.files) (sym same_users) in
         (λ i. merged (these i) (those i) (rows_are i)) ∙ changed_whole V us goes.state.tree.files t.state.tree.files (old_order r) n
 
-  module _ (at : ℕ) (groups : List ℕ) (is : t.moved ≡ Moved at groups) where
+  module _ (at : ℕ) (groups : List ℕ) (is : t.user_change ≡ Memberships at groups) where
     pub moves : (t.state.tree ≡ goes.state.tree) × MovesUser (persons goes.state.people) (persons t.state.people) at groups
     moves = let u = subst (λ m. UsersMoved goes.state t.state m) is goes.reports.users in (u.0, u.1)
 
@@ -75,7 +75,7 @@ module _ (V : Verdict) (rows : Rows) (t : StagedState) (goes : GoesFrom V rows t
     pub moved_user_in : at < length (persons t.state.people)
     moved_user_in = subst (λ n. at < n) (sym (moved_long V (persons goes.state.people) (persons t.state.people) at groups moves.1)) (moved_in V (persons goes.state.people) (persons t.state.people) at groups moves.1)
 
-  module _ (is : t.moved ≡ Joined) where
+  module _ (is : t.user_change ≡ Added) where
     pub joins : (t.state.tree ≡ goes.state.tree) × JoinsUser (persons goes.state.people) (persons t.state.people)
     joins = subst (λ m. UsersMoved goes.state t.state m) is goes.reports.users
 
@@ -85,7 +85,7 @@ module _ (V : Verdict) (rows : Rows) (t : StagedState) (goes : GoesFrom V rows t
     pub joined_paths : map (λ (r : PathOf × List ℕ). r.0) rows ≡ map (λ (e : PathOf × Node). e.0) t.state.tree.files
     joined_paths = old_paths ∙ ap (λ (r : Recorded). map (λ (e : PathOf × Node). e.0) r.files) (sym joins.0)
 
-  module _ (at : ℕ) (is : t.moved ≡ Left at) where
+  module _ (at : ℕ) (is : t.user_change ≡ Removed at) where
     pub leaves : (t.state.tree ≡ goes.state.tree) × LeavesUser (persons goes.state.people) (persons t.state.people) at
     leaves = subst (λ m. UsersMoved goes.state t.state m) is goes.reports.users
 
@@ -128,7 +128,7 @@ place_of f test fs ps same order i r is lt =
       found = ap (λ q. find path_cmp q fs) path ∙ subst (λ (e : PathOf × Node). find path_cmp e.0 fs ≡ Some e.1) p.1 found;
     }
 
-module _ (V : Verdict) (rows : Rows) (t : StagedState) (goes : GoesFrom V rows t) (at : ℕ) (groups : List ℕ) (is : t.moved ≡ Moved at groups) where
+module _ (V : Verdict) (rows : Rows) (t : StagedState) (goes : GoesFrom V rows t) (at : ℕ) (groups : List ℕ) (is : t.user_change ≡ Memberships at groups) where
   row_at : (p : PathOf) (n : Node) → find path_cmp p t.state.tree.files ≡ Some n → find path_cmp p rows ≡ Some (cells_of V (persons goes.state.people) n)
   row_at p n h =
       ap (λ (rs : Rows). find path_cmp p rs) (moved_rows_are V rows t goes at groups is)

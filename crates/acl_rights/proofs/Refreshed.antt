@@ -19,14 +19,14 @@ use Rattle.acl_tree.specs.Files.{PathOf, Files, Recorded}
 use Rattle.acl_tree.specs.acl_people.Registers.{persons}
 use Rattle.acl_tree.specs.acl_people.Moves.{MovesUser}
 use Rattle.acl_tree.specs.Sound.{holds_below}
-use Rattle.acl_tree.specs.Reports.{StagedState, UsersMoved}
-use Rattle.acl_tree.specs.declared.moved.UsersMove.{UsersMove}
-use Rattle.acl_tree.specs.declared.moved.UsersMove.TheVariants.{Same, Loaded, Moved, Joined, Left}
+use Rattle.acl_tree.specs.Reports.{StagedState, UsersMoved, place_left}
+use Rattle.acl_tree.specs.declared.user_change.UserChange.{UserChange}
+use Rattle.acl_tree.specs.declared.user_change.UserChange.TheVariants.{Unchanged, Loaded, Memberships, Added, Removed}
 use Rattle.acl_tree.proofs.of_acl_files.Changes.{label_is_same}
 use Rattle.path_map.specs.Entries.{IsInOrder}
 use Rattle.acl_rights.specs.Tables.{Verdict, Rows, cells_of, rows_of}
 use Rattle.acl_rights.specs.Stages.{mentions_one}
-use Rattle.acl_rights.specs.Reach.{execute, passes, reach, reached_from, reached_rows, place_left, lies_within, moves_refreshed, most_refreshed}
+use Rattle.acl_rights.specs.Reach.{execute, passes, reach, reached_from, reached_rows, lies_within, moves_refreshed, most_refreshed}
 use Rattle.acl_verdicts.specs.Differing.{place_before, is_as_before, is_as_in, fails_from, differing}
 use Rattle.acl_rights.specs.Kept.{GoesFrom}
 use Rattle.acl_rights.proofs.Lines.{agree, got_in, set_here}
@@ -37,14 +37,14 @@ use Rattle.acl_rights.proofs.Counts.{clash, false_from, missed_most, missed_none
 
 module _ (V : Verdict) (us ws : List Person) (fs gs : Files) (fo : IsInOrder fs) (go : IsInOrder gs) where
   -- a user's answer at a file was there before
-  record IsKept (move : UsersMove) (e : PathOf × Node) (i : ℕ) (w : Person) : Type 0 where
+  record IsKept (move : UserChange) (e : PathOf × Node) (i : ℕ) (w : Person) : Type 0 where
     pub node : Node
     pub user : Person
     pub found : find path_cmp e.0 fs ≡ Some node
     pub was : slice_get us (place_before (place_left move) i) ≡ Some user
     pub same : reach V fs user (e.0, node) ≡ reach V gs w e
 
-  old_cell : (move : UsersMove) (e : PathOf × Node) (i : ℕ) (w : Person) → IsKept move e i w
+  old_cell : (move : UserChange) (e : PathOf × Node) (i : ℕ) (w : Person) → IsKept move e i w
       → option_and_then (λ (cells : List ℕ). slice_get cells (place_before (place_left move) i)) (find path_cmp e.0 (reached_rows (rows_of V us fs))) ≡ Some (reach V gs w e)
   old_cell move e i w k =
       let j = place_before (place_left move) i in
@@ -57,10 +57,10 @@ module _ (V : Verdict) (us ws : List Person) (fs gs : Files) (fo : IsInOrder fs)
   abbrev row_cells : PathOf × Node → List ℕ
   row_cells e = reached_from (rows_of V ws gs) e.0 0 (cells_of V ws e.1)
 
-  abbrev row_test : UsersMove → PathOf × Node → ℕ → ℕ → Bool
+  abbrev row_test : UserChange → PathOf × Node → ℕ → ℕ → Bool
   row_test move e = is_as_in (place_left move) (find path_cmp e.0 (reached_rows (rows_of V us fs)))
 
-  cell_kept : (move : UsersMove) (e : PathOf × Node) (i c : ℕ) → slice_get (row_cells e) i ≡ Some c → ((w : Person) → slice_get ws i ≡ Some w → IsKept move e i w) → row_test move e i c ≡ true
+  cell_kept : (move : UserChange) (e : PathOf × Node) (i c : ℕ) → slice_get (row_cells e) i ≡ Some c → ((w : Person) → slice_get ws i ≡ Some w → IsKept move e i w) → row_test move e i c ≡ true
   cell_kept move e i c is kept = by (slice_get ws i) refl (sym (cell_reached V ws gs e.0 i (Some e.1)) ∙ is)
     where
       by : (o : Option Person) → slice_get ws i ≡ o → option_map (λ u. reach V gs u (e.0, e.1)) (slice_get ws i) ≡ Some c → row_test move e i c ≡ true
@@ -72,24 +72,24 @@ module _ (V : Verdict) (us ws : List Person) (fs gs : Files) (fo : IsInOrder fs)
           let value : reach V gs w e ≡ c = some_same (reach V gs w e) c (sym (ap (option_map (λ u. reach V gs u (e.0, e.1))) here) ∙ h) in
           ap (λ o. is_as_before o c) (old_cell move e i w (kept w here)) ∙ eq-eqb (reach V gs w e) c value
 
-  abbrev row_missed : UsersMove → PathOf × Node → ℕ
+  abbrev row_missed : UserChange → PathOf × Node → ℕ
   row_missed move e = fails_from (row_test move e) 0 (row_cells e)
 
-  row_most : (move : UsersMove) (e : PathOf × Node) → row_missed move e ≤ length ws
+  row_most : (move : UserChange) (e : PathOf × Node) → row_missed move e ≤ length ws
   row_most move e = omega (arith, missed_most (row_test move e) 0 (row_cells e), long_row (rows_of V ws gs) e.0 0 (cells_of V ws e.1), length-map ws (λ u. V u e.1.label))
 
   from_none : (i : ℕ) → 0 + i ≡ i
   from_none i = omega arith
 
-  row_none : (move : UsersMove) (e : PathOf × Node) → ((i : ℕ) (w : Person) → slice_get ws i ≡ Some w → IsKept move e i w) → row_missed move e ≡ 0
+  row_none : (move : UserChange) (e : PathOf × Node) → ((i : ℕ) (w : Person) → slice_get ws i ≡ Some w → IsKept move e i w) → row_missed move e ≡ 0
   row_none move e kept = missed_none (row_test move e) 0 (row_cells e) (λ i c is. ap (λ k. row_test move e k c) (from_none i) ∙ cell_kept move e i c is (kept i))
 
-  row_one : (move : UsersMove) (j : ℕ) (e : PathOf × Node) → ((i : ℕ) (w : Person) → slice_get ws i ≡ Some w → (i ≡ j → ⊥) → IsKept move e i w) → row_missed move e ≤ 1
+  row_one : (move : UserChange) (j : ℕ) (e : PathOf × Node) → ((i : ℕ) (w : Person) → slice_get ws i ≡ Some w → (i ≡ j → ⊥) → IsKept move e i w) → row_missed move e ≤ 1
   row_one move j e kept =
       missed_one (row_test move e) j 0 (row_cells e) (λ i c is apart. ap (λ k. row_test move e k c) (from_none i) ∙ cell_kept move e i c is (λ w here. kept i w here (λ same. apart (from_none i ∙ same))))
 
   -- as many are missed as each file allows
-  rows_missed : (move : UsersMove) (a : PathOf × Node → ℕ) → ((e : PathOf × Node) → find path_cmp e.0 gs ≡ Some e.1 → row_missed move e ≤ a e)
+  rows_missed : (move : UserChange) (a : PathOf × Node → ℕ) → ((e : PathOf × Node) → find path_cmp e.0 gs ≡ Some e.1 → row_missed move e ≤ a e)
       → differing (place_left move) (reached_rows (rows_of V us fs)) (reached_rows (rows_of V ws gs)) ≤ sum_by a gs
   rows_missed move a h =
       let A = reached_rows (rows_of V us fs) in
@@ -176,7 +176,7 @@ module _ (V : Verdict) (us ws : List Person) (fs gs : Files) (fo : IsInOrder fs)
   new_reached = reached_rows (rows_of V ws gs)
 
   -- never more than every user at every file
-  all_missed : (move : UsersMove) → differing (place_left move) old_reached new_reached ≤ length gs * length ws
+  all_missed : (move : UserChange) → differing (place_left move) old_reached new_reached ≤ length gs * length ws
   all_missed move =
       let each = rows_missed move (λ e. length ws) (λ e found. row_most move e) in
       let sum = evenly (length ws) gs in
@@ -193,7 +193,7 @@ module _ (V : Verdict) (us ws : List Person) (fs gs : Files) (fo : IsInOrder fs)
           omega (arith, first, more, even_more (length es) l)
 
   -- all users at files that changed, and others at as many as are reported
-  module _ (move : UsersMove) (x : PathOf × Node → ℕ) (rest : (e : PathOf × Node) → find path_cmp e.0 gs ≡ Some e.1 → lies_within (changed_between fs gs) e ≡ false → row_missed move e ≤ x e) where
+  module _ (move : UserChange) (x : PathOf × Node → ℕ) (rest : (e : PathOf × Node) → find path_cmp e.0 gs ≡ Some e.1 → lies_within (changed_between fs gs) e ≡ false → row_missed move e ≤ x e) where
     parts_missed : differing (place_left move) old_reached new_reached ≤ length ws * count_by (lies_within (changed_between fs gs)) gs + sum_by x gs
     parts_missed =
         let l = length ws in
@@ -207,7 +207,7 @@ module _ (V : Verdict) (us ws : List Person) (fs gs : Files) (fo : IsInOrder fs)
 
   -- a user with the same groups keeps the answers at files that neither changed nor lie below one that did
   module _ (apart : AllByRecursion (λ e. holds_below gs e.0 ≡ false) (gone_between fs gs)) where
-    same_kept : (move : UsersMove) (e : PathOf × Node) → find path_cmp e.0 gs ≡ Some e.1 → lies_within (changed_between fs gs) e ≡ false → (i : ℕ) (w : Person) → slice_get us (place_before (place_left move) i) ≡ Some w → IsKept move e i w
+    same_kept : (move : UserChange) (e : PathOf × Node) → find path_cmp e.0 gs ≡ Some e.1 → lies_within (changed_between fs gs) e ≡ false → (i : ℕ) (w : Person) → slice_get us (place_before (place_left move) i) ≡ Some w → IsKept move e i w
     same_kept move e found out i w was =
         let there = was_there apart e.0 e.1 found out (find path_cmp e.0 fs) refl in
         record {
@@ -219,7 +219,7 @@ module _ (V : Verdict) (us ws : List Person) (fs gs : Files) (fo : IsInOrder fs)
         }
 
     -- no user moved
-    none_moved : (move : UsersMove) → ((i : ℕ) (w : Person) → slice_get ws i ≡ Some w → slice_get us (place_before (place_left move) i) ≡ Some w)
+    none_moved : (move : UserChange) → ((i : ℕ) (w : Person) → slice_get ws i ≡ Some w → slice_get us (place_before (place_left move) i) ≡ Some w)
         → differing (place_left move) old_reached new_reached ≤ length ws * count_by (lies_within (changed_between fs gs)) gs
     none_moved move was =
         let parts = parts_missed move (λ e. 0) (λ e found out. let n = row_none move e (λ i w is. same_kept move e found out i w (was i w is)) in omega (arith, n)) in
@@ -230,7 +230,7 @@ module _ (V : Verdict) (us ws : List Person) (fs gs : Files) (fo : IsInOrder fs)
         zeros (e ∷ es) = let first = sum_by-cons (λ e. 0) e es in let more = zeros es in omega (arith, first, more)
 
     -- one user moved, as one who wasn't there
-    one_came : (move : UsersMove) (j : ℕ) → ((i : ℕ) (w : Person) → slice_get ws i ≡ Some w → (i ≡ j → ⊥) → slice_get us (place_before (place_left move) i) ≡ Some w)
+    one_came : (move : UserChange) (j : ℕ) → ((i : ℕ) (w : Person) → slice_get ws i ≡ Some w → (i ≡ j → ⊥) → slice_get us (place_before (place_left move) i) ≡ Some w)
         → differing (place_left move) old_reached new_reached ≤ length ws * count_by (lies_within (changed_between fs gs)) gs + length gs
     one_came move j was =
         let parts = parts_missed move (λ e. 1) (λ e found out. row_one move j e (λ i w is other. same_kept move e found out i w (was i w is other))) in
@@ -241,7 +241,7 @@ module _ (V : Verdict) (us ws : List Person) (fs gs : Files) (fo : IsInOrder fs)
         ones (e ∷ es) = let first = sum_by-cons (λ e. 1) e es in let more = ones es in omega (arith, first, more)
 
     -- one user moved, whose answers differ where a label does that mentions a group
-    one_moved : (move : UsersMove) (j : ℕ) (c : PathOf × Node → Bool) → ((i : ℕ) (w : Person) → slice_get ws i ≡ Some w → (i ≡ j → ⊥) → slice_get us (place_before (place_left move) i) ≡ Some w)
+    one_moved : (move : UserChange) (j : ℕ) (c : PathOf × Node → Bool) → ((i : ℕ) (w : Person) → slice_get ws i ≡ Some w → (i ≡ j → ⊥) → slice_get us (place_before (place_left move) i) ≡ Some w)
         → ((i : ℕ) (w : Person) (e : PathOf × Node) → slice_get ws i ≡ Some w → i ≡ j → find path_cmp e.0 gs ≡ Some e.1 → c e ≡ false → IsKept move e i w)
         → differing (place_left move) old_reached new_reached ≤ length ws * count_by (lies_within (changed_between fs gs)) gs + count_by c gs
     one_moved move j c was here =
@@ -277,19 +277,19 @@ module _ (V : Verdict) (local : (u w : Person) (f : Label) → AgreeOnMentions u
   alone : AllByRecursion (λ e. holds_below gs e.0 ≡ false) (gone_between fs gs)
   alone = subst (AllByRecursion (λ e. holds_below gs e.0 ≡ false)) goes.reports.gone goes.reports.apart
 
-  abbrev line_missed : UsersMove → ℕ
+  abbrev line_missed : UserChange → ℕ
   line_missed move = differing (place_left move) (reached_rows (rows_of V us fs)) (reached_rows (rows_of V ws gs))
 
   abbrev at_changed : ℕ
   at_changed = length ws * count_by (lies_within (changed_between fs gs)) gs
 
-  line_same : t.moved ≡ Same → line_missed Same ≤ at_changed + 0
+  line_same : t.user_change ≡ Unchanged → line_missed Unchanged ≤ at_changed + 0
   line_same is =
       let people : persons t.state.people ≡ persons goes.state.people = subst (λ m. UsersMoved goes.state t.state m) is goes.reports.users in
-      let n = none_moved V us ws fs gs fo go alone Same (λ i w got. ap (λ (l : List Person). slice_get l i) (sym people) ∙ got) in
+      let n = none_moved V us ws fs gs fo go alone Unchanged (λ i w got. ap (λ (l : List Person). slice_get l i) (sym people) ∙ got) in
       omega (arith, n)
 
-  line_loaded : t.moved ≡ Loaded → line_missed Loaded ≤ at_changed + 0
+  line_loaded : t.user_change ≡ Loaded → line_missed Loaded ≤ at_changed + 0
   line_loaded is =
       let none : gs ≡ [] = subst (λ m. UsersMoved goes.state t.state m) is goes.reports.users in
       let n = all_missed V us ws fs gs fo go Loaded in
@@ -299,9 +299,9 @@ module _ (V : Verdict) (local : (u w : Person) (f : Label) → AgreeOnMentions u
       nothing : (l : ℕ) → 0 * l ≡ 0
       nothing l = grind arith
 
-  line_moved : (at : ℕ) (groups : List ℕ) → t.moved ≡ Moved at groups → line_missed (Moved at groups) ≤ at_changed + count_by (lies_within (filter (mentions_one groups) gs)) gs
+  line_moved : (at : ℕ) (groups : List ℕ) → t.user_change ≡ Memberships at groups → line_missed (Memberships at groups) ≤ at_changed + count_by (lies_within (filter (mentions_one groups) gs)) gs
   line_moved at groups is =
-      one_moved V us ws fs gs fo go alone (Moved at groups) at (lies_within (filter (mentions_one groups) gs)) others him
+      one_moved V us ws fs gs fo go alone (Memberships at groups) at (lies_within (filter (mentions_one groups) gs)) others him
     where
       m : MovesUser us ws at groups
       m = (moves V rows t goes at groups is).1
@@ -327,7 +327,7 @@ module _ (V : Verdict) (local : (u w : Person) (f : Label) → AgreeOnMentions u
               let unmet = false_from (mentions_one groups (q, n)) (λ c. clash (mentions_one groups (q, n) && is_within q e.0) (both _ _ c within) none) in
               ap Some (sym (local m.change.after m.change.before n.label (agree us ws at groups m n.label unmet)) ∙ ap (λ u. V u n.label) next)
 
-      him : (i : ℕ) (w : Person) (e : PathOf × Node) → slice_get ws i ≡ Some w → i ≡ at → find path_cmp e.0 gs ≡ Some e.1 → lies_within (filter (mentions_one groups) gs) e ≡ false → IsKept V us ws fs gs fo go (Moved at groups) e i w
+      him : (i : ℕ) (w : Person) (e : PathOf × Node) → slice_get ws i ≡ Some w → i ≡ at → find path_cmp e.0 gs ≡ Some e.1 → lies_within (filter (mentions_one groups) gs) e ≡ false → IsKept V us ws fs gs fo go (Memberships at groups) e i w
       him i w e got same found out =
           let there : find path_cmp e.0 fs ≡ Some e.1 = ap (find path_cmp e.0) files ∙ found in
           record {
@@ -338,36 +338,36 @@ module _ (V : Verdict) (local : (u w : Person) (f : Label) → AgreeOnMentions u
             same = reach_kept V us ws fs gs fo go m.change.before w e.0 (verdicts w (next_is i w got same) e out) e.1 e.1 there found;
           }
 
-  line_joined : t.moved ≡ Joined → line_missed Joined ≤ at_changed + length gs
+  line_joined : t.user_change ≡ Added → line_missed Added ≤ at_changed + length gs
   line_joined is =
       let j = (joins V rows t goes is).1 in
-      one_came V us ws fs gs fo go alone Joined (length us) (λ i w got other. joined_was us j.next i w (sym (ap (λ (l : List Person). slice_get l i) j.becomes) ∙ got) other)
+      one_came V us ws fs gs fo go alone Added (length us) (λ i w got other. joined_was us j.next i w (sym (ap (λ (l : List Person). slice_get l i) j.becomes) ∙ got) other)
 
-  line_left : (at : ℕ) → t.moved ≡ Left at → line_missed (Left at) ≤ at_changed + 0
+  line_left : (at : ℕ) → t.user_change ≡ Removed at → line_missed (Removed at) ≤ at_changed + 0
   line_left at is =
       let j = (leaves V rows t goes at is).1 in
-      let n = none_moved V us ws fs gs fo go alone (Left at) (λ i w got. sym (ap (λ (l : List Person). slice_get l i) j.becomes ∙ left_was us at i) ∙ got) in
+      let n = none_moved V us ws fs gs fo go alone (Removed at) (λ i w got. sym (ap (λ (l : List Person). slice_get l i) j.becomes ∙ left_was us at i) ∙ got) in
       omega (arith, n)
 
-  line : (move : UsersMove) → t.moved ≡ move → line_missed move ≤ at_changed + moves_refreshed move gs
-  line Same is = line_same is
+  line : (move : UserChange) → t.user_change ≡ move → line_missed move ≤ at_changed + moves_refreshed move gs
+  line Unchanged is = line_same is
   line Loaded is = line_loaded is
-  line (Moved at groups) is = line_moved at groups is
-  line Joined is = line_joined is
-  line (Left at) is = line_left at is
+  line (Memberships at groups) is = line_moved at groups is
+  line Added is = line_joined is
+  line (Removed at) is = line_left at is
 
   is_there : reached_rows rows ≡ reached_rows (rows_of V us fs)
   is_there = ap reached_rows goes.rows_are
 
-  pub line_most : differing (place_left t.moved) (reached_rows rows) (reached_rows (rows_of V ws gs)) ≤ most_refreshed t
+  pub line_most : differing (place_left t.user_change) (reached_rows rows) (reached_rows (rows_of V ws gs)) ≤ most_refreshed t
   line_most =
-      let parts = line t.moved refl in
+      let parts = line t.user_change refl in
       let all : at_changed ≡ length t.state.people.users * count_by (lies_within t.changed) gs =
       (let long = length-map t.state.people.users _ in let reported = sym goes.reports.changed in λ i. long i * count_by (lies_within (reported i)) gs) in
-      subst (λ (r : Rows). differing (place_left t.moved) r (reached_rows (rows_of V ws gs)) ≤ most_refreshed t) (sym is_there) (omega (arith, parts, all))
+      subst (λ (r : Rows). differing (place_left t.user_change) r (reached_rows (rows_of V ws gs)) ≤ most_refreshed t) (sym is_there) (omega (arith, parts, all))
 
-  pub line_fits : length gs * length t.state.people.users < 2 ^ 64 → differing (place_left t.moved) (reached_rows rows) (reached_rows (rows_of V ws gs)) < 2 ^ 64
+  pub line_fits : length gs * length t.state.people.users < 2 ^ 64 → differing (place_left t.user_change) (reached_rows rows) (reached_rows (rows_of V ws gs)) < 2 ^ 64
   line_fits room =
-      let n = all_missed V us ws fs gs fo go t.moved in
+      let n = all_missed V us ws fs gs fo go t.user_change in
       let long : length gs * length ws ≡ length gs * length t.state.people.users = ap (λ k. length gs * k) (length-map t.state.people.users _) in
-      subst (λ (r : Rows). differing (place_left t.moved) r (reached_rows (rows_of V ws gs)) < 2 ^ 64) (sym is_there) (omega (arith, n, long, room))
+      subst (λ (r : Rows). differing (place_left t.user_change) r (reached_rows (rows_of V ws gs)) < 2 ^ 64) (sym is_there) (omega (arith, n, long, room))

@@ -10,6 +10,6 @@ pub use Rattle.acl_tree.specs.acl_entry
 pub use Rattle.acl_tree.specs.acl_files
 pub use Rattle.acl_tree.specs.acl_names
 pub use Rattle.acl_tree.specs.acl_people
-pub use Rattle.acl_tree.specs.acl_text
+pub use Rattle.acl_tree.specs.acl_syntax
 pub use Rattle.acl_tree.specs as acl_tree
 pub use Rattle.acl_verdicts.specs as acl_verdicts

@@ -11,9 +11,9 @@ use Rattle.acl_tree.specs.acl_people.Registers.{persons}
 use Rattle.acl_tree.specs.acl_files.Below.{is_within, is_below}
 use Rattle.acl_tree.specs.Files.{PathOf, Files}
 use Rattle.acl_tree.specs.Step.{State}
-use Rattle.acl_tree.specs.Reports.{StagedState}
-use Rattle.acl_tree.specs.declared.moved.UsersMove.{UsersMove}
-use Rattle.acl_tree.specs.declared.moved.UsersMove.TheVariants.{Same, Loaded, Moved, Joined, Left}
+use Rattle.acl_tree.specs.Reports.{StagedState, place_left}
+use Rattle.acl_tree.specs.declared.user_change.UserChange.{UserChange}
+use Rattle.acl_tree.specs.declared.user_change.UserChange.TheVariants.{Unchanged, Loaded, Memberships, Added, Removed}
 pub use Rattle.acl_verdicts.specs.Reach.{execute, can_search, passes_in, reach_cell, reached_from, reached_rows, reached_at}
 use Rattle.acl_verdicts.specs.Differing.{differing}
 use Rattle.acl_rights.specs.Tables.{Verdict, Rows, places_from}
@@ -40,16 +40,8 @@ files_reached V s user q = option_map (λ u. map (λ e. e.0) (filter (λ e. has 
 
 -- ---- how many verdicts along paths are new or other ones
 
--- the place of the user who left
-abbrev pub place_left : UsersMove → Option ℕ
-place_left Same = None
-place_left Loaded = None
-place_left (Moved user groups) = None
-place_left Joined = None
-place_left (Left user) = Some user
-
 -- the pairs of a user and a path whose verdict along the path is new or another
-abbrev pub unlike : UsersMove → Rows → Rows → ℕ
+abbrev pub unlike : UserChange → Rows → Rows → ℕ
 unlike move old new = differing (place_left move) (reached_rows old) (reached_rows new)
 
 -- the file is one of some files, or below one
@@ -57,12 +49,12 @@ abbrev pub lies_within : Files → PathOf × Node → Bool
 lies_within tops e = list_any (λ top. is_within top.0 e.0) tops
 
 -- the most verdicts that the users' move changes, beside those of changed files
-abbrev pub moves_refreshed : UsersMove → Files → ℕ
-moves_refreshed Same fs = 0
+abbrev pub moves_refreshed : UserChange → Files → ℕ
+moves_refreshed Unchanged fs = 0
 moves_refreshed Loaded fs = 0
-moves_refreshed (Moved user groups) fs = count_by (lies_within (filter (mentions_one groups) fs)) fs
-moves_refreshed Joined fs = length fs
-moves_refreshed (Left user) fs = 0
+moves_refreshed (Memberships user groups) fs = count_by (lies_within (filter (mentions_one groups) fs)) fs
+moves_refreshed Added fs = length fs
+moves_refreshed (Removed user) fs = 0
 
 abbrev pub most_refreshed : StagedState → ℕ
-most_refreshed t = length t.state.people.users * count_by (lies_within t.changed) t.state.tree.files + moves_refreshed t.moved t.state.tree.files
+most_refreshed t = length t.state.people.users * count_by (lies_within t.changed) t.state.tree.files + moves_refreshed t.user_change t.state.tree.files

@@ -3,8 +3,8 @@ use Rattle.std.specs.Prelude.{ℕ, ◌+◌, ◌*◌, Bool, true, false, length, 
 use Rattle.acl_tree.specs.Files.{Files}
 use Rattle.acl_tree.specs.Step.{State}
 use Rattle.acl_tree.specs.Reports.{StagedState, Reports}
-use Rattle.acl_tree.specs.declared.moved.UsersMove.{UsersMove}
-use Rattle.acl_tree.specs.declared.moved.UsersMove.TheVariants.{Same, Loaded, Moved, Joined, Left}
+use Rattle.acl_tree.specs.declared.user_change.UserChange.{UserChange}
+use Rattle.acl_tree.specs.declared.user_change.UserChange.TheVariants.{Unchanged, Loaded, Memberships, Added, Removed}
 pub use Rattle.acl_rights.specs.Groups.{mentions_one, mentioning, sum_mentioning}
 use Rattle.acl_rights.specs.Tables.{Verdict, Table, IsWhole}
 
@@ -15,29 +15,29 @@ pub record CanStage (V : Verdict) (index : Table) (t : StagedState) : Type 0 whe
   pub reports : Reports state t
 
 -- the most verdicts that the users' move costs
-abbrev pub moves_asked : UsersMove → Files → ℕ
-moves_asked Same fs = 0
+abbrev pub moves_asked : UserChange → Files → ℕ
+moves_asked Unchanged fs = 0
 moves_asked Loaded fs = 0
-moves_asked (Moved user groups) fs = count_by (mentions_one groups) fs
-moves_asked Joined fs = length fs
-moves_asked (Left user) fs = 0
+moves_asked (Memberships user groups) fs = count_by (mentions_one groups) fs
+moves_asked Added fs = length fs
+moves_asked (Removed user) fs = 0
 
 -- the most verdicts that a line costs
 abbrev pub most_asked : StagedState → ℕ
-most_asked t = length t.changed * length t.state.people.users + moves_asked t.moved t.state.tree.files
+most_asked t = length t.changed * length t.state.people.users + moves_asked t.user_change t.state.tree.files
 
 -- the most labels that are fetched as users move
-abbrev pub most_looked : UsersMove → Files → ℕ
-most_looked Same fs = 0
+abbrev pub most_looked : UserChange → Files → ℕ
+most_looked Unchanged fs = 0
 most_looked Loaded fs = 0
-most_looked (Moved user groups) fs = sum_mentioning groups fs
-most_looked Joined fs = 0
-most_looked (Left user) fs = 0
+most_looked (Memberships user groups) fs = sum_mentioning groups fs
+most_looked Added fs = 0
+most_looked (Removed user) fs = 0
 
 -- whether one user has other groups
-abbrev pub moves_groups : UsersMove → Bool
-moves_groups Same = false
+abbrev pub moves_groups : UserChange → Bool
+moves_groups Unchanged = false
 moves_groups Loaded = false
-moves_groups (Moved user groups) = true
-moves_groups Joined = false
-moves_groups (Left user) = false
+moves_groups (Memberships user groups) = true
+moves_groups Added = false
+moves_groups (Removed user) = false

@@ -55,6 +55,10 @@ cell_at t user p = option_and_then (λ cells. slice_get cells user) (find path_c
 abbrev pub verdict_at : Verdict → State → ℕ → PathOf → Option ℕ
 verdict_at V s user p = option_and_then (λ n. option_map (λ u. V u n.label) (slice_get (persons s.people) user)) (find path_cmp p s.tree.files)
 
+-- the verdicts on all users on a file
+abbrev pub row_at : Verdict → State → PathOf → Option (List ℕ)
+row_at V s p = option_map (cells_of V (persons s.people)) (find path_cmp p s.tree.files)
+
 -- the users to whom a request is granted on a file
 abbrev pub users_granted : Verdict → State → PathOf → Perms → Option (List ℕ)
 users_granted V s p q = option_map (λ n. places_from (λ u. has (V u n.label) q) 0 (persons s.people)) (find path_cmp p s.tree.files)

@@ -3,7 +3,7 @@
 ghost use Rattle.std.specs.Prelude.{◌≡◌, ◌+◌, ◌++◌, ◌∷◌, [], ◌<◌, ◌≤◌, ◌^◌, List, length, map, IfOk};
 ghost use Rattle.acl_tree.specs.acl_entry.Person.{Person};
 ghost use Rattle.acl_tree.specs.acl_people.Registers.{persons};
-ghost use Rattle.acl_tree.specs.declared.moved.UsersMove.TheVariants.{Joined};
+ghost use Rattle.acl_tree.specs.declared.user_change.UserChange.TheVariants.{Added};
 ghost use Rattle.acl_rights.specs.Tables.{rows_of};
 ghost use Rattle.acl_rights.specs.Stages.{most_asked};
 ghost use Rattle.acl_rights.specs.Kept.{GoesFrom};
@@ -70,7 +70,7 @@ pub fn joined_rows<J: Judge>(
 ) -> Result<PathMap<Cells>, AllocError>
     requires room { J.asked_of judge.old + most_asked staged.now < 2 ^ 64 }
     requires goes { GoesFrom J.verdict_of rows.now staged.now }
-    requires moved { staged.now.moved ≡ Joined }
+    requires moved { staged.now.user_change ≡ Added }
     ensures rows { IfOk result (λ new. new ≡ rows_of J.verdict_of (persons staged.now.state.people) staged.now.state.tree.files) }
     ensures at_most { J.asked_of judge.new ≤ J.asked_of judge.old + most_asked staged.now }
 {

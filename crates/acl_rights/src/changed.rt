@@ -4,7 +4,7 @@ ghost use Rattle.std.specs.Prelude.{◌≡◌, ◌+◌, ◌<◌, ◌≤◌, ◌^
 ghost use Rattle.path_map.specs.Entries.{IsInOrder};
 ghost use Rattle.path_map.specs.Merged.{merged};
 ghost use Rattle.acl_tree.specs.acl_people.Registers.{persons};
-ghost use Rattle.acl_tree.specs.declared.moved.UsersMove.TheVariants.{Same};
+ghost use Rattle.acl_tree.specs.declared.user_change.UserChange.TheVariants.{Unchanged};
 ghost use Rattle.acl_rights.specs.Tables.{rows_of};
 ghost use Rattle.acl_rights.specs.Stages.{most_asked};
 ghost use Rattle.acl_rights.specs.Kept.{GoesFrom};
@@ -25,7 +25,7 @@ pub fn changed_rows<J: Judge>(
 ) -> Result<NewRows, AllocError>
     requires room { J.asked_of judge.old + most_asked staged.now < 2 ^ 64 }
     requires goes { GoesFrom J.verdict_of rows.now staged.now }
-    requires moved { staged.now.moved ≡ Same }
+    requires moved { staged.now.user_change ≡ Unchanged }
     ensures rows { IfOk result (λ new. new.rows ≡ rows_of J.verdict_of (persons staged.now.state.people) staged.now.state.tree.files) }
     ensures order { IfOk result (λ new. IsInOrder (map (λ r. r.value) new.puts.items)) }
     ensures again { IfOk result (λ new. new.rows ≡ merged (map (λ r. r.value) new.puts.items) staged.now.gone rows.now) }

@@ -11,32 +11,31 @@ use crate::judged::judged_tree;
 use crate::lists::GroupLists;
 use crate::reach::staged_reached;
 use crate::rows::{NewRows, staged_rows};
-use acl_tree::{Path, People, Perm, Requests, Staged, Tree};
+use acl_tree::{NoMemory, Path, People, Perm, Requests, Staged, Tree};
 use acl_verdicts::{Again, Cells, Judge, granted_paths, granted_users, reached_of};
 use path_map::PathMap;
-use std::alloc::{AllocError, Global};
+use std::alloc::Global;
 use std::marker::{Model, PhantomData};
 use std::rc::Rc;
 
-/// The whole table of verdicts of a state: what each user may do with each file, with and without search along
-/// the file's path, and for each group the files that mention it.
+/// The verdicts on all users and files of a state, with and without search along the files' paths, and for each group the
+/// files that mention it.
 #[derive(Drop)]
-pub struct Index<J> {
+struct Table {
     users: usize,
     tree: Tree,
     rows: PathMap<Cells>,
     reached: PathMap<Cells>,
     lists: GroupLists,
-    judge: PhantomData<J>,
 }
 
-impl<J> Model for Index<J> {
-    ghost use Rattle.acl_rights.specs.Tables.{Table, coded_table};
+impl Model for Table {
+    ghost use Rattle.acl_rights.specs.Tables.{Table as Whole, coded_table};
     ghost use Rattle.std.specs.Prelude.{◌≡◌};
     ghost use Rattle.acl_rights.specs.Groups.{AreLists};
     ghost use Rattle.acl_rights.specs.Reach.{reached_rows};
 
-    ghost Value = { Table };
+    ghost Value = { Whole };
 
     ghost coded = { coded_table };
 
@@ -45,25 +44,43 @@ impl<J> Model for Index<J> {
     ghost invariant = { λ a. AreLists a.tree.files a.lists × (a.reached ≡ reached_rows a.rows) };
 }
 
+/// The whole table of verdicts of a state: what each user may do with each file, with and without search along
+/// the file's path, and for each group the files that mention it.
+#[derive(Drop)]
+pub struct Index<J> {
+    table: Table,
+    judge: PhantomData<J>,
+}
+
+impl<J> Model for Index<J> {
+    ghost use Rattle.acl_rights.specs.Tables.{Table as Whole, coded_table};
+
+    ghost Value = { Whole };
+
+    ghost coded = { coded_table };
+
+    ghost view = { λ a. a.table };
+}
+
 /// A whole new table, not yet in place. It has to be put in place by [`Index::commit`] or discarded by
 /// [`Rows::give_up`].
-pub struct Rows<J> {
-    index: Index<J>,
+pub struct Rows {
+    table: Table,
     looked: u64,
     refreshed: u64,
 }
 
-impl<J> Model for Rows<J> {
+impl Model for Rows {
     ghost use Rattle.acl_rights.specs.Tables.{Staged as StagedTable, coded_staged};
 
     ghost Value = { StagedTable };
 
     ghost coded = { coded_staged };
 
-    ghost view = { λ a. record { table = a.index; looked = a.looked; refreshed = a.refreshed } };
+    ghost view = { λ a. record { table = a.table; looked = a.looked; refreshed = a.refreshed } };
 }
 
-impl<J: Judge> Rows<J> {
+impl Rows {
     /// How many labels were fetched for a change of memberships. Allocates nothing.
     pub fn looked(&self) -> u64
         ensures { result ≡ self.now.looked }
@@ -81,7 +98,7 @@ impl<J: Judge> Rows<J> {
     /// Discards the table. Allocates nothing.
     pub fn give_up(self) {
         let Rows {
-            index: _index,
+            table: _table,
             looked: _looked,
             refreshed: _refreshed,
         } = self;
@@ -89,7 +106,7 @@ impl<J: Judge> Rows<J> {
 }
 
 impl<J: Judge> Index<J> {
-    ghost use Rattle.acl_rights.specs.Tables.{Table, IsWhole, cell_at, verdict_at, who_in, may_in, users_granted, files_granted};
+    ghost use Rattle.acl_rights.specs.Tables.{IsWhole, cell_at, verdict_at, row_at, who_in, may_in, users_granted, files_granted};
     ghost use Rattle.acl_rights.specs.Stages.{CanStage, most_asked, most_looked, moves_groups};
     ghost use Rattle.acl_rights.specs.Reach.{most_refreshed, unlike, reached_rows, reached_at, reach_at, users_reaching, files_reached};
 
@@ -99,7 +116,7 @@ impl<J: Judge> Index<J> {
         judge: &mut J,
         tree: &Tree,
         people: &People,
-    ) -> Result<Index<J>, AllocError>
+    ) -> Result<Index<J>, NoMemory>
         requires room { J.asked_of judge.old + length tree.now.files * length people.now.users < 2 ^ 64 }
         ensures whole { IfOk result (λ index. IsWhole J.verdict_of (record { tree = tree.now; people = people.now }) index) }
         ensures asked { OnOk result (J.asked_of judge.new ≡ J.asked_of judge.old + length tree.now.files * length people.now.users) }
@@ -109,78 +126,76 @@ impl<J: Judge> Index<J> {
         let shared = tree.share()?;
         let rows = judged_tree(alloc, judge, tree, people.subjects())?;
         let reached = reached_of(alloc, &rows, &PathMap::new(alloc))?;
-        Ok(Index {
+        let table = Table {
             users: people.users(),
             tree: shared,
             rows,
             reached,
             lists,
+        };
+        Ok(Index {
+            table,
             judge: PhantomData,
         })
     }
 
     /// The table of the state after a line. The judge is asked for verdicts that the line can have changed, and
     /// for no others. Fails only if memory runs out.
-    pub fn stage(
-        &self,
-        alloc: Global,
-        judge: &mut J,
-        staged: &Staged,
-    ) -> Result<Rows<J>, AllocError>
+    pub fn stage(&self, alloc: Global, judge: &mut J, staged: &Staged) -> Result<Rows, NoMemory>
         requires room { J.asked_of judge.old + length staged.now.state.tree.files * length staged.now.state.people.users < 2 ^ 64 }
         requires goes { CanStage J.verdict_of self.now staged.now }
         ensures whole { IfOk result (λ rows. IsWhole J.verdict_of staged.now.state rows.table) }
         ensures at_most { J.asked_of judge.new ≤ J.asked_of judge.old + most_asked staged.now }
         ensures bounded { J.asked_of judge.new ≤ J.asked_of judge.old + length staged.now.state.tree.files * length staged.now.state.people.users }
-        ensures looked_most { IfOk result (λ rows. rows.looked ≤ most_looked staged.now.moved staged.now.state.tree.files) }
-        ensures looked_least { IfOk result (λ rows. moves_groups staged.now.moved ≡ true → J.asked_of judge.new ≤ J.asked_of judge.old + rows.looked) }
+        ensures looked_most { IfOk result (λ rows. rows.looked ≤ most_looked staged.now.user_change staged.now.state.tree.files) }
+        ensures looked_least { IfOk result (λ rows. moves_groups staged.now.user_change ≡ true → J.asked_of judge.new ≤ J.asked_of judge.old + rows.looked) }
         ensures refreshed_most { IfOk result (λ rows. rows.refreshed ≤ most_refreshed staged.now) }
-        ensures refreshed_least { IfOk result (λ rows. unlike staged.now.moved self.now.rows rows.table.rows ≤ rows.refreshed) }
+        ensures refreshed_least { IfOk result (λ rows. unlike staged.now.user_change self.now.rows rows.table.rows ≤ rows.refreshed) }
     {
         staged.tree().is_sound();
-        let lists = self.lists.staged(
+        let now = &self.table;
+        let lists = now.lists.staged(
             alloc,
-            &self.tree,
+            &now.tree,
             staged.tree(),
             staged.changed(),
             staged.gone(),
         )?;
         let tree = staged.tree().share()?;
-        let new = staged_rows(alloc, judge, &self.rows, &self.lists, staged)?;
+        let new = staged_rows(alloc, judge, &now.rows, &now.lists, staged)?;
         let NewRows { rows, looked, puts } = new;
-        let along = staged_reached::<J>(alloc, &self.rows, &self.reached, &rows, &puts, staged)?;
+        let along = staged_reached::<J>(alloc, &now.rows, &now.reached, &rows, &puts, staged)?;
         let Again { reached, refreshed } = along;
-        let index = Index {
+        let table = Table {
             users: staged.people().users(),
             tree,
             rows,
             reached,
             lists,
-            judge: PhantomData,
         };
         Ok(Rows {
-            index,
+            table,
             looked,
             refreshed,
         })
     }
 
     /// Puts a staged table in place of this one. Allocates nothing.
-    pub fn commit(&mut self, staged: Rows<J>)
+    pub fn commit(&mut self, staged: Rows)
         ensures { self.new ≡ staged.table }
     {
         let Rows {
-            index,
+            table,
             looked: _looked,
             refreshed: _refreshed,
         } = staged;
-        *self = index;
+        self.table = table;
     }
 
     fn cell(&self, user: usize, path: &Path) -> Option<Requests>
         ensures { result ≡ cell_at self.now user path.now }
     {
-        let cells = self.rows.get(path)?;
+        let cells = self.table.rows.get(path)?;
         cells.get(user)
     }
 
@@ -197,10 +212,10 @@ impl<J: Judge> Index<J> {
         alloc: Global,
         path: &Path,
         request: Perm,
-    ) -> Result<Option<Vec<usize>>, AllocError>
+    ) -> Result<Option<Vec<usize>>, NoMemory>
         ensures { IfOk result (λ found. option_map (λ users. users.items) found ≡ option_map (who_in request) (find path_cmp path.now self.now.rows)) }
     {
-        let Some(cells) = self.row(path) else {
+        let Some(cells) = self.cells(path) else {
             return Ok(None);
         };
         let users = granted_users(alloc, cells, request)?;
@@ -214,7 +229,7 @@ impl<J: Judge> Index<J> {
         alloc: Global,
         path: &Path,
         request: Perm,
-    ) -> Result<Option<Vec<usize>>, AllocError>
+    ) -> Result<Option<Vec<usize>>, NoMemory>
         ensures reported { IfOk result (λ found. option_map (λ users. users.items) found ≡ option_map (who_in request) (find path_cmp path.now self.now.rows)) }
         ensures whole { IfOk result (λ found. (s : step.State) → IsWhole J.verdict_of s self.now → option_map (λ users. users.items) found ≡ users_granted J.verdict_of s path.now request) }
     {
@@ -226,13 +241,13 @@ impl<J: Judge> Index<J> {
         alloc: Global,
         user: usize,
         request: Perm,
-    ) -> Result<Option<Vec<Rc<Path>>>, AllocError>
+    ) -> Result<Option<Vec<Rc<Path>>>, NoMemory>
         ensures { IfOk result (λ found. option_map (λ paths. map (λ p. p.value) paths.items) found ≡ (if nat_lt user self.now.users then Some (may_in request user self.now.rows) else None)) }
     {
-        if user >= self.users {
+        if user >= self.table.users {
             return Ok(None);
         }
-        let paths = granted_paths(alloc, &self.rows, user, request)?;
+        let paths = granted_paths(alloc, &self.table.rows, user, request)?;
         Ok(Some(paths))
     }
 
@@ -243,7 +258,7 @@ impl<J: Judge> Index<J> {
         alloc: Global,
         user: usize,
         request: Perm,
-    ) -> Result<Option<Vec<Rc<Path>>>, AllocError>
+    ) -> Result<Option<Vec<Rc<Path>>>, NoMemory>
         ensures reported { IfOk result (λ found. option_map (λ paths. map (λ p. p.value) paths.items) found ≡ (if nat_lt user self.now.users then Some (may_in request user self.now.rows) else None)) }
         ensures whole { IfOk result (λ found. (s : step.State) → IsWhole J.verdict_of s self.now → option_map (λ paths. map (λ p. p.value) paths.items) found ≡ files_granted J.verdict_of s user request) }
     {
@@ -253,7 +268,7 @@ impl<J: Judge> Index<J> {
     fn reach_cell(&self, user: usize, path: &Path) -> Option<Requests>
         ensures { result ≡ reached_at self.now.rows user path.now }
     {
-        let cells = self.reached.get(path)?;
+        let cells = self.table.reached.get(path)?;
         cells.get(user)
     }
 
@@ -271,10 +286,10 @@ impl<J: Judge> Index<J> {
         alloc: Global,
         path: &Path,
         request: Perm,
-    ) -> Result<Option<Vec<usize>>, AllocError>
+    ) -> Result<Option<Vec<usize>>, NoMemory>
         ensures { IfOk result (λ found. option_map (λ users. users.items) found ≡ option_map (who_in request) (find path_cmp path.now (reached_rows self.now.rows))) }
     {
-        let Some(cells) = self.reached.get(path) else {
+        let Some(cells) = self.table.reached.get(path) else {
             return Ok(None);
         };
         let users = granted_users(alloc, cells.as_slice(), request)?;
@@ -288,7 +303,7 @@ impl<J: Judge> Index<J> {
         alloc: Global,
         path: &Path,
         request: Perm,
-    ) -> Result<Option<Vec<usize>>, AllocError>
+    ) -> Result<Option<Vec<usize>>, NoMemory>
         ensures reported { IfOk result (λ found. option_map (λ users. users.items) found ≡ option_map (who_in request) (find path_cmp path.now (reached_rows self.now.rows))) }
         ensures whole { IfOk result (λ found. (s : step.State) → IsWhole J.verdict_of s self.now → option_map (λ users. users.items) found ≡ users_reaching J.verdict_of s path.now request) }
     {
@@ -300,13 +315,13 @@ impl<J: Judge> Index<J> {
         alloc: Global,
         user: usize,
         request: Perm,
-    ) -> Result<Option<Vec<Rc<Path>>>, AllocError>
+    ) -> Result<Option<Vec<Rc<Path>>>, NoMemory>
         ensures { IfOk result (λ found. option_map (λ paths. map (λ p. p.value) paths.items) found ≡ (if nat_lt user self.now.users then Some (may_in request user (reached_rows self.now.rows)) else None)) }
     {
-        if user >= self.users {
+        if user >= self.table.users {
             return Ok(None);
         }
-        let paths = granted_paths(alloc, &self.reached, user, request)?;
+        let paths = granted_paths(alloc, &self.table.reached, user, request)?;
         Ok(Some(paths))
     }
 
@@ -317,18 +332,25 @@ impl<J: Judge> Index<J> {
         alloc: Global,
         user: usize,
         request: Perm,
-    ) -> Result<Option<Vec<Rc<Path>>>, AllocError>
+    ) -> Result<Option<Vec<Rc<Path>>>, NoMemory>
         ensures reported { IfOk result (λ found. option_map (λ paths. map (λ p. p.value) paths.items) found ≡ (if nat_lt user self.now.users then Some (may_in request user (reached_rows self.now.rows)) else None)) }
         ensures whole { IfOk result (λ found. (s : step.State) → IsWhole J.verdict_of s self.now → option_map (λ paths. map (λ p. p.value) paths.items) found ≡ files_reached J.verdict_of s user request) }
     {
         self.reached_paths(alloc, user, request)
     }
 
-    /// What each user may do with a file, if it is there. Allocates nothing.
+    fn cells(&self, path: &Path) -> Option<&[Requests]>
+        ensures { option_copied result ≡ find path_cmp path.now self.now.rows }
+    {
+        let cells = self.table.rows.get(path)?;
+        Some(cells.as_slice())
+    }
+
+    /// What each user may do with a file, in the order of the users, if the file is there. Allocates nothing.
     pub fn row(&self, path: &Path) -> Option<&[Requests]>
         ensures row { option_copied result ≡ find path_cmp path.now self.now.rows }
+        ensures verdicts { (s : step.State) → IsWhole J.verdict_of s self.now → option_copied result ≡ row_at J.verdict_of s path.now }
     {
-        let cells = self.rows.get(path)?;
-        Some(cells.as_slice())
+        self.cells(path)
     }
 }

@@ -16,13 +16,13 @@ mod rows;
 mod touched;
 
 pub use acl_tree::{
-    Acl, Change, Command, Draft, DumpRecord, DumpRecords, DumpUse, Edit, Effective, Entry,
-    FaultKind, Files, Form, Found, Id, Key, Kind, Label, Membership, Name, Names, NewFile, NewUser,
-    NoNames, Node, Path, Paths, People, Perm, Record, Requests, Sep, Spec, Specs, Staged, State,
-    Subject, Table, TextFault, Tree, TreeFault, UserName, Want, Which, append_entry, append_header,
-    append_list, append_name, append_path, append_short, each_file_is_edited, is_below, read_dump,
-    read_entries, read_id, read_name, read_path, read_perms, records_are_read_again,
-    restore_of_what_is_changes_nothing, trim, write_name,
+    Acl, Command, Draft, DumpRecord, DumpRecords, DumpUse, Edit, Effective, Entry, FaultKind,
+    FilesIter, Form, Found, Id, Key, Kind, Label, Membership, Name, Names, NewFile, NewUser,
+    NoMemory, NoNames, Node, Path, Paths, People, Perm, Record, Requests, Sep, Spec, Specs, Staged,
+    State, Subject, Table, TextFault, Tree, TreeFault, UserName, Want, Which, append_entry,
+    append_header, append_list, append_name, append_path, append_short, each_file_is_edited,
+    is_below, read_dump, read_entries, read_id, read_name, read_path, read_perms,
+    records_are_read_again, restore_of_what_is_changes_nothing, trim, write_name,
 };
 pub use acl_verdicts::{Judge, Posix};
 pub use index::{Index, Rows};

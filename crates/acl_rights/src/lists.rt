@@ -141,7 +141,7 @@ impl GroupLists {
         ensures { IfOk result (λ lists. AreLists tree.now.files lists) }
     {
         let none = GroupLists::new(alloc)?;
-        let empty = Tree::new(alloc);
+        let empty = Tree::new(alloc)?;
         let files = records(alloc, tree)?;
         let gone: Vec<Rc<Record>> = Vec::new(alloc);
         let lists = none.staged(alloc, &empty, tree, &files, &gone)?;

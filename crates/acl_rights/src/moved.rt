@@ -7,7 +7,7 @@ ghost use Rattle.path_map.specs.Entries.{IsInOrder};
 ghost use Rattle.path_map.specs.Merged.{put_all};
 ghost use Rattle.acl_tree.specs.acl_edit.declared.node.Node as node_types;
 ghost use Rattle.acl_tree.specs.acl_people.Registers.{persons};
-ghost use Rattle.acl_tree.specs.declared.moved.UsersMove.TheVariants.{Moved};
+ghost use Rattle.acl_tree.specs.declared.user_change.UserChange.TheVariants.{Memberships};
 ghost use Rattle.acl_rights.specs.Groups.{AreLists};
 ghost use Rattle.acl_rights.specs.Tables.{rows_of};
 ghost use Rattle.acl_rights.specs.Stages.{mentions_one, sum_mentioning, most_asked};
@@ -63,7 +63,7 @@ fn rows_again<J: Judge>(
 ) -> Result<Vec<Rc<Entry<Cells>>>, AllocError>
     requires room { J.asked_of judge.old + length paths.now < 2 ^ 64 }
     requires goes { GoesFrom J.verdict_of rows.now staged.now }
-    requires moved { staged.now.moved ≡ Moved at groups.now }
+    requires moved { staged.now.user_change ≡ Memberships at groups.now }
     requires user { slice_get (persons staged.now.state.people) at ≡ Some user.now }
     requires paths { map (λ p. p.value) paths.now ≡ map (λ e. e.0) (filter (mentions_one groups.now) staged.now.state.tree.files) }
     ensures rows { IfOk result (λ puts. map (λ r. r.value) puts.items ≡ rows_of J.verdict_of (persons staged.now.state.people) (filter (mentions_one groups.now) staged.now.state.tree.files)) }
@@ -86,10 +86,10 @@ fn moved_user<'a, J: Judge>(
     groups: &GroupIds,
 ) -> &'a Subject
     requires goes { GoesFrom J.verdict_of rows.now staged.now }
-    requires moved { staged.now.moved ≡ Moved at groups.now }
+    requires moved { staged.now.user_change ≡ Memberships at groups.now }
     ensures { slice_get (persons staged.now.state.people) at ≡ Some result.now }
 {
-    match staged.people().subject(at) {
+    match staged.people().subject_at(at) {
         Some(user) => user,
         None => unreachable!(),
     }
@@ -109,7 +109,7 @@ pub fn moved_rows<J: Judge>(
     requires room { J.asked_of judge.old + most_asked staged.now < 2 ^ 64 }
     requires goes { GoesFrom J.verdict_of rows.now staged.now }
     requires lists { AreLists staged.now.state.tree.files lists.now }
-    requires moved { staged.now.moved ≡ Moved at groups.now }
+    requires moved { staged.now.user_change ≡ Memberships at groups.now }
     ensures rows { IfOk result (λ new. new.rows ≡ rows_of J.verdict_of (persons staged.now.state.people) staged.now.state.tree.files) }
     ensures order { IfOk result (λ new. IsInOrder (map (λ r. r.value) new.puts.items)) }
     ensures again { IfOk result (λ new. new.rows ≡ put_all (map (λ r. r.value) new.puts.items) rows.now) }

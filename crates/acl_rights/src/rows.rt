@@ -13,7 +13,7 @@ use crate::changed::changed_rows;
 use crate::left::shorter_rows;
 use crate::lists::GroupLists;
 use crate::moved::moved_rows;
-use acl_tree::{Staged, UsersMove};
+use acl_tree::{Staged, UserChange};
 use acl_verdicts::{Cells, Judge};
 use path_map::{Entry, PathMap};
 use std::alloc::{AllocError, Global};
@@ -51,25 +51,25 @@ pub fn staged_rows<J: Judge>(
 ) -> Result<NewRows, AllocError>
     requires room { J.asked_of judge.old + most_asked staged.now < 2 ^ 64 }
     requires goes { GoesFrom J.verdict_of rows.now staged.now }
-    requires lists { moves_groups staged.now.moved ≡ true → AreLists staged.now.state.tree.files lists.now }
+    requires lists { moves_groups staged.now.user_change ≡ true → AreLists staged.now.state.tree.files lists.now }
     ensures rows { IfOk result (λ new. new.rows ≡ rows_of J.verdict_of (persons staged.now.state.people) staged.now.state.tree.files) }
     ensures order { IfOk result (λ new. IsInOrder (map (λ r. r.value) new.puts.items)) }
-    ensures again { IfOk result (λ new. IsAgain staged.now.moved new.rows (map (λ r. r.value) new.puts.items) staged.now.gone rows.now) }
+    ensures again { IfOk result (λ new. IsAgain staged.now.user_change new.rows (map (λ r. r.value) new.puts.items) staged.now.gone rows.now) }
     ensures at_most { J.asked_of judge.new ≤ J.asked_of judge.old + most_asked staged.now }
-    ensures looked_most { IfOk result (λ new. new.looked ≤ most_looked staged.now.moved staged.now.state.tree.files) }
-    ensures looked_least { IfOk result (λ new. moves_groups staged.now.moved ≡ true → J.asked_of judge.new ≤ J.asked_of judge.old + new.looked) }
+    ensures looked_most { IfOk result (λ new. new.looked ≤ most_looked staged.now.user_change staged.now.state.tree.files) }
+    ensures looked_least { IfOk result (λ new. moves_groups staged.now.user_change ≡ true → J.asked_of judge.new ≤ J.asked_of judge.old + new.looked) }
 {
-    match staged.moved() {
-        UsersMove::Same => changed_rows(alloc, judge, rows, staged),
-        UsersMove::Loaded => Ok(all_new(alloc, PathMap::new(alloc))),
-        UsersMove::Moved { user, groups } => {
+    match staged.user_change() {
+        UserChange::Unchanged => changed_rows(alloc, judge, rows, staged),
+        UserChange::Loaded => Ok(all_new(alloc, PathMap::new(alloc))),
+        UserChange::Memberships { user, groups } => {
             moved_rows(alloc, judge, rows, lists, staged, *user, groups)
         }
-        UsersMove::Joined => {
+        UserChange::Added => {
             let rows = joined_rows(alloc, judge, rows, staged)?;
             Ok(all_new(alloc, rows))
         }
-        UsersMove::Left { user } => {
+        UserChange::Removed { user } => {
             let rows = shorter_rows(alloc, rows, *user)?;
             Ok(all_new(alloc, rows))
         }

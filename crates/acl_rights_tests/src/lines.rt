@@ -1,8 +1,8 @@
 //! Commands as they are written.
 
 use acl_rights::{
-    Change, Command, Edit, Id, Membership, Name, NewUser, Path, Paths, People, Sep, Specs, Table,
-    UserName, Want, read_entries, read_path,
+    Command, Edit, Id, Membership, Name, NewUser, Path, Paths, People, Sep, Specs, Table, UserName,
+    Want, read_entries, read_path,
 };
 use std::alloc::Global;
 
@@ -38,7 +38,7 @@ fn name(alloc: Global, text: &[u8]) -> Option<Name> {
 
 fn change(alloc: Global, people: &People, modify: &[u8]) -> Option<Edit> {
     let entries = read_entries(alloc, modify, Sep::Comma, Want::WithPerms, people).ok()?;
-    Some(Edit::Change(Change {
+    Some(Edit::Change {
         strip: false,
         drop_default: false,
         as_default: false,
@@ -47,7 +47,7 @@ fn change(alloc: Global, people: &People, modify: &[u8]) -> Option<Edit> {
         remove: Specs::new(Vec::new(alloc)),
         set: Specs::new(Vec::new(alloc)),
         modify: Specs::new(entries),
-    }))
+    })
 }
 
 fn member(

@@ -1,14 +1,4 @@
-pub mod InTurn
-pub mod Blanks
-pub mod Ids
-pub mod UserNames
-pub mod Rows
-pub mod Firsts
-pub mod Seen
-pub mod Words
-pub mod Fields
-pub mod Letters
-pub mod Entries
-pub mod Means
-pub mod Writing
-pub mod Lowest
+pub use Rattle.acl_attr.specs as acl_attr
+pub use Rattle.acl_dump.specs as acl_dump
+pub use Rattle.acl_names.specs as acl_names
+pub use Rattle.acl_syntax.specs as acl_syntax

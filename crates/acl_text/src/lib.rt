@@ -1,44 +1,17 @@
-//! Texts of users, groups and access control lists: read exactly, and written so that they are read
-//! again.
+//! The texts of access control lists, as one crate: names and paths, entry texts, rows of passwd(5) and group(5), dumps,
+//! and attribute bytes. Whoever reads or writes a text lists this crate, and none of the four that it passes on.
 #![tactic(auto)]
 
-mod blanks;
-mod entries;
-mod entry;
-mod fault;
-mod fields;
-mod form;
-mod group;
-mod id;
-mod laws;
-mod letters;
-mod line;
-mod naming;
-mod passwd;
-mod rows;
-mod user_name;
-mod writing;
-
+pub use acl_attr::{decode_attr, encode_attr};
+pub use acl_dump::{
+    DumpRecord, DumpUse, Effective, append_header, append_list, append_record, read_dump,
+};
 pub use acl_names::{
-    Name, Path, append_name, append_path, read_name, read_path, write_name, write_path,
+    Components, Name, Path, append_name, append_path, read_name, read_path, write_name, write_path,
 };
-pub use blanks::{trim, trim_front};
-pub use entries::{PermSpec, Rules, Sep, Spec, Want};
-pub use entry::{content, entry_of, read_entries};
-pub use fault::{FaultKind, TextFault, Which};
-pub use form::Form;
-pub use group::read_group;
-pub use id::{is_number, read_id};
-pub use laws::{
-    entries_are_read_in_order, entries_fault_is_first, entry_fault_is_lowest,
-    entry_means_what_is_read, group_fault_is_first, group_line_fault_is_lowest,
-    group_rows_are_first_of_their_names, passwd_fault_is_first, passwd_line_fault_is_lowest,
-    passwd_rows_are_first_of_their_names, piece_fault_is_lowest,
+pub use acl_syntax::{
+    FaultKind, Form, GroupRow, MAX_ROWS, NameList, Names, NoNames, PasswdRow, PermSpec, Sep, Spec,
+    TextFault, Want, Which, append_entry, append_id, append_short, is_number, is_user_name,
+    read_entries, read_group, read_group_word, read_id, read_passwd, read_perms, read_user_word,
+    trim, write_long, write_short,
 };
-pub use letters::read_perms;
-pub use line::MAX_ROWS;
-pub use naming::{Names, NoNames, read_group_word, read_user_word};
-pub use passwd::read_passwd;
-pub use rows::{GroupRow, NameList, PasswdRow};
-pub use user_name::is_user_name;
-pub use writing::{append_entry, append_id, append_short, write_long, write_short};

@@ -2,10 +2,9 @@
 use Rattle.std.proofs.Common.{◌≡◌, Bool, true, false, List, Option, Some, Result, Ok, Err, if◌then◌else◌, refl, sym, ap, subst, ◌∙◌}
 use Rattle.std.specs.Prelude.{option_map}
 use Rattle.acl_files.specs.acl_entry.Lists.{KeyMap}
-use Rattle.acl_files.specs.acl_edit.Edits.{edit, change, changed_access, changed_default, is_misplaced, ◌>>=◌}
+use Rattle.acl_files.specs.acl_edit.Edits.{edit, edit_of, change, changed_access, changed_default, is_misplaced, ◌>>=◌}
 use Rattle.acl_files.specs.acl_edit.Nodes.{with_lists}
-use Rattle.acl_files.specs.acl_edit.declared.edit.Change.{Change}
-use Rattle.acl_files.specs.acl_edit.declared.edit.Edit.TheVariants as edits
+use Rattle.acl_files.specs.acl_edit.Changes.{Change}
 use Rattle.acl_files.specs.acl_edit.declared.edit.EditFault.{EditFault}
 use Rattle.acl_files.specs.acl_edit.declared.edit.EditFault.TheVariants.{DefaultOnFile}
 use Rattle.acl_files.specs.acl_edit.declared.node.Node.{Node}
@@ -39,7 +38,7 @@ module _ (n : Node) (line : Change) (m : Node) where
       })
 
   -- the rules are true at one file
-  one : (recursive : Bool) → edit n (edits.Change line) recursive ≡ Ok m → KeepsMaskRules n line m
+  one : (recursive : Bool) → edit n (edit_of line) recursive ≡ Ok m → KeepsMaskRules n line m
   unfolding change
   one recursive h = by (is_misplaced n line recursive) h
     where
@@ -47,7 +46,7 @@ module _ (n : Node) (line : Change) (m : Node) where
       by true h = absurd (err_is_not_ok _ _ h)
       by false h = lists (changed_access n line) refl h
 
-pub masks_each : (recursive : Bool) (paths : List PathOf) (line : Change) (old new : Recorded) → IsInOrder old.files → edited_tree recursive paths (edits.Change line) old ≡ Ok new → MasksEach line recursive paths old new
+pub masks_each : (recursive : Bool) (paths : List PathOf) (line : Change) (old new : Recorded) → IsInOrder old.files → edited_tree recursive paths (edit_of line) old ≡ Ok new → MasksEach line recursive paths old new
 masks_each recursive paths line old new order h p n m is before after =
     one n line m recursive
-    (sym (some_eq (Ok m) (edit n (edits.Change line) recursive) (sym (ap (λ o. option_map Ok o) after) ∙ (edit_each_file recursive paths (edits.Change line) old new order h).edited p n is before)))
+    (sym (some_eq (Ok m) (edit n (edit_of line) recursive) (sym (ap (λ o. option_map Ok o) after) ∙ (edit_each_file recursive paths (edit_of line) old new order h).edited p n is before)))

@@ -12,7 +12,7 @@ use Rattle.std.proofs.lemmas.Cmp.{tied_itself, nat_list_cmp_total}
 use Rattle.acl_files.specs.acl_names.Paths.{path_cmp}
 use Rattle.acl_files.proofs.of_acl_names.PathOrder.{exact_paths}
 use Rattle.acl_files.specs.acl_edit.declared.node.Node.{Node}
-use Rattle.acl_files.specs.acl_text.declared.rows.PasswdRow.{PasswdRow}
+use Rattle.acl_files.specs.acl_syntax.declared.rows.PasswdRow.{PasswdRow}
 use Rattle.acl_files.specs.acl_edit.Creation.{inherit}
 use Rattle.acl_files.specs.acl_edit.Nodes.{IsSound, is_directory}
 use Rattle.acl_files.specs.acl_edit.declared.node.Kind.{Kind}

@@ -5,8 +5,8 @@ use Rattle.std.specs.Option.{option_or, ok_or}
 use Rattle.std.specs.List.{list_any}
 use Rattle.std.proofs.lemmas.List.{map-append, length-map}
 use Rattle.std.proofs.lemmas.Slice.Eq.{bytes_eq-Decides}
-use Rattle.acl_files.specs.acl_text.Ids.{is_number, id_of}
-use Rattle.acl_files.specs.acl_text.declared.rows.PasswdRow.{PasswdRow}
+use Rattle.acl_files.specs.acl_syntax.Ids.{is_number, id_of}
+use Rattle.acl_files.specs.acl_syntax.declared.rows.PasswdRow.{PasswdRow}
 use Rattle.acl_people.specs.Changes.{gid_of, with_user}
 use Rattle.acl_people.specs.Entries.{user_entry}
 use Rattle.acl_people.specs.Registers.{Register, users_of, names_user}

@@ -3,7 +3,7 @@ use Rattle.std.proofs.Common.{◌≡◌, ◌≢◌, ℕ, List, [], ◌∷◌, fi
 use Rattle.std.specs.List.{AllByRecursion}
 use Rattle.acl_people.specs.Registers.{Register, persons}
 use Rattle.acl_people.specs.Moves.{MovesUser}
-use Rattle.acl_tree.specs.declared.moved.UsersMove.TheVariants.{Same}
+use Rattle.acl_tree.specs.declared.user_change.UserChange.TheVariants.{Unchanged}
 use Rattle.acl_files.specs.Files.{Files, Recorded, IsInOrder}
 use Rattle.acl_files.specs.Changed.{changed_between, gone_between}
 use Rattle.acl_files.specs.Sound.{holds_below}
@@ -13,14 +13,14 @@ use Rattle.acl_files.proofs.Changes.{all_changed}
 use Rattle.acl_tree.proofs.Removals.{gone_from, none_changed}
 
 module _ (old : State) (s : StagedState) where
-  same_users : s.moved ≡ Same → s.state.people ≡ old.people → UsersMoved old s.state s.moved
+  same_users : s.user_change ≡ Unchanged → s.state.people ≡ old.people → UsersMoved old s.state s.user_change
   same_users is people = subst (λ m. UsersMoved old s.state m) (sym is) (ap persons people)
 
   none_apart : s.gone ≡ [] → AllByRecursion (λ e. holds_below s.state.tree.files e.0 ≡ false) s.gone
   none_apart none = subst (AllByRecursion (λ e. holds_below s.state.tree.files e.0 ≡ false)) (sym none) tt
 
   -- after a load of files, where there was none
-  pub reported_load : old.tree.files ≡ [] → s.changed ≡ s.state.tree.files → s.gone ≡ [] → s.moved ≡ Same → s.state.people ≡ old.people → Reports old s
+  pub reported_load : old.tree.files ≡ [] → s.changed ≡ s.state.tree.files → s.gone ≡ [] → s.user_change ≡ Unchanged → s.state.people ≡ old.people → Reports old s
   reported_load none all gone moved people = record {
     changed = all ∙ sym (ap (λ es. changed_between es s.state.tree.files) none ∙ all_changed s.state.tree.files);
     gone = gone ∙ sym (ap (λ es. gone_between es s.state.tree.files) none);
@@ -29,11 +29,11 @@ module _ (old : State) (s : StagedState) where
   }
 
   -- after files are removed
-  pub reported_removal : s.changed ≡ changed_between old.tree.files s.state.tree.files → s.gone ≡ gone_between old.tree.files s.state.tree.files → AllByRecursion (λ e. holds_below s.state.tree.files e.0 ≡ false) s.gone → s.moved ≡ Same → s.state.people ≡ old.people → Reports old s
+  pub reported_removal : s.changed ≡ changed_between old.tree.files s.state.tree.files → s.gone ≡ gone_between old.tree.files s.state.tree.files → AllByRecursion (λ e. holds_below s.state.tree.files e.0 ≡ false) s.gone → s.user_change ≡ Unchanged → s.state.people ≡ old.people → Reports old s
   reported_removal changed gone apart moved people = record { changed = changed; gone = gone; apart = apart; users = same_users moved people }
 
   -- after a change of files of which none is gone
-  pub reported_change : (new : Files) → s.state.tree.files ≡ new → s.changed ≡ changed_between old.tree.files new → s.gone ≡ [] → gone_between old.tree.files new ≡ [] → s.moved ≡ Same → s.state.people ≡ old.people → Reports old s
+  pub reported_change : (new : Files) → s.state.tree.files ≡ new → s.changed ≡ changed_between old.tree.files new → s.gone ≡ [] → gone_between old.tree.files new ≡ [] → s.user_change ≡ Unchanged → s.state.people ≡ old.people → Reports old s
   reported_change new is changed gone kept moved people = record {
     changed = changed ∙ ap (λ es. changed_between old.tree.files es) (sym is);
     gone = gone ∙ sym (ap (λ es. gone_between old.tree.files es) is ∙ kept);
@@ -52,7 +52,7 @@ none_kept [] = refl
 none_kept (e ∷ t) = none_kept t
 
 -- after a change of people
-pub reported_people : (old : State) (s : StagedState) → IsInOrder old.tree.files → s.state.tree ≡ old.tree → s.changed ≡ [] → s.gone ≡ [] → UsersMoved old s.state s.moved → Reports old s
+pub reported_people : (old : State) (s : StagedState) → IsInOrder old.tree.files → s.state.tree ≡ old.tree → s.changed ≡ [] → s.gone ≡ [] → UsersMoved old s.state s.user_change → Reports old s
 reported_people old s order same changed gone users =
     let t : Files = old.tree.files in
     let files : s.state.tree.files ≡ t = ap (λ (tree : Recorded). tree.files) same in

@@ -5,7 +5,7 @@ use Rattle.std.specs.FinMap.{find, put}
 use Rattle.std.specs.FinMap.Entries.{find-put, find-where_key}
 use Rattle.acl_files.specs.acl_names.Paths.{path_cmp}
 use Rattle.acl_files.proofs.of_acl_names.PathOrder.{path_total, exact_paths}
-use Rattle.acl_files.specs.acl_text.declared.rows.PasswdRow.{PasswdRow}
+use Rattle.acl_files.specs.acl_syntax.declared.rows.PasswdRow.{PasswdRow}
 use Rattle.acl_files.specs.acl_edit.Creation.{inherit}
 use Rattle.acl_files.specs.acl_edit.Nodes as nodes
 use Rattle.acl_files.specs.acl_edit.declared.node.Node.{Node}
@@ -22,7 +22,7 @@ use Rattle.acl_tree.specs.Creat.{row_of, exists, parent, directory_at, creat_in,
 use Rattle.acl_tree.specs.EditCommand.{edited_tree}
 use Rattle.acl_tree.specs.Accounts.{useradd, userdel}
 use Rattle.acl_tree.specs.Laws.{LeavesUnnamed}
-use Rattle.acl_tree.specs.Memberships.{UserChange, gpasswd, usermod}
+use Rattle.acl_tree.specs.Memberships.{ChangedUser, gpasswd, usermod}
 use Rattle.acl_files.specs.Operands.{is_file, first_missing}
 use Rattle.acl_files.specs.Restoring.{restored_tree}
 use Rattle.acl_tree.specs.Rm.{first_refused, without_files, or_refused, rm}
@@ -67,7 +67,7 @@ unless_loaded : (s new : State) (b : Bool) (r : Result Register LoadFault) → (
 unless_loaded s new true r h = absurd (err_is_not_ok _ _ h)
 unless_loaded s new false r h = same_tree s new r h
 
-same_tree_by : (s new : State) (r : Result UserChange TreeFault) → with_change s r ≡ Ok new → new.tree ≡ s.tree
+same_tree_by : (s new : State) (r : Result ChangedUser TreeFault) → with_change s r ≡ Ok new → new.tree ≡ s.tree
 same_tree_by s new (Ok change) h = ap (λ r. (state_or s r).tree) (sym h)
 same_tree_by s new (Err fault) h = absurd (err_is_not_ok _ _ h)
 

@@ -3,7 +3,7 @@ use Rattle.std.specs.Prelude.{ℕ, List, ◌-◌, length, take, slice_get, nat_l
 use Rattle.std.specs.List.{list_any}
 use Rattle.std.specs.FinMap.{find, put}
 use Rattle.acl_files.specs.acl_names.Paths.{path_cmp}
-use Rattle.acl_files.specs.acl_text.declared.rows.PasswdRow.{PasswdRow}
+use Rattle.acl_files.specs.acl_syntax.declared.rows.PasswdRow.{PasswdRow}
 use Rattle.acl_files.specs.acl_edit.Nodes.{is_directory}
 use Rattle.acl_files.specs.acl_edit.Creation.{inherit}
 use Rattle.acl_files.specs.acl_edit.declared.node.Node.{Node}

@@ -11,16 +11,16 @@ use Rattle.acl_files.specs.declared.fault.TreeFault.{TreeFault}
 use Rattle.acl_tree.specs.Creat.{exists, parent}
 use Rattle.acl_tree.specs.Step.{State, Stages}
 use Rattle.acl_tree.specs.Reports.{StagedState, Reports}
-use Rattle.acl_tree.specs.declared.moved.UsersMove.{UsersMove}
+use Rattle.acl_tree.specs.declared.user_change.UserChange.{UserChange}
 
 -- ---- a command
 
 -- A call prepares the state after a step: a sound tree, with what it changes. Or it returns the step's fault.
-pub record Prepares (old : State) (is : Result State TreeFault) (move : UsersMove) (result : Result StagedState TreeFault) : Type 0 where
+pub record Prepares (old : State) (is : Result State TreeFault) (move : UserChange) (result : Result StagedState TreeFault) : Type 0 where
   pub made : Stages (λ s. s.state) result is
   pub sound : IfOk result (λ staged. IsSoundTree staged.state.tree)
   pub reports : IfOk result (λ staged. Reports old staged)
-  pub moved : IfOk result (λ staged. staged.moved ≡ move)
+  pub moved : IfOk result (λ staged. staged.user_change ≡ move)
 
 -- ---- a new file
 

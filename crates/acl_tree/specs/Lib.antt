@@ -19,4 +19,4 @@ pub use Rattle.acl_files.specs.acl_entry
 pub use Rattle.acl_files.specs as acl_files
 pub use Rattle.acl_files.specs.acl_names
 pub use Rattle.acl_people.specs as acl_people
-pub use Rattle.acl_files.specs.acl_text
+pub use Rattle.acl_files.specs.acl_syntax

@@ -10,7 +10,7 @@ use Rattle.acl_files.specs.declared.fault.TreeFault.{TreeFault}
 use Rattle.acl_files.specs.declared.fault.TreeFault.TheVariants.{NoSuchUser, NoSuchGroup, NotMember}
 
 -- a user's place, and the people after a change of that user
-pub record UserChange : Type 0 where
+pub record ChangedUser : Type 0 where
   pub user : ℕ
   pub people : Register
 
@@ -22,12 +22,12 @@ user_at known word = ok_or (place_of_word word (users_of known)) (NoSuchUser wor
 abbrev pub group_at : Register → List ℕ → Result ℕ TreeFault
 group_at known word = ok_or (place_of_word word (groups_of known)) (NoSuchGroup word)
 
-abbrev pub change_of : ℕ → Result Register TreeFault → Result UserChange TreeFault
+abbrev pub change_of : ℕ → Result Register TreeFault → Result ChangedUser TreeFault
 change_of user (Ok people) = Ok (record { user = user; people = people })
 change_of user (Err fault) = Err fault
 
 -- a change of a user and a group, which are looked up in this order
-abbrev pub change_found : Result ℕ TreeFault → Result ℕ TreeFault → (ℕ → ℕ → Result Register TreeFault) → Result UserChange TreeFault
+abbrev pub change_found : Result ℕ TreeFault → Result ℕ TreeFault → (ℕ → ℕ → Result Register TreeFault) → Result ChangedUser TreeFault
 change_found (Err fault) group change = Err fault
 change_found (Ok user) (Err fault) change = Err fault
 change_found (Ok user) (Ok group) change = change_of user (change user group)
@@ -38,9 +38,9 @@ membership_changed user group Add known = Ok (with_member user group known)
 membership_changed user group Remove known = if is_member user group known then Ok (without_member user group known) else Err NotMember
 
 -- gpasswd -a, -d
-abbrev pub gpasswd : List ℕ → List ℕ → Membership → Register → Result UserChange TreeFault
+abbrev pub gpasswd : List ℕ → List ℕ → Membership → Register → Result ChangedUser TreeFault
 gpasswd user group change known = change_found (user_at known user) (group_at known group) (λ u g. membership_changed u g change known)
 
 -- usermod -g
-abbrev pub usermod : List ℕ → List ℕ → Register → Result UserChange TreeFault
+abbrev pub usermod : List ℕ → List ℕ → Register → Result ChangedUser TreeFault
 usermod user group known = change_found (user_at known user) (group_at known group) (λ u g. Ok (with_primary_group u g known))

@@ -1,7 +1,7 @@
 -- The whole state, and what a command makes of it.
 use Rattle.std.specs.Prelude.{◌≡◌, ◌≢◌, ℕ, List, length, Bool, true, false, nat_lt, ◌||◌, if◌then◌else◌, Option, Some, None, Result, Ok, Err, MatchResult, refl}
 use Rattle.std.specs.Coded.{Coded, code_by, coded×}
-use Rattle.acl_files.specs.acl_text.declared.fault.TextFault.{TextFault}
+use Rattle.acl_files.specs.acl_syntax.declared.fault.TextFault.{TextFault}
 use Rattle.acl_files.specs.acl_dump.declared.record.DumpRecord.{DumpRecord}
 use Rattle.acl_files.specs.acl_dump.declared.record.DumpUse.TheVariants as uses
 use Rattle.acl_files.specs.acl_dump.Records.{dump_of}
@@ -21,7 +21,7 @@ use Rattle.acl_files.specs.Files.{PathOf, Recorded, coded_recorded, no_files, ma
 use Rattle.acl_files.specs.Loading.{files_of}
 use Rattle.acl_tree.specs.Creat.{creat}
 use Rattle.acl_tree.specs.Rm.{rm}
-use Rattle.acl_tree.specs.Memberships.{UserChange, gpasswd, usermod}
+use Rattle.acl_tree.specs.Memberships.{ChangedUser, gpasswd, usermod}
 use Rattle.acl_tree.specs.Accounts.{useradd, userdel}
 use Rattle.acl_files.specs.Operands.{is_file, first_missing, edit_files}
 use Rattle.acl_tree.specs.EditCommand.{edited_tree}
@@ -61,7 +61,7 @@ with_tree s (Err fault) = Err fault
 
 -- ---- commands on the people alone
 
-abbrev pub with_change : State → Result UserChange TreeFault → Result State TreeFault
+abbrev pub with_change : State → Result ChangedUser TreeFault → Result State TreeFault
 with_change s (Ok change) = Ok (record s { people = change.people })
 with_change s (Err fault) = Err fault
 

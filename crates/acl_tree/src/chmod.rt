@@ -3,12 +3,12 @@
 ghost use Rattle.acl_tree.specs.Inner.{Prepares};
 ghost use Rattle.acl_files.specs.Operands.{first_missing};
 ghost use Rattle.acl_tree.specs.Step.{chmod_all, or_missing, state_from};
-ghost use Rattle.acl_tree.specs.declared.moved.UsersMove.TheVariants.{Same};
+ghost use Rattle.acl_tree.specs.declared.user_change.UserChange.TheVariants.{Unchanged};
 
-use crate::moved::UsersMove;
 use crate::staged::Staged;
+use crate::user_change::UserChange;
 use acl_files::{
-    EditFault, Node, NodeEdit, Path, Paths, Tree, TreeFault, chmod, edit_files, look_up,
+    EditFault, Files, Node, NodeEdit, Path, Paths, TreeFault, chmod, edit_files, look_up,
 };
 use acl_people::People;
 use std::alloc::Global;
@@ -36,14 +36,14 @@ impl NodeEdit for Mode {
 
 /// Puts a mode into the files of a command.
 pub(crate) fn prepare_chmod(
-    tree: &Tree,
+    tree: &Files,
     alloc: Global,
     people: &People,
     paths: &Paths,
     mode: u16,
     recursive: bool,
 ) -> Result<Staged, TreeFault>
-    ensures { Prepares (state_from tree.now people.now) (or_missing (first_missing paths.now tree.now.files) (state_from (chmod_all recursive paths.now mode tree.now) people.now)) Same result }
+    ensures { Prepares (state_from tree.now people.now) (or_missing (first_missing paths.now tree.now.files) (state_from (chmod_all recursive paths.now mode tree.now) people.now)) Unchanged result }
 {
     tree.is_sound();
     look_up(tree, alloc, paths.as_slice())?;
@@ -62,7 +62,7 @@ pub(crate) fn prepare_chmod(
             people.share()?,
             changed,
             Vec::new(alloc),
-            UsersMove::Same,
+            UserChange::Unchanged,
         )),
         Err(_) => Err(TreeFault::NoMemory),
     }

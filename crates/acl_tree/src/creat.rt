@@ -9,13 +9,13 @@ ghost use Rattle.acl_tree.specs.Creat.{row_of, exists, parent, directory_at, cre
 ghost use Rattle.acl_tree.specs.Inner.{Prepares, IsNewIn};
 ghost use Rattle.acl_tree.specs.Step.{with_tree, state_from};
 ghost use Rattle.acl_files.specs.declared.fault.TreeFault.TheVariants.{NoMemory, NoSuchUser};
-ghost use Rattle.acl_tree.specs.declared.moved.UsersMove.TheVariants.{Same};
+ghost use Rattle.acl_tree.specs.declared.user_change.UserChange.TheVariants.{Unchanged};
 
 use crate::command::NewFile;
 use crate::dump::MAX_FILES;
-use crate::moved::UsersMove;
 use crate::staged::Staged;
-use acl_files::{Kind, Name, Node, PasswdRow, Path, Record, Tree, TreeFault, create};
+use crate::user_change::UserChange;
+use acl_files::{Files, Kind, Name, Node, PasswdRow, Path, Record, TreeFault, create};
 use acl_people::People;
 use std::alloc::{AllocError, Global};
 use std::rc::Rc;
@@ -38,7 +38,7 @@ fn row_of<'a>(alloc: Global, people: &'a People, user: &Name) -> Result<&'a Pass
 }
 
 /// Whether a file is recorded at a path or below it.
-fn exists(tree: &Tree, path: &Path) -> bool
+fn exists(tree: &Files, path: &Path) -> bool
     ensures { result ≡ exists path.now tree.now.files }
 {
     tree.files_by_path().within(path).next().is_some()
@@ -58,7 +58,7 @@ fn parent_of(alloc: Global, path: &Path) -> Result<Path, AllocError>
 }
 
 /// The directory of a new file.
-fn directory_of<'a>(tree: &'a Tree, alloc: Global, path: &Path) -> Result<&'a Node, TreeFault>
+fn directory_of<'a>(tree: &'a Files, alloc: Global, path: &Path) -> Result<&'a Node, TreeFault>
     ensures found { IfOk result (λ node. directory_at (parent path.now) tree.now.files ≡ Ok node.now) }
     ensures fault { IfErr result (λ fault. fault ≢ NoMemory → directory_at (parent path.now) tree.now.files ≡ Err fault) }
 {
@@ -91,7 +91,7 @@ fn node_of(
 
 /// The new file of a user.
 fn new_file(
-    tree: &Tree,
+    tree: &Files,
     alloc: Global,
     new: &NewFile,
     owner: &PasswdRow,
@@ -117,12 +117,12 @@ fn new_file(
 
 /// Makes a file.
 pub(crate) fn prepare_creat(
-    tree: &Tree,
+    tree: &Files,
     alloc: Global,
     people: &People,
     new: &NewFile,
 ) -> Result<Staged, TreeFault>
-    ensures { Prepares (state_from tree.now people.now) (with_tree (state_from tree.now people.now) (creat new.now people.now tree.now)) Same result }
+    ensures { Prepares (state_from tree.now people.now) (with_tree (state_from tree.now people.now) (creat new.now people.now tree.now)) Unchanged result }
 {
     let owner = row_of(alloc, people, &new.user)?;
     let file = new_file(tree, alloc, new, owner)?;
@@ -130,10 +130,10 @@ pub(crate) fn prepare_creat(
     changed.push(file)?;
     let files = tree.files_by_path().put_all(alloc, &changed)?;
     Ok(Staged::of(
-        Tree::of(files, tree.is_loaded()),
+        Files::of(files, tree.is_loaded()),
         people.share()?,
         changed,
         Vec::new(alloc),
-        UsersMove::Same,
+        UserChange::Unchanged,
     ))
 }

@@ -4,12 +4,12 @@ ghost use Rattle.std.specs.Prelude.{◌≡◌, ◌≢◌, [], true, map, IfOk};
 ghost use Rattle.acl_files.specs.Sound.{IsSoundTree};
 ghost use Rattle.acl_tree.specs.Step.{load_dump, Stages, state_from};
 ghost use Rattle.acl_tree.specs.Reports.{Reports};
-ghost use Rattle.acl_tree.specs.declared.moved.UsersMove.TheVariants.{Same};
+ghost use Rattle.acl_tree.specs.declared.user_change.UserChange.TheVariants.{Unchanged};
 
-use crate::moved::UsersMove;
 use crate::staged::Staged;
+use crate::user_change::UserChange;
 use acl_files::{
-    DumpUse, FaultKind, PathMap, Record, TextFault, Tree, TreeFault, files_of, read_dump,
+    DumpUse, FaultKind, Files, PathMap, Record, TextFault, TreeFault, files_of, read_dump,
 };
 use acl_people::People;
 use std::alloc::{AllocError, Global};
@@ -31,16 +31,16 @@ fn text_fault(fault: TextFault) -> TreeFault
 }
 
 /// The files of a dump as a tree.
-fn tree_of(alloc: Global, files: &[Rc<Record>]) -> Result<Tree, AllocError>
+fn tree_of(alloc: Global, files: &[Rc<Record>]) -> Result<Files, AllocError>
     requires { IsSoundTree (record { files = map (λ r. r.value) files.now; loaded = true }) }
     ensures { IfOk result (λ tree. tree ≡ record { files = map (λ r. r.value) files.now; loaded = true }) }
 {
-    Ok(Tree::of(PathMap::from_sorted(alloc, files)?, true))
+    Ok(Files::of(PathMap::from_sorted(alloc, files)?, true))
 }
 
 /// Loads the files of a dump. None is loaded yet.
 pub(crate) fn prepare_dump(
-    tree: &Tree,
+    tree: &Files,
     alloc: Global,
     people: &People,
     bytes: &[u8],
@@ -48,7 +48,7 @@ pub(crate) fn prepare_dump(
     ensures made { Stages (λ s. s.state) result (load_dump (state_from tree.now people.now) bytes.now) }
     ensures sound { IfOk result (λ staged. IsSoundTree staged.state.tree) }
     ensures reports { IfOk result (λ staged. tree.now.files ≡ [] → Reports (state_from tree.now people.now) staged) }
-    ensures moved { IfOk result (λ staged. staged.moved ≡ Same) }
+    ensures moved { IfOk result (λ staged. staged.user_change ≡ Unchanged) }
 {
     let records = match read_dump(alloc, bytes, DumpUse::Load, people) {
         Ok(records) => records,
@@ -64,6 +64,6 @@ pub(crate) fn prepare_dump(
         people.share()?,
         files,
         Vec::new(alloc),
-        UsersMove::Same,
+        UserChange::Unchanged,
     ))
 }

@@ -8,12 +8,12 @@ ghost use Rattle.acl_tree.specs.EditCommand.{edited_tree};
 ghost use Rattle.acl_tree.specs.Inner.{Prepares};
 ghost use Rattle.acl_tree.specs.Step.{with_tree, state_from};
 ghost use Rattle.acl_tree.specs.Reports.{Reports};
-ghost use Rattle.acl_tree.specs.declared.moved.UsersMove.TheVariants.{Same};
+ghost use Rattle.acl_tree.specs.declared.user_change.UserChange.TheVariants.{Unchanged};
 
-use crate::moved::UsersMove;
 use crate::staged::Staged;
+use crate::user_change::UserChange;
 use acl_files::{
-    Edit, EditFault, FileFault, Node, NodeEdit, Path, Paths, Tree, TreeFault, apply, edit_files,
+    Edit, EditFault, FileFault, Files, Node, NodeEdit, Path, Paths, TreeFault, apply, edit_files,
     look_up,
 };
 use acl_people::People;
@@ -40,7 +40,7 @@ impl NodeEdit for EachFile<'_> {
 
 /// The state with the files of a command edited. The people stay as they are.
 fn stage_edits<E: NodeEdit>(
-    tree: &Tree,
+    tree: &Files,
     alloc: Global,
     people: &People,
     operands: &[Path],
@@ -52,7 +52,7 @@ fn stage_edits<E: NodeEdit>(
     ensures fault { IfErr result (λ fault. fault ≢ NoMemory → edit_all (E.edited edit.now) recursive operands.now tree.now ≡ Err fault) }
     ensures sound { IfOk result (λ staged. IsSoundTree staged.state.tree) }
     ensures reports { IfOk result (λ staged. Reports (state_from tree.now people.now) staged) }
-    ensures moved { IfOk result (λ staged. staged.moved ≡ Same) }
+    ensures moved { IfOk result (λ staged. staged.user_change ≡ Unchanged) }
 {
     let mut changed = Vec::new(alloc);
     let edited = edit_files(tree, alloc, &mut changed, operands, recursive, edit)?;
@@ -61,20 +61,20 @@ fn stage_edits<E: NodeEdit>(
         people.share()?,
         changed,
         Vec::new(alloc),
-        UsersMove::Same,
+        UserChange::Unchanged,
     ))
 }
 
 /// Edits the files of a command.
 pub(crate) fn prepare_edit(
-    tree: &Tree,
+    tree: &Files,
     alloc: Global,
     people: &People,
     paths: &Paths,
     edit: &Edit,
     recursive: bool,
 ) -> Result<Staged, TreeFault>
-    ensures { Prepares (state_from tree.now people.now) (with_tree (state_from tree.now people.now) (edited_tree recursive paths.now edit.now tree.now)) Same result }
+    ensures { Prepares (state_from tree.now people.now) (with_tree (state_from tree.now people.now) (edited_tree recursive paths.now edit.now tree.now)) Unchanged result }
 {
     look_up(tree, alloc, paths.as_slice())?;
     let each = EachFile { edit, recursive };

@@ -13,7 +13,7 @@ use crate::command::Membership;
 use crate::find_people::{find_group, find_user};
 use crate::stage_people::stage_user_change;
 use crate::staged::Staged;
-use acl_files::{Name, Tree, TreeFault};
+use acl_files::{Files, Name, TreeFault};
 use acl_people::People;
 use std::alloc::Global;
 
@@ -48,7 +48,7 @@ fn change_membership(
 
 /// Changes the membership of a user.
 pub(crate) fn prepare_gpasswd(
-    tree: &Tree,
+    tree: &Files,
     alloc: Global,
     people: &People,
     user: &Name,

@@ -5,10 +5,10 @@ ghost use Rattle.std.specs.FinMap.{find};
 ghost use Rattle.std.specs.List.{AllByRecursion, list_any};
 ghost use Rattle.acl_files.specs.acl_names.Paths.{path_cmp};
 ghost use Rattle.acl_files.specs.acl_dump.declared.record.DumpRecord.{DumpRecord};
+ghost use Rattle.acl_files.specs.acl_edit.Changes.{Change};
+ghost use Rattle.acl_files.specs.acl_edit.Edits.{edit_of};
 ghost use Rattle.acl_files.specs.acl_edit.Nodes.{is_directory};
-ghost use Rattle.acl_files.specs.acl_edit.declared.edit.Change.{Change};
 ghost use Rattle.acl_files.specs.acl_edit.declared.edit.Edit.{Edit};
-ghost use Rattle.acl_files.specs.acl_edit.declared.edit.Edit.TheVariants as edits;
 ghost use Rattle.acl_people.specs.Registers.{names_user};
 ghost use Rattle.acl_people.specs.UserNames.{is_user_name};
 ghost use Rattle.acl_tree.specs.EditCommand.{edit_one, edited_tree};
@@ -28,7 +28,7 @@ ghost use Rattle.acl_tree.specs.declared.command.NewUser.{NewUser};
 pub fn each_file_is_edited()
     ensures edit { (recursive : Bool) (paths : List PathOf) (e : Edit) (old new : Recorded) → IsInOrder old.files → edited_tree recursive paths e old ≡ Ok new → EditsEach (edit_one e recursive) recursive paths old new }
     ensures restore { (records : List DumpRecord) (old new : Recorded) → IsInOrder old.files → restored_tree records old ≡ Ok new → EditsEach (restore_one records) false (paths_of records) old new }
-    ensures masks { (recursive : Bool) (paths : List PathOf) (line : Change) (old new : Recorded) → IsInOrder old.files → edited_tree recursive paths (edits.Change line) old ≡ Ok new → MasksEach line recursive paths old new }
+    ensures masks { (recursive : Bool) (paths : List PathOf) (line : Change) (old new : Recorded) → IsInOrder old.files → edited_tree recursive paths (edit_of line) old ≡ Ok new → MasksEach line recursive paths old new }
 {}
 
 /// Proof only. What a command does not name stays as it is: at a path that is no operand, is not below one with

@@ -7,14 +7,14 @@ ghost use Rattle.acl_files.specs.declared.fault.TreeFault.TheVariants.{AlreadyLo
 ghost use Rattle.acl_tree.specs.Inner.{Prepares};
 ghost use Rattle.acl_files.specs.Sound.{IsSoundTree};
 ghost use Rattle.acl_tree.specs.Reports.{load_moves, Reports};
-ghost use Rattle.acl_tree.specs.declared.moved.UsersMove.TheVariants.{Loaded};
+ghost use Rattle.acl_tree.specs.declared.user_change.UserChange.TheVariants.{Loaded};
 
 use crate::command::Table;
 use crate::dump::prepare_dump;
-use crate::moved::UsersMove;
 use crate::stage_people::stage_people;
 use crate::staged::Staged;
-use acl_files::{Tree, TreeFault};
+use crate::user_change::UserChange;
+use acl_files::{Files, TreeFault};
 use acl_people::{LoadFault, People};
 use std::alloc::Global;
 
@@ -30,7 +30,7 @@ fn load_fault(fault: LoadFault) -> TreeFault
 
 /// Loads a text: users and groups before a dump, each once.
 pub(crate) fn prepare_load(
-    tree: &Tree,
+    tree: &Files,
     alloc: Global,
     people: &People,
     which: Table,
@@ -51,12 +51,12 @@ pub(crate) fn prepare_load(
 }
 
 fn with_people(
-    tree: &Tree,
+    tree: &Files,
     alloc: Global,
     loaded: Result<People, LoadFault>,
 ) -> Result<Staged, TreeFault>
-    ensures ok { IfOk loaded (λ people. IfOk result (λ staged. staged ≡ record { state = state_from tree.now people; changed = []; gone = []; moved = Loaded })) }
-    ensures moved { IfOk result (λ staged. staged.moved ≡ Loaded) }
+    ensures ok { IfOk loaded (λ people. IfOk result (λ staged. staged ≡ record { state = state_from tree.now people; changed = []; gone = []; user_change = Loaded })) }
+    ensures moved { IfOk result (λ staged. staged.user_change ≡ Loaded) }
     ensures sound { IfOk result (λ staged. IsSoundTree staged.state.tree) }
     ensures reports { IfOk result (λ staged. (people : Register) → tree.now.files ≡ [] → Reports (state_from tree.now people) staged) }
     ensures err { IfErr loaded (λ fault. result ≡ Err (tree_fault fault)) }
@@ -64,7 +64,7 @@ fn with_people(
 {
     match loaded {
         Ok(people) => {
-            let staged = stage_people(tree, alloc, people, UsersMove::Loaded)?;
+            let staged = stage_people(tree, alloc, people, UserChange::Loaded)?;
             Ok(staged)
         }
         Err(fault) => Err(load_fault(fault)),

@@ -3,22 +3,22 @@
 ghost use Rattle.acl_files.specs.Restoring.{restored_tree};
 ghost use Rattle.acl_tree.specs.Inner.{Prepares};
 ghost use Rattle.acl_tree.specs.Step.{with_tree, state_from};
-ghost use Rattle.acl_tree.specs.declared.moved.UsersMove.TheVariants.{Same};
+ghost use Rattle.acl_tree.specs.declared.user_change.UserChange.TheVariants.{Unchanged};
 
-use crate::moved::UsersMove;
 use crate::staged::Staged;
-use acl_files::{DumpRecords, Tree, TreeFault, restore_files};
+use crate::user_change::UserChange;
+use acl_files::{DumpRecords, Files, TreeFault, restore_files};
 use acl_people::People;
 use std::alloc::Global;
 
 /// Restores the files of records.
 pub(crate) fn prepare_restore(
-    tree: &Tree,
+    tree: &Files,
     alloc: Global,
     people: &People,
     records: &DumpRecords,
 ) -> Result<Staged, TreeFault>
-    ensures { Prepares (state_from tree.now people.now) (with_tree (state_from tree.now people.now) (restored_tree records.now tree.now)) Same result }
+    ensures { Prepares (state_from tree.now people.now) (with_tree (state_from tree.now people.now) (restored_tree records.now tree.now)) Unchanged result }
 {
     let mut changed = Vec::new(alloc);
     let restored = restore_files(tree, alloc, &mut changed, records)?;
@@ -27,6 +27,6 @@ pub(crate) fn prepare_restore(
         people.share()?,
         changed,
         Vec::new(alloc),
-        UsersMove::Same,
+        UserChange::Unchanged,
     ))
 }

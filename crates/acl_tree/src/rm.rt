@@ -8,17 +8,17 @@ ghost use Rattle.acl_files.specs.Inner.{file_of};
 ghost use Rattle.acl_tree.specs.Rm.{refusal, first_refused, rm};
 ghost use Rattle.acl_tree.specs.Step.{with_tree, state_from};
 ghost use Rattle.acl_files.specs.declared.fault.TreeFault.TheVariants.{NoMemory};
-ghost use Rattle.acl_tree.specs.declared.moved.UsersMove.TheVariants.{Same};
+ghost use Rattle.acl_tree.specs.declared.user_change.UserChange.TheVariants.{Unchanged};
 
-use crate::moved::UsersMove;
 use crate::staged::Staged;
-use acl_files::{Found, Kind, Path, Paths, Record, Tree, TreeFault, select};
+use crate::user_change::UserChange;
+use acl_files::{Files, Found, Kind, Path, Paths, Record, TreeFault, select};
 use acl_people::People;
 use std::alloc::{AllocError, Global};
 use std::rc::Rc;
 
 /// Whether an operand may be removed.
-fn check_one(tree: &Tree, alloc: Global, recursive: bool, path: &Path) -> Result<(), TreeFault>
+fn check_one(tree: &Files, alloc: Global, recursive: bool, path: &Path) -> Result<(), TreeFault>
     ensures ok { OnOk result (refusal recursive path.now (find path_cmp path.now tree.now.files) ≡ None) }
     ensures fault { IfErr result (λ fault. fault ≢ NoMemory → refusal recursive path.now (find path_cmp path.now tree.now.files) ≡ Some fault) }
 {
@@ -37,7 +37,7 @@ fn check_one(tree: &Tree, alloc: Global, recursive: bool, path: &Path) -> Result
 
 /// Whether all operands may be removed; else the fault of the first that may not.
 fn check_all(
-    tree: &Tree,
+    tree: &Files,
     alloc: Global,
     recursive: bool,
     operands: &[Path],
@@ -66,23 +66,23 @@ fn records(alloc: Global, files: &[Found]) -> Result<Vec<Rc<Record>>, AllocError
 
 /// Removes files.
 pub(crate) fn prepare_rm(
-    tree: &Tree,
+    tree: &Files,
     alloc: Global,
     people: &People,
     paths: &Paths,
     recursive: bool,
 ) -> Result<Staged, TreeFault>
-    ensures { Prepares (state_from tree.now people.now) (with_tree (state_from tree.now people.now) (rm recursive paths.now tree.now)) Same result }
+    ensures { Prepares (state_from tree.now people.now) (with_tree (state_from tree.now people.now) (rm recursive paths.now tree.now)) Unchanged result }
 {
     check_all(tree, alloc, recursive, paths.as_slice())?;
     let files = select(tree, alloc, paths.as_slice(), recursive)?;
     let gone = records(alloc, &files)?;
     let by_path = tree.files_by_path().without_all(alloc, &gone)?;
     Ok(Staged::of(
-        Tree::of(by_path, tree.is_loaded()),
+        Files::of(by_path, tree.is_loaded()),
         people.share()?,
         Vec::new(alloc),
         gone,
-        UsersMove::Same,
+        UserChange::Unchanged,
     ))
 }

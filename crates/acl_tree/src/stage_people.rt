@@ -7,22 +7,22 @@ ghost use Rattle.acl_files.specs.Sound.{IsSoundTree};
 ghost use Rattle.acl_tree.specs.Step.{state_from};
 ghost use Rattle.acl_tree.specs.Reports.{move_of, UsersMoved, Reports};
 
-use crate::moved::{GroupIds, UsersMove};
 use crate::staged::Staged;
-use acl_files::{Id, Tree};
+use crate::user_change::{GroupIds, UserChange};
+use acl_files::{Files, Id};
 use acl_people::People;
 use std::alloc::{AllocError, Global};
 
 /// The same files with other people.
 pub(crate) fn stage_people(
-    tree: &Tree,
+    tree: &Files,
     alloc: Global,
     people: People,
-    moved: UsersMove,
+    user_change: UserChange,
 ) -> Result<Staged, AllocError>
-    ensures all { IfOk result (λ staged. staged ≡ record { state = state_from tree.now people; changed = []; gone = []; moved = moved }) }
+    ensures all { IfOk result (λ staged. staged ≡ record { state = state_from tree.now people; changed = []; gone = []; user_change = user_change }) }
     ensures sound { IfOk result (λ staged. IsSoundTree staged.state.tree) }
-    ensures reports { IfOk result (λ staged. (old : Register) → UsersMoved (state_from tree.now old) (state_from tree.now people) moved → Reports (state_from tree.now old) staged) }
+    ensures reports { IfOk result (λ staged. (old : Register) → UsersMoved (state_from tree.now old) (state_from tree.now people) user_change → Reports (state_from tree.now old) staged) }
 {
     tree.is_sound();
     Ok(Staged::of(
@@ -30,18 +30,18 @@ pub(crate) fn stage_people(
         people,
         Vec::new(alloc),
         Vec::new(alloc),
-        moved,
+        user_change,
     ))
 }
 
 /// How the users move where one joined or left these groups.
-fn move_of(user: usize, groups: Vec<Id>) -> UsersMove
+fn move_of(user: usize, groups: Vec<Id>) -> UserChange
     ensures { result ≡ move_of user groups.items }
 {
     if groups.is_empty() {
-        UsersMove::Same
+        UserChange::Unchanged
     } else {
-        UsersMove::Moved {
+        UserChange::Memberships {
             user,
             groups: GroupIds::new(groups),
         }
@@ -50,7 +50,7 @@ fn move_of(user: usize, groups: Vec<Id>) -> UsersMove
 
 /// The same files with people of whom one may have other groups.
 pub(crate) fn stage_user_change(
-    tree: &Tree,
+    tree: &Files,
     alloc: Global,
     people: &People,
     next: People,
@@ -60,7 +60,7 @@ pub(crate) fn stage_user_change(
     ensures state { IfOk result (λ staged. staged.state ≡ state_from tree.now next) }
     ensures sound { IfOk result (λ staged. IsSoundTree staged.state.tree) }
     ensures reports { IfOk result (λ staged. Reports (state_from tree.now people.now) staged) }
-    ensures moved { IfOk result (λ staged. staged.moved ≡ move_of user (moved_groups people.now next user)) }
+    ensures moved { IfOk result (λ staged. staged.user_change ≡ move_of user (moved_groups people.now next user)) }
 {
     let groups = people.moved_groups(alloc, &next, user)?;
     let staged = stage_people(tree, alloc, next, move_of(user, groups))?;

@@ -1,22 +1,24 @@
 //! A prepared command: the state after it, before it is put in place.
 
-ghost use Rattle.std.specs.Prelude.{◌≡◌, map};
+ghost use Rattle.std.specs.Prelude.{◌≡◌, length, map, option_map};
 ghost use Rattle.acl_files.specs.Sound.{IsSoundTree};
+ghost use Rattle.acl_tree.specs.Reports.{memberships_moved, place_joined, place_left};
 
-use crate::moved::UsersMove;
-use acl_files::{Record, Tree};
+use crate::tree::Tree;
+use crate::user_change::UserChange;
+use acl_files::{Files, Id, Record};
 use acl_people::People;
 use std::marker::Model;
 use std::rc::Rc;
 
-/// The whole state after a command, and what it changes. It is put in place by [`crate::State::commit`], or discarded:
+/// The whole state after a command, and what it changes. It is put in place by [`Tree::commit`], or discarded:
 /// one of these has to be done with it.
 pub struct Staged {
     tree: Tree,
     people: People,
     changed: Vec<Rc<Record>>,
     gone: Vec<Rc<Record>>,
-    moved: UsersMove,
+    user_change: UserChange,
 }
 
 impl Model for Staged {
@@ -27,27 +29,27 @@ impl Model for Staged {
 
     ghost coded = { coded_staged };
 
-    ghost view = { λ s. record { state = record { tree = s.tree; people = s.people }; changed = map (λ r. r.value) s.changed.items; gone = map (λ r. r.value) s.gone.items; moved = s.moved } };
+    ghost view = { λ s. record { state = record { tree = s.tree; people = s.people }; changed = map (λ r. r.value) s.changed.items; gone = map (λ r. r.value) s.gone.items; user_change = s.user_change } };
 }
 
 impl Staged {
     pub(crate) fn of(
-        tree: Tree,
+        files: Files,
         people: People,
         changed: Vec<Rc<Record>>,
         gone: Vec<Rc<Record>>,
-        moved: UsersMove,
+        user_change: UserChange,
     ) -> Staged
-        ensures all { result ≡ record { state = record { tree = tree; people = people }; changed = map (λ r. r.value) changed.items; gone = map (λ r. r.value) gone.items; moved = moved } }
-        ensures sound { IsSoundTree tree }
+        ensures all { result ≡ record { state = record { tree = files; people = people }; changed = map (λ r. r.value) changed.items; gone = map (λ r. r.value) gone.items; user_change = user_change } }
+        ensures sound { IsSoundTree files }
     {
-        tree.is_sound();
+        files.is_sound();
         Staged {
-            tree,
+            tree: Tree::of(files),
             people,
             changed,
             gone,
-            moved,
+            user_change,
         }
     }
 
@@ -80,11 +82,46 @@ impl Staged {
         &self.gone
     }
 
-    /// How the users moved. It allocates nothing.
-    pub fn moved(&self) -> &UsersMove
-        ensures { result.now ≡ self.now.moved }
+    /// The user who joined or left groups, and the ids of these groups, rising; `None` where nobody did. It allocates
+    /// nothing.
+    pub fn moved(&self) -> Option<(usize, &[Id])>
+        ensures { option_map (λ moved. (moved.0, moved.1.now)) result ≡ memberships_moved self.now.user_change }
     {
-        &self.moved
+        match &self.user_change {
+            UserChange::Memberships { user, groups } => Some((*user, groups.as_slice())),
+            _ => None,
+        }
+    }
+
+    /// The place of the user who was added, among the users after the command; `None` where nobody was. It allocates
+    /// nothing.
+    pub fn joined(&self) -> Option<usize>
+        ensures { result ≡ place_joined self.now.user_change (length self.now.state.people.users) }
+    {
+        let users = self.people.users();
+        match self.user_change {
+            UserChange::Added if users > 0 => Some(users - 1),
+            _ => None,
+        }
+    }
+
+    /// The place of the user who was removed, among the users before the command; `None` where nobody was. It
+    /// allocates nothing.
+    pub fn left(&self) -> Option<usize>
+        ensures { result ≡ place_left self.now.user_change }
+    {
+        match self.user_change {
+            UserChange::Removed { user } => Some(user),
+            _ => None,
+        }
+    }
+
+    /// What changed of the users: the same as [`Staged::moved`], [`Staged::joined`] and [`Staged::left`] as one value,
+    /// and whether users were loaded. It allocates nothing.
+    pub fn user_change(&self) -> &UserChange
+        ensures { result.now ≡ self.now.user_change }
+    {
+        &self.user_change
     }
 
     /// Discards the prepared state, and leaves the present one as it is. It allocates nothing.
@@ -94,24 +131,22 @@ impl Staged {
             people: _people,
             changed: _changed,
             gone: _gone,
-            moved: _moved,
+            user_change: _user_change,
         } = self;
     }
-}
 
-/// Puts the state after a command in place of a tree and its people: [`crate::State::commit`] for those who hold the two
-/// apart. It allocates nothing and succeeds.
-pub fn commit(tree: &mut Tree, people: &mut People, staged: Staged)
-    ensures tree { tree.new ≡ staged.state.tree }
-    ensures people { people.new ≡ staged.state.people }
-{
-    let Staged {
-        tree: next_tree,
-        people: next_people,
-        changed: _changed,
-        gone: _gone,
-        moved: _moved,
-    } = staged;
-    *tree = next_tree;
-    *people = next_people;
+    /// The tree and the people after the command.
+    pub(crate) fn into_parts(self) -> (Tree, People)
+        ensures tree { result.0 ≡ self.state.tree }
+        ensures people { result.1 ≡ self.state.people }
+    {
+        let Staged {
+            tree,
+            people,
+            changed: _changed,
+            gone: _gone,
+            user_change: _user_change,
+        } = self;
+        (tree, people)
+    }
 }

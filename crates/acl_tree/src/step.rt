@@ -18,13 +18,13 @@ use crate::staged::Staged;
 use crate::useradd::prepare_useradd;
 use crate::userdel::prepare_userdel;
 use crate::usermod::prepare_usermod;
-use acl_files::{Tree, TreeFault};
+use acl_files::{Files, TreeFault};
 use acl_people::People;
 use std::alloc::Global;
 
-/// The state after a command: [`crate::State::prepare`], with its errors, for those who hold a tree and its people apart.
-pub fn prepare(
-    tree: &Tree,
+/// The state after a command: [`crate::Tree::prepare`], by commands.
+pub(crate) fn prepare(
+    tree: &Files,
     alloc: Global,
     people: &People,
     command: &Command<'_>,
@@ -33,7 +33,7 @@ pub fn prepare(
     ensures loaded { loads_again (state_from tree.now people.now) command.now ≡ true → result ≡ Err AlreadyLoaded }
     ensures sound { IfOk result (λ staged. IsSoundTree staged.state.tree) }
     ensures reports { IfOk result (λ staged. Reports (state_from tree.now people.now) staged) }
-    ensures moved { IfOk result (λ staged. staged.moved ≡ users_move (state_from tree.now people.now) command.now) }
+    ensures moved { IfOk result (λ staged. staged.user_change ≡ users_move (state_from tree.now people.now) command.now) }
 {
     match command {
         Command::Load { which, bytes } => prepare_load(tree, alloc, people, *which, bytes),

@@ -7,14 +7,14 @@ ghost use Rattle.acl_tree.specs.Accounts.{useradd};
 ghost use Rattle.acl_tree.specs.Inner.{Prepares};
 ghost use Rattle.acl_tree.specs.Step.{with_change, state_from};
 ghost use Rattle.acl_files.specs.declared.fault.TreeFault.TheVariants.{NoMemory};
-ghost use Rattle.acl_tree.specs.declared.moved.UsersMove.TheVariants.{Joined};
+ghost use Rattle.acl_tree.specs.declared.user_change.UserChange.TheVariants.{Added};
 
 use crate::command::NewUser;
 use crate::find_people::find_group;
-use crate::moved::UsersMove;
 use crate::stage_people::stage_people;
 use crate::staged::Staged;
-use acl_files::{Tree, TreeFault};
+use crate::user_change::UserChange;
+use acl_files::{Files, TreeFault};
 use acl_people::People;
 use std::alloc::Global;
 
@@ -42,14 +42,14 @@ fn add_user(alloc: Global, people: &People, new: &NewUser) -> Result<People, Tre
 
 /// Adds a user.
 pub(crate) fn prepare_useradd(
-    tree: &Tree,
+    tree: &Files,
     alloc: Global,
     people: &People,
     new: &NewUser,
 ) -> Result<Staged, TreeFault>
-    ensures { Prepares (state_from tree.now people.now) (with_change (state_from tree.now people.now) (useradd new.now people.now)) Joined result }
+    ensures { Prepares (state_from tree.now people.now) (with_change (state_from tree.now people.now) (useradd new.now people.now)) Added result }
 {
     let next = add_user(alloc, people, new)?;
-    let staged = stage_people(tree, alloc, next, UsersMove::Joined)?;
+    let staged = stage_people(tree, alloc, next, UserChange::Added)?;
     Ok(staged)
 }

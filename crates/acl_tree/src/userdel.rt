@@ -6,16 +6,16 @@ ghost use Rattle.acl_tree.specs.Step.{with_change, state_from};
 ghost use Rattle.acl_tree.specs.Reports.{user_left};
 
 use crate::find_people::find_user;
-use crate::moved::UsersMove;
 use crate::stage_people::stage_people;
 use crate::staged::Staged;
-use acl_files::{Name, Tree, TreeFault};
+use crate::user_change::UserChange;
+use acl_files::{Files, Name, TreeFault};
 use acl_people::People;
 use std::alloc::Global;
 
 /// Removes a user.
 pub(crate) fn prepare_userdel(
-    tree: &Tree,
+    tree: &Files,
     alloc: Global,
     people: &People,
     user: &Name,
@@ -24,6 +24,6 @@ pub(crate) fn prepare_userdel(
 {
     let user = find_user(alloc, people, user)?;
     let next = people.without_user(alloc, user)?;
-    let staged = stage_people(tree, alloc, next, UsersMove::Left { user })?;
+    let staged = stage_people(tree, alloc, next, UserChange::Removed { user })?;
     Ok(staged)
 }

@@ -8,13 +8,13 @@ ghost use Rattle.acl_tree.specs.Reports.{change_moves};
 use crate::find_people::{find_group, find_user};
 use crate::stage_people::stage_user_change;
 use crate::staged::Staged;
-use acl_files::{Name, Tree, TreeFault};
+use acl_files::{Files, Name, TreeFault};
 use acl_people::People;
 use std::alloc::Global;
 
 /// Changes the primary group of a user.
 pub(crate) fn prepare_usermod(
-    tree: &Tree,
+    tree: &Files,
     alloc: Global,
     people: &People,
     user: &Name,

@@ -3,9 +3,8 @@
 //! A row is data. What comes of a command and what a file is are compared as texts, so a new test needs no code.
 use crate::shown::{expect_files, expect_text, listing, outcome};
 use acl_tree::{
-    Change, Command, DumpRecords, DumpUse, Edit, Id, Kind, Membership, Name, NewFile, NewUser,
-    Path, Paths, People, Sep, Specs, State, Table, UserName, Want, read_dump, read_entries,
-    read_path,
+    Command, DumpRecords, DumpUse, Edit, Id, Kind, Membership, Name, NewFile, NewUser, Path, Paths,
+    People, Sep, Specs, State, Table, UserName, Want, read_dump, read_entries, read_path,
 };
 use std::alloc::Global;
 use std::process::Abort;
@@ -58,7 +57,7 @@ fn entries(rt: &impl Abort, alloc: Global, text: &[u8], want: Want, people: &Peo
 }
 
 fn change(rt: &impl Abort, alloc: Global, people: &People, remove: &[u8], modify: &[u8]) -> Edit {
-    Edit::Change(Change {
+    Edit::Change {
         strip: false,
         drop_default: false,
         as_default: false,
@@ -67,7 +66,7 @@ fn change(rt: &impl Abort, alloc: Global, people: &People, remove: &[u8], modify
         remove: entries(rt, alloc, remove, Want::WithoutPerms, people),
         set: Specs::new(Vec::new(alloc)),
         modify: entries(rt, alloc, modify, Want::WithPerms, people),
-    })
+    }
 }
 
 fn records(rt: &impl Abort, alloc: Global, people: &People, text: &[u8]) -> DumpRecords {

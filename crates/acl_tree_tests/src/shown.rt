@@ -2,7 +2,7 @@
 use crate::rows::path;
 use acl_tree::{
     Acl, Command, Id, Kind, Label, Name, Names, Node, Path, People, Perm, Record, Requests, Staged,
-    State, Subject, Tree, TreeFault, UsersMove, append_id, append_path, append_short, granted,
+    State, Subject, Tree, TreeFault, UserChange, append_id, append_path, append_short, granted,
 };
 use std::alloc::Global;
 use std::process::Abort;
@@ -84,13 +84,13 @@ fn fault_text(rt: &impl Abort, alloc: Global, fault: &TreeFault) -> Vec<u8> {
     text
 }
 
-fn moved(rt: &impl Abort, alloc: Global, users: &UsersMove) -> String {
+fn moved(rt: &impl Abort, alloc: Global, users: &UserChange) -> String {
     let text = match users {
-        UsersMove::Same => format!(in alloc; ""),
-        UsersMove::Loaded => format!(in alloc; ", users loaded"),
-        UsersMove::Moved { user, .. } => format!(in alloc; ", user {user} moved:"),
-        UsersMove::Joined => format!(in alloc; ", a user joined"),
-        UsersMove::Left { user } => format!(in alloc; ", user {user} left"),
+        UserChange::Unchanged => format!(in alloc; ""),
+        UserChange::Loaded => format!(in alloc; ", users loaded"),
+        UserChange::Memberships { user, .. } => format!(in alloc; ", user {user} moved:"),
+        UserChange::Added => format!(in alloc; ", a user joined"),
+        UserChange::Removed { user } => format!(in alloc; ", user {user} left"),
     };
     text.expect(rt, "memory")
 }
@@ -102,8 +102,8 @@ fn push_ids(rt: &impl Abort, text: &mut Vec<u8>, ids: &[Id]) {
     }
 }
 
-fn push_moved(rt: &impl Abort, text: &mut Vec<u8>, users: &UsersMove) {
-    if let UsersMove::Moved { groups, .. } = users {
+fn push_moved(rt: &impl Abort, text: &mut Vec<u8>, users: &UserChange) {
+    if let UserChange::Memberships { groups, .. } = users {
         push_ids(rt, text, groups.as_slice());
     }
 }
@@ -112,11 +112,11 @@ fn push_moved(rt: &impl Abort, text: &mut Vec<u8>, users: &UsersMove) {
 fn staged_text(rt: &impl Abort, alloc: Global, staged: &Staged) -> Vec<u8> {
     let changed = staged.changed().len();
     let gone = staged.gone().len();
-    let users = moved(rt, alloc, staged.moved());
+    let users = moved(rt, alloc, staged.user_change());
     let mut text = format!(in alloc; "done: {changed} changed, {gone} gone{users}")
         .expect(rt, "memory")
         .into_bytes();
-    push_moved(rt, &mut text, staged.moved());
+    push_moved(rt, &mut text, staged.user_change());
     text
 }
 
@@ -285,7 +285,7 @@ pub fn expect_granted(
     want: &str,
 ) {
     let at = state.people().find_user(user).expect(rt, "a user");
-    let user = state.people().subject(at).expect(rt, "a user");
+    let user = state.people().subject_at(at).expect(rt, "a user");
     let path = path(rt, alloc, file);
     let node = state.tree().get(&path).expect(rt, "a file");
     expect_text(rt, granted_text(rt, alloc, user, &node.label), want);

@@ -4,6 +4,7 @@ use Rattle.facl_tools.specs.facl_script.Play.{Answer, quiet}
 use Rattle.facl_tools.specs.facl_script.Units.{ScriptUnit, UnitText, none, whole, too_long, unended}
 use Rattle.facl_tools.specs.facl_script.Words.{has_no_words, line_words}
 use Rattle.facl_tools.specs.facl_script.declared.words.SplitFault.{SplitFault}
+use Rattle.facl_tools.specs.facl_words.Args.{files_for}
 use Rattle.facl_tools.specs.facl_words.Forms.{Text}
 use Rattle.facl_tools.specs.facl_words.Tools.{tool_named}
 use Rattle.facl_tools.specs.facl_words.Words.{words_for}
@@ -47,6 +48,10 @@ text_or_fault unended = Err UnendedText
 abbrev pub words_or_fault : Tool → List Text → Result Words LineFault
 words_or_fault tool words = or_fault Usage (words_for tool words)
 
+-- the FILEs of the program's words, or usage
+abbrev pub args_or_fault : List Text → Result (List (Option Text)) LineFault
+args_or_fault words = or_fault Usage (files_for words)
+
 -- ---- what is answered
 
 -- what a tool does at a state with the text and the words after its name
@@ -69,7 +74,7 @@ warning_if warns number = if warns then warning number else []
 
 -- an accepted line costs the verdicts that its change can have changed
 abbrev pub accepted : ℕ → State → Reply → Answer State
-accepted number s r = record { out = r.out; err = warning_if r.warns number; state = r.state; refused = false; cost = most_between s r.state r.moved }
+accepted number s r = record { out = r.out; err = warning_if r.warns number; state = r.state; refused = false; cost = most_between s r.state r.user_change }
 
 abbrev pub answer_of : ℕ → Text → State → Result Reply LineFault → Answer State
 answer_of number tool s (Ok r) = accepted number s r

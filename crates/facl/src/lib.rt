@@ -11,13 +11,15 @@ mod program;
 mod session;
 mod setup;
 mod status;
+mod words;
 mod world;
 
 pub use facl_tools::{
     Feed, Flags, Judge, Key, Label, LineFault, Operands, Perm, Posix, Requests, RunFault,
-    ScriptFault, Sink, Source, StdFeed, StdSink, Subject, Tool, Values, Word, Words, WordsFault,
-    append_message, append_run_fault, places, read_args, read_words, write_whole,
+    ScriptFault, Sink, Source, StdFeed, StdSink, Subject, Tool, Values, Word, Words,
+    append_message, append_run_fault, places, write_whole,
 };
 pub use program::{run, run_judged};
 pub use setup::Setup;
 pub use status::Status;
+pub use words::{read_args, read_words};

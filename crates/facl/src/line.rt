@@ -6,13 +6,11 @@ ghost use Rattle.facl_tools.specs.facl_script.ReadText.{IsTextFound};
 ghost use Rattle.facl_tools.specs.facl_script.ReadUnit.{IsLineFound};
 ghost use Rattle.facl_tools.specs.acl_rights.Tables.{IsWhole};
 ghost use Rattle.facl_tools.specs.Replies.{Gives, IsPrepared, Replies};
-ghost use Rattle.facl.specs.Units.{is_silent, words_of_line, tool_or_fault, text_or_fault, words_or_fault, tool_reply, reply, tool_word};
+ghost use Rattle.facl.specs.Units.{is_silent, words_of_line, tool_or_fault, text_or_fault, tool_reply, reply, tool_word};
 
+use crate::words::read_words;
 use crate::world::World;
-use facl_tools::{
-    Effect, Judge, LineFault, TextFound, Tool, Words, has_no_words, read_words, split_words,
-    tool_line,
-};
+use facl_tools::{Effect, Judge, LineFault, TextFound, Tool, has_no_words, split_words, tool_line};
 use std::alloc::Global;
 
 /// Whether a line within the limit is blank or a comment.
@@ -69,13 +67,6 @@ pub(crate) fn tool_word(words: &[String]) -> &[u8]
     }
 }
 
-/// The meaning of a tool's words.
-fn words_meant(alloc: Global, tool: Tool, words: &[String]) -> Result<Words, LineFault>
-    ensures { Gives (λ w. w) result (words_or_fault tool (map string_bytes words.now)) }
-{
-    Ok(read_words(alloc, tool, words)?)
-}
-
 /// What a tool does at a state with the text of a line and the words after its name.
 fn tool_reply<J: Judge>(
     alloc: Global,
@@ -91,7 +82,7 @@ fn tool_reply<J: Judge>(
     ensures prepared { IfOk result (λ effect. IsPrepared world.now.state effect.staged) }
 {
     let text = text_of_unit(found, text)?;
-    let words = words_meant(alloc, tool, words)?;
+    let words = read_words(alloc, tool, words)?;
     tool_line(alloc, &world.state, &world.index, tool, &words, text)
 }
 

@@ -6,7 +6,7 @@ ghost use Rattle.facl_tools.specs.acl_files.declared.fault.TreeFault.TheVariants
 ghost use Rattle.facl_tools.specs.facl_messages.declared.fault.RunFault.TheVariants as runs;
 ghost use Rattle.facl.specs.Setups.{set_up, with_text, initial_state};
 
-use facl_tools::{Command, RunFault, State, Table, TreeFault};
+use facl_tools::{Command, RunFault, Staged, State, Table, TreeFault};
 use std::alloc::Global;
 
 /// The texts that are loaded before the first line of a script, each if it is there, in this order.
@@ -31,6 +31,19 @@ fn setup_fault(which: Table, fault: TreeFault) -> RunFault
     }
 }
 
+/// The state with a text loaded, prepared.
+fn prepared(alloc: Global, which: Table, text: &[u8], state: &State) -> Result<Staged, RunFault>
+    ensures { MatchResult result
+        (λ staged. set_up which (load state.now which text.now) ≡ Ok staged.state)
+        (λ fault. fault ≢ runs.NoMemory → set_up which (load state.now which text.now) ≡ Err fault) }
+{
+    let command = Command::Load { which, bytes: text };
+    match state.prepare(alloc, &command) {
+        Ok(staged) => Ok(staged),
+        Err(fault) => Err(setup_fault(which, fault)),
+    }
+}
+
 /// The state with a text loaded.
 fn with_loaded(
     alloc: Global,
@@ -42,14 +55,9 @@ fn with_loaded(
         (λ new. set_up which (load state which text.now) ≡ Ok new)
         (λ fault. fault ≢ runs.NoMemory → set_up which (load state which text.now) ≡ Err fault) }
 {
-    let command = Command::Load { which, bytes: text };
-    match state.prepare(alloc, &command) {
-        Ok(staged) => {
-            state.commit(staged);
-            Ok(state)
-        }
-        Err(fault) => Err(setup_fault(which, fault)),
-    }
+    let staged = prepared(alloc, which, text, &state)?;
+    state.commit(staged);
+    Ok(state)
 }
 
 /// The state with a text loaded, if there is one.

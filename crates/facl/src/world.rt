@@ -3,7 +3,7 @@
 ghost use Rattle.std.specs.Prelude.{◌≡◌, ◌+◌, ◌<◌, ◌≤◌, ◌^◌, IfOk, OnOk, OnErr};
 ghost use Rattle.std.specs.Option.{option_map_or};
 ghost use Rattle.facl_tools.specs.acl_tree.Reports.{Reports};
-ghost use Rattle.facl_tools.specs.acl_tree.declared.moved.UsersMove.TheVariants.{Same};
+ghost use Rattle.facl_tools.specs.acl_tree.declared.user_change.UserChange.TheVariants.{Unchanged};
 ghost use Rattle.facl_tools.specs.Replies.{IsPrepared};
 ghost use Rattle.facl_tools.specs.acl_rights.Tables.{IsWhole};
 ghost use Rattle.facl.specs.Costs.{all_pairs, most_pairs, most_between};
@@ -43,7 +43,7 @@ impl<J: Judge> World<J> {
         ensures state { OnOk result (self.new.state ≡ staged.state) }
         ensures unchanged { OnErr result (self.new ≡ self.old) }
         ensures whole { IsWhole J.verdict_of self.new.state self.new.index }
-        ensures asked { J.asked_of judge.new ≤ J.asked_of judge.old + most_between self.old.state staged.state staged.moved }
+        ensures asked { J.asked_of judge.new ≤ J.asked_of judge.old + most_between self.old.state staged.state staged.user_change }
         ensures few { J.asked_of judge.new ≤ J.asked_of judge.old + most_pairs }
     {
         staged.tree().is_sound();
@@ -74,7 +74,7 @@ impl<J: Judge> World<J> {
         ensures unchanged { OnErr result (self.new ≡ self.old) }
         ensures whole { IsWhole J.verdict_of self.new.state self.new.index }
         ensures asked { J.asked_of judge.new ≤ J.asked_of judge.old
-            + most_between self.old.state (option_map_or (λ s. s.state) staged self.old.state) (option_map_or (λ s. s.moved) staged Same) }
+            + most_between self.old.state (option_map_or (λ s. s.state) staged self.old.state) (option_map_or (λ s. s.user_change) staged Unchanged) }
         ensures few { J.asked_of judge.new ≤ J.asked_of judge.old + most_pairs }
     {
         match staged {

@@ -5,7 +5,8 @@ ghost use Rattle.std.specs.Io.KnownBytes.{Appends};
 ghost use Rattle.facl_cli.specs.declared.fault.ProgramFault.TheVariants as faults;
 ghost use Rattle.facl_cli.specs.Lines.{IsLineReported, fault_by_words, fault_line, unread_line};
 
-use facl::{RunFault, ScriptFault, Sink, WordsFault, append_run_fault, write_whole};
+use facl::{RunFault, ScriptFault, Sink, append_run_fault, write_whole};
+use facl_words::WordsFault;
 use std::alloc::{AllocError, Global};
 
 /// Why the program ends with 2.

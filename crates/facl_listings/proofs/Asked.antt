@@ -6,7 +6,7 @@ use Rattle.acl_rights.specs.acl_entry.Check.{has}
 use Rattle.acl_rights.specs.acl_entry.Perms.{Perms}
 use Rattle.acl_rights.specs.acl_entry.Person.{Person}
 use Rattle.acl_rights.specs.acl_names.Paths.{path_cmp}
-use Rattle.acl_rights.specs.acl_text.declared.rows.PasswdRow.{PasswdRow}
+use Rattle.acl_rights.specs.acl_syntax.declared.rows.PasswdRow.{PasswdRow}
 use Rattle.acl_rights.specs.acl_edit.declared.node.Node.{Node}
 use Rattle.acl_rights.specs.acl_people.Registers.{person, persons}
 use Rattle.acl_rights.specs.acl_tree.Files.{PathOf}

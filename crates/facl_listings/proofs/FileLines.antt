@@ -11,7 +11,7 @@ use Rattle.acl_rights.specs.acl_entry.Check.{has}
 use Rattle.acl_rights.specs.acl_entry.Perms.{Perms}
 use Rattle.acl_rights.specs.acl_names.Paths.{path_cmp}
 use Rattle.acl_rights.proofs.of_acl_names.PathOrder.{path_total}
-use Rattle.acl_rights.specs.acl_text.declared.rows.PasswdRow.{PasswdRow}
+use Rattle.acl_rights.specs.acl_syntax.declared.rows.PasswdRow.{PasswdRow}
 use Rattle.acl_rights.specs.acl_edit.declared.node.Node.{Node}
 use Rattle.acl_rights.proofs.of_path_map.Places.{less, above}
 use Rattle.acl_rights.specs.acl_tree.Files.{PathOf, Files, IsInOrder}

@@ -2,7 +2,7 @@
 use Rattle.std.specs.Prelude.{ℕ, List, [], ◌∷◌, ◌++◌, Option, Some, None, codes}
 use Rattle.std.specs.List.{flat_map}
 use Rattle.acl_rights.specs.acl_entry.Lists.{KeyMap, entries}
-use Rattle.acl_rights.specs.acl_text.Writing.{short}
+use Rattle.acl_rights.specs.acl_syntax.Writing.{short}
 use Rattle.acl_rights.specs.acl_tree.Found.{FoundFile}
 use Rattle.facl_listings.specs.Listings.{path_shown}
 

@@ -14,6 +14,6 @@ pub use Rattle.acl_rights.specs.acl_files
 pub use Rattle.acl_rights.specs.acl_names
 pub use Rattle.acl_rights.specs.acl_people
 pub use Rattle.acl_rights.specs as acl_rights
-pub use Rattle.acl_rights.specs.acl_text
+pub use Rattle.acl_rights.specs.acl_syntax
 pub use Rattle.acl_rights.specs.acl_tree
 pub use Rattle.acl_rights.specs.acl_verdicts

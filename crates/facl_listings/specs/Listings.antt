@@ -4,7 +4,7 @@ use Rattle.std.specs.List.{list_any, flat_map}
 use Rattle.acl_rights.specs.acl_entry.Lists.{is_minimal}
 use Rattle.acl_rights.specs.acl_edit.Nodes.{is_directory}
 use Rattle.acl_rights.specs.acl_edit.declared.node.Node.{Node}
-use Rattle.acl_rights.specs.acl_text.declared.fault.Which.TheVariants.{Access}
+use Rattle.acl_rights.specs.acl_syntax.declared.fault.Which.TheVariants.{Access}
 use Rattle.acl_rights.specs.acl_dump.declared.effective.Effective.TheVariants.{WhereMasked}
 use Rattle.acl_rights.specs.acl_names.Paths.{path_text}
 use Rattle.acl_rights.specs.acl_dump.Writing.{header_text, list_text, default_text, slash_text}

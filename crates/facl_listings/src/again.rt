@@ -3,7 +3,7 @@
 
 ghost use Rattle.std.specs.Prelude.{◌≡◌, length};
 ghost use Rattle.std.specs.List.{AllByRecursion};
-ghost use Rattle.acl_rights.specs.acl_text.Writing.{IsKeyNamed};
+ghost use Rattle.acl_rights.specs.acl_syntax.Writing.{IsKeyNamed};
 ghost use Rattle.acl_rights.specs.acl_dump.Again.{IsFound};
 ghost use Rattle.facl_listings.specs.Again.{user_id, group_id, user_name, group_name, IsListAgain, IsReadAgain};
 

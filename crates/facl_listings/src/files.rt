@@ -4,11 +4,11 @@ ghost use Rattle.std.specs.Prelude.{◌≡◌, IfOk};
 ghost use Rattle.acl_rights.specs.acl_tree.Found.{found_in};
 ghost use Rattle.acl_rights.specs.acl_files.Inner.{next_file_below};
 
-use acl_rights::{Files, Found, Path, Tree, is_below};
+use acl_rights::{FilesIter, Found, Path, Tree, is_below};
 use std::alloc::{AllocError, Global};
 
 /// Whether the next file is below a path.
-fn is_next_below(path: &Path, rest: &Files<'_>) -> bool
+fn is_next_below(path: &Path, rest: &FilesIter<'_>) -> bool
     ensures { result ≡ next_file_below path.now rest.now }
 {
     match rest.peek() {

@@ -18,9 +18,9 @@ mod who;
 
 pub use acl_attr::decode_attr;
 pub use acl_rights::{
-    Acl, Change, Command, Draft, DumpRecord, DumpRecords, DumpUse, Edit, Effective, Entry,
-    FaultKind, Found, Id, Index, Judge, Key, Kind, Label, Membership, Name, NewFile, NewUser, Path,
-    Paths, People, Perm, Posix, Record, Requests, Sep, Spec, Specs, Staged, State, Subject, Table,
+    Acl, Command, Draft, DumpRecord, DumpRecords, DumpUse, Edit, Effective, Entry, FaultKind,
+    Found, Id, Index, Judge, Key, Kind, Label, Membership, Name, NewFile, NewUser, Path, Paths,
+    People, Perm, Posix, Record, Requests, Sep, Spec, Specs, Staged, State, Subject, Table,
     TextFault, Tree, TreeFault, UserName, Want, Which, each_file_is_edited, read_dump,
     read_entries, read_id, read_name, read_path, read_perms, trim,
 };

@@ -7,13 +7,13 @@ use Rattle.acl_tree.specs.acl_edit.declared.edit.EditFault.{EditFault}
 use Rattle.acl_tree.specs.acl_edit.declared.edit.EditFault.TheVariants as edits
 use Rattle.acl_tree.specs.acl_names.Names.{escaped}
 use Rattle.acl_tree.specs.acl_names.Paths.{path_text}
-use Rattle.acl_tree.specs.acl_text.declared.form.Form.TheVariants.{Long}
-use Rattle.acl_tree.specs.acl_text.declared.fault.FaultKind.{FaultKind}
-use Rattle.acl_tree.specs.acl_text.declared.fault.FaultKind.TheVariants as kinds
-use Rattle.acl_tree.specs.acl_text.declared.fault.TextFault.{TextFault}
-use Rattle.acl_tree.specs.acl_text.declared.fault.Which.{Which}
-use Rattle.acl_tree.specs.acl_text.declared.fault.Which.TheVariants.{Access, Default}
-use Rattle.acl_tree.specs.acl_text.Writing.{tag_text}
+use Rattle.acl_tree.specs.acl_syntax.declared.form.Form.TheVariants.{Long}
+use Rattle.acl_tree.specs.acl_syntax.declared.fault.FaultKind.{FaultKind}
+use Rattle.acl_tree.specs.acl_syntax.declared.fault.FaultKind.TheVariants as kinds
+use Rattle.acl_tree.specs.acl_syntax.declared.fault.TextFault.{TextFault}
+use Rattle.acl_tree.specs.acl_syntax.declared.fault.Which.{Which}
+use Rattle.acl_tree.specs.acl_syntax.declared.fault.Which.TheVariants.{Access, Default}
+use Rattle.acl_tree.specs.acl_syntax.Writing.{tag_text}
 use Rattle.acl_tree.specs.acl_files.declared.fault.TreeFault.{TreeFault}
 use Rattle.acl_tree.specs.acl_files.declared.fault.TreeFault.TheVariants as trees
 use Rattle.facl_messages.specs.declared.fault.Source.{Source}

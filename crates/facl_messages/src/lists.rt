@@ -2,8 +2,8 @@
 
 ghost use Rattle.std.specs.Prelude.{◌≡◌, ◌++◌, OnOk, OnErr, codes, decimal};
 ghost use Rattle.std.specs.Io.{StartsWith};
-ghost use Rattle.acl_tree.specs.acl_text.declared.form.Form.TheVariants.{Long};
-ghost use Rattle.acl_tree.specs.acl_text.Writing.{tag_text};
+ghost use Rattle.acl_tree.specs.acl_syntax.declared.form.Form.TheVariants.{Long};
+ghost use Rattle.acl_tree.specs.acl_syntax.Writing.{tag_text};
 ghost use Rattle.facl_messages.specs.Texts.{list_text};
 
 use acl_tree::{Key, ListFault};

@@ -9,7 +9,7 @@ use Rattle.facl_listings.specs.acl_entry.Keys.{key_cmp, same_key}
 use Rattle.facl_listings.specs.acl_entry.Lists.{KeyMap}
 use Rattle.facl_listings.specs.acl_entry.Perms.{Perms, none}
 use Rattle.facl_listings.specs.acl_entry.declared.key.Key.{Key}
-use Rattle.facl_listings.specs.acl_text.declared.entries.Spec.{Spec}
+use Rattle.facl_listings.specs.acl_syntax.declared.entries.Spec.{Spec}
 use Rattle.facl_tools.specs.RemovedKeys.{keys_of, removes, with_key}
 use Rattle.facl_tools.specs.Setfacl.{is_same_entry}
 use Rattle.facl_tools.specs.declared.removed_keys.RemovedKeys.{RemovedKeys}

@@ -2,7 +2,7 @@
 use Rattle.std.specs.Prelude.{ℕ, if◌then◌else◌, codes, Option, Some, None, option_and_then, Result, Ok}
 use Rattle.facl_listings.specs.acl_names.Names.{decoded}
 use Rattle.facl_listings.specs.acl_people.UserNames.{is_user_name}
-use Rattle.facl_listings.specs.acl_text.Ids.{id_of}
+use Rattle.facl_listings.specs.acl_syntax.Ids.{id_of}
 use Rattle.facl_listings.specs.acl_tree.declared.command.Command.TheVariants as commands
 use Rattle.facl_listings.specs.acl_tree.declared.command.NewUser.{NewUser}
 use Rattle.facl_listings.specs.acl_tree.Step.{State}

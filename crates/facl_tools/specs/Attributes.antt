@@ -5,8 +5,8 @@ use Rattle.std.specs.Option.{option_or}
 use Rattle.hex.specs.Hex.{decode_of}
 use Rattle.hex.specs.declared.error.FromHexError.{FromHexError}
 use Rattle.facl_listings.specs.acl_entry.Lists.{KeyMap}
-use Rattle.facl_listings.specs.acl_text.declared.fault.Which.{Which}
-use Rattle.facl_listings.specs.acl_text.declared.fault.Which.TheVariants.{Access, Default}
+use Rattle.facl_listings.specs.acl_syntax.declared.fault.Which.{Which}
+use Rattle.facl_listings.specs.acl_syntax.declared.fault.Which.TheVariants.{Access, Default}
 use Rattle.facl_listings.specs.acl_attr.Attr.{attr_of, bad_attr}
 use Rattle.facl_listings.specs.acl_edit.declared.edit.Edit.{Edit}
 use Rattle.facl_listings.specs.acl_edit.declared.edit.Edit.TheVariants.{Put}

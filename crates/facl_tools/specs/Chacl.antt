@@ -1,7 +1,7 @@
 -- chacl(1).
 use Rattle.std.specs.Prelude.{ℕ, List, [], ◌∷◌, Bool, true, false, if◌then◌else◌, codes, Some, None, Result, Err}
 use Rattle.facl_listings.specs.acl_edit.declared.edit.Edit.TheVariants.{Put, Flatten}
-use Rattle.facl_listings.specs.acl_text.declared.fault.Which.TheVariants.{Access, Default}
+use Rattle.facl_listings.specs.acl_syntax.declared.fault.Which.TheVariants.{Access, Default}
 use Rattle.facl_listings.specs.acl_people.Registers.{Register, users_of, groups_of}
 use Rattle.facl_listings.specs.acl_people.Rolls.{name_shown}
 use Rattle.facl_listings.specs.acl_tree.Found.{FoundFile, files_found}

@@ -4,13 +4,13 @@ use Rattle.std.specs.Option.{option_map_or}
 use Rattle.facl_listings.specs.acl_entry.Lists.{KeyMap, fault, map_of}
 use Rattle.facl_listings.specs.acl_entry.Perms.{none}
 use Rattle.facl_listings.specs.acl_entry.declared.entry.Entry.{Entry}
-use Rattle.facl_listings.specs.acl_text.Entries.{entries_of}
-use Rattle.facl_listings.specs.acl_text.InTurn.{of_list}
-use Rattle.facl_listings.specs.acl_text.declared.entries.Sep.TheVariants.{Comma}
-use Rattle.facl_listings.specs.acl_text.declared.entries.Spec.{Spec}
-use Rattle.facl_listings.specs.acl_text.declared.entries.Want.TheVariants.{Plain}
-use Rattle.facl_listings.specs.acl_text.declared.fault.TextFault.{TextFault}
-use Rattle.facl_listings.specs.acl_text.declared.fault.Which.{Which}
+use Rattle.facl_listings.specs.acl_syntax.Entries.{entries_of}
+use Rattle.facl_listings.specs.acl_syntax.InTurn.{of_list}
+use Rattle.facl_listings.specs.acl_syntax.declared.entries.Sep.TheVariants.{Comma}
+use Rattle.facl_listings.specs.acl_syntax.declared.entries.Spec.{Spec}
+use Rattle.facl_listings.specs.acl_syntax.declared.entries.Want.TheVariants.{Plain}
+use Rattle.facl_listings.specs.acl_syntax.declared.fault.TextFault.{TextFault}
+use Rattle.facl_listings.specs.acl_syntax.declared.fault.Which.{Which}
 use Rattle.facl_listings.specs.acl_people.Registers.{Register, users_of, groups_of}
 use Rattle.facl_listings.specs.acl_people.Rolls.{id_named}
 use Rattle.facl_messages.specs.facl_words.Forms.{Text}

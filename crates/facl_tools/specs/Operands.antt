@@ -2,8 +2,8 @@
 use Rattle.std.specs.Prelude.{ℕ, ◌+◌, List, [], ◌∷◌, Option, Some, None, Result, Ok, Err}
 use Rattle.facl_listings.specs.acl_names.Names.{decoded}
 use Rattle.facl_listings.specs.acl_names.Paths.{path_of}
-use Rattle.facl_listings.specs.acl_text.Blanks.{trimmed}
-use Rattle.facl_listings.specs.acl_text.declared.fault.FaultKind.TheVariants.{BadPath}
+use Rattle.facl_listings.specs.acl_syntax.Blanks.{trimmed}
+use Rattle.facl_listings.specs.acl_syntax.declared.fault.FaultKind.TheVariants.{BadPath}
 use Rattle.facl_listings.specs.acl_people.Registers.{Register, users_of}
 use Rattle.facl_listings.specs.acl_people.Rolls.{place_of_word}
 use Rattle.facl_listings.specs.acl_files.declared.fault.TreeFault.TheVariants.{NoSuchFile, NoSuchUser}

@@ -1,7 +1,7 @@
 -- can, who, may and index: what is asked of all users and all files. The state stays as it is.
 use Rattle.std.specs.Prelude.{ℕ, Bool, false, codes, Option, option_map, option_and_then, Result, Ok}
 use Rattle.facl_listings.specs.acl_entry.Perms.{Perms}
-use Rattle.facl_listings.specs.acl_text.Letters.{perms_of}
+use Rattle.facl_listings.specs.acl_syntax.Letters.{perms_of}
 use Rattle.facl_listings.specs.acl_people.Registers.{users_of}
 use Rattle.facl_listings.specs.acl_people.Rolls.{place_of_word}
 use Rattle.facl_listings.specs.acl_files.declared.fault.TreeFault.TheVariants.{NoSuchFile, NoSuchUser}

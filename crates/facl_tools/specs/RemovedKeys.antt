@@ -4,7 +4,7 @@ use Rattle.std.specs.Bool.{beq}
 use Rattle.std.specs.FinMap as maps
 use Rattle.facl_listings.specs.acl_entry.Lists.{KeyMap}
 use Rattle.facl_listings.specs.acl_entry.Perms.{none}
-use Rattle.facl_listings.specs.acl_text.declared.entries.Spec.{Spec}
+use Rattle.facl_listings.specs.acl_syntax.declared.entries.Spec.{Spec}
 use Rattle.facl_tools.specs.declared.removed_keys.RemovedKeys.{RemovedKeys}
 
 -- the keys of one list, once an entry is added

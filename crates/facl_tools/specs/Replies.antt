@@ -6,8 +6,8 @@ use Rattle.facl_listings.specs.acl_tree.Step.{State, step}
 use Rattle.facl_listings.specs.acl_tree.Reports.{StagedState, Reports, users_move}
 use Rattle.facl_listings.specs.acl_tree.declared.command.Command.{Command}
 use Rattle.facl_listings.specs.acl_files.declared.fault.TreeFault.{TreeFault}
-use Rattle.facl_listings.specs.acl_tree.declared.moved.UsersMove.{UsersMove}
-use Rattle.facl_listings.specs.acl_tree.declared.moved.UsersMove.TheVariants.{Same}
+use Rattle.facl_listings.specs.acl_tree.declared.user_change.UserChange.{UserChange}
+use Rattle.facl_listings.specs.acl_tree.declared.user_change.UserChange.TheVariants.{Unchanged}
 use Rattle.facl_messages.specs.declared.fault.LineFault.{LineFault}
 use Rattle.facl_messages.specs.declared.fault.LineFault.TheVariants.{NoMemory}
 use Rattle.facl_messages.specs.Faults.{line_fault_of_tree}
@@ -17,7 +17,7 @@ use Rattle.facl_tools.specs.declared.effect.Effect.{Effect}
 -- entries that were dropped
 pub record Reply : Type 0 where
   pub state : State
-  pub moved : UsersMove
+  pub user_change : UserChange
   pub out : List ℕ
   pub warns : Bool
 
@@ -32,8 +32,8 @@ or_fault fault None = Err fault
 or_fault fault (Some a) = Ok a
 
 -- the reply to a line that makes this of the state, and moves the users so; it prints nothing
-abbrev pub replied : UsersMove → Result State TreeFault → Result Reply LineFault
-replied moved (Ok s) = Ok (record { state = s; moved = moved; out = []; warns = false })
+abbrev pub replied : UserChange → Result State TreeFault → Result Reply LineFault
+replied moved (Ok s) = Ok (record { state = s; user_change = moved; out = []; warns = false })
 replied moved (Err fault) = Err (line_fault_of_tree fault)
 
 -- a command is done
@@ -42,7 +42,7 @@ done s command = replied (users_move s command) (step s command)
 
 -- the state stays, and this is printed
 abbrev pub printed : State → List ℕ → Reply
-printed s out = record { state = s; moved = Same; out = out; warns = false }
+printed s out = record { state = s; user_change = Unchanged; out = out; warns = false }
 
 -- ---- what is done to answer a line
 
@@ -50,7 +50,7 @@ printed s out = record { state = s; moved = Same; out = out; warns = false }
 abbrev pub reply_of : State → Effect → Reply
 reply_of s effect = record {
   state = option_map_or (λ staged. staged.state) effect.staged s;
-  moved = option_map_or (λ staged. staged.moved) effect.staged Same;
+  user_change = option_map_or (λ staged. staged.user_change) effect.staged Unchanged;
   out = effect.out.items;
   warns = effect.warns;
 }

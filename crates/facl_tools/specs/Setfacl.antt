@@ -3,15 +3,15 @@ use Rattle.std.specs.Prelude.{ℕ, List, Bool, false, not, ◌&&◌, ◌||◌, [
 use Rattle.std.specs.Bool.{beq}
 use Rattle.std.specs.List.{find, list_any}
 use Rattle.facl_listings.specs.acl_entry.Keys.{same_key}
-use Rattle.facl_listings.specs.acl_text.Entries.{entries_of}
-use Rattle.facl_listings.specs.acl_text.declared.entries.Spec.{Spec}
-use Rattle.facl_listings.specs.acl_text.declared.entries.Want.{Want}
-use Rattle.facl_listings.specs.acl_text.declared.entries.Want.TheVariants.{WithPerms, WithoutPerms}
-use Rattle.facl_listings.specs.acl_text.declared.fault.TextFault.{TextFault}
+use Rattle.facl_listings.specs.acl_syntax.Entries.{entries_of}
+use Rattle.facl_listings.specs.acl_syntax.declared.entries.Spec.{Spec}
+use Rattle.facl_listings.specs.acl_syntax.declared.entries.Want.{Want}
+use Rattle.facl_listings.specs.acl_syntax.declared.entries.Want.TheVariants.{WithPerms, WithoutPerms}
+use Rattle.facl_listings.specs.acl_syntax.declared.fault.TextFault.{TextFault}
 use Rattle.facl_listings.specs.acl_dump.Records.{dump_of}
 use Rattle.facl_listings.specs.acl_dump.declared.record.DumpRecord.{DumpRecord}
 use Rattle.facl_listings.specs.acl_dump.declared.record.DumpUse.TheVariants as uses
-use Rattle.facl_listings.specs.acl_edit.declared.edit.Change.{Change}
+use Rattle.facl_listings.specs.acl_edit.declared.edit.Edit.{Edit as FileEdit}
 use Rattle.facl_listings.specs.acl_edit.declared.edit.Edit.TheVariants as edits
 use Rattle.facl_listings.specs.acl_people.Registers.{Register, users_of, groups_of}
 use Rattle.facl_listings.specs.acl_people.Rolls.{id_named, name_shown}
@@ -106,23 +106,16 @@ warning_if warns r = after r (λ reply. Ok (record reply { warns = warns }))
 
 -- ---- lists are changed
 
-abbrev pub change_of : Asked → Given → Change
-change_of line entries = record {
-  strip = line.strip;
-  drop_default = line.drop_default;
-  as_default = line.as_default;
-  no_mask = line.no_mask;
-  remask = line.remask;
-  remove = entries.removed;
-  set = entries.set;
-  modify = entries.modified;
-}
+-- what a line does with the lists of a file: its options, and its entries
+abbrev pub edit_of : Asked → Given → FileEdit
+edit_of line entries =
+    edits.Change line.strip line.drop_default line.as_default line.no_mask line.remask entries.removed entries.set entries.modified
 
 -- these entries are put into the files
 abbrev pub change_files : State → Asked → Given → Result Reply LineFault
 change_files s line entries =
     after (paths_from 1 line.files)
-    (λ paths. warning_if (drops line.as_default entries) (done_or_tested line.test s (Edit paths (edits.Change (change_of line entries)) line.recursive)))
+    (λ paths. warning_if (drops line.as_default entries) (done_or_tested line.test s (Edit paths (edit_of line entries) line.recursive)))
 
 abbrev pub change_line : State → Asked → Result Reply LineFault
 change_line s line =

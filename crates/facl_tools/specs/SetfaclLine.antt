@@ -1,7 +1,7 @@
 -- What the words of a setfacl(1) line ask for.
 use Rattle.std.specs.Prelude.{ℕ, List, Bool, Option, Some, None, codes, if◌then◌else◌}
-use Rattle.facl_listings.specs.acl_text.declared.entries.Sep.{Sep}
-use Rattle.facl_listings.specs.acl_text.declared.entries.Sep.TheVariants.{Comma, Line}
+use Rattle.facl_listings.specs.acl_syntax.declared.entries.Sep.{Sep}
+use Rattle.facl_listings.specs.acl_syntax.declared.entries.Sep.TheVariants.{Comma, Line}
 use Rattle.facl_messages.specs.facl_words.Forms.{Text}
 use Rattle.facl_messages.specs.facl_words.Places.{gives, has, value, operands_from}
 use Rattle.facl_messages.specs.facl_words.declared.tool.Tool.TheVariants.{Setfacl}

@@ -32,7 +32,7 @@ impl Effect {
 
     /// The state becomes this one, and nothing is printed.
     pub fn changes(alloc: Global, staged: Staged) -> Effect
-        ensures reply_of { (s : State) → reply_of s result ≡ record { state = staged.state; moved = staged.moved; out = []; warns = false } }
+        ensures reply_of { (s : State) → reply_of s result ≡ record { state = staged.state; user_change = staged.user_change; out = []; warns = false } }
         ensures staged { result.staged ≡ Some staged }
     {
         Effect {

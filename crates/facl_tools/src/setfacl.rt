@@ -10,7 +10,7 @@ use crate::operands::paths_of;
 use crate::setfacl_entries::Given;
 use crate::setfacl_line::SetfaclLine;
 use crate::tested::do_or_test;
-use facl_listings::{Command, DumpRecords, DumpUse, Edit, People, State, read_dump};
+use facl_listings::{Command, DumpRecords, DumpUse, People, State, read_dump};
 use facl_messages::{LineFault, Source, Words};
 use std::alloc::Global;
 
@@ -27,7 +27,7 @@ fn change_files(
     let warns = entries.drops(line.as_default);
     let command = Command::Edit {
         paths,
-        edit: Edit::Change(entries.change(line)),
+        edit: entries.edit(line),
         recursive: line.recursive,
     };
     let effect = do_or_test(alloc, state, &command, line.test)?;

@@ -4,11 +4,11 @@ ghost use Rattle.std.specs.Prelude.{◌≡◌, option_map, IfOk};
 ghost use Rattle.std.specs.List.{find};
 ghost use Rattle.facl_tools.specs.RemovedKeys.{removes};
 ghost use Rattle.facl_tools.specs.Replies.{Gives};
-ghost use Rattle.facl_tools.specs.Setfacl.{both_at, change_of, drops, entries_given, given, has_default};
+ghost use Rattle.facl_tools.specs.Setfacl.{both_at, drops, edit_of, entries_given, given, has_default};
 
 use crate::removed_keys::RemovedKeys;
 use crate::setfacl_line::{EntryText, SetfaclLine};
-use facl_listings::{Change, People, Spec, Specs, Want, read_entries};
+use facl_listings::{Edit, People, Spec, Specs, Want, read_entries};
 use facl_messages::{LineFault, Source};
 use std::alloc::{AllocError, Global};
 
@@ -86,10 +86,10 @@ impl Given {
     }
 
     /// What the line does with the lists of a file.
-    pub fn change(self, line: &SetfaclLine<'_>) -> Change
-        ensures { result ≡ change_of line.now self }
+    pub fn edit(self, line: &SetfaclLine<'_>) -> Edit
+        ensures { result ≡ edit_of line.now self }
     {
-        Change {
+        Edit::Change {
             strip: line.strip,
             drop_default: line.drop_default,
             as_default: line.as_default,

@@ -3,8 +3,8 @@ use Rattle.std.specs.Prelude.{◌==◌, ◌&&◌, ◌||◌, ℕ, Bool, false, Li
 use Rattle.std.specs.Prelude.{codes, is_some, nat_eq}
 use Rattle.std.specs.List.{list_all, list_any, slice_index_or, starts_with}
 use Rattle.std.specs.Str.{bytes_eq}
-use Rattle.acl_text.specs.Ids.{id_of}
-use Rattle.acl_text.specs.Letters.{perms_of}
+use Rattle.acl_syntax.specs.Ids.{id_of}
+use Rattle.acl_syntax.specs.Letters.{perms_of}
 
 -- a word, as its bytes
 abbrev pub Text : Type 0

@@ -4,7 +4,7 @@ use Rattle.std.specs.Prelude.{codes, count_by, drop, if◌then◌else◌, nat_le
 use Rattle.std.specs.List.{list_any}
 use Rattle.std.specs.Option.{option_map_or}
 use Rattle.acl_names.specs.Names.{decoded}
-use Rattle.acl_text.specs.UserNames.{is_user_name}
+use Rattle.acl_syntax.specs.UserNames.{is_user_name}
 use Rattle.facl_words.specs.TextWords.{is_text_word}
 use Rattle.facl_words.specs.Forms.{Text, is_dash, is_id, is_mode, is_permission_mode, is_permissions}
 use Rattle.facl_words.specs.Forms.{is_table_name, names_attribute}

@@ -4,9 +4,9 @@ ghost use Rattle.std.specs.List.{list_all, starts_with};
 ghost use Rattle.facl_words.specs.Forms.{is_id, is_mode, is_octal_digit, is_permission_mode, is_permissions};
 ghost use Rattle.facl_words.specs.Forms.{is_table_name, names_attribute};
 
-use acl_text::{read_id, read_perms};
+use acl_syntax::{read_id, read_perms};
 
-/// Whether each byte is an octal digit. A mode has up to four of them; a permissions field, which `acl_text` reads, has
+/// Whether each byte is an octal digit. A mode has up to four of them; a permissions field, which `acl_syntax` reads, has
 /// one, or letters.
 fn are_octal_digits(bytes: &[u8]) -> bool
     ensures { result ≡ list_all is_octal_digit bytes.now }
@@ -28,7 +28,7 @@ pub fn is_permission_mode(text: &str) -> bool
     is_mode(text) && (text.len() < 4 || text.as_bytes()[0] == b'0')
 }
 
-/// Whether the text is permissions, as `acl_text` reads them: nothing, letters `rwx-`, or one octal digit.
+/// Whether the text is permissions, as `acl_syntax` reads them: nothing, letters `rwx-`, or one octal digit.
 pub(crate) fn is_permissions(text: &str) -> bool
     ensures { result ≡ is_permissions text.now }
 {
@@ -59,7 +59,7 @@ pub(crate) fn names_attribute(text: &str) -> bool
         || begins(text, "system.posix_acl_default=0X")
 }
 
-/// Whether the text is the id of a user, as `acl_text` reads it: digits alone, at most 4294967294.
+/// Whether the text is the id of a user, as `acl_syntax` reads it: digits alone, at most 4294967294.
 pub(crate) fn is_id(text: &str) -> bool
     ensures { result ≡ is_id text.now }
 {

@@ -19,7 +19,7 @@ use crate::text_words::is_text_word;
 use crate::tool::Tool;
 use crate::words::{Word, Words};
 use acl_names::read_name;
-use acl_text::is_user_name;
+use acl_syntax::is_user_name;
 use std::alloc::{AllocError, Global};
 
 fn texts_wanted(tool: Tool, words: &Words) -> usize

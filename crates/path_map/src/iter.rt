@@ -28,11 +28,17 @@ impl<'a, V> Model for Entries<'a, V> {
     ghost view = { λ f. map (λ r. r.value) f.entries.now ++ flat_map (λ c. c.value) f.chunks.now ++ flat_map (λ b. b.value) f.branches.now };
 }
 
-impl<'a, V> Entries<'a, V> {
+impl<'a, V> Iterator for Entries<'a, V> {
+    ghost use Rattle.std.specs.Iterator.{YieldsFirstBy, item_count};
+
+    type Item = &'a Rc<Entry<V>>;
+
+    ghost next_gives = { YieldsFirstBy (λ entry. entry.now.value) (λ entries. entries) };
+
+    ghost remaining = { item_count (λ entries. entries) };
+
     /// The next entry in path order. Allocates nothing.
-    pub fn next(&mut self) -> Option<&'a Rc<Entry<V>>>
-        ensures { MatchOption result ((self.old ≡ []) × (self.new ≡ [])) (λ entry. self.old ≡ entry.now.value ∷ self.new) }
-    {
+    fn next(&mut self) -> Option<&'a Rc<Entry<V>>> {
         if self.entries.is_empty() {
             if self.chunks.is_empty() {
                 let [branch, more @ ..] = self.branches else {
@@ -53,8 +59,10 @@ impl<'a, V> Entries<'a, V> {
         self.entries = rest;
         Some(first)
     }
+}
 
-    /// The entry that [`Entries::next`] would return. Allocates nothing.
+impl<'a, V> Entries<'a, V> {
+    /// The entry that `next` would return. Allocates nothing.
     pub fn peek(&self) -> Option<&'a Rc<Entry<V>>>
         ensures { option_map (λ entry. entry.now.value) result ≡ first self.now }
     {

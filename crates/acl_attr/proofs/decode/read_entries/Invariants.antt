@@ -1,5 +1,5 @@
 use Rattle.std.proofs.Common.{◌≡◌, ◌≤◌, ◌+◌, length}
-use Rattle.acl_text.specs.InTurn.{read_each_from, read_each}
+use Rattle.acl_syntax.specs.InTurn.{read_each_from, read_each}
 use Rattle.acl_attr.specs.Attr.{start, one_entry, entries_in}
 use Rattle.acl_attr.proofs.decode.read_entries.Given as goal
 

@@ -2,7 +2,7 @@ use Rattle.std.proofs.Common.{◌≡◌, [], None, true, sym, subst, ◌∙◌}
 use Rattle.std.specs.Prelude.{IfOk}
 use Rattle.acl_dump.specs.OwnPaths.{have_own_paths}
 use Rattle.std.specs.List.{IsDistinct}
-use Rattle.acl_text.specs.InTurn.{Gives}
+use Rattle.acl_syntax.specs.InTurn.{Gives}
 use Rattle.acl_dump.specs.Records.{lines_of, same_path}
 use Rattle.acl_dump.specs.Again.{paths}
 use Rattle.acl_dump.proofs.OwnPaths.{dump_apart, given_ok}

@@ -28,7 +28,7 @@ returns-then-not-means c =
     ap (λ q. means c.args.recursive p q) (sym (c.path.ensures ∙ ap (λ e. e.0) c.deref.ensures)) ∙ sym c.means.ensures ∙ c.if-not-means.true
     in
     sym (append-nil c.loop-file.files.items)
-    ∙ ap (λ es. c.loop-file.files.items ++ found_in t es) (sym (none_meant c.args.recursive p t c.loop-file.rest c.next.new.self e c.is_sound.ensures.order c.in-Some.ensures c.loop-file.invariant.at_end out))
+    ∙ ap (λ es. c.loop-file.files.items ++ found_in t es) (sym (none_meant c.args.recursive p t c.loop-file.rest c.next.new.self e c.is_sound.ensures.order c.in-Some.ensures.steps c.loop-file.invariant.at_end out))
     ∙ c.loop-file.invariant.all
 
 pub loop-file-preserved : goal.loop-file-preserved
@@ -43,18 +43,18 @@ loop-file-preserved c =
     let reported : c.is_next_below-has_below.result ≡ holds_below t e.0 =
     c.is_next_below-has_below.ensures
     ∙ ap (λ q. next_file_below q more) (c.path-in-Some.ensures ∙ ap (λ e. e.0) c.deref-in-Some.ensures)
-    ∙ next_at_end p t c.loop-file.rest more e c.is_sound.ensures.order c.in-Some.ensures c.loop-file.invariant.at_end
+    ∙ next_at_end p t c.loop-file.rest more e c.is_sound.ensures.order c.in-Some.ensures.steps c.loop-file.invariant.at_end
     in
     let pushed : c.new.result ≡ found_file (holds_below t e.0) e =
     c.new.ensures ∙ (λ i. found_file (reported i) (c.in_ok-clone.ensures.cases i))
     in
     let after : Files = filter (λ e. means c.args.recursive p e.0) more in
     record {
-      at_end = end_more p t c.loop-file.rest more e c.in-Some.ensures c.loop-file.invariant.at_end;
+      at_end = end_more p t c.loop-file.rest more e c.in-Some.ensures.steps c.loop-file.invariant.at_end;
       all =
           ap (λ l. l ++ found_in t after) (c.in_ok-push.ensures.items ∙ ap (λ f. c.loop-file.files.items ++ f ∷ []) pushed)
           ∙ append_assoc c.loop-file.files.items (found_file (holds_below t e.0) e ∷ []) (found_in t after)
           ∙ ap (λ es. c.loop-file.files.items ++ found_in t es)
-          (ap (λ b. cond b (e ∷ after) after) (sym in_it) ∙ ap (λ es. filter (λ e. means c.args.recursive p e.0) es) (sym c.in-Some.ensures))
+          (ap (λ b. cond b (e ∷ after) after) (sym in_it) ∙ ap (λ es. filter (λ e. means c.args.recursive p e.0) es) (sym c.in-Some.ensures.steps))
           ∙ c.loop-file.invariant.all;
     }

@@ -11,5 +11,5 @@ pub from_sorted-requires : goal.from_sorted-requires
 from_sorted-requires g c =
     subst (λ xs. IsInOrder (map (λ r. r.value) xs)) (sym c.deref-2.ensures.value)
     (same_order (map (λ r. r.value) c.loop-file.new.items) c.args.rows.now
-    (whole_at_end (λ (r : PathOf × List ℕ). r.0) (map (λ r. r.0) (map (λ r. r.value) c.loop-file.new.items)) (map (λ r. r.0) c.args.rows.now) c.loop-file.old (none_seen (λ (r : PathOf × List ℕ). r.0) (λ (e : PathOf × Node). e.0) c.loop-file.old c.loop-file.files c.loop-file.invariant.paths c.in_default.ensures.0) c.loop-file.invariant.order)
+    (whole_at_end (λ (r : PathOf × List ℕ). r.0) (map (λ r. r.0) (map (λ r. r.value) c.loop-file.new.items)) (map (λ r. r.0) c.args.rows.now) c.loop-file.old (none_seen (λ (r : PathOf × List ℕ). r.0) (λ (e : PathOf × Node). e.0) c.loop-file.old c.loop-file.files c.loop-file.invariant.paths c.in_default.ensures.steps.0) c.loop-file.invariant.order)
     c.is_in_order.ensures)

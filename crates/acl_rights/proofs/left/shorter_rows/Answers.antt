@@ -8,5 +8,5 @@ use Rattle.acl_rights.proofs.left.shorter_rows.Goals as goal
 pub from_sorted-requires : goal.from_sorted-requires
 from_sorted-requires c =
     subst (λ xs. IsInOrder (map (λ r. r.value) xs)) (sym c.deref-2.ensures.value)
-    (subst IsInOrder (sym (whole_at_end (λ (r : PathOf × List ℕ). (r.0, remove r.1 c.args.at)) (map (λ r. r.value) c.loop-row.new.items) (map (λ r. (r.0, remove r.1 c.args.at)) c.args.rows.now) c.loop-row.old c.in_default.ensures.0 c.loop-row.invariant.rows))
+    (subst IsInOrder (sym (whole_at_end (λ (r : PathOf × List ℕ). (r.0, remove r.1 c.args.at)) (map (λ r. r.value) c.loop-row.new.items) (map (λ r. (r.0, remove r.1 c.args.at)) c.args.rows.now) c.loop-row.old c.in_default.ensures.steps.0 c.loop-row.invariant.rows))
     (map_values (λ (r : PathOf × List ℕ). remove r.1 c.args.at) c.args.rows.now c.is_in_order.ensures))

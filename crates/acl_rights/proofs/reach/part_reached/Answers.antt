@@ -23,6 +23,6 @@ returns-clause-most g c =
 pub returns-clause-least : goal.returns-clause-least
 returns-clause-least g c =
     let t = c.args.staged.now in
-    let is : c.in_ok-new.new.refreshed ≡ unlike t.moved c.args.old.now c.args.rows.now =
+    let is : c.in_ok-new.new.refreshed ≡ unlike t.user_change c.args.old.now c.args.rows.now =
     c.in_ok-new.ensures.refreshed ∙ (λ i. differing (sym c.requires.stays i) (c.requires.reached i) (reached_rows c.args.rows.now)) in
     omega (arith, is)

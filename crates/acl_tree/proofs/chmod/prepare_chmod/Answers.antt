@@ -35,7 +35,7 @@ returns-in_ok-share-in-Ok c =
           (ap (λ s. s.changed) c.of.ensures.all ∙ c.in-Ok.ensures.reported ∙ ap (λ l. map (λ r. r.value) l ++ changed_between c.args.tree.now.files c.in-Ok.edited.files) c.new-changed.ensures.items)
           (ap (λ s. s.gone) c.of.ensures.all ∙ ap (λ l. map (λ r. r.value) l) c.new.ensures.items)
           c.in-Ok.ensures.gone
-          (ap (λ s. s.moved) c.of.ensures.all)
+          (ap (λ s. s.user_change) c.of.ensures.all)
           (ap (λ s. s.state.people) c.of.ensures.all ∙ c.in_ok-share-in-Ok.ensures);
-      moved = ap (λ s. s.moved) c.of.ensures.all;
+      moved = ap (λ s. s.user_change) c.of.ensures.all;
     }

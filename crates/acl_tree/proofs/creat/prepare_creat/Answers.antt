@@ -51,7 +51,7 @@ returns c =
           (ap (λ s. s.changed) c.of-2.ensures.all ∙ pushed ∙ sym (changed_with c.args.tree.now sound e c.in_ok-file.ensures.fits))
           (ap (λ s. s.gone) c.of-2.ensures.all ∙ ap (λ l. map (λ r. r.value) l) c.new.ensures.items)
           (gone_with c.args.tree.now sound e c.in_ok-file.ensures.fits)
-          (ap (λ s. s.moved) c.of-2.ensures.all)
+          (ap (λ s. s.user_change) c.of-2.ensures.all)
           (ap (λ s. s.people) is);
-      moved = ap (λ s. s.moved) c.of-2.ensures.all;
+      moved = ap (λ s. s.user_change) c.of-2.ensures.all;
     }

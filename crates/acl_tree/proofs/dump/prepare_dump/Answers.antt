@@ -17,5 +17,5 @@ returns-clause-reports c = λ none.
     reported_load old c.of.result none
     (ap (λ s. s.changed) c.of.ensures.all ∙ sym (ap (λ s. s.state.tree.files) c.of.ensures.all ∙ ap (λ t. t.files) c.in_ok-loaded.ensures ∙ ap (λ l. map (λ r. r.value) l) c.deref.ensures.value))
     (ap (λ s. s.gone) c.of.ensures.all ∙ ap (λ l. map (λ r. r.value) l) c.new.ensures.items)
-    (ap (λ s. s.moved) c.of.ensures.all)
+    (ap (λ s. s.user_change) c.of.ensures.all)
     (ap (λ s. s.state.people) c.of.ensures.all ∙ c.in_ok-share.ensures)

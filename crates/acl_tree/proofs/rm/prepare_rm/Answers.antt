@@ -77,7 +77,7 @@ returns c =
           (subst (λ (es : Files). AllByRecursion (λ e. holds_below es e.0 ≡ false) c.of-2.result.gone) (sym files)
           (subst (λ (es : Files). AllByRecursion (λ e. holds_below (without_files r paths t) e.0 ≡ false) es) (sym is_gone)
           (apart_all r paths t may order c.files_by_path.ensures.sound.placed)))
-          (ap (λ s. s.moved) c.of-2.ensures.all)
+          (ap (λ s. s.user_change) c.of-2.ensures.all)
           (ap (λ s. s.people) is);
-      moved = ap (λ s. s.moved) c.of-2.ensures.all;
+      moved = ap (λ s. s.user_change) c.of-2.ensures.all;
     }

@@ -17,7 +17,7 @@ returns-in-Gpasswd-clause-made c =
 pub returns-in-Gpasswd-clause-moved : goal.returns-in-Gpasswd-clause-moved
 returns-in-Gpasswd-clause-moved c =
     let old : State = record { tree = c.args.tree.now; people = c.args.people.now } in
-    subst (λ command. IfOk c.prepare_gpasswd.result (λ staged. staged.moved ≡ users_move old command)) (sym c.in-Gpasswd.is) c.prepare_gpasswd.ensures.moved
+    subst (λ command. IfOk c.prepare_gpasswd.result (λ staged. staged.user_change ≡ users_move old command)) (sym c.in-Gpasswd.is) c.prepare_gpasswd.ensures.moved
 
 pub returns-in-Usermod-clause-made : goal.returns-in-Usermod-clause-made
 returns-in-Usermod-clause-made c =
@@ -27,4 +27,4 @@ returns-in-Usermod-clause-made c =
 pub returns-in-Usermod-clause-moved : goal.returns-in-Usermod-clause-moved
 returns-in-Usermod-clause-moved c =
     let old : State = record { tree = c.args.tree.now; people = c.args.people.now } in
-    subst (λ command. IfOk c.prepare_usermod.result (λ staged. staged.moved ≡ users_move old command)) (sym c.in-Usermod.is) c.prepare_usermod.ensures.moved
+    subst (λ command. IfOk c.prepare_usermod.result (λ staged. staged.user_change ≡ users_move old command)) (sym c.in-Usermod.is) c.prepare_usermod.ensures.moved

@@ -1,5 +1,5 @@
 use Rattle.std.proofs.Common.{take}
-use Rattle.acl_rights.specs.acl_text.Writing.{AreNamed}
+use Rattle.acl_rights.specs.acl_syntax.Writing.{AreNamed}
 use Rattle.facl_listings.specs.Again.{user_id, group_id, user_name, group_name}
 use Rattle.facl_listings.proofs.again.list_is_read_again.Given as goal
 

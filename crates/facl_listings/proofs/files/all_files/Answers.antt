@@ -16,7 +16,7 @@ loop-file-preserved c =
     let more = c.next.new.self in
     let below : c.is_next_below-has_below.result ≡ next_file_below e.0 more = c.is_next_below-has_below.ensures ∙ ap (λ q. next_file_below q more) (c.path.ensures ∙ ap (λ e. e.0) c.deref.ensures) in
     let made : c.new.result ≡ found_file (next_file_below e.0 more) e = c.new.ensures ∙ (λ i. found_file (below i) (c.in_ok-clone.ensures.cases i)) in
-    walk_more t c.loop-file.rest more e c.loop-file.files.items c.push.new.self.items c.new.result c.is_sound.ensures.order c.in-Some.ensures made c.in_ok-push.ensures.items c.loop-file.invariant
+    walk_more t c.loop-file.rest more e c.loop-file.files.items c.push.new.self.items c.new.result c.is_sound.ensures.order c.in-Some.ensures.steps made c.in_ok-push.ensures.items c.loop-file.invariant
 
 pub returns : goal.returns
-returns c = walk_ends c.args.tree.now.files c.loop-file.rest c.loop-file.files.items c.in_default.ensures.0 c.loop-file.invariant
+returns c = walk_ends c.args.tree.now.files c.loop-file.rest c.loop-file.files.items c.in_default.ensures.steps.0 c.loop-file.invariant

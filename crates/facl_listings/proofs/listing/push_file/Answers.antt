@@ -1,7 +1,7 @@
 use Rattle.std.proofs.Common.{◌≡◌, ◌++◌, ℕ, List, ap, ◌∙◌, append_assoc, arith}
 use Rattle.std.proofs.lemmas.Grind.{common_steps}
 use Rattle.acl_rights.proofs.of_acl_names.Appended.{still_begins}
-use Rattle.acl_rights.specs.acl_text.declared.fault.Which.TheVariants.{Access}
+use Rattle.acl_rights.specs.acl_syntax.declared.fault.Which.TheVariants.{Access}
 use Rattle.acl_rights.specs.acl_dump.Writing.{list_text}
 use Rattle.facl_listings.specs.Listings.{headers}
 use Rattle.facl_listings.proofs.listing.push_file.Goals as goal

@@ -1,5 +1,5 @@
-use Rattle.std.proofs.Common.{slice_get, option_map, ap, ◌∙◌}
-use Rattle.acl_people.specs.Rolls.{Named, is_name}
+use Rattle.std.proofs.Common.{◌∙◌}
+use Rattle.acl_people.specs.Rolls.{is_name}
 use Rattle.acl_people.proofs.Rolled.{found_at, not_found}
 use Rattle.acl_people.proofs.roll.Roll.id_named.Goals as goal
 
@@ -7,6 +7,4 @@ pub returns-in_err-place : goal.returns-in_err-place
 returns-in_err-place c = c.from_residual.ensures ∙ not_found (is_name c.args.name.now) (λ e. e.1) c.args.self.now c.in_err-place.ensures
 
 pub returns : goal.returns
-returns c =
-    found_at (is_name c.args.name.now) (λ e. e.1) c.args.self.now c.in_ok-place.place _ c.in_ok-place.ensures
-    (c.id_at.ensures ∙ ap (λ es. option_map (λ (e : Named). e.1) (slice_get es c.in_ok-place.place)) c.self.view_is)
+returns c = found_at (is_name c.args.name.now) (λ e. e.1) c.args.self.now c.in_ok-place.place _ c.in_ok-place.ensures c.id_at.ensures

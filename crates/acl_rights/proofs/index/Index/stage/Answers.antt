@@ -1,4 +1,4 @@
-use Rattle.std.proofs.Common.{arith, ap, subst}
+use Rattle.std.proofs.Common.{arith, ap, subst, ◌∙◌}
 use Rattle.path_map.specs.Entries.{IsInOrder}
 use Rattle.acl_tree.specs.Files.{Recorded}
 use Rattle.acl_rights.specs.Tables.{Table}
@@ -37,5 +37,5 @@ returns-clause-bounded g c =
 
 pub returns-clause-refreshed_least : goal.returns-clause-refreshed_least
 returns-clause-refreshed_least g c =
-    let same = ap (λ (x : Table). unlike c.args.staged.now.moved x.rows c.in_ok-new.new.rows) c.self.view_is in
+    let same = ap (λ (x : Table). unlike c.args.staged.now.user_change x.rows c.in_ok-new.new.rows) (c.now.view_is ∙ c.self.view_is) in
     omega (arith, c.in_ok-along.ensures.least, same)

@@ -1,0 +1,36 @@
+-- What a line adds to the counted rows, and the names that were seen.
+use Rattle.std.proofs.Common.{◌≡◌, ℕ, ◌<◌, ◌≤◌, Bool, true, false, List, [], ◌∷◌, ◌++◌, length, Option, Some, Ok, Err, refl, sym, ◌∙◌, inl, inr, nat_cmp}
+use Rattle.std.specs.Prelude.{◌||◌}
+use Rattle.std.specs.List.{list_any}
+use Rattle.std.specs.Str.{bytes_eq}
+use Rattle.std.specs.Map.{update}
+use Rattle.std.specs.BTreeMap.{get_by}
+use Rattle.std.specs.Cmp.Lexicographic.{slice_cmp}
+use Rattle.std.proofs.lemmas.Bool.{cases_Bool, or_right, le-leb, lt-leb}
+use Rattle.std.proofs.lemmas.List.Folds.{list_any-append}
+use Rattle.acl_syntax.specs.declared.fault.FaultKind.TheVariants.{TooMany}
+use Rattle.acl_names.specs.Pieces.{pieces}
+use Rattle.acl_syntax.specs.Rows.{has_no_content, is_repeated, most_rows, one_line}
+use Rattle.acl_syntax.specs.Seen.{SeenNames, SeenAre}
+
+module _ {R : Type 0} (name_of : R → List ℕ) (row_of : List (List ℕ) → Option R) (rows : List R) (line : List ℕ) (row : R) (means : has_no_content line ≡ false) (fields : Some row ≡ row_of (pieces 58 line)) where
+  pub line_known : is_repeated name_of rows (name_of row) ≡ true → one_line name_of row_of rows line ≡ Ok rows
+  line_known known = rw (means, ← fields, known) refl
+
+  pub line_full : is_repeated name_of rows (name_of row) ≡ false → most_rows ≤ length rows → one_line name_of row_of rows line ≡ Err TooMany
+  line_full new full = let is = le-leb most_rows (length rows) full in rw (means, ← fields, new, is) refl
+
+  pub line_new : is_repeated name_of rows (name_of row) ≡ false → length rows < most_rows → one_line name_of row_of rows line ≡ Ok (rows ++ row ∷ [])
+  line_new new room = let is = lt-leb most_rows (length rows) room in rw (means, ← fields, new, is) refl
+
+pub or_no : (b : Bool) → b ≡ (b || false)
+or_no true = refl
+or_no false = refl
+
+pub seen_more : {R : Type 0} (name_of : R → List ℕ) (old new : SeenNames) (rows : List R) (row : R) → SeenAre name_of old rows
+    → ((name : List ℕ) → get_by (λ k. slice_cmp nat_cmp name k.now) new ≡ update bytes_eq (λ ds. get_by (λ k. slice_cmp nat_cmp ds k.now) old) (name_of row) (Some tt) name) → SeenAre name_of new (rows ++ row ∷ [])
+seen_more name_of old new rows row are updates name =
+    elim (cases_Bool (bytes_eq (name_of row) name)) [
+      | inl same ↦ rw (updates name, list_any-append, same) (sym (or_right (list_any (λ r. bytes_eq (name_of r) name) rows) true refl))
+      | inr other ↦ rw (updates name, list_any-append, other) (are name ∙ or_no (list_any (λ r. bytes_eq (name_of r) name) rows))
+    ]

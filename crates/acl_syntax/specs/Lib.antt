@@ -1,0 +1,14 @@
+pub mod InTurn
+pub mod Blanks
+pub mod Ids
+pub mod UserNames
+pub mod Rows
+pub mod Firsts
+pub mod Seen
+pub mod Words
+pub mod Fields
+pub mod Letters
+pub mod Entries
+pub mod Means
+pub mod Writing
+pub mod Lowest

@@ -1,0 +1,173 @@
+//! The recorded files, with the commands on them and on the users and groups: each is prepared whole, or refused.
+
+ghost use Rattle.std.specs.Prelude.{◌≡◌, ◌≢◌, true, None, IfOk, IfErr, OnOk, Err};
+ghost use Rattle.std.specs.FinMap.{find};
+ghost use Rattle.std.specs.Option.{option_copied};
+ghost use Rattle.acl_files.specs.acl_names.Paths.{path_cmp};
+ghost use Rattle.acl_files.specs.Files.{no_files};
+ghost use Rattle.acl_files.specs.Found.{files_found};
+ghost use Rattle.acl_files.specs.Operands.{first_missing, IsMissing};
+ghost use Rattle.acl_files.specs.Sound.{IsSoundTree};
+ghost use Rattle.acl_files.specs.Walks.{within, ancestors};
+ghost use Rattle.acl_files.specs.declared.fault.TreeFault.TheVariants.{AlreadyLoaded, NoMemory};
+ghost use Rattle.acl_tree.specs.Step.{loads_again, step, Stages, state_from};
+ghost use Rattle.acl_tree.specs.Reports.{users_move, Reports};
+
+use crate::command::Command;
+use crate::staged::Staged;
+use crate::step::prepare;
+use acl_files::{Files, FilesIter, Found, NoMemory, Node, Path, Paths, TreeFault};
+use acl_people::People;
+use std::alloc::Global;
+use std::marker::Model;
+
+/// The files that a dump recorded, in path order. A tree and the trees made from it share the files that are the same.
+/// What is true of every tree is the clause of [`Tree::is_sound`].
+#[derive(Drop)]
+pub struct Tree {
+    files: Files,
+}
+
+impl Model for Tree {
+    ghost use Rattle.acl_files.specs.Files.{Recorded, coded_recorded};
+
+    ghost Value = { Recorded };
+
+    ghost coded = { coded_recorded };
+
+    ghost view = { λ t. t.files };
+}
+
+impl Tree {
+    /// No files: no dump is loaded. Fails only if memory runs out.
+    pub fn new(alloc: Global) -> Result<Tree, NoMemory>
+        ensures { IfOk result (λ tree. tree ≡ no_files) }
+    {
+        Ok(Tree {
+            files: Files::new(alloc)?,
+        })
+    }
+
+    /// The tree of these files.
+    pub(crate) fn of(files: Files) -> Tree
+        ensures { result ≡ files }
+    {
+        Tree { files }
+    }
+
+    /// A copy of the tree that shares its files. Fails only if memory runs out.
+    pub fn share(&self) -> Result<Tree, NoMemory>
+        ensures { IfOk result (λ tree. tree ≡ self.now) }
+    {
+        Ok(Tree {
+            files: self.files.share()?,
+        })
+    }
+
+    /// Whether a dump was loaded.
+    pub fn is_loaded(&self) -> bool
+        ensures { result ≡ self.now.loaded }
+    {
+        self.files.is_loaded()
+    }
+
+    /// The node of a path, where it is recorded. Allocates nothing.
+    pub fn get(&self, path: &Path) -> Option<&Node>
+        ensures { option_copied result ≡ find path_cmp path.now self.now.files }
+    {
+        self.files.get(path)
+    }
+
+    /// The files in path order. Allocates nothing.
+    pub fn iter(&self) -> FilesIter<'_>
+        ensures { result ≡ self.now.files }
+    {
+        self.files.iter()
+    }
+
+    /// The paths of the recorded files at or below a path, in path order. Fails only if memory runs out.
+    pub fn within(&self, alloc: Global, path: &Path) -> Result<Vec<Path>, NoMemory>
+        ensures { IfOk result (λ paths. paths.items ≡ within path.now self.now.files) }
+    {
+        self.files.within(alloc, path)
+    }
+
+    /// The paths of the recorded files that a path is below, parents first: one look-up for each path above it.
+    /// Fails only if memory runs out.
+    pub fn ancestors(&self, alloc: Global, path: &Path) -> Result<Vec<Path>, NoMemory>
+        ensures { IfOk result (λ paths. paths.items ≡ ancestors path.now self.now.files) }
+    {
+        self.files.ancestors(alloc, path)
+    }
+
+    /// The files of a command: its operands, and with `recursive` all files below them, each once, in path
+    /// order, each with whether another recorded file is below it.
+    ///
+    /// # Errors
+    ///
+    /// `NoSuchFile` of the first operand that is not recorded, or `NoMemory`.
+    pub fn files(
+        &self,
+        alloc: Global,
+        paths: &Paths,
+        recursive: bool,
+    ) -> Result<Vec<Found>, TreeFault>
+        ensures all { IfOk result (λ files. files.items ≡ files_found recursive paths.now self.now.files) }
+        ensures there { OnOk result (first_missing paths.now self.now.files ≡ None) }
+        ensures reported { IfErr result (λ fault. fault ≢ NoMemory → IsMissing fault (first_missing paths.now self.now.files)) }
+    {
+        self.files.selected(alloc, paths, recursive)
+    }
+
+    /// Proof only: the files are in path order, each path once, and there are at most 1,048,576; there is none
+    /// before a dump is loaded; the root and what has a file below it are directories, and only directories
+    /// have default lists.
+    pub fn is_sound(&self)
+        ensures { IsSoundTree self.now }
+    {
+        self.files.is_sound();
+    }
+
+    /// The state after a command on these files and these people. Both stay as they are: a refused command changes
+    /// nothing.
+    ///
+    /// # Errors
+    ///
+    /// The command's first fault, in this order:
+    ///
+    /// - a load: `AlreadyLoaded`, before any look at the text and whatever memory there is; `Text` with the
+    ///   text's first fault; `TooMany`;
+    /// - a chmod, an edit, a restore: `NoSuchFile` of the first operand that is not recorded; an edit and a
+    ///   restore then `Edit` of the first file in path order whose edit is refused;
+    /// - a creat: `NoSuchUser`; `Exists`; `NoSuchFile` or `NotDirectory` of the parent; `TooMany`;
+    /// - an rm: `NoSuchFile` or `IsDirectory` of the first operand that has one of them;
+    /// - a gpasswd, a usermod: `NoSuchUser`; `NoSuchGroup`; `NotMember` where there is nothing to remove;
+    /// - a useradd: `UserExists`; `UidExists`; `NoSuchGroup`; `TooManyUsers`;
+    /// - a userdel: `NoSuchUser`.
+    ///
+    /// Or `NoMemory`.
+    pub fn prepare(
+        &self,
+        alloc: Global,
+        people: &People,
+        command: &Command<'_>,
+    ) -> Result<Staged, TreeFault>
+        ensures made { Stages (λ s. s.state) result (step (state_from self.now people.now) command.now) }
+        ensures loaded { loads_again (state_from self.now people.now) command.now ≡ true → result ≡ Err AlreadyLoaded }
+        ensures sound { IfOk result (λ staged. IsSoundTree staged.state.tree) }
+        ensures reports { IfOk result (λ staged. Reports (state_from self.now people.now) staged) }
+        ensures moved { IfOk result (λ staged. staged.user_change ≡ users_move (state_from self.now people.now) command.now) }
+    {
+        prepare(&self.files, alloc, people, command)
+    }
+
+    /// Puts a prepared state in place of this tree and of its people. Allocates nothing and succeeds.
+    pub fn commit(&mut self, people: &mut People, staged: Staged)
+        ensures tree { self.new ≡ staged.state.tree }
+        ensures people { people.new ≡ staged.state.people }
+    {
+        let (next_tree, next_people) = staged.into_parts();
+        *self = next_tree;
+        *people = next_people;
+    }
+}

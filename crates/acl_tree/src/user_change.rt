@@ -1,0 +1,51 @@
+//! What a command changes of the users.
+
+ghost use Rattle.std.specs.Prelude.{◌≡◌};
+
+use acl_files::Id;
+use std::marker::Model;
+
+/// What a command changes of the users, their ids and groups.
+#[derive(Debug, Drop)]
+pub enum UserChange {
+    /// Each user has the same id and the same groups as before.
+    Unchanged,
+    /// Users or groups were loaded. No file is recorded yet.
+    Loaded,
+    /// One user joined or left these groups, at least one. No file changed.
+    Memberships { user: usize, groups: GroupIds },
+    /// There is one user more, the last. No file changed.
+    Added,
+    /// There is one user fewer: the one who was at this place. No file changed.
+    Removed { user: usize },
+}
+
+/// Ids of groups, rising, each once.
+#[derive(Debug, Drop)]
+pub struct GroupIds {
+    ids: Vec<Id>,
+}
+
+impl Model for GroupIds {
+    ghost use Rattle.std.specs.Prelude.{ℕ, List};
+
+    ghost Value = { List ℕ };
+
+    ghost view = { λ g. g.ids.items };
+}
+
+impl GroupIds {
+    /// These ids.
+    pub(crate) fn new(ids: Vec<Id>) -> GroupIds
+        ensures { result ≡ ids.items }
+    {
+        GroupIds { ids }
+    }
+
+    /// The ids.
+    pub fn as_slice(&self) -> &[Id]
+        ensures { result.now ≡ self.now }
+    {
+        &self.ids
+    }
+}
