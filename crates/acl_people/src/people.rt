@@ -14,6 +14,7 @@ use crate::groups::Groups;
 use crate::subjects::{person_of, subjects_of};
 use crate::users::Users;
 use acl_entry::{Id, Subject};
+use acl_subjects::Subjects;
 use acl_syntax::{Names, PasswdRow};
 use std::alloc::{AllocError, Global};
 use std::marker::Model;
@@ -25,7 +26,7 @@ use std::rc::Rc;
 pub struct People {
     users: Rc<Users>,
     groups: Rc<Groups>,
-    subjects: Rc<Vec<Rc<Subject>>>,
+    subjects: Subjects,
     passwd_loaded: bool,
     group_loaded: bool,
 }
@@ -38,7 +39,7 @@ impl Model for People {
 
     ghost view = { λ p. record { users = p.users.value; groups = p.groups.value; passwd_loaded = p.passwd_loaded; group_loaded = p.group_loaded } };
 
-    ghost invariant = { λ p. map (λ s. s.value) p.subjects.value.items ≡ map (person p.groups.value) p.users.value };
+    ghost invariant = { λ p. p.subjects ≡ map (person p.groups.value) p.users.value };
 }
 
 impl People {
@@ -49,7 +50,7 @@ impl People {
         Ok(People {
             users: Rc::new(alloc, Users::new(alloc)?)?,
             groups: Rc::new(alloc, Groups::new(alloc)?)?,
-            subjects: Rc::new(alloc, Vec::new(alloc))?,
+            subjects: Subjects::of(alloc, Vec::new(alloc))?,
             passwd_loaded: false,
             group_loaded: false,
         })
@@ -62,7 +63,7 @@ impl People {
         Ok(People {
             users: self.users.clone()?,
             groups: self.groups.clone()?,
-            subjects: self.subjects.clone()?,
+            subjects: self.subjects.share()?,
             passwd_loaded: self.passwd_loaded(),
             group_loaded: self.group_loaded(),
         })
@@ -152,6 +153,13 @@ impl People {
     pub fn subjects(&self) -> &[Rc<Subject>]
         ensures { map (λ s. s.value) result.now ≡ persons self.now }
     {
+        self.subjects.as_slice()
+    }
+
+    /// Every user's id and groups, in the order of their rows, found by id and by group.
+    pub fn all_subjects(&self) -> &Subjects
+        ensures { result.now ≡ persons self.now }
+    {
         &self.subjects
     }
 
@@ -169,10 +177,11 @@ impl People {
             Err(fault) => return Err(text_fault(fault)),
         };
         let subjects = subjects_of(alloc, users.rows(), self.groups.rows())?;
+        let subjects = Subjects::of(alloc, subjects)?;
         Ok(People {
             users: Rc::new(alloc, users)?,
             groups: self.groups.clone()?,
-            subjects: Rc::new(alloc, subjects)?,
+            subjects,
             passwd_loaded: true,
             group_loaded: self.group_loaded,
         })
@@ -192,10 +201,11 @@ impl People {
             Err(fault) => return Err(text_fault(fault)),
         };
         let subjects = subjects_of(alloc, self.users.rows(), groups.rows())?;
+        let subjects = Subjects::of(alloc, subjects)?;
         Ok(People {
             users: self.users.clone()?,
             groups: Rc::new(alloc, groups)?,
-            subjects: Rc::new(alloc, subjects)?,
+            subjects,
             passwd_loaded: self.passwd_loaded,
             group_loaded: true,
         })
@@ -240,12 +250,12 @@ impl People {
         ensures { IfOk result (λ people. people ≡ record { users = users.value; groups = groups.value; passwd_loaded = self.now.passwd_loaded; group_loaded = self.now.group_loaded }) }
     {
         let subject = person_of(alloc, groups.rows(), &users.rows()[user])?;
-        let mut subjects = self.subjects().to_vec(alloc)?;
-        subjects[user] = Rc::new(alloc, subject)?;
+        let subject = Rc::new(alloc, subject)?;
+        let subjects = self.all_subjects().with(alloc, user, subject)?;
         Ok(People {
             users,
             groups,
-            subjects: Rc::new(alloc, subjects)?,
+            subjects,
             passwd_loaded: self.passwd_loaded,
             group_loaded: self.group_loaded,
         })
@@ -257,12 +267,12 @@ impl People {
         ensures { IfOk result (λ people. people ≡ record { users = self.now.users ++ row ∷ []; groups = self.now.groups; passwd_loaded = true; group_loaded = self.now.group_loaded }) }
     {
         let subject = person_of(alloc, self.groups.rows(), &row)?;
-        let mut subjects = self.subjects().to_vec(alloc)?;
-        subjects.push(Rc::new(alloc, subject)?)?;
+        let subject = Rc::new(alloc, subject)?;
+        let subjects = self.all_subjects().with_last(alloc, subject)?;
         Ok(People {
             users: Rc::new(alloc, self.users.with_row(alloc, row)?)?,
             groups: self.groups.clone()?,
-            subjects: Rc::new(alloc, subjects)?,
+            subjects,
             passwd_loaded: true,
             group_loaded: self.group_loaded,
         })
@@ -279,12 +289,11 @@ impl People {
         requires { LeavesUser (persons self.now) (map (person groups.value) users.value) user }
         ensures { IfOk result (λ people. people ≡ record { users = users.value; groups = groups.value; passwd_loaded = self.now.passwd_loaded; group_loaded = self.now.group_loaded }) }
     {
-        let mut subjects = self.subjects().to_vec(alloc)?;
-        let _gone = subjects.remove(user);
+        let subjects = self.all_subjects().without(alloc, user)?;
         Ok(People {
             users,
             groups,
-            subjects: Rc::new(alloc, subjects)?,
+            subjects,
             passwd_loaded: self.passwd_loaded,
             group_loaded: self.group_loaded,
         })

@@ -8,28 +8,31 @@ ghost use Rattle.acl_rights.specs.Tables.{rows_of};
 ghost use Rattle.acl_rights.specs.Stages.{most_asked};
 ghost use Rattle.acl_rights.specs.Kept.{GoesFrom};
 
-use crate::judged::last_row;
+use crate::met::Met;
 use acl_tree::{Record, Staged, Subject, Tree};
 use acl_verdicts::{Cells, Judge, judged_last};
 use path_map::{Entry, PathMap};
 use std::alloc::{AllocError, Global};
 use std::rc::Rc;
 
-/// A row with one user more.
+/// A row with one user more, after other such rows.
 fn row_longer<J: Judge>(
     alloc: Global,
     judge: &mut J,
     row: &Entry<Cells>,
     user: &Subject,
     file: &Record,
-    other: Option<&Cells>,
+    new: &[Rc<Entry<Cells>>],
+    met: &mut Met,
 ) -> Result<Rc<Entry<Cells>>, AllocError>
     requires { J.asked_of judge.old + 1 < 2 ^ 64 }
     ensures row { IfOk result (λ new. new.value ≡ (row.now.0, row.now.1 ++ J.verdict_of user.now file.now.1.label ∷ [])) }
     ensures at_most { J.asked_of judge.new ≤ J.asked_of judge.old + 1 }
 {
     let cells = row.value().as_slice();
-    let cells = judged_last(alloc, judge, cells, user, &file.value().label, other)?;
+    let label = &file.value().label;
+    let cells = judged_last(alloc, judge, cells, user, label, met.like(new, label))?;
+    met.note(label, new.len())?;
     Ok(Rc::new(alloc, Entry::new(row.shared_path().clone()?, cells))?)
 }
 
@@ -48,13 +51,14 @@ fn longer_rows<J: Judge>(
 {
     rows.is_in_order();
     let mut new = Vec::new(alloc);
+    let mut met = Met::new(alloc);
     let mut old = rows.iter();
     let mut files = tree.iter();
     while let Some(file) = files.next() {
         let Some(row) = old.next() else {
             unreachable!();
         };
-        let longer = row_longer(alloc, judge, row, user, file, last_row(&new))?;
+        let longer = row_longer(alloc, judge, row, user, file, &new, &mut met)?;
         new.push(longer)?;
     }
     let all = PathMap::from_sorted(alloc, &new)?;

@@ -34,7 +34,12 @@ pub fn changed_rows<J: Judge>(
 {
     rows.is_in_order();
     staged.tree().is_sound();
-    let puts = judged_records(alloc, judge, staged.changed(), staged.people().subjects())?;
+    let puts = judged_records(
+        alloc,
+        judge,
+        staged.changed(),
+        staged.people().all_subjects(),
+    )?;
     let new = rows.merged(alloc, &puts, staged.gone())?;
     Ok(NewRows {
         rows: new,

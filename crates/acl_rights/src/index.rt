@@ -124,7 +124,7 @@ impl<J: Judge> Index<J> {
     {
         let lists = GroupLists::of_tree(alloc, tree)?;
         let shared = tree.share()?;
-        let rows = judged_tree(alloc, judge, tree, people.subjects())?;
+        let rows = judged_tree(alloc, judge, tree, people.all_subjects())?;
         let reached = reached_of(alloc, &rows, &PathMap::new(alloc))?;
         let table = Table {
             users: people.users(),

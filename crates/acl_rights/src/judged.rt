@@ -3,65 +3,58 @@
 ghost use Rattle.std.specs.Prelude.{◌≡◌, ◌+◌, ◌-◌, ◌*◌, ◌∷◌, ◌<◌, ◌≤◌, ◌^◌, List, length, map, take, IfOk, IfSome, OnOk};
 ghost use Rattle.acl_tree.specs.acl_entry.Person.{Person};
 ghost use Rattle.acl_rights.specs.Tables.{Verdict, cells_of, rows_of};
-ghost use Rattle.acl_rights.specs.declared.judged.TheConstants.{KEPT};
 
-use acl_tree::{Record, Subject, Tree};
-use acl_verdicts::{Cells, Judge, judged};
+use crate::met::Met;
+use acl_tree::{Record, Tree};
+use acl_verdicts::{Cells, Judge, Subjects, judged};
 use path_map::{Entry, PathMap};
 use std::alloc::{AllocError, Global};
 use std::rc::Rc;
 
-/// The row of a file. Verdicts that are those of another row share its memory.
+/// The row of a file that comes after others. Verdicts that are those of a row it may be like share its memory.
 fn judged_row<J: Judge>(
     alloc: Global,
     judge: &mut J,
     file: &Record,
-    users: &[Rc<Subject>],
-    other: Option<&Cells>,
+    users: &Subjects,
+    rows: &[Rc<Entry<Cells>>],
+    met: &mut Met,
 ) -> Result<Rc<Entry<Cells>>, AllocError>
     requires { J.asked_of judge.old + length users.now < 2 ^ 64 }
-    ensures row { IfOk result (λ row. row.value ≡ (file.now.0, cells_of J.verdict_of (map (λ s. s.value) users.now) file.now.1)) }
+    ensures row { IfOk result (λ row. row.value ≡ (file.now.0, cells_of J.verdict_of users.now file.now.1)) }
     ensures asked { OnOk result (J.asked_of judge.new ≡ J.asked_of judge.old + length users.now) }
     ensures at_most { J.asked_of judge.new ≤ J.asked_of judge.old + length users.now }
 {
     let path = file.shared_path().clone()?;
-    let cells = judged(alloc, judge, users, &file.value().label, other)?;
+    let label = &file.value().label;
+    let cells = judged(alloc, judge, users, label, met.like(rows, label))?;
+    met.note(label, rows.len())?;
     Ok(Rc::new(alloc, Entry::new(path, cells))?)
 }
 
-/// The last row, for the next to share.
-pub fn last_row(rows: &[Rc<Entry<Cells>>]) -> Option<&Cells> {
-    match rows.last() {
-        Some(row) => Some(row.value()),
-        None => None,
-    }
-}
-
-/// A row for each file of a tree.
+/// A row for each file of a tree. Files of one label share the memory of its verdicts.
 pub fn judged_tree<J: Judge>(
     alloc: Global,
     judge: &mut J,
     tree: &Tree,
-    users: &[Rc<Subject>],
+    users: &Subjects,
 ) -> Result<PathMap<Cells>, AllocError>
     requires { J.asked_of judge.old + length tree.now.files * length users.now < 2 ^ 64 }
-    ensures rows { IfOk result (λ rows. rows ≡ rows_of J.verdict_of (map (λ s. s.value) users.now) tree.now.files) }
+    ensures rows { IfOk result (λ rows. rows ≡ rows_of J.verdict_of users.now tree.now.files) }
     ensures asked { OnOk result (J.asked_of judge.new ≡ J.asked_of judge.old + length tree.now.files * length users.now) }
     ensures at_most { J.asked_of judge.new ≤ J.asked_of judge.old + length tree.now.files * length users.now }
 {
     tree.is_sound();
     let mut rows = Vec::new(alloc);
+    let mut met = Met::new(alloc);
     let mut files = tree.iter();
     while let Some(file) = files.next() {
-        let row = judged_row(alloc, judge, file, users, last_row(&rows))?;
+        let row = judged_row(alloc, judge, file, users, &rows, &mut met)?;
         rows.push(row)?;
     }
     let all = PathMap::from_sorted(alloc, &rows)?;
     Ok(all)
 }
-
-/// At most how many labels are kept with their rows.
-const KEPT: usize = 8;
 
 /// The row at a place, where the file of that row has the label of another.
 fn row_at<'a>(
@@ -84,76 +77,63 @@ fn row_at<'a>(
     Some(rows[place].value())
 }
 
-/// The first of the rows at some places whose file has the label of another.
+/// The row of a label that was met, where it is the label of a file.
 fn row_of_label<'a>(
     file: &Record,
     before: &[Rc<Record>],
     rows: &'a [Rc<Entry<Cells>>],
-    places: &[usize],
+    met: &Met,
 ) -> Option<&'a Cells>
     ensures { IfSome result (λ cells. (V : Verdict) (us : List Person) → map (λ r. r.value) rows.now ≡ rows_of V us (map (λ r. r.value) before.now) → cells.now ≡ cells_of V us file.now.1) }
 {
-    for place in places {
-        if let Some(cells) = row_at(file, before, rows, *place) {
-            return Some(cells);
-        }
+    match met.place(&file.value().label) {
+        Some(place) => row_at(file, before, rows, place),
+        None => None,
     }
-    None
 }
 
-/// Puts a place before those that are kept, and drops the last one where there are too many.
-fn keep_place(places: &mut Vec<usize>, place: usize) -> Result<(), AllocError>
-    ensures { OnOk result (places.new.items ≡ place ∷ take (KEPT - 1) places.old.items) }
-{
-    places.truncate(KEPT - 1);
-    places.insert(0, place)?;
-    Ok(())
-}
-
-/// The row of a file after those of other files: the verdicts of a row whose place is kept, where its file has
-/// the same label. Where none has it, all verdicts are asked for, and the new row's place is kept. Labels are
-/// compared at each place, so the places that are kept decide only how many verdicts are asked for.
+/// The row of a file after those of other files: the verdicts of a label that was met, where the file has it. Where
+/// it is a new one, all verdicts are asked for, and the place of the new row is kept. Labels are compared, so the places
+/// that are kept decide only how many verdicts are asked for.
 fn next_row<J: Judge>(
     alloc: Global,
     judge: &mut J,
     file: &Record,
     before: &[Rc<Record>],
     rows: &[Rc<Entry<Cells>>],
-    places: &mut Vec<usize>,
-    users: &[Rc<Subject>],
+    met: &mut Met,
+    users: &Subjects,
 ) -> Result<Rc<Entry<Cells>>, AllocError>
     requires room { J.asked_of judge.old + length users.now < 2 ^ 64 }
-    requires rows { map (λ r. r.value) rows.now ≡ rows_of J.verdict_of (map (λ s. s.value) users.now) (map (λ r. r.value) before.now) }
-    ensures row { IfOk result (λ row. row.value ≡ (file.now.0, cells_of J.verdict_of (map (λ s. s.value) users.now) file.now.1)) }
+    requires rows { map (λ r. r.value) rows.now ≡ rows_of J.verdict_of users.now (map (λ r. r.value) before.now) }
+    ensures row { IfOk result (λ row. row.value ≡ (file.now.0, cells_of J.verdict_of users.now file.now.1)) }
     ensures at_most { J.asked_of judge.new ≤ J.asked_of judge.old + length users.now }
 {
-    if let Some(cells) = row_of_label(file, before, rows, places) {
+    if let Some(cells) = row_of_label(file, before, rows, met) {
         let path = file.shared_path().clone()?;
         let row = Rc::new(alloc, Entry::new(path, cells.share()?))?;
         return Ok(row);
     }
-    keep_place(places, rows.len())?;
-    let row = judged_row(alloc, judge, file, users, last_row(rows))?;
+    let row = judged_row(alloc, judge, file, users, rows, met)?;
     Ok(row)
 }
 
-/// A row for each of some files. Files share the verdicts of one of the last few labels that were judged, where
-/// they have it.
+/// A row for each of some files. Files of one label share its verdicts, which are asked for once.
 pub fn judged_records<J: Judge>(
     alloc: Global,
     judge: &mut J,
     files: &[Rc<Record>],
-    users: &[Rc<Subject>],
+    users: &Subjects,
 ) -> Result<Vec<Rc<Entry<Cells>>>, AllocError>
     requires { J.asked_of judge.old + length files.now * length users.now < 2 ^ 64 }
-    ensures rows { IfOk result (λ rows. map (λ r. r.value) rows.items ≡ rows_of J.verdict_of (map (λ s. s.value) users.now) (map (λ r. r.value) files.now)) }
+    ensures rows { IfOk result (λ rows. map (λ r. r.value) rows.items ≡ rows_of J.verdict_of users.now (map (λ r. r.value) files.now)) }
     ensures at_most { J.asked_of judge.new ≤ J.asked_of judge.old + length files.now * length users.now }
 {
     let mut rows = Vec::with_capacity(alloc, files.len())?;
-    let mut places = Vec::new(alloc);
+    let mut met = Met::new(alloc);
     for at in 0..files.len() {
         let before = &files[..at];
-        let row = next_row(alloc, judge, &files[at], before, &rows, &mut places, users)?;
+        let row = next_row(alloc, judge, &files[at], before, &rows, &mut met, users)?;
         rows.push(row)?;
     }
     Ok(rows)

@@ -9,6 +9,7 @@ mod judged;
 mod left;
 mod lists;
 mod mentioned;
+mod met;
 mod moved;
 mod noted;
 mod reach;
@@ -24,5 +25,5 @@ pub use acl_tree::{
     is_below, read_dump, read_entries, read_id, read_name, read_path, read_perms,
     records_are_read_again, restore_of_what_is_changes_nothing, trim, write_name,
 };
-pub use acl_verdicts::{Judge, Posix};
+pub use acl_verdicts::{Judge, Posix, Subjects};
 pub use index::{Index, Rows};

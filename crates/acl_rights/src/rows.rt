@@ -70,7 +70,7 @@ pub fn staged_rows<J: Judge>(
             Ok(all_new(alloc, rows))
         }
         UserChange::Removed { user } => {
-            let rows = shorter_rows(alloc, rows, *user)?;
+            let rows = shorter_rows(alloc, rows, staged.tree(), *user)?;
             Ok(all_new(alloc, rows))
         }
     }

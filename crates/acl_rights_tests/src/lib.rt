@@ -6,6 +6,8 @@
 #[cfg(test)]
 mod costs;
 mod lines;
+#[cfg(test)]
+mod subjects;
 mod world;
 
 pub use lines::{Line, command};

@@ -5,6 +5,7 @@ ghost use Rattle.std.specs.List.{remove};
 
 use crate::judge::Judge;
 use acl_files::{Label, Requests, Subject};
+use acl_subjects::Subjects;
 use std::alloc::{AllocError, Global};
 use std::marker::Model;
 use std::rc::Rc;
@@ -23,19 +24,18 @@ impl Model for Cells {
     ghost view = { λ c. c.requests.value.items };
 }
 
-/// Whether two rows of verdicts are the same.
+/// Whether two rows of verdicts are the same. The loop does not end early, so that it compares many at a time.
 fn are_equal(some: &[Requests], others: &[Requests]) -> bool
     ensures { result ≡ true → some.now ≡ others.now }
 {
     if some.len() != others.len() {
         return false;
     }
+    let mut is_same = true;
     for at in 0..some.len() {
-        if some[at].bits() != others[at].bits() {
-            return false;
-        }
+        is_same &= some[at].bits() == others[at].bits();
     }
-    true
+    is_same
 }
 
 impl Cells {
@@ -93,25 +93,22 @@ impl Cells {
     }
 }
 
-/// The verdicts of all users on a label, as many as there are users. Where those on another file are the
-/// same, they are shared. Fails only if memory runs out.
+/// The verdicts of all users on a label, as many as there are users, for one file. Where those on another file
+/// are the same, they are shared. Fails only if memory runs out.
 pub fn judged<J: Judge>(
     alloc: Global,
     judge: &mut J,
-    users: &[Rc<Subject>],
+    users: &Subjects,
     label: &Label,
     other: Option<&Cells>,
 ) -> Result<Cells, AllocError>
     requires { J.asked_of judge.old + length users.now < 2 ^ 64 }
-    ensures cells { IfOk result (λ cells. cells ≡ map (λ u. J.verdict_of u label.now) (map (λ s. s.value) users.now)) }
+    ensures cells { IfOk result (λ cells. cells ≡ map (λ u. J.verdict_of u label.now) users.now) }
     ensures asked { OnOk result (J.asked_of judge.new ≡ J.asked_of judge.old + length users.now) }
     ensures at_most { J.asked_of judge.new ≤ J.asked_of judge.old + length users.now }
 {
-    let mut requests = Vec::with_capacity(alloc, users.len())?;
-    for user in users {
-        let verdict = judge.verdict(user, label);
-        requests.push(verdict)?;
-    }
+    let mut requests = vec![in alloc; Requests::none(); users.len()]?;
+    judge.verdicts(users, label, 1, &mut requests);
     Cells::new_or_shared(alloc, requests, other)
 }
 

@@ -1,11 +1,12 @@
 //! Who decides on a user and a file.
 
-ghost use Rattle.std.specs.Prelude.{◌≡◌, ◌+◌, ◌<◌, ◌^◌, ℕ};
+ghost use Rattle.std.specs.Prelude.{◌≡◌, ◌+◌, ◌*◌, ◌<◌, ◌^◌, ℕ, length, map};
 ghost use Rattle.acl_files.specs.acl_entry.Person.{Person};
 ghost use Rattle.acl_files.specs.acl_entry.declared.label.Label.{Label};
 ghost use Rattle.acl_files.specs.acl_entry.Mentions.{AgreeOnMentions};
 
 use acl_files::{Label, Requests, Subject};
+use acl_subjects::Subjects;
 
 /// Decides what a user may do with a file, by one definition for all values of the type, and counts its
 /// verdicts.
@@ -21,6 +22,24 @@ pub trait Judge {
         requires { asked_of self.old + 1 < 2 ^ 64 }
         ensures verdict { result ≡ verdict_of subject.now label.now }
         ensures asked { asked_of self.new ≡ asked_of self.old + 1 };
+
+    /// The verdicts on all users and a label, in the order of the users, for so many files that have this label.
+    ///
+    /// One verdict counts for each user and each of these files, however they are found. A judge that has no
+    /// quicker way asks for them one by one, as this body does. Allocates nothing.
+    fn verdicts(&mut self, users: &Subjects, label: &Label, files: u64, row: &mut [Requests])
+        requires room { asked_of self.old + files * length users.now < 2 ^ 64 }
+        requires some { 0 < files }
+        requires length { length row.old ≡ length users.now }
+        ensures row { row.new ≡ map (λ u. verdict_of u label.now) users.now }
+        ensures asked { asked_of self.new ≡ asked_of self.old + files * length users.now }
+    {
+        for _ in 0..files {
+            for (at, user) in users.as_slice().iter().enumerate() {
+                row[at] = self.verdict(user, label);
+            }
+        }
+    }
 
     /// How many verdicts were asked for.
     fn asked(&self) -> u64

@@ -12,6 +12,7 @@ mod posix;
 mod subtrees;
 mod walk;
 
+pub use acl_subjects::Subjects;
 pub use answers::{granted_paths, granted_users};
 pub use cells::{Cells, judged, judged_at, judged_last, without};
 pub use differences::differing;

@@ -6,6 +6,7 @@ ghost use Rattle.acl_files.specs.acl_entry.Mentions.{rights_local};
 
 use crate::judge::Judge;
 use acl_files::{Label, Requests, Subject, granted};
+use acl_subjects::{Subjects, granted_to_all};
 
 /// The access check of acl(5).
 #[derive(Drop)]
@@ -30,6 +31,11 @@ impl Judge for Posix {
     fn verdict(&mut self, subject: &Subject, label: &Label) -> Requests {
         self.asked += 1;
         granted(subject, label)
+    }
+
+    fn verdicts(&mut self, users: &Subjects, label: &Label, files: u64, row: &mut [Requests]) {
+        self.asked += files * users.len() as u64;
+        granted_to_all(users, label, row);
     }
 
     fn asked(&self) -> u64 {

@@ -11,7 +11,7 @@ pub merged-requires-clause-puts : goal.merged-requires-clause-puts
 merged-requires-clause-puts g c =
     let V = g.J.Judge.verdict_of in
     puts_order V c.args.rows.now c.args.staged.now c.requires.goes c.requires.moved (map (λ r. r.value) c.deref.result.now) (subst (λ (r : Recorded). IsInOrder r.files) c.tree.ensures c.is_sound.ensures.order)
-    (ap (map (λ r. r.value)) c.deref.ensures.value ∙ c.in_ok-puts.ensures.rows ∙ (λ i. rows_of V ((c.subjects.ensures ∙ ap persons c.people.ensures) i) (c.changed.ensures i)))
+    (ap (map (λ r. r.value)) c.deref.ensures.value ∙ c.in_ok-puts.ensures.rows ∙ (λ i. rows_of V ((c.all_subjects.ensures ∙ ap persons c.people.ensures) i) (c.changed.ensures i)))
 
 pub merged-requires-clause-gone : goal.merged-requires-clause-gone
 merged-requires-clause-gone g c =
@@ -23,14 +23,14 @@ returns-clause-rows g c =
     c.in_ok-new.ensures
     ∙ changed_goes V c.args.rows.now c.args.staged.now c.requires.goes c.requires.moved (map (λ r. r.value) c.deref.result.now) (map (λ r. r.value) c.gone.result.now)
     c.is_in_order.ensures (subst (λ (r : Recorded). IsInOrder r.files) c.tree.ensures c.is_sound.ensures.order)
-    (ap (map (λ r. r.value)) c.deref.ensures.value ∙ c.in_ok-puts.ensures.rows ∙ (λ i. rows_of V ((c.subjects.ensures ∙ ap persons c.people.ensures) i) (c.changed.ensures i)))
+    (ap (map (λ r. r.value)) c.deref.ensures.value ∙ c.in_ok-puts.ensures.rows ∙ (λ i. rows_of V ((c.all_subjects.ensures ∙ ap persons c.people.ensures) i) (c.changed.ensures i)))
     c.gone.ensures
 
 pub returns-clause-order : goal.returns-clause-order
 returns-clause-order g c =
     let V = g.J.Judge.verdict_of in
     puts_order V c.args.rows.now c.args.staged.now c.requires.goes c.requires.moved (map (λ r. r.value) c.in_ok-puts.puts.items) (subst (λ (r : Recorded). IsInOrder r.files) c.tree.ensures c.is_sound.ensures.order)
-    (c.in_ok-puts.ensures.rows ∙ (λ i. rows_of V ((c.subjects.ensures ∙ ap persons c.people.ensures) i) (c.changed.ensures i)))
+    (c.in_ok-puts.ensures.rows ∙ (λ i. rows_of V ((c.all_subjects.ensures ∙ ap persons c.people.ensures) i) (c.changed.ensures i)))
 
 pub returns-clause-again : goal.returns-clause-again
 returns-clause-again g c = c.in_ok-new.ensures ∙ (λ i. merged (map (λ r. r.value) (c.deref.ensures.value i)) (c.gone.ensures i) c.args.rows.now)

@@ -4,7 +4,7 @@ use Rattle.acl_rights.proofs.judged.judged_tree.Given as goal
 
 abbrev pub invariant-loop-file : goal.invariant-loop-file
 invariant-loop-file g l = record {
-  rows : map (λ r. r.value) l.rows.items ++ rows_of g.J.Judge.verdict_of (map (λ s. s.value) l.users) l.files ≡ rows_of g.J.Judge.verdict_of (map (λ s. s.value) l.users) l.tree.files;
+  rows : map (λ r. r.value) l.rows.items ++ rows_of g.J.Judge.verdict_of l.users l.files ≡ rows_of g.J.Judge.verdict_of l.users l.tree.files;
   asked : g.J.Judge.asked_of l.judge + length l.files * length l.users ≡ g.J.Judge.asked_of l.fn.judge + length l.tree.files * length l.users;
 }
 

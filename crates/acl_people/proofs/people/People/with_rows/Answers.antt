@@ -1,12 +1,35 @@
-use Rattle.std.proofs.Common.{◌≡◌, map, slice_get, slice_set, Some, List, sym, ap, ◌∙◌, arith, length}
-use Rattle.std.proofs.lemmas.List.{map-set, length-map}
+use Rattle.std.proofs.Common.{◌≡◌, map, slice_get, slice_set, Some, List, option_map, sym, ap, ◌∙◌, arith, length}
+use Rattle.std.proofs.lemmas.List.{length-map}
 use Rattle.acl_entry.specs.Person.{Person}
 use Rattle.acl_syntax.specs.declared.rows.PasswdRow.{PasswdRow}
 use Rattle.acl_syntax.specs.declared.rows.GroupRow.{GroupRow}
 use Rattle.acl_people.specs.Registers.{person, persons}
 use Rattle.acl_people.proofs.Moving.{after_is, user_within}
-use Rattle.acl_people.proofs.Pointers.{same_values, value_at}
+use Rattle.acl_people.proofs.Pointers.{value_at}
 use Rattle.acl_people.proofs.people.People.with_rows.Goals as goal
+
+pub with-requires : goal.with-requires
+with-requires c =
+    let old = persons c.args.self.now in
+    let groups = c.args.groups.value in
+    let users = c.args.users.value in
+    let row = c.index-rows-user.result.value in
+    let rows : map (λ r. r.value) c.rows-2.result.now ≡ users = c.rows-2.ensures ∙ c.deref-2.ensures in
+    let within = user_within old groups users c.args.user c.requires in
+    let as_long : length c.rows-2.result.now ≡ length users = sym (length-map c.rows-2.result.now (λ r. r.value)) ∙ ap length rows in
+    let at : slice_get users c.args.user ≡ Some row =
+    ap (λ rs. slice_get rs c.args.user) (sym rows) ∙ value_at (λ r. r.value) c.rows-2.result.now c.args.user c.index-rows-user.result (omega arith) c.index-rows-user.is
+    in
+    let is : c.in_ok-subject-2.subject.value ≡ c.requires.after =
+    c.in_ok-subject-2.ensures.ok
+    ∙ c.in_ok-subject.ensures
+    ∙ ap (λ (gs : List GroupRow). person gs c.deref-3.result.now) (c.rows.ensures ∙ c.deref.ensures)
+    ∙ ap (λ (r : PasswdRow). person groups r) c.deref-3.ensures
+    ∙ after_is old groups users c.args.user c.requires row at
+    in
+    ap (λ ps. option_map (λ (u : Person). u.uid) (slice_get ps c.args.user)) c.all_subjects.ensures
+    ∙ ap (λ o. option_map (λ (u : Person). u.uid) o) c.requires.was
+    ∙ ap (λ n. Some n) (sym c.requires.uid ∙ ap (λ (u : Person). u.uid) (sym is))
 
 pub invariant_of-result : goal.invariant_of-result
 invariant_of-result c =
@@ -20,15 +43,14 @@ invariant_of-result c =
     let at : slice_get users c.args.user ≡ Some row =
     ap (λ rs. slice_get rs c.args.user) (sym rows) ∙ value_at (λ r. r.value) c.rows-2.result.now c.args.user c.index-rows-user.result (omega arith) c.index-rows-user.is
     in
-    let is : c.in_ok-subjects-2.field-0.value ≡ c.requires.after =
-    c.in_ok-subjects-2.ensures.ok
+    let is : c.in_ok-subject-2.subject.value ≡ c.requires.after =
+    c.in_ok-subject-2.ensures.ok
     ∙ c.in_ok-subject.ensures
     ∙ ap (λ (gs : List GroupRow). person gs c.deref-3.result.now) (c.rows.ensures ∙ c.deref.ensures)
     ∙ ap (λ (r : PasswdRow). person groups r) c.deref-3.ensures
     ∙ after_is old groups users c.args.user c.requires row at
     in
-    ap (λ v. map (λ s. s.value) v.items) c.in_ok-new.ensures.ok
-    ∙ map-set (λ s. s.value) c.in_ok-subjects.subjects.items c.args.user c.in_ok-subjects-2.field-0
-    ∙ ap (λ ps. slice_set ps c.args.user c.in_ok-subjects-2.field-0.value) (same_values (λ s. s.value) c.subjects.result.now c.in_ok-subjects.subjects.items c.in_ok-subjects.ensures.ok ∙ c.subjects.ensures)
+    c.in_ok-subjects.ensures
+    ∙ ap (λ ps. slice_set ps c.args.user c.in_ok-subject-2.subject.value) c.all_subjects.ensures
     ∙ ap (λ (p : Person). slice_set old c.args.user p) is
     ∙ sym c.requires.becomes

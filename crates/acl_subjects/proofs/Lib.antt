@@ -1,0 +1,4 @@
+pub mod Lists
+pub mod WhoIsWhere
+pub mod AtPlaces
+pub mod ByEntries

@@ -1,0 +1,11 @@
+//! All users in their order, each with an id and groups, found by id and by group; and what acl(5)'s check grants them
+//! all on a file.
+#![tactic(auto)]
+
+mod granted;
+mod noted;
+mod noting;
+mod subjects;
+
+pub use granted::granted_to_all;
+pub use subjects::Subjects;

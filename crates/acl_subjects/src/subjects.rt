@@ -1,0 +1,178 @@
+//! All users in their order, found by id and by group.
+
+ghost use Rattle.std.specs.Prelude.{◌≡◌, ◌<◌, ◌++◌, ◌∷◌, [], Some, map, length, option_map, slice_get, slice_set, IfOk};
+ghost use Rattle.std.specs.List.{remove};
+ghost use Rattle.acl_subjects.specs.Places.{has_id, is_in, AreThose, AreNoted};
+
+use crate::noted::Noted;
+use crate::noting::{joined_by, moved, notes_by_group, notes_by_id};
+use acl_entry::{Id, Subject};
+use std::alloc::{AllocError, Global};
+use std::marker::Model;
+use std::rc::Rc;
+
+/// All users in their order, with the places of the users of each id and of each group. Two users may have one
+/// id. Copies share their memory.
+#[derive(Drop)]
+pub struct Subjects {
+    users: Rc<Vec<Rc<Subject>>>,
+    by_id: Rc<Noted>,
+    by_group: Rc<Noted>,
+}
+
+impl Model for Subjects {
+    ghost use Rattle.std.specs.Prelude.{List, map};
+    ghost use Rattle.std.specs.Coded.{coded_list};
+    ghost use Rattle.acl_entry.specs.Person.{Person, coded_person};
+    ghost use Rattle.acl_subjects.specs.Places.{has_id, is_in, AreNoted};
+
+    ghost Value = { List Person };
+
+    ghost coded = { coded_list coded_person };
+
+    ghost view = { λ u. map (λ s. s.value) u.users.value.items };
+
+    ghost invariant = { λ u. AreNoted has_id u.by_id.value (map (λ s. s.value) u.users.value.items) × AreNoted is_in u.by_group.value (map (λ s. s.value) u.users.value.items) };
+}
+
+/// Some users, by their pointers, with room for one more.
+fn copied(alloc: Global, users: &[Rc<Subject>]) -> Result<Vec<Rc<Subject>>, AllocError>
+    ensures { IfOk result (λ all. map (λ s. s.value) all.items ≡ map (λ s. s.value) users.now) }
+{
+    let mut all = Vec::with_capacity(alloc, users.len() + 1)?;
+    for user in users {
+        all.push(user.clone()?)?;
+    }
+    Ok(all)
+}
+
+impl Subjects {
+    /// Users with the places that are noted for them.
+    fn found_by(
+        alloc: Global,
+        users: Vec<Rc<Subject>>,
+        by_id: Rc<Noted>,
+        by_group: Noted,
+    ) -> Result<Subjects, AllocError>
+        requires ids { AreNoted has_id by_id.value (map (λ s. s.value) users.items) }
+        requires groups { AreNoted is_in by_group (map (λ s. s.value) users.items) }
+        ensures { IfOk result (λ all. all ≡ map (λ s. s.value) users.items) }
+    {
+        Ok(Subjects {
+            users: Rc::new(alloc, users)?,
+            by_id,
+            by_group: Rc::new(alloc, by_group)?,
+        })
+    }
+
+    /// The places by id.
+    fn ids(&self) -> &Rc<Noted>
+        ensures { AreNoted has_id result.now.value self.now }
+    {
+        &self.by_id
+    }
+
+    /// The places by group.
+    fn groups(&self) -> &Noted
+        ensures { AreNoted is_in result.now self.now }
+    {
+        &self.by_group
+    }
+
+    /// These users. Fails only if memory runs out.
+    pub fn of(alloc: Global, users: Vec<Rc<Subject>>) -> Result<Subjects, AllocError>
+        ensures { IfOk result (λ all. all ≡ map (λ s. s.value) users.items) }
+    {
+        let by_id = Noted::of(alloc, notes_by_id(alloc, &users)?)?;
+        let by_group = Noted::of(alloc, notes_by_group(alloc, &users)?)?;
+        let by_id = Rc::new(alloc, by_id)?;
+        Subjects::found_by(alloc, users, by_id, by_group)
+    }
+
+    /// The same users, in shared memory. Fails only if memory runs out.
+    pub fn share(&self) -> Result<Subjects, AllocError>
+        ensures { IfOk result (λ all. all ≡ self.now) }
+    {
+        Ok(Subjects {
+            users: self.users.clone()?,
+            by_id: self.by_id.clone()?,
+            by_group: self.by_group.clone()?,
+        })
+    }
+
+    /// How many users there are.
+    pub fn len(&self) -> usize
+        ensures { result ≡ length self.now }
+    {
+        self.users.len()
+    }
+
+    /// The users in their order.
+    pub fn as_slice(&self) -> &[Rc<Subject>]
+        ensures { map (λ s. s.value) result.now ≡ self.now }
+    {
+        &self.users
+    }
+
+    /// The user at a place.
+    pub fn get(&self, at: usize) -> Option<&Rc<Subject>>
+        ensures { option_map (λ s. s.now.value) result ≡ slice_get self.now at }
+    {
+        self.users.get(at)
+    }
+
+    /// The places of the users of an id.
+    pub fn of_id(&self, id: Id) -> &[usize]
+        ensures { AreThose (has_id id) self.now result.now }
+    {
+        self.by_id.get(id)
+    }
+
+    /// The places of the users in a group.
+    pub fn of_group(&self, group: Id) -> &[usize]
+        ensures { AreThose (is_in group) self.now result.now }
+    {
+        self.by_group.get(group)
+    }
+
+    /// The users with another one of the same id in the place of one. Only the lists of the groups that the user
+    /// joined or left are made again. Fails only if memory runs out.
+    pub fn with(&self, alloc: Global, at: usize, user: Rc<Subject>) -> Result<Subjects, AllocError>
+        requires { option_map (λ u. u.uid) (slice_get self.now at) ≡ Some user.value.uid }
+        ensures { IfOk result (λ all. all ≡ slice_set self.now at user.value) }
+    {
+        let users = self.as_slice();
+        let by_group = moved(alloc, self.groups(), at, &users[at], &user)?;
+        let mut all = copied(alloc, users)?;
+        all[at] = user;
+        let all = Subjects::found_by(alloc, all, self.ids().clone()?, by_group)?;
+        Ok(all)
+    }
+
+    /// The users with one more, the last. Only the lists of this user's id and groups are made again. Fails only
+    /// if memory runs out.
+    pub fn with_last(&self, alloc: Global, user: Rc<Subject>) -> Result<Subjects, AllocError>
+        ensures { IfOk result (λ all. all ≡ self.now ++ user.value ∷ []) }
+    {
+        let users = self.as_slice();
+        let mut by_id = self.ids().copy()?;
+        by_id.add(alloc, user.uid(), users.len())?;
+        let by_group = joined_by(alloc, self.groups(), users.len(), &user)?;
+        let mut all = copied(alloc, users)?;
+        all.push(user)?;
+        let all = Subjects::found_by(alloc, all, Rc::new(alloc, by_id)?, by_group)?;
+        Ok(all)
+    }
+
+    /// The users without one. Those after it have other places then, so all lists are made again. Fails only if
+    /// memory runs out.
+    pub fn without(&self, alloc: Global, at: usize) -> Result<Subjects, AllocError>
+        requires { at < length self.now }
+        ensures { IfOk result (λ all. all ≡ remove self.now at) }
+    {
+        let mut users = copied(alloc, self.as_slice())?;
+        let _gone = users.remove(at);
+        let others = Subjects::of(alloc, users)?;
+        Ok(others)
+    }
+}
