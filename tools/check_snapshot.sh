@@ -293,7 +293,7 @@ end_by() {
     while [ ! -e "$work/at_work" ]; do sleep 0.1; done
     kill -"$1" $running
     status=0
-    wait $running || status=$?
+    { wait $running; } 2>/dev/null || status=$?
     rm "$work/at_work"
     [ $status -eq "$2" ] || fault "status $status at signal $1"
     cksum "$work/before"/* | diff "$work/sums" - >&2 || fault "a snapshot that was ended changed the one that is there"
