@@ -370,6 +370,23 @@ check_without_lists() {
     unmounted
 }
 
+# A disk that takes every file but the dump: its limit is below the size of the dump, and above that of each other file.
+check_large_dump() {
+    mkdir "$work/many"
+    (cd "$work/many" && seq -f 'a file with a long name %g' 2000 | xargs -d '\n' touch && setfacl -m u:1:r,u:2:r,u:3:r -- *)
+    status=0
+    (trap '' XFSZ && ulimit -f 520 && exec "$snapshot" "$work/large" "$work/many") \
+        >"$work/counts" 2>"$work/message" || status=$?
+    [ $status -eq 2 ] || fault "status $status where the dump cannot be written"
+    warned "facl-snapshot: cannot write dump"
+    take 0 "$work/large" "$work/many"
+    for name in links group passwd; do
+        [ "$(stat -c %s "$work/large/$name")" -lt 266240 ] || fault "$name is larger than the limit"
+    done
+    [ "$(stat -c %s "$work/large/dump")" -gt 266240 ] || fault "the dump is smaller than the limit"
+    nothing_left
+}
+
 # A full disk, at each of several places.
 check_full_disk() {
     for kilobytes in 8 24 48 100; do
@@ -398,8 +415,6 @@ check_as_root() {
     check_unreadable
     check_without_lists
     check_bind_mount
-    mkdir "$work/many"
-    (cd "$work/many" && seq -f 'a file with a long name %g' 2000 | xargs -d '\n' touch)
     check_full_disk
 }
 
@@ -416,6 +431,7 @@ check_masks
 check_rows
 check_signals
 check_packages
+check_large_dump
 if [ "$(id -u)" -eq 0 ]; then check_as_root; else echo "tools/check_snapshot.sh: without the checks that need root" >&2; fi
 ! command -v shellcheck >/dev/null || shellcheck "$snapshot" || fault "shellcheck"
 
