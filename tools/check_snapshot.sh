@@ -260,7 +260,8 @@ with_getent() {
 }
 
 check_rows() {
-    with_getent 'ines:x:0:0::/:/bin/sh\nmara:x:1:0::/:/bin/sh\r\n' 'root:x:0:\nstaff:x:5:ines,dora,dora\nlab:x:6:emil\n'
+    with_getent "root:x:0:0::/:/bin/sh\nines:x:$(id -u):0::/:/bin/sh\nmara:x:1:0::/:/bin/sh\r\n" \
+        "root:x:0:\nown:x:$(id -g):\nstaff:x:5:ines,dora,dora\nlab:x:6:emil\n"
     : >"$work/masks/ids"
     setfacl -m u:4711:r,g:4712:r,u:1:r,g:5:r "$work/masks/ids"
     setfacl -d -m u:4713:r "$work/masks"
