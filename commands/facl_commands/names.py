@@ -1,0 +1,70 @@
+"""Names of files and users in texts: their escapes, as the section SCRIPTS of the manual page has them, and their quotes.
+
+A path is its components with a slash between each two, as bytes; the root is the empty path.
+"""
+from __future__ import annotations
+
+import codecs
+import re
+from typing import List, Tuple
+
+ESCAPE = re.compile(rb"\\([0-3][0-7][0-7]|\\)")
+PLAIN_SHELL_WORD = re.compile(rb"[A-Za-z0-9_./:=@%+,-]+\Z")
+
+
+def read_name(text: bytes) -> bytes:
+    """The name that a text is: a backslash and three octal digits are a byte, two backslashes are one."""
+    return ESCAPE.sub(lambda found: b"\\" if found[1] == b"\\" else bytes([int(found[1], 8)]), text)
+
+
+def write_name(name: bytes) -> bytes:
+    """The text of a file's name: a backslash, a line feed and a carriage return are escapes."""
+    return re.sub(rb"[\\\n\r]", lambda found: b"\\%03o" % found[0][0], name)
+
+
+def read_path(text: bytes) -> bytes:
+    """The path that a text is."""
+    return b"/".join(part for part in read_name(text).split(b"/") if part not in (b"", b"."))
+
+
+def path_order(path: bytes) -> List[bytes]:
+    """What paths are sorted by: their components, parents first."""
+    return path.split(b"/") if path else []
+
+
+def parent_of(path: bytes) -> bytes:
+    return path.rpartition(b"/")[0]
+
+
+def shown_path(path: bytes) -> bytes:
+    """A path as the program prints it."""
+    return write_name(path) or b"."
+
+
+def live_path(path: bytes) -> bytes:
+    """A path on the live system."""
+    return b"/" + path
+
+
+def script_word(text: bytes) -> bytes:
+    """The word of a script that has this text; a byte that is not printable ASCII is an escape."""
+    return b"'" + re.sub(rb"[^\x20-\x26\x28-\x7e]", lambda found: b"\\%03o" % found[0][0], text) + b"'"
+
+
+def shell_word(word: bytes) -> bytes:
+    """A word for sh."""
+    return word if PLAIN_SHELL_WORD.match(word) else b"'" + word.replace(b"'", b"'\\''") + b"'"
+
+
+def escaped_bytes(error: UnicodeError) -> Tuple[str, int]:
+    """Bytes that are no UTF-8, as escapes."""
+    assert isinstance(error, UnicodeDecodeError)
+    return "".join("\\%03o" % byte for byte in error.object[error.start : error.end]), error.end
+
+
+codecs.register_error("facl-escapes", escaped_bytes)
+
+
+def json_text(text: bytes) -> str:
+    """A text that the program prints, for JSON: bytes that are no UTF-8 are escapes there."""
+    return text.decode("utf-8", "facl-escapes")

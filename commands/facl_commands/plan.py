@@ -1,0 +1,316 @@
+"""facl-plan: what edits would change in who may do what, and a plan for facl-apply."""
+from __future__ import annotations
+
+import argparse
+import json
+import os
+import sys
+from typing import Dict, Iterator, List, NamedTuple, Optional
+
+from . import by_hand, people, plan_folder, rights
+from .links import EDITS, Links
+from .messages import Command, Failure, counted, named
+from .names import json_text, live_path, shell_word
+from .program import Session, find_program
+from .records import Changes, Files, compare, has_open_empty_mask, read_listing, write_records
+from .scripts import Unit, read_script
+from .snapshot import Snapshot, read_snapshot
+
+SOMETHING, REFUSED, NOTHING = 0, 1, 3
+WARNING = b"setfacl: warning: default entries dropped"
+QUESTIONS_WITH_EMPTY_ANSWERS = (b"who", b"may", b"index")
+HELP = """\
+Answers the lines of each SCRIPT over a snapshot, as facl does, and prints what would change in who may do what: one
+line for each user and kind of change, with the number of files and the first of them. It reads the snapshot alone, and
+changes nothing on the live system. The SCRIPT - is standard input.
+
+What facl-apply needs is written to a folder, SNAPSHOT.plan:
+
+  edits      the lines, as they were given
+  old, new   the records of the files whose owner, group, flags or lists change, as they are and as they would be
+  by_hand    what a restore cannot do, as a script of sh: users and memberships, files that go, files that are made
+
+Questions in a SCRIPT are answered, and are no part of the plan. An edit of a file that has other names in the snapshot
+is planned for all of them.
+"""
+STATUS = """\
+The exit status is 0 where there is something to do, and 3 where there is nothing; 1 where lines were refused: then no
+plan is written, but with --keep-going; 2 where the words, the snapshot or a script cannot be used.
+"""
+
+
+class Script(NamedTuple):
+    name: bytes
+    text: bytes
+
+
+class Asked(NamedTuple):
+    """A line that printed something, or whose answer is empty."""
+
+    unit: Unit
+    output: bytes
+
+
+class Message(NamedTuple):
+    """Why a line is refused; or a warning of an accepted line."""
+
+    unit: Unit
+    text: bytes
+    is_warning: bool = False
+    is_final: bool = False  # Nothing is planned then, even with --keep-going.
+
+
+class Outcome(NamedTuple):
+    """What the program made of the scripts."""
+
+    old: Files
+    new: Files
+    rights: List[rights.Change]
+    users: List[bytes]
+    asked: List[Asked]
+    messages: List[Message]
+    commands: List[bytes]  # Of users and memberships.
+
+    def refusals(self) -> List[Message]:
+        return [message for message in self.messages if not message.is_warning]
+
+
+def parse(words: List[str]) -> argparse.Namespace:
+    parser = argparse.ArgumentParser(
+        prog="facl-plan", description=HELP, epilog=STATUS, formatter_class=argparse.RawDescriptionHelpFormatter,
+        allow_abbrev=False,
+    )
+    parser.add_argument("--plan", metavar="DIR", help="the folder of the plan, in place of SNAPSHOT.plan")
+    parser.add_argument("--full", action="store_true", help="print each user and file")
+    parser.add_argument("--reach", action="store_true", help="with search on the directories above each file")
+    parser.add_argument("--json", action="store_true", help="print one JSON object; bytes that are no UTF-8 are escapes")
+    parser.add_argument("--keep-going", action="store_true", help="plan the other lines where some were refused")
+    parser.add_argument("--program", metavar="FILE", help="the program facl; without it $FACL, or facl on the path")
+    parser.add_argument("snapshot", metavar="SNAPSHOT")
+    parser.add_argument("scripts", metavar="SCRIPT", nargs="+")
+    return parser.parse_args(words)
+
+
+def read_scripts(names: List[str]) -> List[Script]:
+    """The scripts; each ends in a line feed."""
+    found = []
+    for name in names:
+        try:
+            with open(sys.stdin.fileno() if name == "-" else name, "rb", closefd=name != "-") as file:
+                text = file.read()
+        except OSError as error:
+            raise Failure(os.fsencode(name) + b": " + named(error).split(b": ")[-1]) from error
+        shown = b"standard input" if name == "-" else os.fsencode(name)
+        found.append(Script(shown, text + b"\n" * (text[-1:] not in (b"", b"\n"))))
+    return found
+
+
+class Run:
+    """The scripts, answered line by line."""
+
+    def __init__(self, session: Session, snapshot: Snapshot, old: Files) -> None:
+        self.session = session
+        self.links = Links(snapshot.links, old)
+        self.people = people.People(snapshot.passwd, snapshot.group)
+        self.asked: List[Asked] = []
+        self.messages: List[Message] = []
+        self.commands: List[bytes] = []
+
+    def answer(self, unit: Unit) -> None:
+        """Answers a line, and keeps what it printed."""
+        if not unit.is_ended:
+            self.messages.append(Message(unit, b"facl: text without end"))
+            return
+        answer = self.session.ask(b"".join(line + b"\n" for line in unit.lines))
+        output = answer.output.read()
+        refused = any(message != WARNING for message in answer.messages)
+        self.messages += [Message(unit, message, message == WARNING) for message in answer.messages]
+        if output or unit.is_of(*QUESTIONS_WITH_EMPTY_ANSWERS) and not refused:
+            self.asked.append(Asked(unit, output))
+        if not refused:
+            self.follow(unit)
+
+    def follow(self, unit: Unit) -> None:
+        """What an accepted line means for other names of its files, and for the system's users."""
+        if unit.is_of(*people.CHANGES):
+            self.commands += filter(None, [self.people.change(unit.words)])
+        elif self.links.sets and unit.is_of(*EDITS):
+            names = self.links.follow(self.session)
+            if names:
+                shown = b", ".join(map(live_path, names))
+                self.messages.append(Message(unit, b"names of one file get different lists: " + shown, is_final=True))
+
+
+def all_files(session: Session) -> Files:
+    """The files as they are now; none where the root was removed, which removes all."""
+    answer = session.ask(b"getfacl -R -n -E .\n")
+    if answer.messages and not answer.messages[0].endswith(b": no such file"):
+        raise Failure(b"the program refused to list the files: " + answer.messages[0])
+    return read_listing(answer.output.read())
+
+
+def answer_scripts(given: argparse.Namespace, snapshot: Snapshot, units: List[Unit]) -> Outcome:
+    with Session(find_program(given.program), snapshot.folder) as session:
+        old = all_files(session)
+        if b"" not in old:
+            raise Failure(snapshot.folder + b": is of another version, without the directories above: make a new one")
+        before = rights.ask_rights(session, given.reach, snapshot.passwd)
+        run = Run(session, snapshot, old)
+        for unit in units:
+            run.answer(unit)
+        new = all_files(session)
+        after = rights.ask_rights(session, given.reach, snapshot.passwd)
+        users = rights.users_of(before.table)
+        users += [user for user in rights.users_of(after.table) if user not in users]
+        found = list(rights.changes(before, after))
+    return Outcome(old, new, found, users, run.asked, run.messages, run.commands)
+
+
+def answers_text(asked: List[Asked]) -> bytes:
+    """Each answer below its line."""
+    parts = []
+    for unit, output in asked:
+        parts.append(b"# " + unit.place() + b": " + unit.lines[0] + b"\n" + (output or b"(nothing)\n"))
+        parts.append(b"" if output.endswith(b"\n\n") else b"\n")
+    return b"".join(parts)
+
+
+def full_lines(outcome: Outcome) -> Iterator[bytes]:
+    for user, file, old, new in outcome.rights:
+        yield b"\t".join([user, old.encode(), b"->", new.encode(), file]) + b"\n"
+
+
+def short_lines(outcome: Outcome) -> Iterator[bytes]:
+    found = rights.kinds(outcome.rights, outcome.users)
+    width = max((len(kind.user) for kind in found), default=0)
+    for user, old, new, count, first in found:
+        what = b"%s -> %s" % (old.encode(), new.encode())
+        yield user.ljust(width) + b"  " + what.ljust(13) + b"  " + counted(count, "file").ljust(8) + b"  first: " + first + b"\n"
+
+
+def summary(changes: Changes, commands: List[bytes], outcome: Outcome) -> bytes:
+    parts = [counted(len(changes.changed), "file changes", "files change") + b" owner, group, flags or lists"]
+    if commands:
+        parts.append(counted(len(commands), "command has to be run", "commands have to be run") + b" by hand")
+    nobody = b"" if outcome.rights else b"; nobody may do anything else than before"
+    return b"; ".join(parts) + nobody + b"\n"
+
+
+def rights_json(outcome: Outcome, is_full: bool) -> List[Dict[str, object]]:
+    if is_full:
+        return [
+            {"user": json_text(user), "from": old, "to": new, "file": json_text(file)}
+            for user, file, old, new in outcome.rights
+        ]
+    return [
+        {"user": json_text(user), "from": old, "to": new, "files": count, "first": json_text(first)}
+        for user, old, new, count, first in rights.kinds(outcome.rights, outcome.users)
+    ]
+
+
+def messages_json(found: List[Message], are_warnings: bool) -> List[Dict[str, object]]:
+    return [
+        {"script": json_text(it.unit.script), "line": it.unit.number, "message": json_text(it.text)}
+        for it in found
+        if it.is_warning == are_warnings
+    ]
+
+
+def json_report(outcome: Outcome, given: argparse.Namespace, changes: Changes, commands: List[bytes],
+                plan: Optional[bytes]) -> bytes:
+    report = {
+        "plan": None if plan is None else json_text(plan),
+        "changes": rights_json(outcome, given.full),
+        "records": [json_text(live_path(path)) for path in changes.changed],
+        "made": [json_text(live_path(path)) for path in changes.made],
+        "removed": [json_text(live_path(path)) for path in changes.removed],
+        "by_hand": [json_text(command) for command in commands],
+        "answers": [
+            {"script": json_text(unit.script), "line": unit.number, "question": json_text(unit.lines[0]),
+             "answer": json_text(output)}
+            for unit, output in outcome.asked
+        ],
+        "refused": messages_json(outcome.messages, False),
+        "warnings": messages_json(outcome.messages, True),
+    }
+    return json.dumps(report, indent=2).encode() + b"\n"
+
+
+def say_messages(command: Command, outcome: Outcome, scripts: List[Script]) -> None:
+    """Refused lines, warnings, and what is likely to surprise."""
+    for message in outcome.messages:
+        command.say(message.unit.place() + b": " + message.text)
+    for name, text in scripts:
+        if b"\r" in text:
+            command.say(b"warning: " + name + b": has carriage returns, each of which is a part of its word")
+
+
+def warn_of_empty_masks(command: Command, changes: Changes, new: Files) -> None:
+    found = [path for path in changes.changed if has_open_empty_mask(new[path])]
+    if found:
+        command.say(b"warning: lists with an empty mask whose others have something, which Linux grants to named users and "
+                    b"groups too, and facl does not: %d, first: %s" % (len(found), live_path(found[0])))
+
+
+def say_refused(command: Command, outcome: Outcome, keep_going: bool) -> bool:
+    """Whether lines were refused, so that there is no plan."""
+    count = len(outcome.refusals())
+    if any(message.is_final for message in outcome.messages):
+        command.say(b"nothing is written: edit one of those names alone, since the others are the same file")
+        return True
+    if count and not keep_going:
+        command.say(counted(count, "line was", "lines were") + b" refused, so nothing is written: mend "
+                    + (b"it" if count == 1 else b"them") + b", or plan the other lines by --keep-going")
+    return count > 0 and not keep_going
+
+
+def text_report(given: argparse.Namespace, outcome: Outcome, changes: Changes, commands: List[bytes],
+                target: bytes) -> Iterator[bytes]:
+    yield from full_lines(outcome) if given.full else short_lines(outcome)
+    yield summary(changes, commands, outcome)
+    yield target + b": is written"
+    yield b"; next: facl-apply " + shell_word(target) + b"\n" if changes.changed else b"\n"
+    for command in commands:
+        yield b"by hand: " + command + b"\n"
+
+
+def beside(folder: bytes) -> bytes:
+    """The folder of the plan where none is given."""
+    name = folder.rstrip(b"/")
+    return (os.path.abspath(folder) if os.path.basename(name) in (b"", b".", b"..") else name) + b".plan"
+
+
+def body(command: Command, words: List[str]) -> int:
+    given = parse(words)
+    snapshot = read_snapshot(os.fsencode(given.snapshot))
+    target = os.fsencode(given.plan) if given.plan else beside(snapshot.folder)
+    plan_folder.check_target(target)
+    scripts = read_scripts(given.scripts)
+    units = [unit for name, text in scripts for unit in read_script(name, text)]
+    outcome = answer_scripts(given, snapshot, units)
+    changes = compare(outcome.old, outcome.new)
+    commands = by_hand.commands_of(outcome.commands, changes, outcome.old, outcome.new)
+    say_messages(command, outcome, scripts)
+    if not given.json:
+        command.write(answers_text(outcome.asked))
+    has_work = bool(changes.changed or commands)
+    is_written = not say_refused(command, outcome, given.keep_going) and has_work
+    if is_written:
+        warn_of_empty_masks(command, changes, outcome.new)
+        plan_folder.write_plan(target, {
+            b"edits": b"".join(script.text for script in scripts),
+            b"old": write_records(outcome.old, changes.changed),
+            b"new": write_records(outcome.new, changes.changed),
+            b"by_hand": by_hand.script_of(commands, changes, outcome.new),
+        })
+    if given.json:
+        command.write(json_report(outcome, given, changes, commands, target if is_written else None))
+    elif is_written:
+        for part in text_report(given, outcome, changes, commands, target):
+            command.write(part)
+    if outcome.refusals():
+        return REFUSED
+    if not has_work:
+        command.say(b"nothing to do: no line changes a list, an owner, a flag, a file or a user")
+        return NOTHING
+    return SOMETHING

@@ -1,0 +1,138 @@
+"""Runs the program over a snapshot, and asks it line by line."""
+from __future__ import annotations
+
+import os
+import secrets
+import shutil
+import subprocess
+import tempfile
+from types import TracebackType
+from typing import IO, Iterator, List, NamedTuple, Optional, Type
+
+from .messages import Failure
+
+HOME = os.path.dirname(os.path.dirname(os.path.realpath(__file__)))  # commands/, or PREFIX/lib/facl.
+INSTALLED = os.path.join(HOME, "..", "..", "bin", "facl")
+BUILT = os.path.join(HOME, "..", "crates", "facl_cli", "out", "facl_cli")
+
+
+def find_program(given: Optional[str]) -> str:
+    """The program: the given one, $FACL, facl on the path, or the one that is installed or built beside the commands."""
+    wanted = given or os.environ.get("FACL", "")
+    if wanted:
+        found = shutil.which(wanted)
+        if found is None:
+            raise Failure(os.fsencode(wanted) + b": no such program")
+        return os.path.abspath(found)
+    found = shutil.which("facl") or shutil.which(INSTALLED) or shutil.which(BUILT)
+    if found is None:
+        raise Failure(b"the program facl is not on the path: give it by --program FILE")
+    return os.path.abspath(found)
+
+
+class Region(NamedTuple):
+    """A part of what the program printed."""
+
+    file: IO[bytes]
+    start: int
+    end: int
+
+    def read(self) -> bytes:
+        return b"".join(self.pieces())
+
+    def pieces(self) -> Iterator[bytes]:
+        place = self.start
+        while place < self.end:
+            piece = os.pread(self.file.fileno(), min(1 << 20, self.end - place), place)
+            place += len(piece)
+            yield piece
+
+    def lines(self) -> Iterator[bytes]:
+        """Its lines, without their line feeds."""
+        rest = b""
+        for piece in self.pieces():
+            *whole, rest = (rest + piece).split(b"\n")
+            yield from whole
+
+
+class Answer(NamedTuple):
+    """What the program printed for lines, and its messages without their line numbers."""
+
+    output: Region
+    messages: List[bytes]
+
+
+class Session:
+    """A run of the program over the texts of a snapshot's folder.
+
+    What it prints goes to a file, so that it never waits for a reader. A line that it has to refuse, with a word that
+    nobody can guess, comes after each of ours: when its message is read, all before it is answered.
+    """
+
+    def __init__(self, program: str, folder: bytes) -> None:
+        words = [program, "--passwd", "passwd", "--group", "group", "--dump", "dump"]
+        self.folder = folder
+        self.number = 0
+        self.output = tempfile.TemporaryFile(prefix="facl-plan.")
+        self.run = subprocess.Popen(
+            words, cwd=folder, stdin=subprocess.PIPE, stdout=self.output, stderr=subprocess.PIPE, start_new_session=True
+        )
+
+    def __enter__(self) -> Session:
+        return self
+
+    def __exit__(
+        self, kind: Optional[Type[BaseException]], error: Optional[BaseException], trace: Optional[TracebackType]
+    ) -> None:
+        self.run.kill()
+        self.run.communicate()
+        self.output.close()
+
+    def ask(self, lines: bytes) -> Answer:
+        """Answers whole lines with their texts: one line that is a unit, or lines without messages."""
+        assert self.run.stderr is not None
+        token = secrets.token_hex(16).encode()
+        start = os.fstat(self.output.fileno()).st_size
+        first = self.number + 1
+        self.number += lines.count(b"\n") + 1
+        self.send(lines + b"getfacl " + token + b"\n")
+        end = b"line %d: getfacl: %s: no such file\n" % (self.number, token)
+        messages: List[bytes] = []
+        while True:
+            message = self.run.stderr.readline()
+            if message == end:
+                break
+            if not message:
+                raise self.early_end(messages)
+            messages.append(message.rstrip(b"\n"))
+        region = Region(self.output, start, os.fstat(self.output.fileno()).st_size)
+        return Answer(region, [without_number(message, first) for message in messages])
+
+    def ask_surely(self, line: bytes) -> Region:
+        """Answers a line of our own, which cannot be refused."""
+        answer = self.ask(line + b"\n")
+        if answer.messages:
+            raise Failure(b"the program refused `%s`: %s" % (line.split(b"\n")[0], answer.messages[0]))
+        return answer.output
+
+    def send(self, lines: bytes) -> None:
+        assert self.run.stdin is not None
+        try:
+            self.run.stdin.write(lines)
+            self.run.stdin.flush()
+        except BrokenPipeError:
+            pass  # The program has ended; what it wrote as its last message is read next.
+
+    def early_end(self, messages: List[bytes]) -> Failure:
+        """Why the program ended before it was asked to."""
+        status = self.run.wait()
+        last = messages[-1] if messages else b"status %d" % status
+        if last.startswith(b"facl: setup: "):
+            return Failure(b"%s: the program does not load it: %s" % (self.folder, last))
+        return Failure(b"the program ended early: %s" % last)
+
+
+def without_number(message: bytes, first: int) -> bytes:
+    """A message without the number of the line, which is that of our own stream of lines."""
+    begin = b"line %d: " % first
+    return message[len(begin) :] if message.startswith(begin) else message

@@ -1,0 +1,70 @@
+"""Scripts, cut into lines with their texts, as the section SCRIPTS of the manual page has it."""
+from __future__ import annotations
+
+import re
+from typing import List, NamedTuple, Optional, Tuple
+
+LINE_LIMIT = 65536
+WORD = re.compile(rb"(?:[^ \t']|'[^']*')+")
+TEXT_WORDS = {b"-", b"-M-", b"-X-", b"--modify-file=-", b"--remove-file=-", b"--set-file=-", b"--restore=-"}
+
+
+class Unit(NamedTuple):
+    """A line of a script that does something, with the lines of its text."""
+
+    script: bytes
+    number: int
+    words: List[bytes]
+    lines: List[bytes]
+    is_ended: bool  # Whether its text, if it takes one, has its last line.
+
+    def place(self) -> bytes:
+        return b"%s, line %d" % (self.script, self.number)
+
+    def is_of(self, *tools: bytes) -> bool:
+        """Whether its tool is one of these."""
+        return self.words[:1] != [] and self.words[0] in tools
+
+
+def words_of(line: bytes) -> Optional[List[bytes]]:
+    """The words of a line, without their quotes; None where a quote is open."""
+    if line.count(b"'") % 2 == 1:
+        return None
+    return [word.replace(b"'", b"") for word in WORD.findall(line)]
+
+
+def is_empty(line: bytes) -> bool:
+    """Whether a line is blank or a comment."""
+    return line.strip(b" \t")[:1] in (b"", b"#")
+
+
+def takes_text(words: List[bytes]) -> bool:
+    return words[:1] == [b"load"] or any(word in TEXT_WORDS for word in words[1:])
+
+
+def end_of_text(lines: List[bytes], place: int) -> Tuple[int, bool]:
+    """The place after the text that starts at a place, and whether the text is ended."""
+    while place < len(lines):
+        place += 1
+        if lines[place - 1] == b".":
+            return place, True
+    return place, False
+
+
+def read_script(name: bytes, content: bytes) -> List[Unit]:
+    """The units of a script, without its blank lines and comments."""
+    lines = content.split(b"\n")
+    if lines[-1] == b"":
+        lines.pop()
+    units = []
+    place = 0
+    while place < len(lines):
+        begin, line = place, lines[place]
+        place, is_ended = place + 1, True
+        words = None if len(line) > LINE_LIMIT else words_of(line)
+        if len(line) <= LINE_LIMIT and is_empty(line):
+            continue
+        if words is not None and takes_text(words):
+            place, is_ended = end_of_text(lines, place)
+        units.append(Unit(name, begin + 1, words or [], lines[begin:place], is_ended))
+    return units

@@ -1,0 +1,70 @@
+"""What the tests have in common: a snapshot of their own, and runs of the commands over it."""
+from __future__ import annotations
+
+import os
+import shutil
+import signal
+import subprocess
+import sys
+import tempfile
+import unittest
+from typing import Dict, List, NamedTuple, Optional
+
+HERE = os.path.dirname(os.path.realpath(__file__))
+COMMANDS = os.path.dirname(HERE)
+
+
+class Done(NamedTuple):
+    status: int
+    out: bytes
+    messages: bytes
+
+
+class Case(unittest.TestCase):
+    """A test in a folder of its own, with a copy of the stored snapshot as `before`."""
+
+    def setUp(self) -> None:
+        self.folder = tempfile.mkdtemp(prefix="facl-commands-test.")
+        self.addCleanup(shutil.rmtree, self.folder)
+        shutil.copytree(os.path.join(HERE, "snapshots", "share"), self.path("before"))
+
+    def path(self, name: str) -> str:
+        return os.path.join(self.folder, name)
+
+    def write(self, name: str, text: bytes) -> None:
+        with open(self.path(name), "wb") as file:
+            file.write(text)
+
+    def read(self, name: str) -> bytes:
+        with open(self.path(name), "rb") as file:
+            return file.read()
+
+    def run_command(self, name: str, words: List[str], text: bytes = b"", environment: Optional[Dict[str, str]] = None) -> Done:
+        words = [sys.executable, os.path.join(COMMANDS, name), *words]
+        done = subprocess.run(
+            words, input=text, capture_output=True, cwd=self.folder, env={**os.environ, **(environment or {})}, check=False
+        )
+        return Done(done.returncode, done.stdout, done.stderr)
+
+    def start(self, name: str, *words: str) -> subprocess.Popen[bytes]:
+        """Starts a command that signals end, also where the tests run in the background of a shell, which ignores SIGINT there."""
+
+        def take_signals() -> None:
+            for number in (signal.SIGHUP, signal.SIGINT, signal.SIGTERM):
+                signal.signal(number, signal.SIG_DFL)
+
+        return subprocess.Popen(
+            [os.path.join(COMMANDS, name), *words],
+            cwd=self.folder,
+            stdout=subprocess.PIPE,
+            stderr=subprocess.PIPE,
+            preexec_fn=take_signals,
+        )
+
+    def plan(self, script: bytes, *options: str) -> Done:
+        """Runs facl-plan over the snapshot and a script of this text."""
+        self.write("edits", script)
+        return self.run_command("facl-plan", [*options, "before", "edits"])
+
+    def expect(self, done: Done, status: int, out: bytes, messages: bytes = b"") -> None:
+        self.assertEqual((done.status, done.out, done.messages), (status, out, messages))

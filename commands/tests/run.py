@@ -1,0 +1,18 @@
+#!/usr/bin/env python3
+"""Runs all tests of the commands, by the program that $FACL names; the last line is `N passed, M failed`.
+
+usage: run.py [FAULTS]      FAULTS: what was found before, counted with those that failed
+"""
+import os
+import sys
+import unittest
+
+sys.dont_write_bytecode = True
+HERE = os.path.dirname(os.path.realpath(__file__))
+sys.path.insert(0, HERE)
+
+result = unittest.TextTestRunner(verbosity=1).run(unittest.TestLoader().discover(HERE))
+wrong = len(result.failures) + len(result.errors) + len(result.unexpectedSuccesses)
+failed = wrong + int(sys.argv[1] if len(sys.argv) > 1 else 0)
+print("%d passed, %d failed" % (result.testsRun - wrong, failed))
+sys.exit(1 if failed or not result.testsRun else 0)

@@ -1,0 +1,166 @@
+"""The parts that the commands share: names, scripts, records, and what a restore that was ended can have left."""
+from __future__ import annotations
+
+import os
+import random
+import subprocess
+import sys
+import unittest
+from typing import List
+
+from common import COMMANDS, HERE, Case
+
+sys.path.insert(0, COMMANDS)
+
+from facl_commands import live, names, people, records, scripts  # noqa: E402
+from facl_commands.messages import Failure  # noqa: E402
+from facl_commands.program import Session, find_program  # noqa: E402
+
+
+class Names(unittest.TestCase):
+    def test_escapes_are_read(self) -> None:
+        for text, name in ((rb"a\012b", b"a\nb"), (rb"\\x", rb"\x"), (rb"\134012", rb"\012"), (rb"\400", rb"\400"),
+                           (rb"\\012", rb"\012"), (rb"\1", rb"\1"), (rb"\377", b"\xff"), (rb"\x\\", b"\\x\\")):
+            self.assertEqual(names.read_name(text), name)
+
+    def test_what_is_written_is_read_again(self) -> None:
+        chance = random.Random(1)
+        for _ in range(2000):
+            name = bytes(chance.choice(b"\\\\01239\n\r ab\xe9'") for _ in range(chance.randrange(8)))
+            self.assertEqual(names.read_name(names.write_name(name)), name)
+            self.assertEqual(scripts.words_of(names.script_word(name)), [names.script_word(name)[1:-1]])
+
+    def test_paths(self) -> None:
+        for text, path in ((b"/", b""), (b".", b""), (b"/srv//./a/", b"srv/a"), (b"./-x", b"-x"), (rb"/srv/\012", b"srv/\n")):
+            self.assertEqual(names.read_path(text), path)
+        order = [b"", b"a", b"a/b", b"a/b/c", b"a b", b"a!", b"b"]
+        self.assertEqual(sorted(order, key=names.path_order), [b"", b"a", b"a/b", b"a/b/c", b"a b", b"a!", b"b"])
+
+    def test_shell_words(self) -> None:
+        chance = random.Random(2)
+        for _ in range(100):
+            word = bytes(chance.choice(b"'\"\\ \n$`*-ab\xe9") for _ in range(chance.randrange(1, 8)))
+            done = subprocess.run([b"sh", b"-c", b"printf %s " + names.shell_word(b"x" + word)], capture_output=True, check=True)
+            self.assertEqual(done.stdout, b"x" + word)
+
+    def test_json(self) -> None:
+        self.assertEqual(names.json_text("é\\134".encode() + b"\xe9"), "é\\134\\351")
+
+
+class Scripts(Case):
+    def units(self, text: bytes) -> List[object]:
+        return [(unit.number, unit.words, len(unit.lines), unit.is_ended) for unit in scripts.read_script(b"s", text)]
+
+    def test_lines(self) -> None:
+        self.assertEqual(self.units(b""), [])
+        self.assertEqual(self.units(b"\n \t\n # x 'y\nwho  r\ta\n"), [(4, [b"who", b"r", b"a"], 1, True)])
+        self.assertEqual(self.units(b"x'a b'y '' 'c"), [(1, [], 1, True)])
+        self.assertEqual(self.units(b"x'a b'y ''"), [(1, [b"xa by", b""], 1, True)])
+
+    def test_texts(self) -> None:
+        self.assertEqual(self.units(b"load dump\nx\n.\ny"), [(1, [b"load", b"dump"], 3, True), (4, [b"y"], 1, True)])
+        self.assertEqual(self.units(b"frob '-'\n.\n- x\n"), [(1, [b"frob", b"-"], 2, True), (3, [b"-", b"x"], 1, True)])
+        self.assertEqual(self.units(b"frob --set-file=-\n..\n. \n"), [(1, [b"frob", b"--set-file=-"], 3, False)])
+        self.assertEqual(self.units(b"frob - 'x\ny\n"), [(1, [], 1, True), (2, [b"y"], 1, True)])
+        self.assertEqual(self.units(b"#" * 65537 + b"\nx - " + b"y" * 65533 + b"\nz -\n."),
+                         [(1, [], 1, True), (2, [], 1, True), (3, [b"z", b"-"], 2, True)])
+
+    def test_the_program_cuts_them_alike(self) -> None:
+        # The messages of a script that is read at once, and of its units asked one by one, are the same.
+        chance = random.Random(3)
+        pieces = [b"frob", b"-", b"'", b" ", b"\t", b"\n", b"\n", b".", b"\n.\n", b"load", b"dump", b"setfacl", b"-M", b"-X-", b"#",
+                  b"--restore=-", b"\xff", b"srv/share/one", b"u:guest:r", b"chmod 600", b"\r", b"who", b"x" * 65536, b"can"]
+        for _ in range(60):
+            script = b"".join(chance.choice(pieces) for _ in range(chance.randrange(60)))
+            self.check_messages(script)
+
+    def check_messages(self, script: bytes) -> None:
+        folder = os.path.join(HERE, "snapshots", "share")
+        words = [find_program(None), "--passwd", "passwd", "--group", "group", "--dump", "dump"]
+        whole = subprocess.run(words, input=script, cwd=folder, capture_output=True, check=False)
+        found, printed = b"", b""
+        with Session(words[0], os.fsencode(folder)) as session:
+            for unit in scripts.read_script(b"s", script):
+                messages = [b"facl: text without end"]
+                if unit.is_ended:
+                    answer = session.ask(b"".join(line + b"\n" for line in unit.lines))
+                    messages, printed = answer.messages, printed + answer.output.read()
+                found += b"".join(b"line %d: %s\n" % (unit.number, message) for message in messages)
+        self.assertEqual((found, printed), (whole.stderr, whole.stdout), script)
+
+
+class Records(unittest.TestCase):
+    def record(self, name: bytes, *entries: bytes, flags: bytes = b"") -> bytes:
+        head = b"# file: " + name + b"\n# owner: 0\n# group: 0\n" + (b"# flags: " + flags + b"\n" if flags else b"")
+        return head + b"".join(entry + b"\n" for entry in entries) + b"\n"
+
+    def test_kinds(self) -> None:
+        base = (b"user::rwx", b"group::r-x", b"other::---")
+        listing = (self.record(b".", *base) + self.record(b"a", *base) + self.record(b"a/b", *base) + self.record(b"c/", *base)
+                   + self.record(b"d", *base, *(b"default:" + it for it in base)))
+        files = records.read_listing(listing)
+        self.assertEqual([path for path, file in files.items() if file.is_directory], [b"", b"a", b"c", b"d"])
+        self.assertEqual(records.write_record(b"c", files[b"c"]), self.record(b"/c/", *base))
+        self.assertEqual(records.write_record(b"", files[b""]), self.record(b"/", *base))
+
+    def test_order_and_effective_permissions_do_not_count(self) -> None:
+        one = records.File(False, b"# owner: 1\n# group: 2\nuser::rw-\nuser:3:rw-\t\t\t#effective:r--\n")
+        other = records.File(False, b"# group: 2\n# owner: 1\nuser:3:rw-\nuser::rw-\n")
+        self.assertTrue(live.is_same(one, other))
+
+    def test_a_plan_is_read_exactly(self) -> None:
+        one = self.record(b"/a", b"user::rw-", b"group::r--", b"other::---")
+        self.assertEqual(list(records.read_exactly(b"new", one + one.replace(b"/a", b"/b"))), [b"a", b"b"])
+        bad = [one[:-1], one[:-1] + one.replace(b"/a", b"/b"), b"\n" + one, one + b"\n", one + b"ines\n", b"ines\n\n" + one, one + one,
+               one.replace(b"# owner: 0\n", b""), one.replace(b"group", b"grup"), one.replace(b"/a", b"a"), one.replace(b"r--", b"r-X"),
+               one.replace(b"other::---\n", b"other::---\t#effective\n"), one.replace(b"/a", b"/a\\x"), one[:30]]
+        for text in bad:
+            with self.assertRaises(Failure, msg=repr(text)):
+                records.read_exactly(b"new", text)
+
+    def test_differences(self) -> None:
+        def file(owner: bytes, flags: bytes, *entries: bytes) -> records.File:
+            return records.read_listing(self.record(b"a", *entries, flags=flags).replace(b"owner: 0", b"owner: " + owner))[b"a"]
+        one = file(b"1", b"", b"user::rw-", b"group::r--", b"other::---")
+        other = file(b"2", b"--t", b"user::rw-", b"group::r--", b"other::r--", b"default:user::rwx")
+        self.assertEqual(live.difference(one, other), b"owner, flags, access list, default list")
+
+    def test_between(self) -> None:
+        def file(owner: int, flags: bytes, *entries: bytes) -> records.File:
+            body = b"# owner: %d\n# group: 0\n# flags: %s\n" % (owner, flags) + b"".join(entry + b"\n" for entry in entries)
+            return records.File(False, body)
+        old = file(1, b"s--", b"user::rw-", b"group::r--", b"other::r--")
+        nothing = (b"user::---", b"user:3:---", b"group::---", b"mask::---", b"other::---")
+        new = file(2, b"-s-", *nothing)
+        for between in (file(1, b"s--", *nothing), file(2, b"---", *nothing),
+                        file(2, b"-s-", b"user::rw-", b"user:3:---", b"group::---", b"mask::r--", b"other::r--"), old, new):
+            self.assertTrue(live.is_between(between, old, new))
+        for changed in (file(3, b"s--", *nothing), file(1, b"--t", *nothing), file(1, b"s--", b"user::rw-", b"group::rw-", b"other::r--"),
+                        file(1, b"s--", *nothing, b"default:user::rwx"),
+                        file(1, b"s--", b"user::rw-", b"user:4:---", b"group::r--", b"mask::r--", b"other::r--")):
+            self.assertFalse(live.is_between(changed, old, new))
+
+    def test_empty_masks(self) -> None:
+        for entries, is_open in (((b"user::rw-", b"user:3:r--", b"group::r--", b"mask::---", b"other::r--"), True),
+                                 ((b"user::rw-", b"user:3:r--", b"group::r--", b"mask::---", b"other::---"), False),
+                                 ((b"user::rw-", b"user:3:r--", b"group::r--", b"mask::r--", b"other::r--"), False)):
+            self.assertEqual(records.has_open_empty_mask(records.read_listing(self.record(b"a", *entries))[b"a"]), is_open)
+
+
+class People(unittest.TestCase):
+    def test_options(self) -> None:
+        for words in ([b"-a", b"x", b"g"], [b"g", b"-a", b"x"], [b"-ax", b"g"], [b"-a=x", b"g"], [b"-a", b"x", b"--", b"g"]):
+            self.assertEqual(people.options_of(words), ({b"a": b"x"}, [b"g"]))
+        self.assertEqual(people.options_of([b"-a==x", b"--", b"-g"]), ({b"a": b"=x"}, [b"-g"]))
+
+    def test_first_rows_count(self) -> None:
+        found = people.People(b"# no row\nx:x:1:1::/:\n\nx:x:2:2::/:\ny:x:1:1::/:\n", b"g:x:5:y,,x\n")
+        self.assertEqual([(user.name, user.uid) for user in found.users], [(b"x", 1), (b"y", 1)])
+        self.assertEqual(found.user(b"1").name, b"x")
+        self.assertEqual(found.groups[0].members, [b"y", b"x"])
+        self.assertIsNone(found.change([b"gpasswd", b"-a", b"x", b"g"]))
+        self.assertEqual(found.change([b"gpasswd", b"-d", b"1", b"5"]), b"gpasswd -d x g")
+
+
+if __name__ == "__main__":
+    unittest.main()

@@ -1,0 +1,34 @@
+#!/bin/sh
+# Tests of the commands in commands/: what needs only the program, over stored snapshots. It makes its files in a folder of
+# its own, takes a few seconds, and ends with the line `N passed, M failed`; the exit status is 0 where none failed.
+#
+# usage: tools/check_commands.sh [PROGRAM]      PROGRAM: one that is built; without it crates/facl_cli/out/facl_cli
+#
+# The linters shellcheck and mypy --strict are asked too where they are installed. What needs a real file system and root is in
+# tools/check/live.sh and tools/check_snapshot.sh.
+set -eu
+top=$(cd "$(dirname "$0")/.." && pwd)
+FACL=$(realpath "${1:-$top/crates/facl_cli/out/facl_cli}")
+export FACL
+if [ ! -x "$FACL" ]; then
+    echo "tools/check_commands.sh: $FACL: no such program: give one that is built" >&2
+    echo "0 passed, 1 failed"
+    exit 2
+fi
+cd "$top"
+
+# lint TOOL WORD..: counts as a failed test where the tool is there and finds something
+lint_faults=0
+lint() {
+    if command -v "$1" >/dev/null; then
+        "$@" >&2 || lint_faults=$((lint_faults + 1))
+    else
+        echo "tools/check_commands.sh: without $1, which is not installed" >&2
+    fi
+}
+
+export MYPYPATH=commands:commands/tests
+lint shellcheck commands/facl-snapshot tools/check_commands.sh tools/install.sh tools/package.sh tools/check/live.sh
+lint mypy --strict --cache-dir=/dev/null --scripts-are-modules commands/facl_commands commands/facl-plan \
+    commands/facl-apply commands/tests/*.py tools/check/live.py
+exec python3 commands/tests/run.py "$lint_faults"

@@ -1,0 +1,101 @@
+#!/bin/sh
+# Installs the program as `facl`, the commands facl-snapshot, facl-plan and facl-apply, and their manual pages.
+#
+# usage: tools/install.sh [--program FILE] [PREFIX]      into PREFIX/bin, PREFIX/lib/facl and PREFIX/share/man
+#        tools/install.sh --uninstall [PREFIX]           removes what it installs
+#
+# PREFIX is /usr/local. FILE is a program that is built; without it crates/facl_cli/out/facl_cli, which tools/prove.py
+# proves and builds. With DESTDIR in the environment all goes below that folder.
+set -eu
+top=$(cd "$(dirname "$0")/.." && pwd)
+
+fail() {
+    echo "tools/install.sh: $1" >&2
+    exit 2
+}
+
+warn() {
+    echo "tools/install.sh: warning: $1" >&2
+}
+
+program=$top/crates/facl_cli/out/facl_cli
+action=install
+while [ $# -gt 0 ]; do
+    case $1 in
+    --program)
+        [ $# -gt 1 ] || fail "--program: a FILE is missing"
+        program=$2
+        shift 2
+        ;;
+    --uninstall)
+        action=uninstall
+        shift
+        ;;
+    --help)
+        sed -n '2,8s/^# \{0,1\}//p' "$0"
+        exit 0
+        ;;
+    -*)
+        sed -n '4,5s/^# //p' "$0" >&2
+        exit 2
+        ;;
+    *) break ;;
+    esac
+done
+[ $# -le 1 ] || fail "one PREFIX at most"
+prefix=${1:-/usr/local}
+case $prefix in /*) ;; *) fail "$prefix: PREFIX has to begin with a slash" ;; esac
+to=${DESTDIR:-}${prefix%/}
+pages='facl facl-commands facl-snapshot facl-plan facl-apply'
+
+uninstall() {
+    for name in facl facl-snapshot facl-plan facl-apply; do rm -f -- "$to/bin/$name"; done
+    for page in $pages; do rm -f -- "$to/share/man/man1/$page.1"; done
+    rm -rf -- "$to/lib/facl"
+}
+
+# check_parts: what has to be there before anything is written
+check_parts() {
+    { [ -f "$program" ] && [ -x "$program" ]; } || fail "$program: no such program: tools/prove.py proves and builds it"
+    if [ -e "$to/lib/facl" ] && [ ! -d "$to/lib/facl/facl_commands" ]; then fail "$to/lib/facl: is there, and is not ours"; fi
+    mkdir -p -- "$to/bin" "$to/lib" "$to/share/man/man1" || fail "$prefix: cannot be written: run it as root, or give a PREFIX"
+    { [ -w "$to/bin" ] && [ -w "$to/lib" ] && [ -w "$to/share/man/man1" ]; } ||
+        fail "$prefix: cannot be written: run it as root, or give a PREFIX"
+}
+
+install_files() {
+    install -m 755 -- "$program" "$to/bin/facl"
+    install -m 755 -- "$top/commands/facl-snapshot" "$to/bin"
+    rm -rf -- "$to/lib/facl"
+    install -d -m 755 -- "$to/lib/facl" "$to/lib/facl/facl_commands"
+    install -m 644 -- "$top"/commands/facl_commands/*.py "$to/lib/facl/facl_commands"
+    for name in facl-plan facl-apply; do
+        install -m 755 -- "$top/commands/$name" "$to/lib/facl"
+        ln -sf -- "../lib/facl/$name" "$to/bin/$name"
+    done
+    for page in facl facl-commands; do install -m 644 -- "$top/docs/$page.1" "$to/share/man/man1"; done
+    for name in facl-snapshot facl-plan facl-apply; do
+        echo ".so man1/facl-commands.1" >"$to/share/man/man1/$name.1"
+        chmod 644 "$to/share/man/man1/$name.1"
+    done
+}
+
+# say_what_is_missing: what the commands call, and where they are looked for
+say_what_is_missing() {
+    for needed in 'getfacl acl' 'setfacl acl' 'getent libc-bin' 'find findutils' 'xargs findutils' 'python3 python3'; do
+        command -v "${needed% *}" >/dev/null || warn "${needed% *} is missing (package ${needed#* }), which the commands call"
+    done
+    ! command -v python3 >/dev/null || python3 -c 'import sys; sys.exit(sys.version_info < (3, 7))' ||
+        warn "python3 is older than 3.7, which facl-plan and facl-apply need"
+    case :$PATH: in *:"$prefix/bin":*) ;; *) warn "$prefix/bin is not on the path" ;; esac
+}
+
+if [ $action = uninstall ]; then
+    uninstall
+    echo "tools/install.sh: removed from $prefix"
+else
+    check_parts
+    install_files
+    [ -n "${DESTDIR:-}" ] || say_what_is_missing
+    echo "tools/install.sh: facl, facl-snapshot, facl-plan and facl-apply are in $prefix/bin; man facl"
+fi

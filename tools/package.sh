@@ -1,0 +1,88 @@
+#!/bin/sh
+# Makes a Debian package of the program, the commands and the manual pages, so that a server needs neither the kit nor a
+# proof of its own. It names the commit that it was made of.
+#
+# usage: tools/package.sh [--program FILE] [DIR]      the package comes into DIR, or the current folder
+#
+# Without FILE the program is proved and built by tools/prove.py, and the package says that it was proved at its commit;
+# the files of that commit have to be as they were committed. FILE is a program that is built: the package says so.
+set -eu
+top=$(cd "$(dirname "$0")/.." && pwd)
+
+fail() {
+    echo "tools/package.sh: $1" >&2
+    exit 2
+}
+
+program=
+while [ $# -gt 0 ]; do
+    case $1 in
+    --program)
+        [ $# -gt 1 ] || fail "--program: a FILE is missing"
+        program=$(realpath -- "$2")
+        shift 2
+        ;;
+    --help)
+        sed -n '2,8s/^# \{0,1\}//p' "$0"
+        exit 0
+        ;;
+    -*)
+        sed -n '5s/^# //p' "$0" >&2
+        exit 2
+        ;;
+    *) break ;;
+    esac
+done
+[ $# -le 1 ] || fail "one DIR at most"
+target=$(realpath -- "${1:-.}")
+[ -d "$target" ] || fail "$target: no such folder"
+for tool in dpkg-deb dpkg git; do
+    command -v $tool >/dev/null || fail "$tool is not installed"
+done
+
+cd "$top"
+[ -z "$(git status --porcelain)" ] || fail "files are not as in the commit: commit them first"
+commit=$(git rev-parse HEAD)
+day=$(git show -s --format=%cd --date=format:%Y%m%d HEAD)
+if [ -n "$program" ]; then
+    origin="The program was given as it is, and is not known to be the one that is proved at commit $commit."
+else
+    tools/prove.py
+    program=$top/crates/facl_cli/out/facl_cli
+    origin="The program was proved and built at commit $commit."
+fi
+
+work=$(mktemp -d)
+trap 'rm -rf "$work"' EXIT
+trap 'exit 130' INT
+trap 'exit 143' TERM HUP
+root=$work/root
+mkdir "$root"
+chmod 755 "$root"
+DESTDIR=$root tools/install.sh --program "$program" /usr >/dev/null
+gzip -9n "$root"/usr/share/man/man1/*.1
+mkdir -p "$root/DEBIAN" "$root/usr/share/doc/facl"
+printf '%s\n' "$origin" >"$root/usr/share/doc/facl/commit"
+size=$(du -sk "$root/usr" | cut -f 1)
+version=0.$day.$(git rev-parse --short=10 HEAD)
+architecture=$(dpkg --print-architecture)
+cat >"$root/DEBIAN/control" <<END
+Package: facl
+Version: $version
+Architecture: $architecture
+Maintainer: facl
+Installed-Size: $size
+Depends: libc6, libc-bin, acl, findutils, coreutils, python3 (>= 3.7)
+Section: admin
+Priority: optional
+Description: plans changes of access control lists
+ facl runs getfacl, setfacl, chacl and chmod over a recorded tree of files, and
+ answers who may do what with which file. facl-snapshot records a live system,
+ facl-plan prints what edits would change, facl-apply takes them there and back.
+ .
+$(printf '%s\n' "$origin" | fold -s -w 76 | sed 's/^/ /')
+END
+package=facl_${version}_$architecture.deb
+dpkg-deb --root-owner-group --build "$root" "$work/$package" >/dev/null
+mv -- "$work/$package" "$target/$package"
+echo "$target/$package"
