@@ -1,0 +1,25 @@
+//! The public surface as a user of the crates sees it: each public call once, by its crate and its name, with its types
+//! written out, and a judge of the user's own.
+#![tactic(auto)]
+
+#[cfg(test)]
+mod edit;
+#[cfg(test)]
+mod entry;
+mod followed;
+mod judge;
+mod nobody;
+#[cfg(test)]
+mod rights;
+#[cfg(test)]
+mod run;
+#[cfg(test)]
+mod setup;
+#[cfg(test)]
+mod text;
+#[cfg(test)]
+mod tree;
+
+pub use followed::{Followed, follow};
+pub use judge::OwnerAlone;
+pub use nobody::Nobody;

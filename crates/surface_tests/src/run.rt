@@ -1,0 +1,177 @@
+//! facl: sessions, and the words of lines and of the program.
+use crate::judge::OwnerAlone;
+use crate::setup::{DUMP, GROUP, PASSWD};
+use acl_rights::Judge;
+use facl::{
+    LineFault, RunFault, Setup, Source, Status, StdFeed, StdSink, Tool, Words, read_args,
+    read_words, run, run_judged,
+};
+use std::alloc::Global;
+use std::process::Abort;
+
+const SETUP: Setup<'static> = Setup {
+    passwd: Some(PASSWD),
+    group: Some(GROUP),
+    dump: Some(DUMP),
+};
+
+#[test]
+fn a_session(rt: HostRuntime) {
+    let mut out: Vec<u8> = Vec::new(rt.alloc());
+    let mut err: Vec<u8> = Vec::new(rt.alloc());
+    let script: &[u8] = b"setfacl -m u:joe:rwx f\nchacl -l f\nfrob\n";
+    let ended: Result<Status, RunFault> = run(
+        rt.alloc(),
+        &SETUP,
+        &mut StdFeed::new(script),
+        &mut StdSink::new(&mut out),
+        &mut StdSink::new(&mut err),
+    );
+    assert!(rt; ended.ok() == Some(Status::Refused));
+    assert!(rt; out.as_slice() == b"f [u::rw-,u:joe:rwx,g::r--,m::rwx,o::---]\n".as_slice());
+    assert!(rt; err.as_slice() == b"line 3: facl: unknown tool\n".as_slice());
+}
+
+/// How many verdicts a script asks for, its setup included.
+fn asked(alloc: Global, script: &[u8]) -> u64 {
+    let mut judge = OwnerAlone::new();
+    let _status: Option<Status> = run_judged(
+        alloc,
+        &SETUP,
+        &mut judge,
+        &mut StdFeed::new(script),
+        &mut StdSink::new(Vec::new(alloc)),
+        &mut StdSink::new(Vec::new(alloc)),
+    )
+    .ok();
+    judge.asked()
+}
+
+/// Lines, and how many verdicts all up to each ask for with the setup.
+type Counted = &'static [(&'static [u8], u64)];
+
+/// Default lists decide about no file that is there.
+const DEFAULTS: Counted = &[
+    (b"setfacl -m d:u:joe:rx f\n", 15),
+    (b"setfacl -R -m d:u:joe:rx .\n", 15),
+    (b"chacl -l . pub f\n", 15),
+];
+
+const MEMBERS: Counted = &[
+    (b"gpasswd -a joe users\n", 15),
+    (b"gpasswd -a joe adm\n", 17),
+    (b"can joe log\n", 17),
+    (b"can joe pub\n", 17),
+    (b"gpasswd -d joe adm\n", 19),
+    (b"can joe log\n", 19),
+    (b"chmod 770 pub\n", 22),
+    (b"gpasswd -d joe users\n", 22),
+    (b"can joe pub\n", 22),
+];
+
+fn check(rt: &impl Abort, alloc: Global, lines: Counted) {
+    let mut script: Vec<u8> = Vec::new(alloc);
+    assert!(rt; asked(alloc, &script) == 15);
+    for (line, total) in lines {
+        script.extend_from_slice(line).expect(rt, "memory");
+        assert!(rt; asked(alloc, &script) == *total);
+    }
+}
+
+#[test]
+fn verdicts_are_counted(rt: HostRuntime) {
+    check(&rt, rt.alloc(), DEFAULTS);
+    check(&rt, rt.alloc(), MEMBERS);
+}
+
+/// The words of a text, cut at spaces.
+fn cut(rt: &impl Abort, alloc: Global, text: &str) -> Vec<String> {
+    let mut words: Vec<String> = Vec::new(alloc);
+    for word in text.split(' ') {
+        let word = String::from_str(alloc, word).expect(rt, "memory");
+        words.push(word).expect(rt, "memory");
+    }
+    words
+}
+
+#[test]
+fn words(rt: HostRuntime) {
+    let read: Result<Words, LineFault> = read_words(
+        rt.alloc(),
+        Tool::Chmod,
+        &cut(&rt, rt.alloc(), "-R 750 pub"),
+    );
+    let Words {
+        flags: _,
+        values: _,
+        operands,
+    } = read.expect(&rt, "words");
+    assert!(rt; operands.as_slice().len() == 2);
+    let refused: Result<Words, LineFault> = read_words(
+        rt.alloc(),
+        Tool::Chmod,
+        &cut(&rt, rt.alloc(), "8 pub"),
+    );
+    assert!(rt; number(refused.err().expect(&rt, "a fault")) == 7);
+    let files: Result<[Option<String>; 3], LineFault> = read_args(
+        rt.alloc(),
+        &cut(&rt, rt.alloc(), "--dump d"),
+    );
+    let files: [Option<String>; 3] = files.expect(&rt, "words");
+    let are_given: [bool; 3] = [files[0].is_some(), files[1].is_some(), files[2].is_some()];
+    assert_eq!(rt; are_given, [false, false, true]);
+    let refused = read_args(rt.alloc(), &cut(&rt, rt.alloc(), "--dump"));
+    assert!(rt; number(refused.err().expect(&rt, "a fault")) == 7);
+}
+
+/// The number of a fault among the faults of a line.
+fn number(fault: LineFault) -> u8 {
+    match fault {
+        LineFault::LineTooLong => 1,
+        LineFault::NotUtf8 => 2,
+        LineFault::OpenQuote => 3,
+        LineFault::UnknownTool => 4,
+        LineFault::UnendedText => 5,
+        LineFault::TextLineTooLong => 6,
+        LineFault::Usage => 7,
+        LineFault::Text(
+            Source::Entry
+            | Source::DefaultEntry
+            | Source::TextLine
+            | Source::AttributeEntry
+            | Source::Operand,
+            _,
+        ) => 8,
+        LineFault::Both { at: _ } => 9,
+        LineFault::Tree(_) => 10,
+        LineFault::NoMemory => 11,
+    }
+}
+
+#[test]
+fn a_setup_that_is_refused(rt: HostRuntime) {
+    let setup = Setup {
+        passwd: Some(b"lisa\n"),
+        group: None,
+        dump: None,
+    };
+    let ended: Result<Status, RunFault> = run(
+        rt.alloc(),
+        &setup,
+        &mut StdFeed::new(b"".as_slice()),
+        &mut StdSink::new(Vec::new(rt.alloc())),
+        &mut StdSink::new(Vec::new(rt.alloc())),
+    );
+    assert!(rt; run_number(ended.err().expect(&rt, "a fault")) == 3);
+}
+
+/// The number of a fault among the faults of a run.
+fn run_number(fault: RunFault) -> u8 {
+    match fault {
+        RunFault::Read => 1,
+        RunFault::Write => 2,
+        RunFault::Setup { which: _, fault: _ } => 3,
+        RunFault::ScriptTooLong => 4,
+        RunFault::NoMemory => 5,
+    }
+}

@@ -1,0 +1,147 @@
+//! acl_text: entry texts, names and paths, rows, dumps, and attribute bytes.
+use crate::nobody::Nobody;
+use acl_entry::{Acl, Key, NoMemory};
+use acl_text::{
+    DumpRecord, DumpUse, FaultKind, GroupRow, Name, PasswdRow, Path, PermSpec, Sep, Spec,
+    TextFault, Want, Which, decode_attr, encode_attr, read_dump, read_entries, read_group,
+    read_name, read_passwd, read_path, write_long, write_name, write_path, write_short,
+};
+use std::process::Abort;
+
+#[test]
+fn entries(rt: HostRuntime) {
+    let read: Result<Vec<Spec>, TextFault> = read_entries(
+        rt.alloc(),
+        b"d:g:70:rX",
+        Sep::Comma,
+        Want::WithPerms,
+        &Nobody,
+    );
+    let specs: Vec<Spec> = read.expect(&rt, "entries");
+    assert!(rt; specs.len() == 1);
+    let Spec {
+        at,
+        dflt,
+        key,
+        perm,
+    } = &specs[0];
+    assert!(rt; *at == 1 && *dflt && matches!(key, Key::Group(_)));
+    let given: &Option<PermSpec> = perm;
+    assert!(rt; matches!(given, Some(PermSpec { fixed, cond_x: true }) if fixed.number() == 4));
+    let lines = read_entries(rt.alloc(), b"u:5\n", Sep::Line, Want::WithoutPerms, &Nobody);
+    let plain = read_entries(rt.alloc(), b"d:u::r", Sep::Comma, Want::Plain, &Nobody);
+    assert!(rt; lines.is_ok() && plain.is_err());
+}
+
+#[test]
+fn lists_and_attributes(rt: HostRuntime) {
+    let acl: Acl = Acl::minimal(rt.alloc(), 0o640).expect(&rt, "memory");
+    let long: Result<Vec<u8>, NoMemory> = write_long(rt.alloc(), &acl, &Nobody);
+    assert!(rt;
+        long.expect(&rt, "memory").as_slice() == b"user::rw-\ngroup::r--\nother::---\n".as_slice()
+    );
+    let short: Result<Vec<u8>, NoMemory> = write_short(rt.alloc(), &acl, &Nobody);
+    assert!(rt; short.expect(&rt, "memory").as_slice() == b"u::rw-,g::r--,o::---".as_slice());
+    let bytes: Result<Vec<u8>, NoMemory> = encode_attr(rt.alloc(), &acl);
+    let again: Result<Acl, TextFault> = decode_attr(rt.alloc(), &bytes.expect(&rt, "memory"));
+    assert!(rt; again.expect(&rt, "a list").mode() == 0o640);
+}
+
+#[test]
+fn names_and_paths(rt: HostRuntime) {
+    let name: Result<Name, NoMemory> = read_name(rt.alloc(), b"al\\040b");
+    let name: Name = name.expect(&rt, "memory");
+    assert!(rt; name.as_bytes() == b"al b".as_slice());
+    let written: Result<Vec<u8>, NoMemory> = write_name(rt.alloc(), name.as_bytes());
+    assert!(rt; written.expect(&rt, "memory").as_slice() == b"al\\040b".as_slice());
+    let path: Result<Option<Path>, NoMemory> = read_path(rt.alloc(), b"srv/project");
+    let path: Path = path.expect(&rt, "memory").expect(&rt, "a path");
+    let mut last: &[u8] = b"".as_slice();
+    for component in path.components() {
+        last = component;
+    }
+    assert!(rt; last == b"project".as_slice());
+    let text: Result<Vec<u8>, NoMemory> = write_path(rt.alloc(), &path);
+    assert!(rt; text.expect(&rt, "memory").as_slice() == b"srv/project".as_slice());
+}
+
+#[test]
+fn a_path_of_components(rt: HostRuntime) {
+    let root: Option<Path> = Path::new(Vec::new(rt.alloc()));
+    assert!(rt; root.is_some());
+    let mut components: Vec<Vec<u8>> = Vec::new(rt.alloc());
+    let above = Vec::from_slice(rt.alloc(), b"..").expect(&rt, "memory");
+    components.push(above).expect(&rt, "memory");
+    let refused: Option<Path> = Path::new(components);
+    assert!(rt; refused.is_none());
+}
+
+#[test]
+fn rows(rt: HostRuntime) {
+    let users: Result<Vec<PasswdRow>, TextFault> = read_passwd(
+        rt.alloc(),
+        b"lisa:x:1001:50:Lisa:/home/lisa:/bin/sh\n",
+    );
+    let users: Vec<PasswdRow> = users.expect(&rt, "rows");
+    let PasswdRow { name, uid, gid } = &users[0];
+    assert!(rt;
+        name.as_bytes() == b"lisa".as_slice() && uid.number() == 1001 && gid.number() == 50
+    );
+    let groups: Result<Vec<GroupRow>, TextFault> = read_group(rt.alloc(), b"cool:x:60:lisa\n");
+    let groups: Vec<GroupRow> = groups.expect(&rt, "rows");
+    let GroupRow { name, gid, names } = &groups[0];
+    assert!(rt;
+        name.as_bytes() == b"cool".as_slice() && gid.number() == 60 && names.as_slice().len() == 1
+    );
+}
+
+/// A record that a restore takes, and a load does not.
+const RECORD: &[u8] = b"# file: d/\n# flags: --t\nuser::rwx\ngroup::r-x\nother::---\n";
+
+#[test]
+fn dumps(rt: HostRuntime) {
+    let restored: Result<Vec<DumpRecord>, TextFault> = read_dump(
+        rt.alloc(),
+        RECORD,
+        DumpUse::Restore,
+        &Nobody,
+    );
+    let records: Vec<DumpRecord> = restored.expect(&rt, "records");
+    let DumpRecord {
+        at,
+        path: _,
+        slash,
+        owner,
+        group,
+        flags,
+        access,
+        dacl,
+    } = &records[0];
+    assert!(rt; *at == 1 && *slash && owner.is_none() && group.is_none() && dacl.is_none());
+    assert!(rt; *flags == Some([false, false, true]) && access.mode() == 0o750);
+    let loaded = read_dump(rt.alloc(), RECORD, DumpUse::Load, &Nobody);
+    let TextFault { kind, at } = loaded.err().expect(&rt, "a fault");
+    assert!(rt; number(kind) == 9 && at == 1);
+}
+
+/// The number of a kind among the kinds of fault of a text.
+fn number(kind: FaultKind) -> u8 {
+    match kind {
+        FaultKind::BadTag => 1,
+        FaultKind::MissingPerms => 2,
+        FaultKind::UnwantedPerms => 3,
+        FaultKind::BadPerms => 4,
+        FaultKind::UnknownUser => 5,
+        FaultKind::UnknownGroup => 6,
+        FaultKind::BaseEntry => 7,
+        FaultKind::BadHeader => 8,
+        FaultKind::MissingHeader => 9,
+        FaultKind::BadPath => 10,
+        FaultKind::RepeatedFile => 11,
+        FaultKind::BadRow => 12,
+        FaultKind::BadAttr => 13,
+        FaultKind::List(Which::Access | Which::Default, _) => 14,
+        FaultKind::TooMany => 15,
+        FaultKind::NoMemory => 16,
+    }
+}
