@@ -67,7 +67,7 @@ some_times : (n u : ℕ) → 0 < u → n ≤ n * u
 some_times zero u h = omega arith
 some_times (suc n) u h = omega (arith, one_more n u, some_times n u h)
 
-few_pass : {A : Type 0} (test : A → Bool) (xs : List A) → length (filter test xs) ≤ length xs
+pub few_pass : {A : Type 0} (test : A → Bool) (xs : List A) → length (filter test xs) ≤ length xs
 few_pass test [] = omega arith
 few_pass test (x ∷ xs) = by (test x) (few_pass test xs)
   where
@@ -87,8 +87,11 @@ module _ (V : Verdict) (rows : Rows) (t : StagedState) (goes : GoesFrom V rows t
   few_changed : length t.changed ≤ length t.state.tree.files
   few_changed = subst (λ (es : Files). length es ≤ length t.state.tree.files) (sym goes.reports.changed) (few_pass (is_changed goes.state.tree.files) t.state.tree.files)
 
+  pub nothing_changed : t.state.tree ≡ goes.state.tree → t.changed ≡ []
+  nothing_changed same = goes.reports.changed ∙ ap (λ (r : Recorded). changed_between r.files t.state.tree.files) (sym same) ∙ none_changed t.state.tree.files order
+
   no_change : t.state.tree ≡ goes.state.tree → length t.changed ≡ 0
-  no_change same = ap length (goes.reports.changed ∙ ap (λ (r : Recorded). changed_between r.files t.state.tree.files) (sym same) ∙ none_changed t.state.tree.files order)
+  no_change same = ap length (nothing_changed same)
 
   with_user : (n : ℕ) → n ≤ length t.state.tree.files → 0 < length t.state.people.users → length t.changed ≡ 0 → length t.changed * length t.state.people.users + n ≤ length t.state.tree.files * length t.state.people.users
   with_user n le some none =

@@ -10,6 +10,13 @@ pub mod Maps
 pub mod Listed
 pub mod Replaced
 pub mod Noting
+pub mod Numbers
+pub mod RowLists
+pub mod Judged
+pub mod Refreshing
+pub mod After
+pub mod Granted
+pub mod Anew
 pub use Rattle.acl_tree.proofs.of_acl_dump
 pub use Rattle.acl_tree.proofs.of_acl_entry
 pub use Rattle.acl_tree.proofs.of_acl_files

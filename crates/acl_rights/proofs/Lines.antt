@@ -111,7 +111,7 @@ module _ (V : Verdict) (us ws : List Person) (at : ℕ) (groups : List ℕ) (m :
       ∙ ap (λ (l : List Person). cells_of V l n) (sym m.change.becomes)
 
   module _ (local : (u w : Person) (f : Label) → AgreeOnMentions u w f → V u f ≡ V w f) where
-    cells_kept : (n : Node) → meets (mentions n.label) groups ≡ false → cells_of V us n ≡ cells_of V ws n
+    pub cells_kept : (n : Node) → meets (mentions n.label) groups ≡ false → cells_of V us n ≡ cells_of V ws n
     cells_kept n h =
         sym (map-set_same (λ u. V u n.label) us at m.change.after m.change.before
         (local m.change.after m.change.before n.label (agree us ws at groups m n.label h) ∙ ap (λ u. V u n.label) (sym (read_got us at m.change.before m.change.was))))
@@ -151,6 +151,9 @@ drop_seen f zero [] = refl
 drop_seen f zero (x ∷ xs) = refl
 drop_seen f (suc n) [] = refl
 drop_seen f (suc n) (x ∷ xs) = drop_seen f n xs
+
+pub remove_seen : {A B : Type 0} (f : A → B) (xs : List A) (at : ℕ) → remove (map f xs) at ≡ map f (remove xs at)
+remove_seen f xs at = (λ i. take_seen f at xs i ++ drop_seen f (suc at) xs i) ∙ sym (map-append f (take at xs) (drop (suc at) xs))
 
 module _ (V : Verdict) where
   pub longer : (us : List Person) (u : Person) (n : Node) → cells_of V us n ++ V u n.label ∷ [] ≡ cells_of V (us ++ u ∷ []) n

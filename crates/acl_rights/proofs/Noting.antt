@@ -14,12 +14,12 @@ use Rattle.acl_tree.specs.acl_entry.Mentions.{is_one_of}
 use Rattle.acl_tree.specs.acl_edit.declared.node.Node.{Node}
 use Rattle.acl_tree.specs.Files.{PathOf, Files}
 use Rattle.acl_rights.specs.Groups.{PathSet, set_of}
-use Rattle.acl_rights.specs.Inner.{Noted, noted_at, Kept, kept_at}
+use Rattle.acl_rights.specs.Inner.{ByGroups, noted_at, Kept, kept_at}
 
 -- ---- one path
 
 -- what was noted for the group is taken out, and put back with one path more
-pub noted_more : (group : ℕ) (entry : PathOf × Unit {0}) (old mid new : Noted) (entries : Vec (Rc (PathOf × Unit {0}) Global) Global)
+pub noted_more : (group : ℕ) (entry : PathOf × Unit {0}) (old mid new : ByGroups) (entries : Vec (Rc (PathOf × Unit {0}) Global) Global)
     → ((q : ℕ) → get nat_cmp mid q ≡ cond (is_eq (nat_cmp group q)) None (get nat_cmp old q))
     → ((q : ℕ) → get nat_cmp new q ≡ cond (is_eq (nat_cmp group q)) (Some entries) (get nat_cmp mid q))
     → map (λ e. e.value) entries.items ≡ noted_at old group ++ entry ∷ []

@@ -1,36 +1,76 @@
 -- The lists by groups after a line.
-use Rattle.std.proofs.Common.{◌≡◌, ◌+◌, ◌<◌, length, take, get_or, append-nil, append_assoc, Ordering, Less, Equal, Greater, ℕ, Bool, true, false, cond, not, ◌||◌, eqb, List, [], ◌∷◌, ◌++◌, map, filter, is_some, Option, Some, None, refl, sym, ap, subst, ◌∙◌}
+use Rattle.std.proofs.Common.{◌≡◌, ◌+◌, ◌<◌, length, take, get_or, ℕ, Bool, true, false, cond, not, ◌&&◌, ◌||◌, eqb, List, [], ◌∷◌, ◌++◌, map, filter, is_some, Option, Some, None, Vec, Global, refl, sym, ap, ◌∙◌}
 use Rattle.std.specs.Prelude.{option_map, if◌then◌else◌}
-use Rattle.std.specs.List.{flat_map}
+use Rattle.std.specs.BTreeMap.{keys}
+use Rattle.std.specs.Cmp.{unsigned_tied, nat_eq_equiv}
+use Rattle.std.specs.Map.{keys_of, lookup}
 use Rattle.std.specs.Option.{option_map_or, option_or}
-use Rattle.std.specs.Ordering.{is_eq}
-use Rattle.std.proofs.lemmas.Bool.{eqb-true}
+use Rattle.std.specs.Ordering.{nat_cmp, is_eq}
 use Rattle.std.specs.FinMap.{find}
+use Rattle.std.specs.declared.rc.Rc.{Rc}
+use Rattle.std.proofs.lemmas.Bool.{eqb-true, eq-eqb, and_parts}
+use Rattle.std.proofs.lemmas.List.Folds.{list_any-append, list_any_more}
 use Rattle.acl_tree.specs.acl_entry.Mentions.{is_one_of, mentions}
 use Rattle.acl_tree.specs.acl_entry.declared.label.Label.{Label}
 use Rattle.acl_tree.specs.acl_names.Paths.{path_cmp}
-use Rattle.acl_tree.proofs.of_acl_names.PathOrder.{exact_paths}
-use Rattle.std.proofs.lemmas.List.{map-append, take_more}
-use Rattle.std.proofs.lemmas.List.Folds.{list_any-append, list_any_more}
 use Rattle.acl_tree.specs.acl_edit.declared.node.Node.{Node}
 use Rattle.acl_tree.specs.Files.{PathOf, Files}
 use Rattle.acl_tree.specs.Changed.{same_label, is_changed, changed_between, gone_between}
 use Rattle.acl_tree.proofs.of_acl_files.Changes.{label_is_same}
 use Rattle.path_map.specs.Entries.{IsInOrder}
 use Rattle.path_map.specs.Merged.{has, merged, without_all}
-use Rattle.path_map.proofs.Merges.{in_order-merged, in_order-without}
+use Rattle.path_map.proofs.Joined.{merged_nothing}
+use Rattle.path_map.proofs.Merges.{in_order-merged, in_order-without, without_none}
 use Rattle.path_map.proofs.Rows.{find_merged}
-use Rattle.acl_rights.specs.declared.lists.GroupLists.{GroupLists}
-use Rattle.acl_rights.specs.Groups.{mentions_group, PathSet, set_of, mentioning, list_at, AreLists}
-use Rattle.acl_rights.specs.Inner.{mentioned_group, groups_of_one, groups_of}
+use Rattle.acl_rights.specs.Groups.{mentions_group, PathSet, set_of, mentioning}
+use Rattle.acl_rights.specs.Inner.{mentioned_group, same_ids, same_mentions, is_regrouped, regrouped, ByGroups, noted_at, list_with, AreNone}
+use Rattle.acl_rights.specs.declared.noted.Noted.{Noted}
 use Rattle.acl_rights.proofs.Maps.{map_filter, find-filter, if_passes, same_found}
 use Rattle.acl_rights.proofs.Listed.{unit, set_found, set_order}
 
+-- ---- files that mention other groups than before
+
+same_ids_are : (xs ys : List ℕ) → same_ids xs ys ≡ true → xs ≡ ys
+same_ids_are [] [] h = refl
+same_ids_are [] (y ∷ ys) h = cc
+same_ids_are (x ∷ xs) [] h = cc
+same_ids_are (x ∷ xs) (y ∷ ys) h =
+    let parts = and_parts (eqb x y) (same_ids xs ys) h in
+    λ i. eqb-true x y parts.0 i ∷ same_ids_are xs ys parts.1 i
+
+ids_are_same : (xs : List ℕ) → same_ids xs xs ≡ true
+ids_are_same [] = refl
+ids_are_same (x ∷ xs) = λ i. eq-eqb x x refl i && ids_are_same xs i
+
+same_mentions_are : (a b : Label) → same_mentions a b ≡ true → mentions a ≡ mentions b
+same_mentions_are a b h = same_ids_are (mentions a) (mentions b) h
+
+-- they are among the changed ones
+same_groups : (old : Files) (e : PathOf × Node) → is_changed old e ≡ false → is_regrouped old e ≡ false
+same_groups old e h = by (find path_cmp e.0 old) h
+  where
+    by : (o : Option Node) → option_map_or (λ n. not (same_label n.label e.1.label)) o true ≡ false → option_map_or (λ n. not (same_mentions n.label e.1.label)) o true ≡ false
+    by None h = cc
+    by (Some n) h = as_before (same_label n.label e.1.label) refl h
+      where
+        as_before : (c : Bool) → same_label n.label e.1.label ≡ c → not c ≡ false → not (same_mentions n.label e.1.label) ≡ false
+        as_before true is h = ap (λ (f : Label). not (same_mentions n.label f)) (sym (label_is_same n.label e.1.label is)) ∙ ap not (ids_are_same (mentions n.label))
+        as_before false is h = cc
+
+pub regrouped_of_changed : (old fs : Files) → regrouped old (filter (is_changed old) fs) ≡ regrouped old fs
+regrouped_of_changed old [] = refl
+regrouped_of_changed old (e ∷ fs) = by (is_changed old e) refl (regrouped_of_changed old fs)
+  where
+    by : (c : Bool) → is_changed old e ≡ c → regrouped old (filter (is_changed old) fs) ≡ regrouped old fs
+        → regrouped old (cond c (e ∷ filter (is_changed old) fs) (filter (is_changed old) fs)) ≡ cond (is_regrouped old e) (e ∷ regrouped old fs) (regrouped old fs)
+    by true is rest = ap (λ l. cond (is_regrouped old e) (e ∷ l) l) rest
+    by false is rest = rest ∙ ap (λ b. cond b (e ∷ regrouped old fs) (regrouped old fs)) (sym (same_groups old e is))
+
 -- ---- one list
 
--- the file of a path, where it is changed
+-- the file of a path, where it mentions other groups than before
 abbrev changed_at : PathOf → Option Node → Option Node → Option Node
-changed_at p a b = if_passes (λ e. option_map_or (λ m. not (same_label m.label e.1.label)) a true) p b
+changed_at p a b = if_passes (λ e. option_map_or (λ m. not (same_mentions m.label e.1.label)) a true) p b
 
 module _ (g : ℕ) (p : PathOf) where
   -- the group's list after the line, at a path
@@ -50,7 +90,7 @@ module _ (g : ℕ) (p : PathOf) where
       by : (c : Bool) → option_or (option_map unit (if c then Some k else None)) None ≡ option_map unit (if c then Some k else None)
       by true = refl
       by false = refl
-  one_list (Some m) (Some k) = by (same_label m.label k.label) refl
+  one_list (Some m) (Some k) = by (same_mentions m.label k.label) refl
     where
       same : (c : Bool) → option_map unit (if c then Some m else None) ≡ option_map unit (if c then Some k else None)
       same true = refl
@@ -61,11 +101,11 @@ module _ (g : ℕ) (p : PathOf) where
       changed false true = refl
       changed false false = refl
 
-      by : (c : Bool) → same_label m.label k.label ≡ c
+      by : (c : Bool) → same_mentions m.label k.label ≡ c
           → option_or (option_map unit (if_passes (mentions_group g) p (if not c then Some k else None)))
           (cond (is_some (option_map unit (if_passes (λ e. is_one_of g (mentions m.label)) p (if not c then Some k else None)))) None (option_map unit (if_passes (mentions_group g) p (Some m))))
           ≡ option_map unit (if_passes (mentions_group g) p (Some k))
-      by true is = same (is_one_of g (mentions m.label)) ∙ ap (λ (f : Label). option_map unit (if is_one_of g (mentions f) then Some k else None)) (label_is_same m.label k.label is)
+      by true is = same (is_one_of g (mentions m.label)) ∙ ap (λ (ids : List ℕ). option_map unit (if is_one_of g ids then Some k else None)) (same_mentions_are m.label k.label is)
       by false is = changed (is_one_of g (mentions k.label)) (is_one_of g (mentions m.label))
 
 module _ (g : ℕ) (old new : Files) (o : IsInOrder old) (n : IsInOrder new) where
@@ -73,7 +113,7 @@ module _ (g : ℕ) (old new : Files) (o : IsInOrder old) (n : IsInOrder new) whe
   mg = mentions_group g
 
   abbrev differ : Files
-  differ = changed_between old new
+  differ = regrouped old new
 
   abbrev away : Files
   away = gone_between old new
@@ -81,13 +121,13 @@ module _ (g : ℕ) (old new : Files) (o : IsInOrder old) (n : IsInOrder new) whe
   abbrev first : PathSet
   first = merged (set_of (filter mg differ)) (set_of (filter (mentioned_group old g) differ)) (set_of (filter mg old))
 
-  -- the paths of files that mentioned the group or are gone are removed, those of changed files that mention it are put
+  -- the paths of files that mentioned the group or are gone are removed, those of files that mention it and other groups than before are put
   pub list_after : without_all (set_of (filter mg away)) first ≡ set_of (filter mg new)
   list_after =
       same_found (without_all (set_of (filter mg away)) first) (set_of (filter mg new))
       (in_order-without (set_of (filter mg away)) first (in_order-merged (set_of (filter mg differ)) (set_of (filter (mentioned_group old g) differ)) (set_of (filter mg old)) (set_order mg old o))) (set_order mg new n) (λ p.
-      let changed_order = map_filter (is_changed old) new n in
-      let is_changed_at = find-filter (is_changed old) p new n in
+      let changed_order = map_filter (is_regrouped old) new n in
+      let is_changed_at = find-filter (is_regrouped old) p new n in
       let gone_at = set_found p mg away (map_filter (λ (e : PathOf × Node). not (is_some (find path_cmp e.0 new))) old o) ∙ ap (λ x. option_map unit (if_passes mg p x)) (find-filter (λ (e : PathOf × Node). not (is_some (find path_cmp e.0 new))) p old o) in
       let puts = set_found p mg differ changed_order ∙ ap (λ x. option_map unit (if_passes mg p x)) is_changed_at in
       let before = set_found p (mentioned_group old g) differ changed_order ∙ ap (λ x. option_map unit (if_passes (mentioned_group old g) p x)) is_changed_at in
@@ -98,18 +138,13 @@ module _ (g : ℕ) (old new : Files) (o : IsInOrder old) (n : IsInOrder new) whe
       ∙ one_list g p (find path_cmp p old) (find path_cmp p new)
       ∙ sym (set_found p mg new n))
 
-flat_end : {A B : Type 0} (h : A → List B) (xs : List A) (x : A) → flat_map h (xs ++ x ∷ []) ≡ flat_map h xs ++ h x
-flat_end h [] x = append-nil (h x)
-flat_end h (y ∷ xs) x = ap (λ l. h y ++ l) (flat_end h xs x) ∙ sym (append_assoc (h y) (flat_map h xs) (h x))
+-- the list of a group for which no path is noted
+pub with_none : (noted : Noted) (g : ℕ) (list : PathSet) → AreNone noted g → list_with noted g list ≡ list
+with_none noted g list none =
+    without_none (noted_at noted.gone g) (merged (noted_at noted.puts g) (noted_at noted.before g) list) none.gone
+    ∙ merged_nothing (noted_at noted.puts g) (noted_at noted.before g) list none.puts none.before
 
--- one element more of a walk
-pub flat_more : {R A B : Type 0} (h : A → List B) (f : R → A) (old now new : List B) (files : List R) (i : ℕ) (r : R) → new ≡ now ++ h (f r) → now ≡ old ++ flat_map h (map f (take i files)) → i < length files → r ≡ get_or files i r
-    → new ≡ old ++ flat_map h (map f (take (i + 1) files))
-flat_more h f old now new files i r pushed so_far lt is =
-    pushed ∙ ap (λ l. l ++ h (f r)) so_far ∙ append_assoc old (flat_map h (map f (take i files))) (h (f r))
-    ∙ ap (λ l. old ++ l) (sym (ap (λ l. flat_map h (map f l)) (take_more files i r lt ∙ ap (λ x. take i files ++ x ∷ []) (sym is)) ∙ ap (λ l. flat_map h l) (map-append f (take i files) (r ∷ [])) ∙ flat_end h (map f (take i files)) (f r)))
-
--- ---- groups that a line doesn't touch
+-- ---- all lists
 
 or_false : (a b : Bool) → (a || b) ≡ false → (a ≡ false) × (b ≡ false)
 or_false true b h = cc
@@ -118,61 +153,31 @@ or_false false b h = (refl, h)
 not_in : (g : ℕ) (xs ys : List ℕ) → is_one_of g (xs ++ ys) ≡ false → (is_one_of g xs ≡ false) × (is_one_of g ys ≡ false)
 not_in g xs ys h = or_false (is_one_of g xs) (is_one_of g ys) (sym (list_any-append (λ x. eqb x g) xs ys) ∙ h)
 
-absent : (g : ℕ) (h : PathOf × Node → List ℕ) (es : Files) → is_one_of g (flat_map h es) ≡ false → (p : PathOf) (k : Node) → find path_cmp p es ≡ Some k → is_one_of g (h (p, k)) ≡ false
-absent g h [] out p k found = cc
-absent g h (e ∷ es) out p k found =
-    let parts = not_in g (h e) (flat_map h es) out in
-    by (path_cmp p e.0) refl found parts.0 (absent g h es parts.1 p k)
+-- all lists with the noted paths, where those of these groups are replaced
+pub lists_with : (noted : Noted) (ids : List ℕ) → ((g : ℕ) → is_one_of g ids ≡ false → AreNone noted g) → (g : ℕ) (list : PathSet)
+    → (if is_one_of g ids then list_with noted g list else list) ≡ list_with noted g list
+lists_with noted ids none g list = by (is_one_of g ids) refl
   where
-    by : (o : Ordering) → path_cmp p e.0 ≡ o → cond (is_eq o) (Some e.1) (find path_cmp p es) ≡ Some k → is_one_of g (h e) ≡ false → (find path_cmp p es ≡ Some k → is_one_of g (h (p, k)) ≡ false) → is_one_of g (h (p, k)) ≡ false
-    by Less is found here rest = rest found
-    by Greater is found here rest = rest found
-    by Equal is found here rest =
-        let keys = exact_paths p e.0 is in
-        let values : e.1 ≡ k = cc in
-        subst (λ (x : PathOf × Node). is_one_of g (h x) ≡ false) (λ i. (sym keys i, values i)) here
+    by : (b : Bool) → is_one_of g ids ≡ b → (if b then list_with noted g list else list) ≡ list_with noted g list
+    by true is = refl
+    by false is = sym (with_none noted g list (none g is))
 
-module _ (g : ℕ) (old new : Files) (o : IsInOrder old) (n : IsInOrder new) (out : is_one_of g (groups_of old (changed_between old new) (gone_between old new)) ≡ false) where
-  stays : (p : PathOf) (a b : Option Node)
-      → ((k : Node) → if_passes (λ e. option_map_or (λ m. not (same_label m.label e.1.label)) a true) p b ≡ Some k → is_one_of g (mentions k.label ++ option_map_or (λ m. mentions m.label) a []) ≡ false)
-      → ((m : Node) → if_passes (λ e. not (is_some b)) p a ≡ Some m → is_one_of g (mentions m.label) ≡ false)
-      → option_map unit (if_passes (mentions_group g) p a) ≡ option_map unit (if_passes (mentions_group g) p b)
-  stays p None None changed gone = refl
-  stays p (Some m) None changed gone = ap (λ c. option_map unit (if c then Some m else None)) (gone m refl)
-  stays p None (Some k) changed gone = sym (ap (λ c. option_map unit (if c then Some k else None)) (not_in g (mentions k.label) [] (changed k refl)).0)
-  stays p (Some m) (Some k) changed gone = by (same_label m.label k.label) refl
-    where
-      same : (b : Bool) → option_map unit (if b then Some m else None) ≡ option_map unit (if b then Some k else None)
-      same true = refl
-      same false = refl
-
-      by : (c : Bool) → same_label m.label k.label ≡ c → option_map unit (if_passes (mentions_group g) p (Some m)) ≡ option_map unit (if_passes (mentions_group g) p (Some k))
-      by true is = same (mentions_group g (p, m)) ∙ ap (λ (f : Label). option_map unit (if is_one_of g (mentions f) then Some k else None)) (label_is_same m.label k.label is)
-      by false is =
-          let parts = not_in g (mentions k.label) (mentions m.label) (changed k (ap (λ c. if not c then Some k else None) is)) in
-          ap (λ c. option_map unit (if c then Some m else None)) parts.1 ∙ sym (ap (λ c. option_map unit (if c then Some k else None)) parts.0)
-
-  pub list_stays : set_of (mentioning g old) ≡ set_of (mentioning g new)
-  list_stays =
-      let parts = not_in g (flat_map (groups_of_one old) (changed_between old new)) (flat_map (λ e. mentions e.1.label) (gone_between old new)) out in
-      same_found (set_of (mentioning g old)) (set_of (mentioning g new)) (set_order (mentions_group g) old o) (set_order (mentions_group g) new n) (λ p.
-      set_found p (mentions_group g) old o
-      ∙ stays p (find path_cmp p old) (find path_cmp p new)
-      (λ k h. absent g (groups_of_one old) (changed_between old new) parts.0 p k (find-filter (is_changed old) p new n ∙ h))
-      (λ m h. absent g (λ e. mentions e.1.label) (gone_between old new) parts.1 p m (find-filter (λ (e : PathOf × Node). not (is_some (find path_cmp e.0 new))) p old o ∙ h))
-      ∙ sym (set_found p (mentions_group g) new n))
-
--- ---- all lists
-
--- the lists of groups that are touched, and the others, are those of the new files
-pub lists_after : (old new : Files) → IsInOrder old → IsInOrder new → (lists : GroupLists) (ids : List ℕ) → AreLists old lists
-    → ((g : ℕ) → is_one_of g ids ≡ is_one_of g (groups_of old (changed_between old new) (gone_between old new)))
-    → (g : ℕ) (list : PathSet) → list ≡ (if is_one_of g ids then set_of (mentioning g new) else list_at lists g) → list ≡ set_of (mentioning g new)
-lists_after old new o n lists ids are ids_are g list is = is ∙ by (is_one_of g ids) refl
+-- a group that is no key has no notes
+pub none_noted : (g : ℕ) (noted : ByGroups) → is_one_of g (keys noted) ≡ false → noted_at noted g ≡ []
+none_noted g noted h = ap (λ o. option_map_or (λ es. map (λ e. e.value) es.items) o []) (by noted.entries h)
   where
-    by : (b : Bool) → is_one_of g ids ≡ b → (if b then set_of (mentioning g new) else list_at lists g) ≡ set_of (mentioning g new)
-    by true h = refl
-    by false h = are g ∙ list_stays g old new o n (sym (ids_are g) ∙ h)
+    by : (es : List (ℕ × Vec (Rc (PathOf × Unit {0}) Global) Global)) → is_one_of g (keys_of es) ≡ false → lookup (λ k. is_eq (nat_cmp g k)) es ≡ None
+    by [] h = refl
+    by (e ∷ es) h =
+        let parts = or_false (eqb e.0 g) (is_one_of g (keys_of es)) h in
+        ap (λ b. cond b (Some e.1) (lookup (λ k. is_eq (nat_cmp g k)) es)) (unsigned_tied g e.0 ∙ nat_eq_equiv.symm g e.0 ∙ parts.0) ∙ by es parts.1
+
+-- the keys of three notes
+pub none_of : (g : ℕ) (puts before gone : List ℕ) → is_one_of g (((([] ++ puts) ++ before)) ++ gone) ≡ false → (is_one_of g puts ≡ false) × ((is_one_of g before ≡ false) × (is_one_of g gone ≡ false))
+none_of g puts before gone h =
+    let last = not_in g (puts ++ before) gone h in
+    let first = not_in g puts before last.0 in
+    (first.0, (first.1, last.1))
 
 -- one list more is replaced
 pub one_replaced : (ids : List ℕ) (i g h : ℕ) (list made before : PathSet) → i < length ids → h ≡ get_or ids i h → (h ≡ g → made ≡ list)

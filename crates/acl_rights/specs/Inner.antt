@@ -1,6 +1,6 @@
 -- For inner functions: no public contract names these definitions.
-use Rattle.std.specs.Prelude.{ℕ, ◌++◌, Bool, false, List, [], map}
-use Rattle.std.specs.List.{list_any, flat_map}
+use Rattle.std.specs.Prelude.{◌≡◌, ℕ, ◌==◌, ◌&&◌, Bool, true, false, not, List, [], ◌∷◌, map, filter}
+use Rattle.std.specs.List.{list_any}
 use Rattle.std.specs.Option.{option_map_or}
 use Rattle.std.specs.Ordering.{nat_cmp}
 use Rattle.std.specs.FinMap.{find}
@@ -9,9 +9,13 @@ use Rattle.std.specs.declared.alloc.Global.{Global}
 use Rattle.std.specs.declared.rc.Rc.{Rc}
 use Rattle.std.specs.declared.vec.Vec.{Vec}
 use Rattle.acl_tree.specs.acl_entry.Mentions.{mentions, is_one_of}
+use Rattle.acl_tree.specs.acl_entry.declared.label.Label.{Label}
 use Rattle.acl_tree.specs.acl_names.Paths.{path_cmp}
 use Rattle.acl_tree.specs.acl_edit.declared.node.Node.{Node}
 use Rattle.acl_tree.specs.Files.{PathOf, Files}
+use Rattle.path_map.specs.Entries.{IsInOrder}
+use Rattle.path_map.specs.Merged.{merged, without_all}
+use Rattle.acl_rights.specs.declared.noted.Noted.{Noted}
 use Rattle.acl_rights.specs.Groups.{mentions_group, PathSet}
 
 -- a file mentions one of the groups, each looked for by itself
@@ -22,19 +26,45 @@ has_one groups e = list_any (λ g. mentions_group g e) groups
 abbrev pub mentioned_group : Files → ℕ → PathOf × Node → Bool
 mentioned_group old g e = option_map_or (λ n. is_one_of g (mentions n.label)) (find path_cmp e.0 old) false
 
--- the groups that a changed file mentions or mentioned, and those that one that is gone mentioned
-abbrev pub groups_of_one : Files → PathOf × Node → List ℕ
-groups_of_one old e = mentions e.1.label ++ option_map_or (λ n. mentions n.label) (find path_cmp e.0 old) []
+abbrev pub same_ids : List ℕ → List ℕ → Bool
+same_ids [] [] = true
+same_ids [] (y ∷ ys) = false
+same_ids (x ∷ xs) [] = false
+same_ids (x ∷ xs) (y ∷ ys) = (x == y) && same_ids xs ys
 
-abbrev pub groups_of : Files → Files → Files → List ℕ
-groups_of old changed gone = flat_map (groups_of_one old) changed ++ flat_map (λ e. mentions e.1.label) gone
+-- whether both labels mention the same groups
+abbrev pub same_mentions : Label → Label → Bool
+same_mentions a b = same_ids (mentions a) (mentions b)
+
+-- whether a file is new, or mentions other groups than before
+abbrev pub is_regrouped : Files → PathOf × Node → Bool
+is_regrouped old e = option_map_or (λ n. not (same_mentions n.label e.1.label)) (find path_cmp e.0 old) true
+
+abbrev pub regrouped : Files → Files → Files
+regrouped old fs = filter (is_regrouped old) fs
 
 -- by groups the paths that were noted
-abbrev pub Noted : Type 0
-Noted = BTreeMap ℕ (Vec (Rc (PathOf × Unit {0}) Global) Global)
+abbrev pub ByGroups : Type 0
+ByGroups = BTreeMap ℕ (Vec (Rc (PathOf × Unit {0}) Global) Global)
 
-abbrev pub noted_at : Noted → ℕ → PathSet
+abbrev pub noted_at : ByGroups → ℕ → PathSet
 noted_at noted g = option_map_or (λ entries. map (λ e. e.value) entries.items) (get nat_cmp noted g) []
+
+-- a group's list with the noted paths put and removed
+abbrev pub list_with : Noted → ℕ → PathSet → PathSet
+list_with noted g list = without_all (noted_at noted.gone g) (merged (noted_at noted.puts g) (noted_at noted.before g) list)
+
+-- for a group the noted paths are in order
+pub record AreInOrder (noted : Noted) (g : ℕ) : Type 0 where
+  pub puts : IsInOrder (noted_at noted.puts g)
+  pub before : IsInOrder (noted_at noted.before g)
+  pub gone : IsInOrder (noted_at noted.gone g)
+
+-- for a group no path is noted
+pub record AreNone (noted : Noted) (g : ℕ) : Type 0 where
+  pub puts : noted_at noted.puts g ≡ []
+  pub before : noted_at noted.before g ≡ []
+  pub gone : noted_at noted.gone g ≡ []
 
 -- by groups the paths that are kept, while lists are replaced
 abbrev pub Kept : Type 0

@@ -4,6 +4,8 @@ pub mod Reach
 pub mod Kept
 pub mod Groups
 pub mod Inner
+pub mod Labels
+pub mod Grants
 pub use Rattle.acl_tree.specs.acl_dump
 pub use Rattle.acl_tree.specs.acl_edit
 pub use Rattle.acl_tree.specs.acl_entry

@@ -7,13 +7,12 @@ ghost use Rattle.acl_tree.specs.acl_entry.Person.{Person};
 ghost use Rattle.acl_tree.specs.acl_names.Paths.{path_cmp};
 ghost use Rattle.acl_tree.specs.Step as step;
 
-use crate::judged::judged_tree;
-use crate::lists::GroupLists;
-use crate::reach::staged_reached;
-use crate::rows::{NewRows, staged_rows};
+use crate::grants::Grants;
+use crate::label_rows::LabelRows;
+use crate::lists::{GroupLists, records};
+use crate::stage::{After, after_line};
 use acl_tree::{NoMemory, Path, People, Perm, Requests, Staged, Tree};
-use acl_verdicts::{Again, Cells, Judge, granted_paths, granted_users, reached_of};
-use path_map::PathMap;
+use acl_verdicts::{Cells, Judge, granted_paths, granted_users};
 use std::alloc::Global;
 use std::marker::{Model, PhantomData};
 use std::rc::Rc;
@@ -24,24 +23,22 @@ use std::rc::Rc;
 struct Table {
     users: usize,
     tree: Tree,
-    rows: PathMap<Cells>,
-    reached: PathMap<Cells>,
+    grants: Grants,
     lists: GroupLists,
 }
 
 impl Model for Table {
     ghost use Rattle.acl_rights.specs.Tables.{Table as Whole, coded_table};
-    ghost use Rattle.std.specs.Prelude.{◌≡◌};
     ghost use Rattle.acl_rights.specs.Groups.{AreLists};
-    ghost use Rattle.acl_rights.specs.Reach.{reached_rows};
+    ghost use Rattle.acl_rights.specs.Grants.{rows_at, AreGrants};
 
     ghost Value = { Whole };
 
     ghost coded = { coded_table };
 
-    ghost view = { λ a. record { users = a.users; files = a.tree.files; rows = a.rows } };
+    ghost view = { λ a. record { users = a.users; files = a.tree.files; rows = rows_at a.grants } };
 
-    ghost invariant = { λ a. AreLists a.tree.files a.lists × (a.reached ≡ reached_rows a.rows) };
+    ghost invariant = { λ a. AreLists a.tree.files a.lists × AreGrants a.tree.files a.grants };
 }
 
 /// The whole table of verdicts of a state: what each user may do with each file, with and without search along
@@ -122,15 +119,15 @@ impl<J: Judge> Index<J> {
         ensures asked { OnOk result (J.asked_of judge.new ≡ J.asked_of judge.old + length tree.now.files * length people.now.users) }
         ensures at_most { J.asked_of judge.new ≤ J.asked_of judge.old + length tree.now.files * length people.now.users }
     {
+        tree.is_sound();
         let lists = GroupLists::of_tree(alloc, tree)?;
         let shared = tree.share()?;
-        let rows = judged_tree(alloc, judge, tree, people.all_subjects())?;
-        let reached = reached_of(alloc, &rows, &PathMap::new(alloc))?;
+        let files = records(alloc, tree)?;
+        let rows = LabelRows::of_files(alloc, judge, &files, people.all_subjects())?;
         let table = Table {
             users: people.users(),
             tree: shared,
-            rows,
-            reached,
+            grants: Grants::of(alloc, rows, files.len())?,
             lists,
         };
         Ok(Index {
@@ -154,6 +151,7 @@ impl<J: Judge> Index<J> {
     {
         staged.tree().is_sound();
         let now = &self.table;
+        now.grants.rows.numbers.is_in_order();
         let lists = now.lists.staged(
             alloc,
             &now.tree,
@@ -162,15 +160,16 @@ impl<J: Judge> Index<J> {
             staged.gone(),
         )?;
         let tree = staged.tree().share()?;
-        let new = staged_rows(alloc, judge, &now.rows, &now.lists, staged)?;
-        let NewRows { rows, looked, puts } = new;
-        let along = staged_reached::<J>(alloc, &now.rows, &now.reached, &rows, &puts, staged)?;
-        let Again { reached, refreshed } = along;
+        let new = after_line(alloc, judge, &now.grants, &now.tree, &now.lists, staged)?;
+        let After {
+            grants,
+            looked,
+            refreshed,
+        } = new;
         let table = Table {
             users: staged.people().users(),
             tree,
-            rows,
-            reached,
+            grants,
             lists,
         };
         Ok(Rows {
@@ -195,8 +194,11 @@ impl<J: Judge> Index<J> {
     fn cell(&self, user: usize, path: &Path) -> Option<Requests>
         ensures { result ≡ cell_at self.now user path.now }
     {
-        let cells = self.table.rows.get(path)?;
-        cells.get(user)
+        let now = &self.table;
+        match now.grants.rows.row(path) {
+            Some(cells) => cells.get(user),
+            None => None,
+        }
     }
 
     /// What a user may do with a file, if both are there. Allocates nothing.
@@ -247,7 +249,8 @@ impl<J: Judge> Index<J> {
         if user >= self.table.users {
             return Ok(None);
         }
-        let paths = granted_paths(alloc, &self.table.rows, user, request)?;
+        let rows = &self.table.grants.rows;
+        let paths = granted_paths(alloc, &rows.numbers, &rows.cells, user, request)?;
         Ok(Some(paths))
     }
 
@@ -268,8 +271,11 @@ impl<J: Judge> Index<J> {
     fn reach_cell(&self, user: usize, path: &Path) -> Option<Requests>
         ensures { result ≡ reached_at self.now.rows user path.now }
     {
-        let cells = self.table.reached.get(path)?;
-        cells.get(user)
+        let now = &self.table;
+        match now.grants.reach(path) {
+            Some(cells) => cells.get(user),
+            None => None,
+        }
     }
 
     /// What a user may do with a file, if both are there and the user can search each recorded directory above; else
@@ -289,7 +295,8 @@ impl<J: Judge> Index<J> {
     ) -> Result<Option<Vec<usize>>, NoMemory>
         ensures { IfOk result (λ found. option_map (λ users. users.items) found ≡ option_map (who_in request) (find path_cmp path.now (reached_rows self.now.rows))) }
     {
-        let Some(cells) = self.table.reached.get(path) else {
+        let now = &self.table;
+        let Some(cells) = now.grants.reach(path) else {
             return Ok(None);
         };
         let users = granted_users(alloc, cells.as_slice(), request)?;
@@ -318,10 +325,12 @@ impl<J: Judge> Index<J> {
     ) -> Result<Option<Vec<Rc<Path>>>, NoMemory>
         ensures { IfOk result (λ found. option_map (λ paths. map (λ p. p.value) paths.items) found ≡ (if nat_lt user self.now.users then Some (may_in request user (reached_rows self.now.rows)) else None)) }
     {
-        if user >= self.table.users {
+        let now = &self.table;
+        if user >= now.users {
             return Ok(None);
         }
-        let paths = granted_paths(alloc, &self.table.reached, user, request)?;
+        let places = now.grants.ways.places();
+        let paths = granted_paths(alloc, places, &now.grants.reaches, user, request)?;
         Ok(Some(paths))
     }
 
@@ -342,8 +351,11 @@ impl<J: Judge> Index<J> {
     fn cells(&self, path: &Path) -> Option<&[Requests]>
         ensures { option_copied result ≡ find path_cmp path.now self.now.rows }
     {
-        let cells = self.table.rows.get(path)?;
-        Some(cells.as_slice())
+        let now = &self.table;
+        match now.grants.rows.row(path) {
+            Some(cells) => Some(cells.as_slice()),
+            None => None,
+        }
     }
 
     /// What each user may do with a file, in the order of the users, if the file is there. Allocates nothing.

@@ -2,18 +2,14 @@
 //! group the files whose labels mention it, by which a change of memberships finds them.
 #![tactic(auto)]
 
-mod came;
-mod changed;
+mod grants;
 mod index;
-mod judged;
-mod left;
+mod label_rows;
+mod labels;
 mod lists;
 mod mentioned;
-mod met;
-mod moved;
 mod noted;
-mod reach;
-mod rows;
+mod stage;
 mod touched;
 
 pub use acl_tree::{

@@ -1,15 +1,14 @@
 //! By groups the paths of the files that mention them.
 
-ghost use Rattle.std.specs.Prelude.{◌≡◌, ◌==◌, [], true, if◌then◌else◌, ℕ, map, IfOk, OnOk};
+ghost use Rattle.std.specs.Prelude.{◌≡◌, ◌==◌, [], if◌then◌else◌, ℕ, map, IfOk, OnOk};
 ghost use Rattle.std.specs.Option.{option_map_or};
 ghost use Rattle.path_map.specs.Entries.{IsInOrder};
 ghost use Rattle.path_map.specs.Merged.{merged, without_all};
 ghost use Rattle.acl_tree.specs.Changed.{changed_between, gone_between};
 ghost use Rattle.acl_rights.specs.Groups.{AreLists, list_at};
-ghost use Rattle.acl_rights.specs.Inner.{kept_at};
+ghost use Rattle.acl_rights.specs.Inner.{AreInOrder, kept_at, list_with};
 
-use crate::mentioned::touched_groups;
-use crate::noted::{noted_before, noted_for, noted_of};
+use crate::noted::{Noted, noted_for};
 use acl_tree::{Id, Record, Tree};
 use path_map::{Entry, PathMap};
 use std::alloc::{AllocError, Global};
@@ -65,15 +64,8 @@ fn copied(
     Ok(copy)
 }
 
-/// Whether there are no files.
-fn are_none(files: &[Rc<Record>]) -> bool
-    ensures { result ≡ true → map (λ r. r.value) files.now ≡ [] }
-{
-    files.is_empty()
-}
-
 /// The files of a tree.
-fn records(alloc: Global, tree: &Tree) -> Result<Vec<Rc<Record>>, AllocError>
+pub(crate) fn records(alloc: Global, tree: &Tree) -> Result<Vec<Rc<Record>>, AllocError>
     ensures { IfOk result (λ records. map (λ r. r.value) records.items ≡ tree.now.files) }
 {
     let mut records = Vec::new(alloc);
@@ -104,27 +96,38 @@ impl GroupLists {
         }
     }
 
-    /// A group's list after a line.
-    fn list_after(
-        &self,
-        alloc: Global,
-        group: Id,
-        puts: &[Rc<Entry<()>>],
-        before: &[Rc<Entry<()>>],
-        gone: &[Rc<Entry<()>>],
-    ) -> Result<PathMap<()>, AllocError>
-        requires puts { IsInOrder (map (λ e. e.value) puts.now) }
-        requires before { IsInOrder (map (λ e. e.value) before.now) }
-        requires gone { IsInOrder (map (λ e. e.value) gone.now) }
-        ensures { IfOk result (λ new. new ≡ without_all (map (λ e. e.value) gone.now) (merged (map (λ e. e.value) puts.now) (map (λ e. e.value) before.now) (list_at self.now group))) }
+    /// A group's list with the noted paths put and removed.
+    fn list_with(&self, alloc: Global, group: Id, noted: &Noted) -> Result<PathMap<()>, AllocError>
+        requires { AreInOrder noted.now group }
+        ensures { IfOk result (λ new. new ≡ list_with noted.now group (list_at self.now group)) }
     {
-        let Some(list) = self.get(group) else {
-            let empty = PathMap::new(alloc);
-            let new = list_after(alloc, &empty, puts, before, gone)?;
-            return Ok(new);
-        };
-        let new = list_after(alloc, list, puts, before, gone)?;
-        Ok(new)
+        let puts = noted_for(&noted.puts, group);
+        let before = noted_for(&noted.before, group);
+        let gone = noted_for(&noted.gone, group);
+        match self.get(group) {
+            Some(list) => list_after(alloc, list, puts, before, gone),
+            None => list_after(alloc, &PathMap::new(alloc), puts, before, gone),
+        }
+    }
+
+    /// The lists with the noted paths put and removed. Those of other groups are shared.
+    fn with_noted(&self, alloc: Global, noted: &Noted) -> Result<GroupLists, AllocError>
+        requires { (g : ℕ) → AreInOrder noted.now g }
+        ensures { IfOk result (λ lists. (g : ℕ) → list_at lists g ≡ list_with noted.now g (list_at self.now g)) }
+    {
+        let groups = noted.groups(alloc)?;
+        if groups.is_empty() {
+            let same = self.share()?;
+            return Ok(same);
+        }
+        let mut lists = copied(&self.lists)?;
+        for group in &groups {
+            let list = self.list_with(alloc, *group, noted)?;
+            replace(alloc, &mut lists, *group, list)?;
+        }
+        Ok(GroupLists {
+            lists: Rc::new(alloc, lists)?,
+        })
     }
 
     /// The same lists, in shared memory. Fails only if memory runs out.
@@ -148,9 +151,9 @@ impl GroupLists {
         Ok(lists)
     }
 
-    /// The lists of a new tree, where these are those of the old one. Only the lists of groups that a changed
-    /// file mentions or mentioned, or one that is gone mentioned, are rebuilt; with no such file all are shared. Fails
-    /// only if memory runs out.
+    /// The lists of a new tree, where these are those of the old one. Only the lists of groups that a file mentions
+    /// or mentioned which is new, gone, or mentions other groups than before, are rebuilt; with no such file all are
+    /// shared. Fails only if memory runs out.
     pub fn staged(
         &self,
         alloc: Global,
@@ -166,29 +169,8 @@ impl GroupLists {
     {
         old.is_sound();
         new.is_sound();
-        if are_none(changed) {
-            if are_none(gone) {
-                let same = self.share()?;
-                return Ok(same);
-            }
-        }
-        let groups = touched_groups(alloc, old, changed, gone)?;
-        let puts = noted_of(alloc, changed)?;
-        let before = noted_before(alloc, old, changed)?;
-        let removed = noted_of(alloc, gone)?;
-        let mut lists = copied(&self.lists)?;
-        for group in &groups {
-            let list = self.list_after(
-                alloc,
-                *group,
-                noted_for(&puts, *group),
-                noted_for(&before, *group),
-                noted_for(&removed, *group),
-            )?;
-            replace(alloc, &mut lists, *group, list)?;
-        }
-        Ok(GroupLists {
-            lists: Rc::new(alloc, lists)?,
-        })
+        let noted = Noted::of(alloc, old, changed, gone)?;
+        let lists = self.with_noted(alloc, &noted)?;
+        Ok(lists)
     }
 }

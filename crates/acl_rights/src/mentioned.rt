@@ -1,14 +1,82 @@
 //! The groups that labels mention.
 
-ghost use Rattle.std.specs.Prelude.{◌≡◌, ◌++◌, ℕ, OnOk, IfOk, map};
-ghost use Rattle.std.specs.List.{flat_map};
+ghost use Rattle.std.specs.Prelude.{◌≡◌, ◌<◌, ◌∷◌, [], ℕ, length, IfOk, IfSome, map};
+ghost use Rattle.std.specs.Option.{option_map_or};
 ghost use Rattle.std.specs.List.Sorted.{IsStrictlyIncreasing};
-ghost use Rattle.acl_tree.specs.acl_entry.Mentions.{mentions, is_one_of};
-ghost use Rattle.acl_rights.specs.Inner.{groups_of_one, groups_of};
+ghost use Rattle.acl_tree.specs.acl_entry.Mentions.{named_groups, is_one_of};
+ghost use Rattle.acl_rights.specs.Inner.{same_ids, same_mentions, is_regrouped, regrouped};
 
-use acl_tree::{Id, Label, Record, Tree};
+use acl_tree::{Entry, Id, Key, Label, Record, Tree};
 use std::alloc::{AllocError, Global};
 use std::rc::Rc;
+
+/// The group that the first entry that names one names, and the entries after it.
+fn next_named(entries: &[Entry]) -> Option<(Id, &[Entry])>
+    ensures named { named_groups entries.now ≡ option_map_or (λ next. next.0 ∷ named_groups next.1.now) result [] }
+    ensures fewer { IfSome result (λ next. length next.1.now < length entries.now) }
+{
+    let mut rest = entries;
+    while let Some((entry, more)) = rest.split_first() {
+        rest = more;
+        if let Key::Group(id) = entry.key {
+            return Some((id, rest));
+        }
+    }
+    None
+}
+
+/// Whether two lists name the same groups.
+fn same_named(first: &[Entry], second: &[Entry]) -> bool
+    ensures { result ≡ same_ids (named_groups first.now) (named_groups second.now) }
+{
+    let mut rest = first;
+    let mut others = second;
+    while let Some((group, more)) = next_named(rest) {
+        let Some((other, left)) = next_named(others) else {
+            return false;
+        };
+        if group != other {
+            return false;
+        }
+        rest = more;
+        others = left;
+    }
+    next_named(others).is_none()
+}
+
+/// Whether two labels mention the same groups.
+fn same_mentions(first: &Label, second: &Label) -> bool
+    ensures { result ≡ same_mentions first.now second.now }
+{
+    first.group == second.group && same_named(first.acl.entries(), second.acl.entries())
+}
+
+/// Whether a file is new, or mentions other groups than before.
+fn is_regrouped(old: &Tree, file: &Record) -> bool
+    ensures { result ≡ is_regrouped old.now.files file.now }
+{
+    match old.get(file.path()) {
+        Some(node) => !same_mentions(&node.label, &file.value().label),
+        None => true,
+    }
+}
+
+/// The files that are new, or mention other groups than before.
+pub fn regrouped(
+    alloc: Global,
+    old: &Tree,
+    files: &[Rc<Record>],
+) -> Result<Vec<Rc<Record>>, AllocError>
+    ensures { IfOk result (λ found. map (λ r. r.value) found.items ≡ regrouped old.now.files (map (λ r. r.value) files.now)) }
+{
+    let mut found = Vec::new(alloc);
+    for file in files {
+        if is_regrouped(old, file) {
+            found.push(file.clone()?)?;
+        }
+    }
+    Ok(found)
+}
 
 /// The ids in rising order, each once.
 pub fn rising(ids: Vec<Id>) -> Result<Vec<Id>, AllocError>
@@ -19,71 +87,4 @@ pub fn rising(ids: Vec<Id>) -> Result<Vec<Id>, AllocError>
     rising.sort()?;
     rising.dedup();
     Ok(rising)
-}
-
-/// Adds the groups that a label mentions.
-fn add_mentions(alloc: Global, groups: &mut Vec<Id>, label: &Label) -> Result<(), AllocError>
-    ensures { OnOk result (groups.new.items ≡ groups.old.items ++ mentions label.now) }
-{
-    let mentions = label.mentions(alloc)?;
-    groups.extend_from_slice(&mentions)?;
-    Ok(())
-}
-
-/// Adds the groups that a file mentions now, and those that it mentioned before.
-fn add_groups(
-    alloc: Global,
-    groups: &mut Vec<Id>,
-    old: &Tree,
-    file: &Record,
-) -> Result<(), AllocError>
-    ensures { OnOk result (groups.new.items ≡ groups.old.items ++ groups_of_one old.now.files file.now) }
-{
-    add_mentions(alloc, groups, &file.value().label)?;
-    if let Some(node) = old.get(file.path()) {
-        add_mentions(alloc, groups, &node.label)?;
-    }
-    Ok(())
-}
-
-/// Adds the groups that changed files mention or mentioned.
-fn add_changed(
-    alloc: Global,
-    groups: &mut Vec<Id>,
-    old: &Tree,
-    files: &[Rc<Record>],
-) -> Result<(), AllocError>
-    ensures { OnOk result (groups.new.items ≡ groups.old.items ++ flat_map (groups_of_one old.now.files) (map (λ r. r.value) files.now)) }
-{
-    for file in files {
-        add_groups(alloc, groups, old, file)?;
-    }
-    Ok(())
-}
-
-/// Adds the groups that files mention.
-fn add_gone(alloc: Global, groups: &mut Vec<Id>, files: &[Rc<Record>]) -> Result<(), AllocError>
-    ensures { OnOk result (groups.new.items ≡ groups.old.items ++ flat_map (λ e. mentions e.1.label) (map (λ r. r.value) files.now)) }
-{
-    for file in files {
-        add_mentions(alloc, groups, &file.value().label)?;
-    }
-    Ok(())
-}
-
-/// The groups whose lists a line may change, rising: those that a changed file mentions or mentioned, and
-/// those that one that is gone mentioned.
-pub fn touched_groups(
-    alloc: Global,
-    old: &Tree,
-    changed: &[Rc<Record>],
-    gone: &[Rc<Record>],
-) -> Result<Vec<Id>, AllocError>
-    ensures { IfOk result (λ groups. (g : ℕ) → is_one_of g groups.items ≡ is_one_of g (groups_of old.now.files (map (λ r. r.value) changed.now) (map (λ r. r.value) gone.now))) }
-{
-    let mut groups = Vec::new(alloc);
-    add_changed(alloc, &mut groups, old, changed)?;
-    add_gone(alloc, &mut groups, gone)?;
-    let groups = rising(groups)?;
-    Ok(groups)
 }

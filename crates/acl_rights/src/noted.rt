@@ -1,11 +1,12 @@
 //! By groups the paths of some files that mention them, in one pass over these files.
 
-ghost use Rattle.std.specs.Prelude.{◌≡◌, ◌==◌, ◌++◌, ◌∷◌, [], if◌then◌else◌, ℕ, map, filter, OnOk, IfOk};
+ghost use Rattle.std.specs.Prelude.{◌≡◌, ◌==◌, ◌++◌, ◌∷◌, [], false, if◌then◌else◌, ℕ, map, filter, OnOk, IfOk};
 ghost use Rattle.acl_tree.specs.acl_entry.Mentions.{mentions, is_one_of};
 ghost use Rattle.acl_rights.specs.Groups.{mentions_group, set_of, mentioning};
-ghost use Rattle.acl_rights.specs.Inner.{noted_at, mentioned_group};
+ghost use Rattle.acl_rights.specs.Inner.{noted_at, mentioned_group, regrouped, AreNone};
+ghost use Rattle.std.specs.BTreeMap.{keys};
 
-use crate::mentioned::rising;
+use crate::mentioned::{regrouped, rising};
 use acl_tree::{Id, Label, Path, Record, Tree};
 use path_map::Entry;
 use std::alloc::{AllocError, Global};
@@ -109,5 +110,62 @@ pub fn noted_for(noted: &BTreeMap<Id, Vec<Rc<Entry<()>>>>, group: Id) -> &[Rc<En
     match noted.get(&group) {
         Some(entries) => entries.as_slice(),
         None => &[],
+    }
+}
+
+/// By groups the paths that a line puts into their lists and removes from them.
+#[derive(Drop)]
+pub struct Noted {
+    /// Of the files that are new, or mention other groups than before, those that mention the group.
+    pub puts: BTreeMap<Id, Vec<Rc<Entry<()>>>>,
+    /// Of the same files, those that mentioned the group before.
+    pub before: BTreeMap<Id, Vec<Rc<Entry<()>>>>,
+    /// The files that are gone and mentioned the group.
+    pub gone: BTreeMap<Id, Vec<Rc<Entry<()>>>>,
+}
+
+/// Adds the groups for which paths are noted.
+fn add_groups(
+    groups: &mut Vec<Id>,
+    noted: &BTreeMap<Id, Vec<Rc<Entry<()>>>>,
+) -> Result<(), AllocError>
+    ensures { OnOk result (groups.new.items ≡ groups.old.items ++ keys noted.now) }
+{
+    for group in noted.keys() {
+        groups.push(*group)?;
+    }
+    Ok(())
+}
+
+impl Noted {
+    /// The paths of files that a line changed, and of those that are gone.
+    pub fn of(
+        alloc: Global,
+        old: &Tree,
+        changed: &[Rc<Record>],
+        gone: &[Rc<Record>],
+    ) -> Result<Noted, AllocError>
+        ensures puts { IfOk result (λ noted. (g : ℕ) → noted_at noted.puts g ≡ set_of (mentioning g (regrouped old.now.files (map (λ r. r.value) changed.now)))) }
+        ensures before { IfOk result (λ noted. (g : ℕ) → noted_at noted.before g ≡ set_of (filter (mentioned_group old.now.files g) (regrouped old.now.files (map (λ r. r.value) changed.now)))) }
+        ensures gone { IfOk result (λ noted. (g : ℕ) → noted_at noted.gone g ≡ set_of (mentioning g (map (λ r. r.value) gone.now))) }
+    {
+        let files = regrouped(alloc, old, changed)?;
+        Ok(Noted {
+            puts: noted_of(alloc, &files)?,
+            before: noted_before(alloc, old, &files)?,
+            gone: noted_of(alloc, gone)?,
+        })
+    }
+
+    /// The groups for which paths are noted, rising.
+    pub fn groups(&self, alloc: Global) -> Result<Vec<Id>, AllocError>
+        ensures { IfOk result (λ groups. (g : ℕ) → is_one_of g groups.items ≡ false → AreNone self.now g) }
+    {
+        let mut groups = Vec::new(alloc);
+        add_groups(&mut groups, &self.puts)?;
+        add_groups(&mut groups, &self.before)?;
+        add_groups(&mut groups, &self.gone)?;
+        let groups = rising(groups)?;
+        Ok(groups)
     }
 }

@@ -260,6 +260,49 @@ static COMES_AND_GOES: [Row; 4] = [
     },
 ];
 
+/// No file has f's label while a user comes.
+static COMES_BACK: [Row; 3] = [
+    Row {
+        line: Line::Chmod(0o600, b"f"),
+        asked: (0, 3),
+        looked: 0,
+        refreshed: 3,
+        verdicts: &[],
+        reach: &[],
+    },
+    Row {
+        line: Line::Useradd(b"bob", 1003, b"staff"),
+        asked: (0, 5),
+        looked: 0,
+        refreshed: 5,
+        verdicts: &[Verdict {
+            user: 3,
+            path: b"f",
+            byte: 0x01,
+        }],
+        reach: &[],
+    },
+    Row {
+        line: Line::Chmod(0o640, b"f"),
+        asked: (0, 4),
+        looked: 0,
+        refreshed: 4,
+        verdicts: &[
+            Verdict {
+                user: 3,
+                path: b"f",
+                byte: 0x11,
+            },
+            Verdict {
+                user: LISA,
+                path: b"f",
+                byte: 0x55,
+            },
+        ],
+        reach: &[],
+    },
+];
+
 static SEARCH: [Row; 1] = [Row {
     line: Line::Chmod(0o754, b"."),
     asked: (0, 3),
@@ -351,4 +394,12 @@ fn users_come_and_go_and_search(rt: HostRuntime) {
     let mut second = nothing(alloc).expect(&rt, "memory");
     assert_eq!(rt; first_wrong(alloc, &mut second, &SETUP), None);
     assert_eq!(rt; first_wrong(alloc, &mut second, &SEARCH), None, "search");
+}
+
+#[test]
+fn a_label_comes_back(rt: HostRuntime) {
+    let alloc = rt.alloc();
+    let mut world = nothing(alloc).expect(&rt, "memory");
+    assert_eq!(rt; first_wrong(alloc, &mut world, &SETUP), None);
+    assert_eq!(rt; first_wrong(alloc, &mut world, &COMES_BACK), None);
 }

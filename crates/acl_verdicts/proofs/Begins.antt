@@ -1,5 +1,5 @@
--- A walk over the rows at a path and below it: where it begins.
-use Rattle.std.proofs.Common.{◌≡◌, ℕ, suc, ◌-◌, Bool, true, false, cond, not, ◌||◌, ◌&&◌, List, [], ◌∷◌, length, map, take, Option, Some, None, Ordering, Less, Equal, Greater, ◌++◌, append-nil, IsTrue, refl, sym, ap, subst, ◌∙◌, arith}
+-- A walk over the entries at a path and below it: where it begins.
+use Rattle.std.proofs.Common.{◌≡◌, ℕ, suc, ◌-◌, Bool, true, false, cond, ◌&&◌, List, [], ◌∷◌, length, map, take, Option, Some, None, Ordering, Less, Equal, Greater, ◌++◌, IsTrue, refl, sym, ap, subst, ◌∙◌, arith}
 use Rattle.std.specs.Prelude.{if◌then◌else◌, ◌==◌}
 use Rattle.std.specs.List.{AllByRecursion}
 use Rattle.std.specs.Ordering.{is_gt, is_eq, is_lt, nat_cmp}
@@ -15,11 +15,9 @@ use Rattle.path_map.specs.Entries.{PathOf, IsInOrder}
 use Rattle.path_map.specs.Below.{within}
 use Rattle.path_map.proofs.Places.{above, below}
 use Rattle.path_map.proofs.Convex.{convex, not_before}
-use Rattle.acl_verdicts.specs.Rows.{Rows}
-use Rattle.acl_verdicts.specs.Reach.{can_search, passes_in, reached_rows}
-use Rattle.acl_verdicts.specs.Walks.{nearest_from, nearest, last_from, lets, cut_from, AllBefore, reached_in, IsWalked}
+use Rattle.acl_verdicts.specs.Walks.{nearest_from, last_from, AllBefore}
 use Rattle.acl_verdicts.specs.Subtrees.{IsNearest}
-use Rattle.acl_verdicts.proofs.Walks.{both, below_less, within_below, below_of_within, passes_alike, all-append, take_all, before_more, and_true, false_from, walked_on, walked_post, walked_done}
+use Rattle.acl_verdicts.proofs.Walks.{both, below_less, below_of_within, false_from}
 
 less : (o : Ordering) → is_lt o ≡ true → o ≡ Less
 less Less h = refl
@@ -63,25 +61,9 @@ from_not_below p r le = false_from (is_below r p) (λ b. clash (is_gt (path_cmp 
 pub early_not_within : (top p : PathOf) → is_gt (path_cmp top p) ≡ true → is_within top p ≡ false
 early_not_within top p gt = false_from (is_within top p) (λ w. clash (is_gt (path_cmp top p)) gt (not_before top p w))
 
-late_pass : (rest : Rows) (user : ℕ) (p : PathOf) → AllFrom p rest → passes_in rest user p ≡ true
-late_pass [] user p h = refl
-late_pass (r ∷ rest) user p h = ap (λ b. (not b || can_search user r.1) && passes_in rest user p) (from_not_below p r.0 h.0) ∙ late_pass rest user p h.1
-
-late_nearest : {A : Type 0} (o : Option A) (p : PathOf) (rest : List (PathOf × A)) → AllFrom p rest → nearest_from o p rest ≡ o
-late_nearest o p [] h = refl
-late_nearest o p (r ∷ rest) h = ap (λ b. nearest_from (if b then Some r.1 else o) p rest) (from_not_below p r.0 h.0) ∙ late_nearest o p rest h.1
-
-nearest_two : {A : Type 0} (o : Option A) (p : PathOf) (es fs : List (PathOf × A)) → nearest_from o p (es ++ fs) ≡ nearest_from (nearest_from o p es) p fs
-nearest_two o p [] fs = refl
-nearest_two o p (e ∷ es) fs = nearest_two (if is_below e.0 p then Some e.1 else o) p es fs
-
-from_values : {A B : Type 0} (g : PathOf × A → B) (p : PathOf) (es : List (PathOf × A)) → AllFrom p es → AllFrom p (map (λ e. (e.0, g e)) es)
-from_values g p [] h = tt
-from_values g p (e ∷ es) h = (h.0, from_values g p es h.1)
-
 -- ---- a table in two parts: what comes before a path, and what is at it or below it, with the rest after it
 
-record Parts {A : Type 0} (top : PathOf) (es : List (PathOf × A)) : Type 0 where
+pub record Parts {A : Type 0} (top : PathOf) (es : List (PathOf × A)) : Type 0 where
   pub pre : List (PathOf × A)
   pub post : List (PathOf × A)
   pub split : pre ++ (within top es ++ post) ≡ es
@@ -106,7 +88,7 @@ late_parts {A = A} top (e ∷ es) o h =
     by true is more none = (more.0, ap (λ l. e ∷ l) more.1)
     by false is more none = (e ∷ es, ap (λ l. l ++ e ∷ es) (none is (and_parts (below_all path_cmp e.0 es) (is_sorted path_cmp es) o).0))
 
-parts_of : {A : Type 0} (top : PathOf) (es : List (PathOf × A)) → IsInOrder es → Parts top es
+pub parts_of : {A : Type 0} (top : PathOf) (es : List (PathOf × A)) → IsInOrder es → Parts top es
 parts_of top [] o = record { pre = []; post = []; split = refl; ahead = tt; late = tt }
 parts_of {A = A} top (e ∷ es) o =
     let parts = and_parts (below_all path_cmp e.0 es) (is_sorted path_cmp es) o in
@@ -127,139 +109,53 @@ parts_of {A = A} top (e ∷ es) o =
         let found = late_parts top (e ∷ es) o all in
         record { pre = []; post = found.0; split = found.1; ahead = tt; late = subst (AllFrom top) (sym found.1) all }
 
--- ---- the nearest row above decides who passes
+-- ---- entries above a path
 
-module _ (rows : Rows) (order : IsInOrder rows) where
-  all_inside : (es : Rows) → AllByRecursion (λ r. is_within [] r.0 ≡ true) es
-  all_inside [] = tt
-  all_inside (e ∷ es) = (refl, all_inside es)
+pub above_last : {A : Type 0} (o : Option A) (p : PathOf) (es : List (PathOf × A)) → AllByRecursion (λ e. is_below e.0 p ≡ true) es → nearest_from o p es ≡ last_from o es
+above_last o p [] h = refl
+above_last o p (e ∷ es) h = ap (λ b. nearest_from (if b then Some e.1 else o) p es) h.0 ∙ above_last (Some e.1) p es h.1
 
-  decides : (p : PathOf) (user : ℕ) (rest reached : Rows) (w : IsWalked [] rows (reached_rows rows) rest reached reached) → w.post ≡ [] → AllBefore p w.done → passes_in rows user p ≡ lets (nearest p (reached_rows rows)) user
-  decides p user [] reached w none ahead =
-      let all : w.done ≡ rows = sym (append-nil w.done) ∙ ap (λ l. w.done ++ l) (sym none) ∙ w.split in
-      ap (λ l. passes_in l user p) (sym all) ∙ w.leads.passes p user refl ahead ∙ ap (λ l. lets (nearest p l) user) (sym (append-nil reached) ∙ w.made)
-  decides p user (r ∷ rest) reached w none ahead = by (is_gt (path_cmp p r.0)) refl (decides p user rest)
-    where
-      entry : PathOf × List ℕ
-      entry = (r.0, cut_from (nearest r.0 reached) 0 r.1)
+pub above_within : {A : Type 0} (top p : PathOf) (es : List (PathOf × A)) → is_within top p ≡ true → AllByRecursion (λ e. is_below e.0 top ≡ true) es → AllByRecursion (λ e. is_below e.0 p ≡ true) es
+above_within top p [] w h = tt
+above_within top p (e ∷ es) w h = (below_of_within e.0 top p h.0 w, above_within top p es w h.1)
 
-      by : (b : Bool) → is_gt (path_cmp p r.0) ≡ b
-          → ((more : Rows) (w : IsWalked [] rows (reached_rows rows) rest more more) → w.post ≡ [] → AllBefore p w.done → passes_in rows user p ≡ lets (nearest p (reached_rows rows)) user)
-          → passes_in rows user p ≡ lets (nearest p (reached_rows rows)) user
-      by true gt next =
-          next (reached ++ entry ∷ []) (walked_on [] rows (reached_rows rows) order r rest reached reached reached entry (length reached) w (sym (take_all reached)) (λ q le. refl) refl)
-          (walked_post [] rows (reached_rows rows) order r rest reached reached reached entry (length reached) w (sym (take_all reached)) (λ q le. refl) refl ∙ none)
-          (subst (AllBefore p) (sym (walked_done [] rows (reached_rows rows) order r rest reached reached reached entry (length reached) w (sym (take_all reached)) (λ q le. refl) refl)) (before_more w.done r p ahead (below p r.0 (greater (path_cmp p r.0) gt))))
-      by false le next =
-          let later : AllFrom p (r ∷ (rest ++ w.post)) = (le, all_from p r.0 (rest ++ w.post) le (after w.done (rest ++ w.post) (subst IsInOrder (sym w.split) order))) in
-          let walked : AllFrom p (r ∷ rest) = (le, all_from p r.0 rest le (front rest w.post (after w.done (rest ++ w.post) (subst IsInOrder (sym w.split) order)))) in
-          ap (λ l. passes_in l user p) (sym w.split)
-          ∙ all-append (λ e. not (is_below e.0 p) || can_search user e.1) w.done (r ∷ (rest ++ w.post))
-          ∙ ap (λ b. passes_in w.done user p && b) (late_pass (r ∷ (rest ++ w.post)) user p later) ∙ and_true (passes_in w.done user p)
-          ∙ w.leads.passes p user refl ahead
-          ∙ ap (λ o. lets o user)
-          (sym (ap (nearest p) (sym w.made) ∙ nearest_two None p reached (map (reached_in rows) (r ∷ rest))
-          ∙ late_nearest (nearest p reached) p (map (reached_in rows) (r ∷ rest)) (from_values (λ x. (reached_in rows x).1) p (r ∷ rest) walked)))
-        where
-          after : (done later : Rows) → IsInOrder (done ++ r ∷ later) → IsTrue (below_all path_cmp r.0 later)
-          after [] later h = (and_parts (below_all path_cmp r.0 later) (is_sorted path_cmp later) h).0
-          after (d ∷ done) later h = after done later (and_parts (below_all path_cmp d.0 (done ++ r ∷ later)) (is_sorted path_cmp (done ++ r ∷ later)) h).1
+pub above_before : {A : Type 0} (p : PathOf) (es : List (PathOf × A)) → AllByRecursion (λ e. is_below e.0 p ≡ true) es → AllBefore p es
+above_before p [] h = tt
+above_before p (e ∷ es) h = (below_less e.0 p h.0, above_before p es h.1)
 
-          front : (es fs : Rows) → IsTrue (below_all path_cmp r.0 (es ++ fs)) → IsTrue (below_all path_cmp r.0 es)
-          front [] fs h = refl
-          front (e ∷ es) fs h =
-              let parts = and_parts (is_lt (path_cmp r.0 e.0)) (below_all path_cmp r.0 (es ++ fs)) h in
-              ap (λ b. b && below_all path_cmp r.0 es) parts.0 ∙ front es fs parts.1
+-- ---- entries at a path and below it
 
-  pub nearest_decides : (p : PathOf) (user : ℕ) → passes_in rows user p ≡ lets (nearest p (reached_rows rows)) user
-  nearest_decides p user =
-      decides p user rows [] (record {
-        done = [];
-        post = [];
-        split = append-nil rows;
-        inside = all_inside rows;
-        made = refl;
-        leads = record { before = λ q w h. tt; passes = λ q u w h. refl };
-      }) refl tt
+pub inside_within : {A : Type 0} (top : PathOf) (es : List (PathOf × A)) → AllByRecursion (λ r. is_within top r.0 ≡ true) (within top es)
+inside_within top [] = tt
+inside_within {A = A} top (e ∷ es) = by (is_within top e.0) refl (inside_within top es)
+  where
+    by : (b : Bool) → is_within top e.0 ≡ b → AllByRecursion (λ (r : PathOf × A). is_within top r.0 ≡ true) (within top es) → AllByRecursion (λ (r : PathOf × A). is_within top r.0 ≡ true) (cond b (e ∷ within top es) (within top es))
+    by true is more = (is, more)
+    by false is more = more
 
-  -- ---- the walk
-
-  above_last : (o : Option (List ℕ)) (p : PathOf) (es : Rows) → AllByRecursion (λ e. is_below e.0 p ≡ true) es → nearest_from o p es ≡ last_from o es
-  above_last o p [] h = refl
-  above_last o p (e ∷ es) h = ap (λ b. nearest_from (if b then Some e.1 else o) p es) h.0 ∙ above_last (Some e.1) p es h.1
-
-  above_within : (top p : PathOf) (es : Rows) → is_within top p ≡ true → AllByRecursion (λ e. is_below e.0 top ≡ true) es → AllByRecursion (λ e. is_below e.0 p ≡ true) es
-  above_within top p [] w h = tt
-  above_within top p (e ∷ es) w h = (below_of_within e.0 top p h.0 w, above_within top p es w h.1)
-
-  above_before : (p : PathOf) (es : Rows) → AllByRecursion (λ e. is_below e.0 p ≡ true) es → AllBefore p es
-  above_before p [] h = tt
-  above_before p (e ∷ es) h = (below_less e.0 p h.0, above_before p es h.1)
-
-  within_alike : (done : Rows) (user : ℕ) (top p : PathOf) → AllBefore top done → is_within top p ≡ true → passes_in done user p ≡ passes_in done user top
-  within_alike done user top p ahead w = by (path_cmp top p) refl
-    where
-      by : (o : Ordering) → path_cmp top p ≡ o → passes_in done user p ≡ passes_in done user top
-      by Less is = passes_alike done user top p ahead (within_below top p w is)
-      by Equal is = ap (passes_in done user) (sym (exact_paths top p is))
-      by Greater is = absurd (clash (is_gt (path_cmp top p)) (ap is_gt is) (not_before top p w))
-
-  inside_within : (top : PathOf) (es : Rows) → AllByRecursion (λ r. is_within top r.0 ≡ true) (within top es)
-  inside_within top [] = tt
-  inside_within top (e ∷ es) = by (is_within top e.0) refl (inside_within top es)
-    where
-      by : (b : Bool) → is_within top e.0 ≡ b → AllByRecursion (λ r. is_within top r.0 ≡ true) (within top es) → AllByRecursion (λ r. is_within top r.0 ≡ true) (cond b (e ∷ within top es) (within top es))
-      by true is more = (is, more)
-      by false is more = more
-
-  within_reached : (top : PathOf) (es : Rows) → map (reached_in rows) (within top es) ≡ within top (map (reached_in rows) es)
-  within_reached top [] = refl
-  within_reached top (e ∷ es) = by (is_within top e.0) (within_reached top es)
-    where
-      by : (b : Bool) → map (reached_in rows) (within top es) ≡ within top (map (reached_in rows) es)
-          → map (reached_in rows) (cond b (e ∷ within top es) (within top es)) ≡ cond b (reached_in rows e ∷ within top (map (reached_in rows) es)) (within top (map (reached_in rows) es))
-      by true more = ap (λ l. reached_in rows e ∷ l) more
-      by false more = more
-
-  -- a walk over the rows at a path and below it, with what is above at hand
-  pub walk_from : (top : PathOf) (rest reached stack : Rows) → rest ≡ within top rows → IsNearest top (reached_rows rows) stack → IsWalked top rows (reached ++ within top (reached_rows rows)) rest reached stack
-  walk_from top rest reached stack is near =
-      subst (λ l. IsWalked top rows (reached ++ within top (reached_rows rows)) l reached stack) (sym is) (record {
-        done = parts.pre;
-        post = parts.post;
-        split = parts.split;
-        inside = inside_within top rows;
-        made = ap (λ l. reached ++ l) (within_reached top rows);
-        leads = record { before = λ p w h. above_before p stack (above_within top p stack w near.below); passes = passes };
-      })
-    where
-      parts : Parts top rows
-      parts = parts_of top rows order
-
-      passes : (p : PathOf) (user : ℕ) → is_within top p ≡ true → AllBefore p parts.pre → passes_in parts.pre user p ≡ lets (nearest p stack) user
-      passes p user w h =
-          within_alike parts.pre user top p parts.ahead w
-          ∙ sym (and_true (passes_in parts.pre user top))
-          ∙ ap (λ b. passes_in parts.pre user top && b) (sym (late_pass (within top rows ++ parts.post) user top parts.late))
-          ∙ sym (all-append (λ e. not (is_below e.0 top) || can_search user e.1) parts.pre (within top rows ++ parts.post))
-          ∙ ap (λ l. passes_in l user top) parts.split
-          ∙ nearest_decides top user
-          ∙ ap (λ o. lets o user) (sym (above_last None p stack (above_within top p stack w near.below) ∙ near.last))
+pub within_values : {A B : Type 0} (g : PathOf × A → B) (top : PathOf) (es : List (PathOf × A)) → map (λ e. (e.0, g e)) (within top es) ≡ within top (map (λ e. (e.0, g e)) es)
+within_values g top [] = refl
+within_values g top (e ∷ es) = by (is_within top e.0) (within_values g top es)
+  where
+    by : (b : Bool) → map (λ e. (e.0, g e)) (within top es) ≡ within top (map (λ e. (e.0, g e)) es)
+        → map (λ e. (e.0, g e)) (cond b (e ∷ within top es) (within top es)) ≡ cond b ((e.0, g e) ∷ within top (map (λ e. (e.0, g e)) es)) (within top (map (λ e. (e.0, g e)) es))
+    by true more = ap (λ l. (e.0, g e) ∷ l) more
+    by false more = more
 
 -- nothing is above the root
-pub root_near : (rows : Rows) → IsNearest [] rows []
-root_near rows = record { below = tt; last = sym (none None rows) }
+pub root_near : {A : Type 0} (rows : List (PathOf × A)) → IsNearest [] rows []
+root_near {A = A} rows = record { below = tt; last = sym (none None rows) }
   where
     nothing : (p : PathOf) → is_below p [] ≡ false
     nothing [] = refl
     nothing (x ∷ p) = refl
 
-    none : (o : Option (List ℕ)) (es : Rows) → nearest_from o [] es ≡ o
+    none : (o : Option A) (es : List (PathOf × A)) → nearest_from o [] es ≡ o
     none o [] = refl
     none o (e ∷ es) = ap (λ b. nearest_from (if b then Some e.1 else o) [] es) (nothing e.0) ∙ none o es
 
 -- all is below the root
-pub within_root : (rows : Rows) → within [] rows ≡ rows
+pub within_root : {A : Type 0} (rows : List (PathOf × A)) → within [] rows ≡ rows
 within_root [] = refl
 within_root (r ∷ rows) = ap (λ l. r ∷ l) (within_root rows)
 
@@ -279,7 +175,7 @@ parent_is x (y ∷ p) =
     let e : length (x ∷ y ∷ p) - 1 ≡ suc (length (y ∷ p) - 1) = omega arith in
     ap (λ n. take n (x ∷ y ∷ p)) e ∙ ap (λ l. x ∷ l) (parent_is y p)
 
-nothing_below : (e : PathOf) → is_below e [] ≡ false
+pub nothing_below : (e : PathOf) → is_below e [] ≡ false
 nothing_below [] = refl
 nothing_below (x ∷ e) = refl
 
@@ -306,9 +202,5 @@ empty_path p parts b is same none = nothing p (eqb-true (length p) 0 (sym (is �
     nothing [] h = refl
     nothing (x ∷ q) h = absurd (omega (arith, h))
 
--- a walk over all rows
-pub all_reached : (rows made new : Rows) (root : PathOf) → root ≡ [] → made ≡ [] → new ≡ made ++ within root (reached_rows rows) → new ≡ reached_rows rows
-all_reached rows made new root is none h = h ∙ (λ i. none i ++ within (is i) (reached_rows rows)) ∙ within_root (reached_rows rows)
-
-pub root_is_near : (rows above : Rows) (root : PathOf) → root ≡ [] → above ≡ [] → IsNearest root rows above
+pub root_is_near : {A : Type 0} (rows above : List (PathOf × A)) (root : PathOf) → root ≡ [] → above ≡ [] → IsNearest root rows above
 root_is_near rows above root is none = let p = sym is in let l = sym none in subst (λ q. IsNearest q rows above) p (subst (IsNearest [] rows) l (root_near rows))

@@ -1,7 +1,13 @@
 pub mod Places
+pub mod Blocks
+pub mod Reaching
 pub mod Orders
 pub mod Walks
 mod Begins
 mod Nearest
-mod Changes
-mod Tops
+pub mod Changes
+pub mod Tops
+mod Along
+mod Reached
+pub mod NewWays
+mod Walked

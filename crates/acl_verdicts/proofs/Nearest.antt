@@ -1,5 +1,5 @@
--- The nearest row above a path, by search.
-use Rattle.std.proofs.Common.{◌≡◌, ℕ, ◌<◌, Bool, true, false, cond, ◌&&◌, List, [], ◌∷◌, ◌++◌, length, Option, Some, None, Ordering, Less, Equal, Greater, IsTrue, refl, sym, ap, subst, ◌∙◌, arith}
+-- The nearest entry above a path, by search.
+use Rattle.std.proofs.Common.{◌≡◌, ◌<◌, Bool, true, false, cond, ◌&&◌, List, [], ◌∷◌, ◌++◌, length, Option, Some, None, Ordering, Less, Equal, Greater, IsTrue, refl, sym, ap, subst, ◌∙◌, arith}
 use Rattle.std.specs.Prelude.{if◌then◌else◌}
 use Rattle.std.specs.Option.{option_or}
 use Rattle.std.specs.List.{AllByRecursion, list_all}
@@ -16,7 +16,6 @@ use Rattle.path_map.specs.Entries.{PathOf, IsInOrder}
 use Rattle.path_map.specs.Below.{up_to}
 use Rattle.path_map.proofs.Places.{above, below}
 use Rattle.path_map.proofs.Convex.{convex, not_before}
-use Rattle.acl_verdicts.specs.Rows.{Rows}
 use Rattle.acl_verdicts.specs.Walks.{nearest_from}
 use Rattle.acl_verdicts.specs.Subtrees.{IsNearest, common}
 use Rattle.acl_verdicts.proofs.Walks.{both, all-append, exact_names, below_less, below_within, within_below, within_trans, false_from}
@@ -165,31 +164,31 @@ order_cases t r early out = by (path_cmp t r) refl
     by Equal is = absurd (clash (is_within r t) (ap (is_within r) (exact_paths t r is) ∙ within_itself r) out)
     by Greater is = below t r is
 
--- the rows above a path are those at or above another path, which is above it
-pub record IsAhead (p : PathOf) (rows : Rows) (t : PathOf) : Type 0 where
+-- the entries above a path are those at or above another path, which is above it
+pub record IsAhead {A : Type 0} (p : PathOf) (rows : List (PathOf × A)) (t : PathOf) : Type 0 where
   pub inside : is_below t p ≡ true
   pub alike : Alike p t rows
 
-pub ahead_begins : (p : PathOf) (rows : Rows) (t : PathOf) → (p ≡ [] → ⊥) → t ≡ parent p → IsAhead p rows t
-ahead_begins p rows t some is = subst (IsAhead p rows) (sym is) (record {
+pub ahead_begins : {A : Type 0} (p : PathOf) (rows : List (PathOf × A)) (t : PathOf) → (p ≡ [] → ⊥) → t ≡ parent p → IsAhead p rows t
+ahead_begins {A = A} p rows t some is = subst (IsAhead p rows) (sym is) (record {
   inside = below_parent (parent p) p some ∙ within_itself (parent p);
   alike = all rows;
 })
   where
-    all : (es : Rows) → Alike p (parent p) es
+    all : (es : List (PathOf × A)) → Alike p (parent p) es
     all [] = tt
     all (e ∷ es) = (below_parent e.0 p some, all es)
 
-pub ahead_found : (p : PathOf) (rows : Rows) (t : PathOf) (r : PathOf × List ℕ) → IsAhead p rows t → up_to t rows ≡ Some r → is_within r.0 t ≡ true → IsNearest p rows (r ∷ [])
+pub ahead_found : {A : Type 0} (p : PathOf) (rows : List (PathOf × A)) (t : PathOf) (r : PathOf × A) → IsAhead p rows t → up_to t rows ≡ Some r → is_within r.0 t ≡ true → IsNearest p rows (r ∷ [])
 ahead_found p rows t r w is inside = record {
   below = (within_then_below r.0 t p inside w.inside, tt);
   last = sym (found_last None p t rows r w.alike is inside);
 }
 
-pub ahead_ends : (p : PathOf) (rows : Rows) (t : PathOf) → IsAhead p rows t → up_to t rows ≡ None → IsNearest p rows []
+pub ahead_ends : {A : Type 0} (p : PathOf) (rows : List (PathOf × A)) (t : PathOf) → IsAhead p rows t → up_to t rows ≡ None → IsNearest p rows []
 ahead_ends p rows t w is = record { below = tt; last = sym (skip_after None p t rows w.alike (none_above t rows is)) }
 
-module _ (p : PathOf) (rows : Rows) (t : PathOf) (r : PathOf × List ℕ) (order : IsInOrder rows) (is : up_to t rows ≡ Some r) (out : is_within r.0 t ≡ false) where
+module _ {A : Type 0} (p : PathOf) (rows : List (PathOf × A)) (t : PathOf) (r : PathOf × A) (order : IsInOrder rows) (is : up_to t rows ≡ Some r) (out : is_within r.0 t ≡ false) where
   early : is_lt (path_cmp t r.0) ≡ false
   early = last_early t rows r is
 
@@ -215,7 +214,7 @@ module _ (p : PathOf) (rows : Rows) (t : PathOf) (r : PathOf × List ℕ) (order
     alike = all rows w.alike (last_bound t rows r order is);
   })
     where
-      all : (es : Rows) → Alike p t es → Bounded t r.0 es → Alike p (common t r.0) es
+      all : (es : List (PathOf × A)) → Alike p t es → Bounded t r.0 es → Alike p (common t r.0) es
       all [] a b = tt
       all (e ∷ es) a b = (a.0 ∙ cut_alike e.0 b.0, all es a.1 b.1)
 

@@ -1,5 +1,5 @@
 -- Path order, where values are made by paths and values.
-use Rattle.std.proofs.Common.{◌≡◌, ◌&&◌, List, [], ◌∷◌, map, refl, ap, ◌∙◌}
+use Rattle.std.proofs.Common.{◌≡◌, ◌&&◌, List, [], ◌∷◌, map, refl, sym, ap, ◌∙◌}
 use Rattle.std.specs.Ordering.{is_lt}
 use Rattle.std.specs.FinMap.{is_sorted}
 use Rattle.std.specs.FinMap.Entries.{below_all}
@@ -17,3 +17,6 @@ module _ {A B : Type 0} (g : PathOf × A → B) where
 
   pub in_order-values : (es : List (PathOf × A)) → IsInOrder es → IsInOrder (map (λ e. (e.0, g e)) es)
   in_order-values es h = sorted-values es ∙ h
+
+  pub in_order-back : (es : List (PathOf × A)) → IsInOrder (map (λ e. (e.0, g e)) es) → IsInOrder es
+  in_order-back es h = sym (sorted-values es) ∙ h

@@ -13,7 +13,6 @@ use Rattle.path_map.specs.Entries.{PathOf, IsInOrder}
 use Rattle.path_map.specs.Below.{within}
 use Rattle.path_map.specs.Merged.{has}
 use Rattle.path_map.proofs.Convex.{convex}
-use Rattle.acl_verdicts.specs.Rows.{Rows}
 use Rattle.acl_verdicts.specs.Walks.{AllBefore}
 use Rattle.acl_verdicts.specs.Subtrees.{lies_in, covers, AreWalked}
 use Rattle.acl_verdicts.proofs.Walks.{below_within, within_trans, false_from, all_before}
@@ -94,8 +93,8 @@ module _ {A : Type 0} where
           let all : AllFrom t (e ∷ es) = (le, all_from t e.0 es le parts.0) in
           ap (λ l. l ++ within t (e ∷ es)) (late_none (e ∷ es) all) ∙ late_same (e ∷ es) all
 
-module _ {A : Type 0} (ts : List (PathOf × A)) (order : IsInOrder ts) (reached : Rows) (rows_order : IsInOrder reached) where
-  pub tops_begin : (rest : List (PathOf × A)) (puts : Rows) (last : Option PathOf) → rest ≡ ts → puts ≡ [] → last ≡ None → AreWalked ts reached rest puts last
+module _ {A R : Type 0} (ts : List (PathOf × A)) (order : IsInOrder ts) (reached : List (PathOf × R)) (rows_order : IsInOrder reached) where
+  pub tops_begin : (rest : List (PathOf × A)) (puts : List (PathOf × R)) (last : Option PathOf) → rest ≡ ts → puts ≡ [] → last ≡ None → AreWalked ts reached rest puts last
   tops_begin rest puts last is none nothing =
       record {
         seen = [];
@@ -104,11 +103,11 @@ module _ {A : Type 0} (ts : List (PathOf × A)) (order : IsInOrder ts) (reached 
         covered = λ p h. sym (ap (λ l. covers l p) nothing);
       }
     where
-      empty : (es : Rows) → filter (λ r. false) es ≡ []
+      empty : (es : List (PathOf × R)) → filter (λ r. false) es ≡ []
       empty [] = refl
       empty (e ∷ es) = empty es
 
-  module _ (t : PathOf × A) (rest more : List (PathOf × A)) (puts : Rows) (last : Option PathOf) (is : rest ≡ t ∷ more) (w : AreWalked ts reached rest puts last) where
+  module _ (t : PathOf × A) (rest more : List (PathOf × A)) (puts : List (PathOf × R)) (last : Option PathOf) (is : rest ≡ t ∷ more) (w : AreWalked ts reached rest puts last) where
     ordered : IsInOrder (w.seen ++ t ∷ more)
     ordered = subst IsInOrder (sym (ap (λ l. w.seen ++ l) (sym is) ∙ w.split)) order
 
@@ -151,7 +150,7 @@ module _ {A : Type 0} (ts : List (PathOf × A)) (order : IsInOrder ts) (reached 
             by false out = or_nothing (lies_in w.seen p)
 
     -- another adds what is at it and below it
-    pub tops_walk : (added : Rows) → covers last t.0 ≡ false → added ≡ puts ++ within t.0 reached → AreWalked ts reached more added (Some t.0)
+    pub tops_walk : (added : List (PathOf × R)) → covers last t.0 ≡ false → added ≡ puts ++ within t.0 reached → AreWalked ts reached more added (Some t.0)
     tops_walk added out_last made =
         record {
           seen = w.seen ++ t ∷ [];
@@ -204,5 +203,5 @@ module _ {A : Type 0} (ts : List (PathOf × A)) (order : IsInOrder ts) (reached 
             by true h = refl
             by false h = h
 
-  pub tops_end : (rest : List (PathOf × A)) (puts : Rows) (last : Option PathOf) → rest ≡ [] → AreWalked ts reached rest puts last → puts ≡ filter (λ r. lies_in ts r.0) reached
+  pub tops_end : (rest : List (PathOf × A)) (puts : List (PathOf × R)) (last : Option PathOf) → rest ≡ [] → AreWalked ts reached rest puts last → puts ≡ filter (λ r. lies_in ts r.0) reached
   tops_end rest puts last none w = w.made ∙ ap (λ (l : List (PathOf × A)). filter (λ r. lies_in l r.0) reached) (sym (append-nil w.seen) ∙ ap (λ l. w.seen ++ l) (sym none) ∙ w.split)

@@ -1,24 +1,21 @@
--- A walk over rows in path order, with the rows above at hand.
-use Rattle.std.proofs.Common.{◌≡◌, ℕ, zero, suc, ◌+◌, ◌-◌, ◌<◌, ◌≤◌, Bool, true, false, not, ◌||◌, ◌&&◌, List, [], ◌∷◌, length, map, take, drop, get_or, Option, Some, None, Ordering, Less, Equal, Greater, ◌++◌, append_assoc, append-nil, IsTrue, refl, sym, ap, subst, ◌∙◌, arith}
-use Rattle.std.specs.Prelude.{option_map, if◌then◌else◌}
+-- Entries in path order: those above a path, and the nearest of them.
+use Rattle.std.proofs.Common.{◌≡◌, ℕ, zero, suc, ◌+◌, ◌-◌, ◌<◌, ◌≤◌, Bool, true, false, ◌&&◌, List, [], ◌∷◌, length, map, take, drop, get_or, Option, Some, None, Ordering, Less, Equal, Greater, ◌++◌, append_assoc, IsTrue, refl, sym, ap, subst, ◌∙◌, arith}
+use Rattle.std.specs.Prelude.{if◌then◌else◌}
 use Rattle.std.specs.List.{list_all}
 use Rattle.std.specs.Ordering.{is_gt, is_eq, is_lt, nat_cmp, ordering_then}
 use Rattle.std.specs.Cmp.Lexicographic.{slice_cmp}
 use Rattle.std.specs.FinMap.{is_sorted, IsAntisymmetric, slice_cmp-IsAntisymmetric, nat_cmp-IsAntisymmetric}
 use Rattle.std.specs.FinMap.Entries.{below_all}
 use Rattle.std.proofs.lemmas.Bool.{and_parts}
-use Rattle.std.proofs.lemmas.List.{map-append, length-map, drop_more}
+use Rattle.std.proofs.lemmas.List.{length-map, drop_more}
 use Rattle.std.proofs.lemmas.Cmp.{tied_itself}
-use Rattle.acl_files.specs.acl_entry.Check.{has}
 use Rattle.acl_files.specs.acl_names.Paths.{path_cmp}
 use Rattle.acl_files.proofs.of_acl_names.PathOrder.{path_total, exact_paths}
 use Rattle.acl_files.specs.Below.{is_within, is_below}
 use Rattle.path_map.specs.Entries.{PathOf, IsInOrder}
 use Rattle.path_map.proofs.Places.{above}
 use Rattle.path_map.proofs.Convex.{convex}
-use Rattle.acl_verdicts.specs.Rows.{Rows}
-use Rattle.acl_verdicts.specs.Reach.{execute, can_search, passes_in, reached_from}
-use Rattle.acl_verdicts.specs.Walks.{nearest_from, nearest, last_from, last_of, lets, cut_from, AllBefore, reached_in, IsWalked}
+use Rattle.acl_verdicts.specs.Walks.{nearest_from, nearest, last_from, last_of, lets, cut_from, AllBefore}
 
 -- ---- which paths are below which
 
@@ -86,30 +83,17 @@ below_trans (x ∷ p) (y ∷ s) (z ∷ t) h k =
     let two = and_parts (is_eq (slice_cmp nat_cmp y z)) (is_below s t) k in
     both _ _ (ap (λ w. is_eq (slice_cmp nat_cmp w z)) (exact_names x y (equal (slice_cmp nat_cmp x y) one.0)) ∙ two.0) (below_trans p s t one.1 two.1)
 
-not_less : (o : Ordering) → o ≡ Less → o ≡ Greater → ⊥
-not_less o h k = cc
-
--- a path that comes before another doesn't lie below it
-pub not_below : (p q : PathOf) → path_cmp p q ≡ Less → is_below q p ≡ false
-not_below p q h = false_from (is_below q p) (λ below. not_less (path_cmp q p) (below_less q p below) (above p q h))
-
-not_below_itself : (p : PathOf) → is_below p p ≡ false
-not_below_itself p = false_from (is_below p p) (λ below. equal_is_not_less (sym (tied_itself path_total p) ∙ below_less p p below))
-  where
-    equal_is_not_less : Equal ≡ Less → ⊥
-    equal_is_not_less e = cc
-
 -- what lies above a path is what lies above each path below it, of those that come before
-below_alike : (p s t : PathOf) → path_cmp p s ≡ Less → is_below s t ≡ true → is_below p s ≡ is_below p t
+pub below_alike : (p s t : PathOf) → path_cmp p s ≡ Less → is_below s t ≡ true → is_below p s ≡ is_below p t
 below_alike p s t first h = alike_from (is_below p s) (is_below p t) (λ b. below_trans p s t b h) (convex_below p s t first (below_less s t h))
 
 -- ---- lists that come before a path
 
-before_front : {A : Type 0} (es fs : List (PathOf × A)) (p : PathOf) → AllBefore p (es ++ fs) → AllBefore p es
+pub before_front : {A : Type 0} (es fs : List (PathOf × A)) (p : PathOf) → AllBefore p (es ++ fs) → AllBefore p es
 before_front [] fs p h = tt
 before_front (e ∷ es) fs p h = (h.0, before_front es fs p h.1)
 
-before_end : {A : Type 0} (es : List (PathOf × A)) (e : PathOf × A) (p : PathOf) → AllBefore p (es ++ e ∷ []) → path_cmp e.0 p ≡ Less
+pub before_end : {A : Type 0} (es : List (PathOf × A)) (e : PathOf × A) (p : PathOf) → AllBefore p (es ++ e ∷ []) → path_cmp e.0 p ≡ Less
 before_end [] e p h = h.0
 before_end (d ∷ es) e p h = before_end es e p h.1
 
@@ -117,7 +101,7 @@ pub before_more : {A : Type 0} (es : List (PathOf × A)) (e : PathOf × A) (p : 
 before_more [] e p h k = (k, tt)
 before_more (d ∷ es) e p h k = (h.0, before_more es e p h.1 k)
 
-before_take : {A : Type 0} (n : ℕ) (es : List (PathOf × A)) (p : PathOf) → AllBefore p es → AllBefore p (take n es)
+pub before_take : {A : Type 0} (n : ℕ) (es : List (PathOf × A)) (p : PathOf) → AllBefore p es → AllBefore p (take n es)
 before_take zero [] p h = tt
 before_take zero (e ∷ es) p h = tt
 before_take (suc n) [] p h = tt
@@ -136,7 +120,7 @@ all_before (d ∷ es) e fs h =
 
 -- ---- the nearest above
 
-nearest-append : {A : Type 0} (o : Option A) (p : PathOf) (es : List (PathOf × A)) (e : PathOf × A) → nearest_from o p (es ++ e ∷ []) ≡ (if is_below e.0 p then Some e.1 else nearest_from o p es)
+pub nearest-append : {A : Type 0} (o : Option A) (p : PathOf) (es : List (PathOf × A)) (e : PathOf × A) → nearest_from o p (es ++ e ∷ []) ≡ (if is_below e.0 p then Some e.1 else nearest_from o p es)
 nearest-append o p [] e = refl
 nearest-append o p (d ∷ es) e = nearest-append (if is_below d.0 p then Some d.1 else o) p es e
 
@@ -198,34 +182,7 @@ last_at es n d long =
     let lt : n < length es = omega (arith, long) in
     ap last_of (sym (ap (λ k. take k es) long ∙ take_all es)) ∙ ap last_of (take_more n es d lt) ∙ last-append None (take n es) (get_or es n d)
 
--- ---- cells that are cut
-
-pub cut_none : (n : ℕ) (cells : List ℕ) → cut_from None n cells ≡ cells
-cut_none n [] = refl
-cut_none n (c ∷ cells) = ap (λ l. c ∷ l) (cut_none (suc n) cells)
-
-cut_is : (rows : Rows) (p : PathOf) (above : Option (List ℕ)) (n : ℕ) (cells : List ℕ) → ((user : ℕ) → passes_in rows user p ≡ lets above user) → reached_from rows p n cells ≡ cut_from above n cells
-cut_is rows p above n [] h = refl
-cut_is rows p above n (c ∷ cells) h = λ i. (if h n i then c else 0) ∷ cut_is rows p above (suc n) cells h i
-
-and_false : (b : Bool) → false ≡ (b && false)
-and_false true = refl
-and_false false = refl
-
-cut_search : (above : Option (List ℕ)) (n user : ℕ) (cells : List ℕ) → can_search user (cut_from above n cells) ≡ (lets above (n + user) && can_search user cells)
-cut_search above n user [] = and_false (lets above (n + user))
-cut_search above n zero (c ∷ cells) = let e : n ≡ n + 0 = omega arith in by (lets above n) ∙ ap (λ k. lets above k && has c execute) e
-  where
-    by : (b : Bool) → has (if b then c else 0) execute ≡ (b && has c execute)
-    by true = refl
-    by false = refl
-cut_search above n (suc user) (c ∷ cells) = let e : suc n + user ≡ n + suc user = omega arith in cut_search above (suc n) user cells ∙ ap (λ k. lets above k && can_search user cells) e
-
--- ---- who passes
-
-pub and_true : (b : Bool) → (b && true) ≡ b
-and_true true = refl
-and_true false = refl
+-- ---- tests of two lists
 
 pub all-append : {A : Type 0} (f : A → Bool) (es fs : List A) → list_all f (es ++ fs) ≡ (list_all f es && list_all f fs)
 all-append f [] fs = refl
@@ -234,29 +191,6 @@ all-append f (e ∷ es) fs = ap (λ b. f e && b) (all-append f es fs) ∙ assoc 
     assoc : (a b c : Bool) → (a && (b && c)) ≡ ((a && b) && c)
     assoc true b c = refl
     assoc false b c = refl
-
-pub passes_alike : (done : Rows) (user : ℕ) (q p : PathOf) → AllBefore q done → is_below q p ≡ true → passes_in done user p ≡ passes_in done user q
-passes_alike [] user q p before h = refl
-passes_alike (e ∷ done) user q p before h = let same = sym (below_alike e.0 q p before.0 h) in λ i. (not (same i) || can_search user e.1) && passes_alike done user q p before.1 h i
-
-none_later : (rest : Rows) (user : ℕ) (p : PathOf) → IsTrue (below_all path_cmp p rest) → passes_in rest user p ≡ true
-none_later [] user p h = refl
-none_later (e ∷ rest) user p h =
-    let parts = and_parts (is_lt (path_cmp p e.0)) (below_all path_cmp p rest) h in
-    ap (λ b. (not b || can_search user e.1) && passes_in rest user p) (not_below p e.0 (less (path_cmp p e.0) parts.0)) ∙ none_later rest user p parts.1
-
-order_right : {A : Type 0} (pre es : List (PathOf × A)) → IsInOrder (pre ++ es) → IsInOrder es
-order_right [] es order = order
-order_right (q ∷ pre) es order = order_right pre es (and_parts (below_all path_cmp q.0 (pre ++ es)) (is_sorted path_cmp (pre ++ es)) order).1
-
--- rows from a path on don't enter into who passes there
-passes_front : (done : Rows) (r : PathOf × List ℕ) (rest : Rows) (user : ℕ) → IsInOrder (done ++ r ∷ rest) → passes_in (done ++ r ∷ rest) user r.0 ≡ passes_in done user r.0
-passes_front done r rest user order =
-    let parts = and_parts (below_all path_cmp r.0 rest) (is_sorted path_cmp rest) (order_right done (r ∷ rest) order) in
-    all-append (λ e. not (is_below e.0 r.0) || can_search user e.1) done (r ∷ rest)
-    ∙ ap (λ b. passes_in done user r.0 && ((not b || can_search user r.1) && passes_in rest user r.0)) (not_below_itself r.0)
-    ∙ ap (λ b. passes_in done user r.0 && b) (none_later rest user r.0 parts.0)
-    ∙ and_true (passes_in done user r.0)
 
 -- ---- what lies within a top
 
@@ -280,75 +214,9 @@ below_of_within (x ∷ p) (y ∷ s) (z ∷ t) h k =
     let two = and_parts (is_eq (slice_cmp nat_cmp y z)) (is_within s t) k in
     both _ _ (ap (λ w. is_eq (slice_cmp nat_cmp w z)) (exact_names x y (equal (slice_cmp nat_cmp x y) one.0)) ∙ two.0) (below_of_within p s t one.1 two.1)
 
--- ---- the walk
-
-module _ (top : PathOf) (rows total : Rows) (order : IsInOrder rows) where
-  -- the stack comes before the next path
-  pub stack_before : (r : PathOf × List ℕ) (rest reached stack : Rows) → IsWalked top rows total (r ∷ rest) reached stack → AllBefore r.0 stack
-  stack_before r rest reached stack w = w.leads.before r.0 w.inside.0 (all_before w.done r (rest ++ w.post) (subst IsInOrder (sym w.split) order))
-
-  -- a row more is walked
-  pub walked_on : (r : PathOf × List ℕ) (rest reached stack shrunk : Rows) (entry : PathOf × List ℕ) (n : ℕ) → IsWalked top rows total (r ∷ rest) reached stack
-      → shrunk ≡ take n stack → ((p : PathOf) → is_gt (path_cmp r.0 p) ≡ false → nearest p shrunk ≡ nearest p stack) → entry ≡ (r.0, cut_from (nearest r.0 stack) 0 r.1)
-      → IsWalked top rows total rest (reached ++ entry ∷ []) (shrunk ++ entry ∷ [])
-  walked_on r rest reached stack shrunk entry n w taken kept is = record {
-    done = w.done ++ r ∷ [];
-    post = w.post;
-    split = append_assoc w.done (r ∷ []) (rest ++ w.post) ∙ w.split;
-    inside = w.inside.1;
-    made = append_assoc reached (entry ∷ []) (map (reached_in rows) rest) ∙ (λ i. reached ++ (is ∙ ap (λ l. (r.0, l)) (sym cells)) i ∷ map (reached_in rows) rest) ∙ w.made;
-    leads = record { before = before; passes = passes };
-  }
-    where
-      ordered : IsInOrder (w.done ++ r ∷ (rest ++ w.post))
-      ordered = subst IsInOrder (sym w.split) order
-
-      ahead : AllBefore r.0 w.done
-      ahead = all_before w.done r (rest ++ w.post) ordered
-
-      cells : reached_from rows r.0 0 r.1 ≡ cut_from (nearest r.0 stack) 0 r.1
-      cells = cut_is rows r.0 (nearest r.0 stack) 0 r.1 (λ user. ap (λ l. passes_in l user r.0) (sym w.split) ∙ passes_front w.done r (rest ++ w.post) user ordered ∙ w.leads.passes r.0 user w.inside.0 ahead)
-
-      before : (p : PathOf) → is_within top p ≡ true → AllBefore p (w.done ++ r ∷ []) → AllBefore p (shrunk ++ entry ∷ [])
-      before p in_top h =
-          before_more shrunk entry p (subst (AllBefore p) (sym taken) (before_take n stack p (w.leads.before p in_top (before_front w.done (r ∷ []) p h))))
-          (ap (λ e. path_cmp e.0 p) is ∙ before_end w.done r p h)
-
-      passes : (p : PathOf) (user : ℕ) → is_within top p ≡ true → AllBefore p (w.done ++ r ∷ []) → passes_in (w.done ++ r ∷ []) user p ≡ lets (nearest p (shrunk ++ entry ∷ [])) user
-      passes p user in_top h =
-          all-append (λ e. not (is_below e.0 p) || can_search user e.1) w.done (r ∷ [])
-          ∙ ap (λ b. passes_in w.done user p && b) (and_true (not (is_below r.0 p) || can_search user r.1))
-          ∙ by (is_below r.0 p) refl
-          ∙ ap (λ o. lets o user) (sym (nearest-append None p shrunk entry ∙ (λ i. if is_below (is i).0 p then Some (is i).1 else kept p (ap is_gt (before_end w.done r p h)) i)))
-        where
-          by : (b : Bool) → is_below r.0 p ≡ b → (passes_in w.done user p && (not b || can_search user r.1)) ≡ lets (if b then Some (cut_from (nearest r.0 stack) 0 r.1) else nearest p stack) user
-          by true below =
-              ap (λ x. x && can_search user r.1) (passes_alike w.done user r.0 p ahead below ∙ w.leads.passes r.0 user w.inside.0 ahead)
-              ∙ sym (cut_search (nearest r.0 stack) 0 user r.1 ∙ nothing)
-            where
-              nothing : (lets (nearest r.0 stack) (0 + user) && can_search user r.1) ≡ (lets (nearest r.0 stack) user && can_search user r.1)
-              nothing = let e : 0 + user ≡ user = omega arith in ap (λ k. lets (nearest r.0 stack) k && can_search user r.1) e
-          by false below = and_true (passes_in w.done user p) ∙ w.leads.passes p user in_top (before_front w.done (r ∷ []) p h)
-
-  pub walked_post : (r : PathOf × List ℕ) (rest reached stack shrunk : Rows) (entry : PathOf × List ℕ) (n : ℕ) (w : IsWalked top rows total (r ∷ rest) reached stack)
-      (taken : shrunk ≡ take n stack) (kept : (p : PathOf) → is_gt (path_cmp r.0 p) ≡ false → nearest p shrunk ≡ nearest p stack) (is : entry ≡ (r.0, cut_from (nearest r.0 stack) 0 r.1))
-      → (walked_on r rest reached stack shrunk entry n w taken kept is).post ≡ w.post
-  unfolding walked_on
-  walked_post r rest reached stack shrunk entry n w taken kept is = refl
-
-  pub walked_done : (r : PathOf × List ℕ) (rest reached stack shrunk : Rows) (entry : PathOf × List ℕ) (n : ℕ) (w : IsWalked top rows total (r ∷ rest) reached stack)
-      (taken : shrunk ≡ take n stack) (kept : (p : PathOf) → is_gt (path_cmp r.0 p) ≡ false → nearest p shrunk ≡ nearest p stack) (is : entry ≡ (r.0, cut_from (nearest r.0 stack) 0 r.1))
-      → (walked_on r rest reached stack shrunk entry n w taken kept is).done ≡ w.done ++ r ∷ []
-  unfolding walked_on
-  walked_done r rest reached stack shrunk entry n w taken kept is = refl
-
-  -- all are walked
-  pub walk_ends : (rest reached stack : Rows) → rest ≡ [] → IsWalked top rows total rest reached stack → reached ≡ total
-  walk_ends rest reached stack none w = sym (append-nil reached) ∙ ap (λ l. reached ++ map (reached_in rows) l) (sym none) ∙ w.made
-
 -- ---- for what is kept in rows of another form
 
-take_seen : {A B : Type 0} (f : A → B) (n : ℕ) (xs : List A) → take n (map f xs) ≡ map f (take n xs)
+pub take_seen : {A B : Type 0} (f : A → B) (n : ℕ) (xs : List A) → take n (map f xs) ≡ map f (take n xs)
 take_seen f zero [] = refl
 take_seen f zero (x ∷ xs) = refl
 take_seen f (suc n) [] = refl
@@ -399,37 +267,3 @@ cut_step above cells at x cell new more all lt is made pushed so_far =
     ∙ ap (λ k. new ++ (if lets above at then x else 0) ∷ cut_from above k (drop (at + 1) cells)) (sym next)
     ∙ ap (λ l. new ++ cut_from above at l) (sym (drop_more cells at x lt ∙ ap (λ y. y ∷ drop (at + 1) cells) (sym is)))
     ∙ so_far
-
-module _ {R : Type 0} (f : R → PathOf × List ℕ) (top : PathOf) (rows total : Rows) (order : IsInOrder rows) where
-  pub row_ahead : (r : PathOf × List ℕ) (es rest : Rows) (reached stack seen : List R) (q : PathOf) → es ≡ r ∷ rest → IsWalked top rows total es (map f reached) (map f stack) → q ≡ r.0 → seen ≡ stack → AllBefore q (map f seen)
-  row_ahead r es rest reached stack seen q is w path same =
-      subst (λ p. AllBefore p (map f seen)) (sym path) (subst (λ xs. AllBefore r.0 (map f xs)) (sym same) (stack_before top rows total order r rest (map f reached) (map f stack) (subst (λ l. IsWalked top rows total l (map f reached) (map f stack)) is w)))
-
-  pub row_walked : (r : PathOf × List ℕ) (es rest : Rows) (reached stack seen left left_seen reached_new stack_new : List R) (x y : R) (q : PathOf) (n : ℕ) (above : Option (List ℕ))
-      → es ≡ r ∷ rest → IsWalked top rows total es (map f reached) (map f stack) → q ≡ r.0 → seen ≡ stack → left ≡ take n stack → left_seen ≡ left
-      → ((p : PathOf) → is_gt (path_cmp q p) ≡ false → nearest p (take n (map f seen)) ≡ nearest p (map f seen))
-      → last_of (take n (map f seen)) ≡ nearest q (map f seen)
-      → above ≡ last_of (map f left_seen) → f x ≡ (r.0, cut_from above 0 r.1) → f y ≡ f x
-      → reached_new ≡ reached ++ x ∷ [] → stack_new ≡ left ++ y ∷ []
-      → IsWalked top rows total rest (map f reached_new) (map f stack_new)
-  row_walked r es rest reached stack seen left left_seen reached_new stack_new x y q n above is w path same taken left_same kept last over made copy new_is stack_is =
-      let entry = f x in
-      let shorter : map f left ≡ take n (map f stack) = ap (map f) taken ∙ sym (take_seen f n stack) in
-      let seen_left : take n (map f seen) ≡ map f left = ap (λ xs. take n (map f xs)) same ∙ sym shorter in
-      let nearest_is : above ≡ nearest r.0 (map f stack) =
-      over ∙ ap (λ xs. last_of (map f xs)) left_same ∙ ap last_of (sym seen_left) ∙ last ∙ (λ i. nearest (path i) (map f (same i))) in
-      let walked =
-      walked_on top rows total order r rest (map f reached) (map f stack) (map f left) entry n (subst (λ l. IsWalked top rows total l (map f reached) (map f stack)) is w) shorter
-      (λ p le. ap (nearest p) (sym seen_left) ∙ kept p (ap (λ z. is_gt (path_cmp z p)) path ∙ le) ∙ ap (λ xs. nearest p (map f xs)) same)
-      (made ∙ ap (λ o. (r.0, cut_from o 0 r.1)) nearest_is) in
-      subst (λ l. IsWalked top rows total rest l (map f stack_new)) (sym (ap (map f) new_is ∙ map-append f reached (x ∷ [])))
-      (subst (λ l. IsWalked top rows total rest (map f reached ++ entry ∷ []) l) (sym (ap (map f) stack_is ∙ map-append f left (y ∷ []) ∙ ap (λ z. map f left ++ z ∷ []) copy)) walked)
-
-  pub row_ends : (rest : Rows) (reached stack : List R) → rest ≡ [] → IsWalked top rows total rest (map f reached) (map f stack) → map f reached ≡ total
-  row_ends rest reached stack none w = walk_ends top rows total order rest (map f reached) (map f stack) none w
-
-pub cut_some : {B : Type 0} (f : B → List ℕ) (o : Option B) (a : B) (cells l : List ℕ) → o ≡ Some a → l ≡ cells → cut_from (Some (f a)) 0 l ≡ cut_from (option_map f o) 0 cells
-cut_some f o a cells l is same = λ i. cut_from (option_map f (sym is i)) 0 (same i)
-
-pub cut_nothing : {B : Type 0} (f : B → List ℕ) (o : Option B) (cells l : List ℕ) → o ≡ None → l ≡ cells → l ≡ cut_from (option_map f o) 0 cells
-cut_nothing f o cells l is same = same ∙ sym (ap (λ x. cut_from (option_map f x) 0 cells) is ∙ cut_none 0 cells)

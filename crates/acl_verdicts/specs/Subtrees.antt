@@ -5,24 +5,22 @@ use Rattle.std.specs.Cmp.Lexicographic.{slice_cmp}
 use Rattle.std.specs.List.{list_any, AllByRecursion}
 use Rattle.acl_files.specs.Below.{is_within, is_below}
 use Rattle.path_map.specs.Entries.{PathOf}
-use Rattle.path_map.specs.Merged.{has}
-use Rattle.acl_verdicts.specs.Rows.{Rows}
 use Rattle.acl_verdicts.specs.Walks.{nearest, last_of, AllBefore}
 
 -- whether a path is one of some, or below one
 abbrev pub lies_in : {A : Type 0} → List (PathOf × A) → PathOf → Bool
 lies_in tops p = list_any (λ t. is_within t.0 p) tops
 
--- whether there is a row below a path
-abbrev pub has_below : Rows → PathOf → Bool
+-- whether there is an entry below a path
+abbrev pub has_below : {A : Type 0} → List (PathOf × A) → PathOf → Bool
 has_below rows p = list_any (λ r. is_below p r.0) rows
 
--- no row is below one of these paths
-abbrev pub IsApart : {A : Type 0} → Rows → List (PathOf × A) → Type 0
+-- no entry is below one of these paths
+abbrev pub IsApart : {A B : Type 0} → List (PathOf × B) → List (PathOf × A) → Type 0
 IsApart rows gone = AllByRecursion (λ g. has_below rows g.0 ≡ false) gone
 
--- rows above a path, of which the last is the nearest that there is
-pub record IsNearest (p : PathOf) (rows above : Rows) : Type 0 where
+-- entries above a path, of which the last is the nearest that there is
+pub record IsNearest {A : Type 0} (p : PathOf) (rows above : List (PathOf × A)) : Type 0 where
   pub below : AllByRecursion (λ r. is_below r.0 p ≡ true) above
   pub last : last_of above ≡ nearest p rows
 
@@ -39,13 +37,9 @@ common [] q = []
 common (x ∷ p) [] = []
 common (x ∷ p) (y ∷ q) = if eq_by_cmp (slice_cmp nat_cmp) x y then x ∷ common p q else []
 
--- where no top is above a top, the nearest row above it is as before
-abbrev pub AgreesAbove : {A : Type 0} → List (PathOf × A) → Rows → Rows → Type 0
-AgreesAbove tops old new = (p : PathOf) → has p tops ≡ true → list_any (λ t. is_below t.0 p) tops ≡ false → nearest p old ≡ nearest p new
-
--- what is reached at some tops and below them is made, and the rest of the tops is still to come
-pub record AreWalked {A : Type 0} (tops : List (PathOf × A)) (reached : Rows) (rest : List (PathOf × A)) (puts : Rows) (last : Option PathOf) : Type 0 where
+-- what is to be made at some tops and below them is made, and the rest of the tops is still to come
+pub record AreWalked {A R : Type 0} (tops : List (PathOf × A)) (all : List (PathOf × R)) (rest : List (PathOf × A)) (puts : List (PathOf × R)) (last : Option PathOf) : Type 0 where
   pub seen : List (PathOf × A)
   pub split : seen ++ rest ≡ tops
-  pub made : puts ≡ filter (λ r. lies_in seen r.0) reached
+  pub made : puts ≡ filter (λ r. lies_in seen r.0) all
   pub covered : (p : PathOf) → AllBefore p seen → lies_in seen p ≡ covers last p

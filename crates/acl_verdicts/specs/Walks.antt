@@ -1,12 +1,11 @@
--- For inner functions: a walk over rows in path order, with the rows above at hand.
-use Rattle.std.specs.Prelude.{◌≡◌, ℕ, suc, ◌++◌, Bool, true, List, [], ◌∷◌, map, Option, Some, None, if◌then◌else◌}
+-- For inner functions: entries in path order, the nearest above a path, and verdicts that are cut.
+use Rattle.std.specs.Prelude.{◌≡◌, ℕ, suc, Bool, true, List, [], ◌∷◌, Option, Some, None, if◌then◌else◌}
 use Rattle.std.specs.declared.cmp.Ordering.TheVariants.{Less}
 use Rattle.std.specs.List.{AllByRecursion}
 use Rattle.acl_files.specs.acl_names.Paths.{path_cmp}
-use Rattle.acl_files.specs.Below.{is_within, is_below}
+use Rattle.acl_files.specs.Below.{is_below}
 use Rattle.path_map.specs.Entries.{PathOf}
-use Rattle.acl_verdicts.specs.Rows.{Rows}
-use Rattle.acl_verdicts.specs.Reach.{can_search, passes_in, reached_from}
+use Rattle.acl_verdicts.specs.Reach.{can_search}
 
 -- the last of these above a path, else what is given
 abbrev pub nearest_from : {A : Type 0} → Option A → PathOf → List (PathOf × A) → Option A
@@ -36,21 +35,3 @@ cut_from above n (c ∷ cells) = (if lets above n then c else 0) ∷ cut_from ab
 
 abbrev pub AllBefore : {A : Type 0} → PathOf → List (PathOf × A) → Type 0
 AllBefore p es = AllByRecursion (λ e. path_cmp e.0 p ≡ Less) es
-
--- for each path after the rows that were walked, at a top or below it, the nearest row of a stack decides who passes them
-pub record Leads (top : PathOf) (done : Rows) (stack : Rows) : Type 0 where
-  pub before : (p : PathOf) → is_within top p ≡ true → AllBefore p done → AllBefore p stack
-  pub passes : (p : PathOf) (user : ℕ) → is_within top p ≡ true → AllBefore p done → passes_in done user p ≡ lets (nearest p stack) user
-
--- a row as it is reached
-abbrev pub reached_in : Rows → PathOf × List ℕ → PathOf × List ℕ
-reached_in rows r = (r.0, reached_from rows r.0 0 r.1)
-
--- some rows are walked, the rest of those at a top and below it is still to come, and with it all that is to be made
-pub record IsWalked (top : PathOf) (rows total rest reached stack : Rows) : Type 0 where
-  pub done : Rows
-  pub post : Rows
-  pub split : done ++ (rest ++ post) ≡ rows
-  pub inside : AllByRecursion (λ r. is_within top r.0 ≡ true) rest
-  pub made : reached ++ map (reached_in rows) rest ≡ total
-  pub leads : Leads top done stack

@@ -3,7 +3,6 @@
 ghost use Rattle.std.specs.Prelude.{◌≡◌, ◌-◌, length, take, map, IfOk};
 ghost use Rattle.acl_verdicts.specs.Subtrees.{IsNearest, common};
 
-use crate::cells::Cells;
 use acl_files::Path;
 use path_map::{Entry, PathMap, is_within};
 use std::alloc::{AllocError, Global};
@@ -43,11 +42,11 @@ fn shared_top(alloc: Global, path: &Path, other: &Path) -> Result<Path, AllocErr
 
 /// The nearest row above a path, if there is one: the last row up to its parent, or else one above what they
 /// have in common. That is a search for each row in the way. Fails only if memory runs out.
-pub(crate) fn nearest_above(
+pub(crate) fn nearest_above<V: Drop>(
     alloc: Global,
-    rows: &PathMap<Cells>,
+    rows: &PathMap<V>,
     path: &Path,
-) -> Result<Vec<Rc<Entry<Cells>>>, AllocError>
+) -> Result<Vec<Rc<Entry<V>>>, AllocError>
     ensures { IfOk result (λ above. IsNearest path.now rows.now (map (λ e. e.value) above.items)) }
 {
     rows.is_in_order();

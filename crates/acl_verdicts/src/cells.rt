@@ -1,6 +1,6 @@
 //! The verdicts of all users on one file.
 
-ghost use Rattle.std.specs.Prelude.{◌≡◌, ◌+◌, ◌++◌, ◌∷◌, [], ◌<◌, ◌≤◌, ◌^◌, true, length, map, IfOk, OnOk, slice_set, slice_get};
+ghost use Rattle.std.specs.Prelude.{◌≡◌, ◌+◌, ◌*◌, ◌++◌, ◌∷◌, [], ◌<◌, ◌≤◌, ◌^◌, true, length, map, IfOk, OnOk, slice_set, slice_get};
 ghost use Rattle.std.specs.List.{remove};
 
 use crate::judge::Judge;
@@ -36,6 +36,14 @@ fn are_equal(some: &[Requests], others: &[Requests]) -> bool
         is_same &= some[at].bits() == others[at].bits();
     }
     is_same
+}
+
+impl Clone for Cells {
+    ghost is_clone = { λ cells copy. copy ≡ cells };
+
+    fn clone(&self) -> Result<Cells, AllocError> {
+        self.share()
+    }
 }
 
 impl Cells {
@@ -93,22 +101,24 @@ impl Cells {
     }
 }
 
-/// The verdicts of all users on a label, as many as there are users, for one file. Where those on another file
-/// are the same, they are shared. Fails only if memory runs out.
+/// The verdicts of all users on a label, as many as there are users, for so many files that have it. Where those of
+/// another row are the same, they are shared. Fails only if memory runs out.
 pub fn judged<J: Judge>(
     alloc: Global,
     judge: &mut J,
     users: &Subjects,
     label: &Label,
+    files: u64,
     other: Option<&Cells>,
 ) -> Result<Cells, AllocError>
-    requires { J.asked_of judge.old + length users.now < 2 ^ 64 }
+    requires room { J.asked_of judge.old + files * length users.now < 2 ^ 64 }
+    requires some { 0 < files }
     ensures cells { IfOk result (λ cells. cells ≡ map (λ u. J.verdict_of u label.now) users.now) }
-    ensures asked { OnOk result (J.asked_of judge.new ≡ J.asked_of judge.old + length users.now) }
-    ensures at_most { J.asked_of judge.new ≤ J.asked_of judge.old + length users.now }
+    ensures asked { OnOk result (J.asked_of judge.new ≡ J.asked_of judge.old + files * length users.now) }
+    ensures at_most { J.asked_of judge.new ≤ J.asked_of judge.old + files * length users.now }
 {
     let mut requests = vec![in alloc; Requests::none(); users.len()]?;
-    judge.verdicts(users, label, 1, &mut requests);
+    judge.verdicts(users, label, files, &mut requests);
     Cells::new_or_shared(alloc, requests, other)
 }
 

@@ -6,9 +6,7 @@ ghost use Rattle.acl_verdicts.specs.Walks.{lets, cut_from};
 
 use crate::cells::Cells;
 use acl_files::{Perm, Requests};
-use path_map::{Entry, PathMap};
 use std::alloc::{AllocError, Global};
-use std::rc::Rc;
 
 /// The request to search.
 fn search() -> Perm
@@ -41,21 +39,15 @@ fn let_through(above: &[Requests], user: usize, cell: Requests) -> Requests
     }
 }
 
-/// The verdicts of those who can search above, and nothing for others. Where another row is the same, it is
-/// shared.
-fn cut(
-    alloc: Global,
-    cells: &[Requests],
-    above: &[Requests],
-    other: Option<&Cells>,
-) -> Result<Cells, AllocError>
+/// The verdicts of those who can search above, and nothing for others.
+fn cut(alloc: Global, cells: &[Requests], above: &[Requests]) -> Result<Cells, AllocError>
     ensures { IfOk result (λ new. new ≡ cut_from (Some above.now) 0 cells.now) }
 {
     let mut new = Vec::with_capacity(alloc, cells.len())?;
     for at in 0..cells.len() {
         new.push(let_through(above, at, cells[at]))?;
     }
-    Cells::new_or_shared(alloc, new, other)
+    Cells::new(alloc, new)
 }
 
 /// Whether a row has the verdicts of those who can search above, and nothing for others.
@@ -73,43 +65,24 @@ fn is_cut(row: &[Requests], cells: &[Requests], above: &[Requests]) -> bool
     true
 }
 
-/// The verdicts of those who can search above, and nothing for others: shared with the row itself, with the
-/// old row of the path or with another one, where one of them is the same.
-fn cut_or_shared(
+/// The verdicts of those who can search above, and nothing for others: shared with the row itself or with another one,
+/// where one of them is the same.
+pub(crate) fn cut_or_shared(
     alloc: Global,
-    row: &Entry<Cells>,
+    cells: &Cells,
     above: &[Requests],
-    old: &PathMap<Cells>,
     other: Option<&Cells>,
 ) -> Result<Cells, AllocError>
-    ensures { IfOk result (λ new. new ≡ cut_from (Some above.now) 0 row.now.1) }
+    ensures { IfOk result (λ new. new ≡ cut_from (Some above.now) 0 cells.now) }
 {
-    let cells = row.value().as_slice();
-    if is_cut(cells, cells, above) {
-        return row.value().share();
+    let row = cells.as_slice();
+    if is_cut(row, row, above) {
+        return cells.share();
     }
-    if let Some(before) = old.get(row.path()) {
-        if is_cut(before.as_slice(), cells, above) {
-            return before.share();
+    if let Some(other) = other {
+        if is_cut(other.as_slice(), row, above) {
+            return other.share();
         }
     }
-    cut(alloc, cells, above, other)
-}
-
-/// What users reach at a path, by what they reach at the nearest path above.
-pub(crate) fn reached_row(
-    alloc: Global,
-    row: &Entry<Cells>,
-    above: Option<&[Requests]>,
-    old: &PathMap<Cells>,
-    other: Option<&Cells>,
-) -> Result<Rc<Entry<Cells>>, AllocError>
-    ensures { IfOk result (λ new. new.value ≡ (row.now.0, cut_from (option_map (λ c. c.now) above.entry) 0 row.now.1)) }
-{
-    let path = row.shared_path().clone()?;
-    let cells = match above {
-        Some(above) => cut_or_shared(alloc, row, above, old, other)?,
-        None => row.value().share()?,
-    };
-    Ok(Rc::new(alloc, Entry::new(path, cells))?)
+    cut(alloc, row, above)
 }

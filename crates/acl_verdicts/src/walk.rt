@@ -1,23 +1,21 @@
-//! A walk over rows in path order, with the rows above at hand.
+//! A walk over files in path order, with the steps of the directories above at hand.
 
-ghost use Rattle.std.specs.Prelude.{◌≡◌, ◌≤◌, ◌++◌, false, [], length, map, take, option_map, IfOk, OnOk};
+ghost use Rattle.std.specs.Prelude.{◌≡◌, ℕ, ◌≤◌, ◌++◌, false, [], List, length, map, take, IfOk, OnOk};
 ghost use Rattle.std.specs.Ordering.{is_gt};
 ghost use Rattle.acl_files.specs.acl_names.Paths.{path_cmp};
 ghost use Rattle.path_map.specs.Entries.{PathOf};
 ghost use Rattle.path_map.specs.Below.{within};
-ghost use Rattle.acl_verdicts.specs.Reach.{reached_rows};
+ghost use Rattle.acl_verdicts.specs.Ways.{Way, ways, wayed, known, AreBack, AreSteps, IsAbove, IsLonger, HaveRows, AreNumbers};
 ghost use Rattle.acl_verdicts.specs.Walks.{nearest, last_of, AllBefore};
-ghost use Rattle.acl_verdicts.specs.Subtrees.{IsNearest};
 
-use crate::cells::Cells;
-use crate::cut::reached_row;
-use acl_files::{Path, Requests, is_below};
+use crate::steps::{MoreSteps, Step};
+use acl_files::{Path, is_below};
 use path_map::{Entry, PathMap};
 use std::alloc::{AllocError, Global};
 use std::rc::Rc;
 
-/// How many rows of a stack are left when those that are not above a path are taken off its end.
-fn depth_above(stack: &[Rc<Entry<Cells>>], path: &Path) -> usize
+/// How many entries of a stack are left when those that are not above a path are taken off its end.
+fn depth_above<V>(stack: &[Rc<Entry<V>>], path: &Path) -> usize
     requires before { AllBefore path.now (map (λ e. e.value) stack.now) }
     ensures most { result ≤ length stack.now }
     ensures kept { (p : PathOf) → is_gt (path_cmp path.now p) ≡ false → nearest p (take result (map (λ e. e.value) stack.now)) ≡ nearest p (map (λ e. e.value) stack.now) }
@@ -33,46 +31,51 @@ fn depth_above(stack: &[Rc<Entry<Cells>>], path: &Path) -> usize
     depth
 }
 
-/// The verdicts of the last row of a stack.
-fn last_cells(stack: &[Rc<Entry<Cells>>]) -> Option<&[Requests]>
-    ensures { option_map (λ c. c.now) result ≡ last_of (map (λ e. e.value) stack.now) }
+/// The number of the last entry of a stack.
+fn last_number(stack: &[Rc<Entry<usize>>]) -> Option<usize>
+    ensures { result ≡ last_of (map (λ e. e.value) stack.now) }
 {
     if stack.is_empty() {
         return None;
     }
-    Some(stack[stack.len() - 1].value().as_slice())
+    Some(*stack[stack.len() - 1].value())
 }
 
-/// The last row, for others to share.
-fn last_row(rows: &[Rc<Entry<Cells>>]) -> Option<&Cells> {
-    match rows.last() {
-        Some(row) => Some(row.value()),
-        None => None,
-    }
-}
+/// The steps of files.
+pub(crate) type Places = Vec<Rc<Entry<usize>>>;
 
-/// Adds what each user reaches at a path and below it, where the rows above it that are given end with the
-/// nearest. Rows that are the same as in an old table, or as the row before, are shared.
-pub(crate) fn add_reached(
+/// Adds the steps of the files at a path and below it, where the steps of directories above it that are given end with
+/// the nearest.
+pub(crate) fn add_steps(
     alloc: Global,
-    reached: &mut Vec<Rc<Entry<Cells>>>,
-    above: Vec<Rc<Entry<Cells>>>,
-    rows: &PathMap<Cells>,
+    places: &mut Places,
+    steps: &mut MoreSteps,
+    above: Places,
+    numbers: &PathMap<usize>,
     top: &Path,
-    old: &PathMap<Cells>,
 ) -> Result<(), AllocError>
-    requires { IsNearest top.now (reached_rows rows.now) (map (λ e. e.value) above.items) }
-    ensures { OnOk result (map (λ e. e.value) reached.new.items ≡ map (λ e. e.value) reached.old.items ++ within top.now (reached_rows rows.now)) }
+    requires back { AreBack steps.old }
+    requires above { IsAbove top.now numbers.now steps.old (map (λ e. e.value) above.items) }
+    ensures steps { OnOk result ((ws : List (PathOf × Way)) → wayed steps.old (map (λ e. e.value) places.old.items) ≡ known ws
+        → wayed steps.new (map (λ e. e.value) places.new.items) ≡ known (ws ++ within top.now (ways numbers.now))) }
+    ensures kept { OnOk result (IsLonger steps.old steps.new) }
+    ensures back { OnOk result (AreBack steps.new) }
+    ensures rows { OnOk result ((count : ℕ) → HaveRows count steps.old → AreNumbers count numbers.now → HaveRows count steps.new) }
 {
-    rows.is_in_order();
+    numbers.is_in_order();
     let mut stack = above;
-    let mut rest = rows.within(top);
-    while let Some(row) = rest.next() {
-        let depth = depth_above(&stack, row.path());
+    let mut rest = numbers.within(top);
+    while let Some(file) = rest.next() {
+        let depth = depth_above(&stack, file.path());
         stack.truncate(depth);
-        let entry = reached_row(alloc, row, last_cells(&stack), old, last_row(reached))?;
-        stack.push(entry.clone()?)?;
-        reached.push(entry)?;
+        let step = Step {
+            row: *file.value(),
+            above: last_number(&stack),
+        };
+        let number = steps.number(step)?;
+        let place = Rc::new(alloc, Entry::new(file.shared_path().clone()?, number))?;
+        stack.push(place.clone()?)?;
+        places.push(place)?;
     }
     Ok(())
 }
@@ -84,19 +87,20 @@ fn root_path(alloc: Global) -> Path
     Path::new(Vec::new(alloc)).unwrap()
 }
 
-/// What each user reaches at each path, by the verdicts. Rows that are the same as in an old table, or as the
-/// row before, are shared. Fails only if memory runs out.
-pub fn reached_of(
+/// The steps of all files, by the numbers of their rows. Fails only if memory runs out.
+pub(crate) fn all_steps(
     alloc: Global,
-    rows: &PathMap<Cells>,
-    old: &PathMap<Cells>,
-) -> Result<PathMap<Cells>, AllocError>
-    ensures { IfOk result (λ reached. reached ≡ reached_rows rows.now) }
+    steps: &mut MoreSteps,
+    numbers: &PathMap<usize>,
+) -> Result<PathMap<usize>, AllocError>
+    requires { AreBack steps.old }
+    ensures steps { IfOk result (λ places. AreSteps steps.new places numbers.now) }
+    ensures rows { OnOk result ((count : ℕ) → HaveRows count steps.old → AreNumbers count numbers.now → HaveRows count steps.new) }
 {
-    rows.is_in_order();
+    numbers.is_in_order();
     let root = root_path(alloc);
-    let mut reached = Vec::new(alloc);
-    add_reached(alloc, &mut reached, Vec::new(alloc), rows, &root, old)?;
-    let all = PathMap::from_sorted(alloc, &reached)?;
+    let mut places = Vec::new(alloc);
+    add_steps(alloc, &mut places, steps, Vec::new(alloc), numbers, &root)?;
+    let all = PathMap::from_sorted(alloc, &places)?;
     Ok(all)
 }

@@ -1,11 +1,12 @@
-//! All files of a tree, as they are printed.
+//! A walk over all files of a tree.
 
 ghost use Rattle.std.specs.Prelude.{◌≡◌, IfOk};
-ghost use Rattle.acl_rights.specs.acl_tree.Found.{found_in};
+ghost use Rattle.acl_rights.specs.acl_tree.Found.{found_file};
 ghost use Rattle.acl_rights.specs.acl_files.Inner.{next_file_below};
 
-use acl_rights::{FilesIter, Found, Path, Tree, is_below};
-use std::alloc::{AllocError, Global};
+use acl_rights::{FilesIter, Found, Path, Record, is_below};
+use std::alloc::AllocError;
+use std::rc::Rc;
 
 /// Whether the next file is below a path.
 fn is_next_below(path: &Path, rest: &FilesIter<'_>) -> bool
@@ -17,16 +18,11 @@ fn is_next_below(path: &Path, rest: &FilesIter<'_>) -> bool
     }
 }
 
-/// All files in path order, each with whether another one is below it. Fails only if memory runs out.
-pub(crate) fn all_files(alloc: Global, tree: &Tree) -> Result<Vec<Found>, AllocError>
-    ensures { IfOk result (λ files. files.items ≡ found_in tree.now.files tree.now.files) }
+/// A file before those that follow it in path order, with whether the next one is below it. Fails only if memory runs
+/// out.
+pub(crate) fn found_before(file: &Rc<Record>, rest: &FilesIter<'_>) -> Result<Found, AllocError>
+    ensures { IfOk result (λ found. found ≡ found_file (next_file_below file.now.value.0 rest.now) file.now.value) }
 {
-    tree.is_sound();
-    let mut files = Vec::new(alloc);
-    let mut rest = tree.iter();
-    while let Some(file) = rest.next() {
-        let has_below = is_next_below(file.path(), &rest);
-        files.push(Found::new(file.clone()?, has_below))?;
-    }
-    Ok(files)
+    let has_below = is_next_below(file.path(), rest);
+    Ok(Found::new(file.clone()?, has_below))
 }

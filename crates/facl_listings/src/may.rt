@@ -3,13 +3,14 @@
 ghost use Rattle.std.specs.Prelude.{◌≡◌, ◌++◌, map, IfOk, OnOk, option_map};
 ghost use Rattle.std.specs.List.{flat_map};
 ghost use Rattle.acl_rights.specs.Tables.{IsWhole};
+ghost use Rattle.acl_rights.specs.acl_tree.Found.{found_in};
 ghost use Rattle.facl_listings.specs.Answers.{file_line, may_text};
 ghost use Rattle.facl_listings.specs.Inner.{is_first, in_step};
 
-use crate::files::all_files;
+use crate::files::found_before;
 use crate::granted::paths_granted;
 use crate::listing::push_path_shown;
-use acl_rights::{Found, Index, Judge, Path, Perm, State};
+use acl_rights::{Found, Index, Judge, Path, Perm, State, Tree};
 use std::alloc::{AllocError, Global};
 use std::cmp::Ordering;
 use std::rc::Rc;
@@ -33,13 +34,16 @@ fn push_file(text: &mut Vec<u8>, file: &Found) -> Result<(), AllocError>
 }
 
 /// Adds the files of some paths, in one walk over both.
-fn push_files(text: &mut Vec<u8>, files: &[Found], paths: &[Rc<Path>]) -> Result<(), AllocError>
-    ensures { OnOk result (text.new.items ≡ text.old.items ++ flat_map file_line (in_step (map (λ p. p.value) paths.now) files.now)) }
+fn push_files(text: &mut Vec<u8>, tree: &Tree, paths: &[Rc<Path>]) -> Result<(), AllocError>
+    ensures { OnOk result (text.new.items ≡ text.old.items ++ flat_map file_line (in_step (map (λ p. p.value) paths.now) (found_in tree.now.files tree.now.files))) }
 {
+    tree.is_sound();
     let mut rest = paths;
-    for file in files {
+    let mut files = tree.iter();
+    while let Some(file) = files.next() {
         if is_first(rest, file.path()) {
-            push_file(text, file)?;
+            let found = found_before(file, &files)?;
+            push_file(text, &found)?;
             rest = &rest[1..];
         }
     }
@@ -64,8 +68,7 @@ pub fn write_may<J: Judge>(
         return Ok(None);
     };
     state.tree().is_sound();
-    let files = all_files(alloc, state.tree())?;
     let mut text = Vec::new(alloc);
-    push_files(&mut text, &files, &paths)?;
+    push_files(&mut text, state.tree(), &paths)?;
     Ok(Some(text))
 }

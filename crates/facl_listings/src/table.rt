@@ -4,13 +4,14 @@ ghost use Rattle.std.specs.Prelude.{◌≡◌, ◌++◌, map, IfOk, OnOk};
 ghost use Rattle.std.specs.List.{flat_map};
 ghost use Rattle.acl_rights.specs.acl_names.Names.{escaped};
 ghost use Rattle.acl_rights.specs.Tables.{IsWhole};
+ghost use Rattle.acl_rights.specs.acl_tree.Found.{found_in};
 ghost use Rattle.facl_listings.specs.Listings.{path_shown};
 ghost use Rattle.facl_listings.specs.Answers.{hex_digits, verdict_line, index_text};
 ghost use Rattle.facl_listings.specs.Inner.{row_lines, lines_in};
 
-use crate::files::all_files;
+use crate::files::found_before;
 use crate::listing::push_path_shown;
-use acl_rights::{Found, Index, Judge, People, Requests, State, write_name};
+use acl_rights::{Found, Index, Judge, People, Requests, State, Tree, write_name};
 use std::alloc::{AllocError, Global};
 
 const DIGITS: [u8; 16] = *b"0123456789abcdef";
@@ -91,12 +92,15 @@ fn push_files<J: Judge>(
     text: &mut Vec<u8>,
     index: &Index<J>,
     names: &[Vec<u8>],
-    files: &[Found],
+    tree: &Tree,
 ) -> Result<(), AllocError>
-    ensures { OnOk result (text.new.items ≡ text.old.items ++ flat_map (lines_in index.now.rows (map (λ n. n.items) names.now)) files.now) }
+    ensures { OnOk result (text.new.items ≡ text.old.items ++ flat_map (lines_in index.now.rows (map (λ n. n.items) names.now)) (found_in tree.now.files tree.now.files)) }
 {
-    for file in files {
-        push_file(alloc, text, index, names, file)?;
+    tree.is_sound();
+    let mut files = tree.iter();
+    while let Some(file) = files.next() {
+        let found = found_before(file, &files)?;
+        push_file(alloc, text, index, names, &found)?;
     }
     Ok(())
 }
@@ -126,8 +130,7 @@ pub fn write_index<J: Judge>(
 {
     let names = written_names(alloc, state.people())?;
     state.tree().is_sound();
-    let files = all_files(alloc, state.tree())?;
     let mut text = Vec::new(alloc);
-    push_files(alloc, &mut text, index, &names, &files)?;
+    push_files(alloc, &mut text, index, &names, state.tree())?;
     Ok(text)
 }

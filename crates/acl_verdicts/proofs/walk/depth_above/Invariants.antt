@@ -6,10 +6,10 @@ use Rattle.acl_verdicts.specs.Walks.{nearest}
 use Rattle.acl_verdicts.proofs.walk.depth_above.Given as goal
 
 abbrev pub invariant-loop-depth : goal.invariant-loop-depth
-invariant-loop-depth l = record {
+invariant-loop-depth g l = record {
   most : l.depth ≤ length l.stack;
   kept : (p : PathOf) → is_gt (path_cmp l.path p) ≡ false → nearest p (take l.depth (map (λ e. e.value) l.stack)) ≡ nearest p (map (λ e. e.value) l.stack);
 }
 
 abbrev pub decreases-loop-depth : goal.decreases-loop-depth
-decreases-loop-depth l = l.depth
+decreases-loop-depth g l = l.depth

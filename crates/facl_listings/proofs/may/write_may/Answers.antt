@@ -15,6 +15,5 @@ returns g c =
     let paths = map (λ p. p.value) c.in-Some.paths.items in
     let found : Some paths ≡ paths_granted V c.args.along s c.args.user c.args.request = ap (option_map (λ paths. map (λ p. p.value) paths.items)) (sym c.in-Some.is) ∙ c.in_ok-paths.ensures s c.requires.whole in
     let order : IsInOrder s.tree.files = subst (λ (t : Recorded). IsInOrder t.files) c.tree.ensures c.is_sound.ensures.order in
-    ap Some (c.in_ok-push_files.ensures ∙ (λ i. c.new-text.ensures.items i ++ flat_map file_line (in_step (map (λ p. p.value) (c.deref-2.ensures.value i)) (c.deref.ensures.value i)))
-    ∙ ap (λ files. flat_map file_line (in_step paths files)) (c.in_ok-files.ensures ∙ ap (λ (t : Recorded). found_in t.files t.files) c.tree-2.ensures))
+    ap Some (c.in_ok-push_files.ensures ∙ (λ i. c.new-text.ensures.items i ++ flat_map file_line (in_step (map (λ p. p.value) (c.deref.ensures.value i)) (found_in (c.tree-2.ensures i).files (c.tree-2.ensures i).files))))
     ∙ may_lines V c.args.along s c.args.user c.args.request (Some paths) order found

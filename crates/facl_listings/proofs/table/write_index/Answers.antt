@@ -16,8 +16,7 @@ returns g c =
     let t = c.args.index.now in
     let order : IsInOrder s.tree.files = subst (λ (t : Recorded). IsInOrder t.files) c.tree.ensures c.is_sound.ensures.order in
     let names : map (λ n. n.items) c.in_ok-names.names.items ≡ map (λ row. escaped row.name) s.people.users = c.in_ok-names.ensures ∙ ap (λ (known : Register). map (λ row. escaped row.name) known.users) c.people.ensures in
-    let files : c.in_ok-files.files.items ≡ all_files s = c.in_ok-files.ensures ∙ ap (λ (t : Recorded). found_in t.files t.files) c.tree-2.ensures in
     c.in_ok-push_files.ensures
-    ∙ (λ i. c.new-text.ensures.items i ++ flat_map (lines_in t.rows (map (λ n. n.items) (c.deref.ensures.value i))) (c.deref-2.ensures.value i))
-    ∙ (λ i. flat_map (lines_in t.rows (names i)) (files i))
+    ∙ (λ i. c.new-text.ensures.items i ++ flat_map (lines_in t.rows (map (λ n. n.items) (c.deref.ensures.value i))) (found_in (c.tree-2.ensures i).files (c.tree-2.ensures i).files))
+    ∙ (λ i. flat_map (lines_in t.rows (names i)) (all_files s))
     ∙ index_lines V s t c.requires.whole order

@@ -1,0 +1,116 @@
+-- How many verdicts along paths a line makes anew.
+use Rattle.std.proofs.Common.{◌≡◌, ℕ, suc, ◌+◌, ◌*◌, ◌^◌, ◌<◌, ◌≤◌, Bool, true, false, cond, ◌||◌, List, [], ◌∷◌, ◌++◌, length, map, filter, Option, Some, length-append, refl, sym, ap, subst, ◌∙◌, arith}
+use Rattle.std.specs.Prelude.{count_by}
+use Rattle.std.specs.List.{list_any}
+use Rattle.std.proofs.lemmas.List.{length-map}
+use Rattle.std.proofs.lemmas.List.Sums.{sum_by-cons}
+use Rattle.acl_tree.specs.acl_files.Below.{is_within}
+use Rattle.acl_tree.specs.acl_edit.declared.node.Node.{Node}
+use Rattle.acl_tree.specs.Files.{PathOf, Files}
+use Rattle.acl_tree.specs.Reports.{StagedState}
+use Rattle.acl_tree.specs.declared.user_change.UserChange.{UserChange}
+use Rattle.acl_tree.specs.declared.user_change.UserChange.TheVariants.{Unchanged}
+use Rattle.acl_verdicts.specs.Ways.{Numbers}
+use Rattle.path_map.specs.Entries.{IsInOrder}
+use Rattle.path_map.specs.Below.{within}
+use Rattle.acl_verdicts.specs.Subtrees.{lies_in, covers, AreWalked}
+use Rattle.acl_verdicts.proofs.Tops.{tops_walk}
+use Rattle.acl_rights.specs.Reach.{lies_within, moves_refreshed, most_refreshed}
+use Rattle.acl_rights.proofs.Costs.{few_pass, times_le}
+
+pub no_length : {A : Type 0} (xs : List A) → length xs ≡ 0 → xs ≡ []
+no_length [] h = refl
+no_length (x ∷ xs) h = absurd (omega (arith, h))
+
+pub pairs_paths : {P : Type 0} (f : P → PathOf) (ps : List P) → map (λ (e : PathOf × PathOf). e.0) (map (λ p. (f p, f p)) ps) ≡ map f ps
+pairs_paths f [] = refl
+pairs_paths f (p ∷ ps) = ap (λ l. f p ∷ l) (pairs_paths f ps)
+
+-- paths alone decide
+pub count_paths : {A B : Type 0} (f : PathOf → Bool) (es : List (PathOf × A)) (fs : List (PathOf × B)) → map (λ (e : PathOf × A). e.0) es ≡ map (λ (e : PathOf × B). e.0) fs
+    → count_by (λ (e : PathOf × A). f e.0) es ≡ count_by (λ (e : PathOf × B). f e.0) fs
+count_paths f [] [] h = refl
+count_paths f [] (g ∷ fs) h = cc
+count_paths f (e ∷ es) [] h = cc
+count_paths {A = A} {B = B} f (e ∷ es) (g ∷ fs) h =
+    let first : e.0 ≡ g.0 = cc in
+    let rest : map (λ (e : PathOf × A). e.0) es ≡ map (λ (e : PathOf × B). e.0) fs = cc in
+    sum_by-cons (λ (x : PathOf × A). cond (f x.0) 1 0) e es
+    ∙ (let more = count_paths f es fs rest in λ i. cond (f (first i)) 1 0 + more i)
+    ∙ sym (sum_by-cons (λ (x : PathOf × B). cond (f x.0) 1 0) g fs)
+
+pub lies_paths : {A B : Type 0} (tops : List (PathOf × A)) (others : List (PathOf × B)) → map (λ (t : PathOf × A). t.0) tops ≡ map (λ (t : PathOf × B). t.0) others → (p : PathOf) → lies_in tops p ≡ list_any (λ (t : PathOf × B). is_within t.0 p) others
+lies_paths [] [] h p = refl
+lies_paths [] (o ∷ others) h p = cc
+lies_paths (t ∷ tops) [] h p = cc
+lies_paths {A = A} {B = B} (t ∷ tops) (o ∷ others) h p =
+    let first : t.0 ≡ o.0 = cc in
+    let rest : map (λ (t : PathOf × A). t.0) tops ≡ map (λ (t : PathOf × B). t.0) others = cc in
+    let more = lies_paths tops others rest p in
+    λ i. is_within (first i) p || more i
+
+count_alike : {A : Type 0} (f g : A → Bool) → ((x : A) → f x ≡ g x) → (xs : List A) → count_by f xs ≡ count_by g xs
+count_alike f g h [] = refl
+count_alike f g h (x ∷ xs) =
+    sum_by-cons (λ y. cond (f y) 1 0) x xs
+    ∙ (let more = count_alike f g h xs in λ i. cond (h x i) 1 0 + more i)
+    ∙ sym (sum_by-cons (λ y. cond (g y) 1 0) x xs)
+
+-- how many files are at some paths or below them
+pub count_lying : {A : Type 0} (tops : List (PathOf × A)) (ns : Numbers) (others fs : Files) → map (λ (t : PathOf × A). t.0) tops ≡ map (λ (t : PathOf × Node). t.0) others → map (λ (e : PathOf × ℕ). e.0) ns ≡ map (λ (e : PathOf × Node). e.0) fs
+    → count_by (λ (e : PathOf × ℕ). lies_in tops e.0) ns ≡ count_by (lies_within others) fs
+count_lying tops ns others fs same paths =
+    count_paths (lies_in tops) ns fs paths ∙ count_alike (λ (e : PathOf × Node). lies_in tops e.0) (lies_within others) (λ e. lies_paths tops others same e.0) fs
+
+pub count_most : {A : Type 0} (f : A → Bool) (xs : List A) → count_by f xs ≤ length xs
+count_most f [] = omega arith
+count_most f (x ∷ xs) = let first = sum_by-cons (λ y. cond (f y) 1 0) x xs in let more = count_most f xs in let one = at_most (f x) in omega (arith, first, more, one)
+  where
+    at_most : (b : Bool) → cond b 1 0 ≤ 1
+    at_most true = omega arith
+    at_most false = omega arith
+
+-- what is at a top that no top before it covers, and below it, is counted once
+pub count_walked : {A : Type 0} (tops : List (PathOf × A)) (order : IsInOrder tops) (ns : Numbers) (ordered : IsInOrder ns) (t : PathOf × A) (rest more : List (PathOf × A)) (seen : Numbers) (last : Option PathOf)
+    → rest ≡ t ∷ more → AreWalked tops ns rest seen last → covers last t.0 ≡ false → (count one : ℕ) → count ≡ length seen → one ≡ length (within t.0 ns)
+    → AreWalked tops ns more (seen ++ within t.0 ns) (Some t.0) × (count + one ≡ length (seen ++ within t.0 ns)) × (count + one ≤ length ns)
+count_walked tops order ns ordered t rest more seen last is w out count one long longer =
+    let next = tops_walk tops order ns ordered t rest more seen last is w (seen ++ within t.0 ns) out refl in
+    let both = length-append seen (within t.0 ns) in
+    let made = ap length next.made in
+    let most = few_pass (λ (r : PathOf × ℕ). lies_in next.seen r.0) ns in
+    (next, omega (arith, long, longer, both), omega (arith, long, longer, both, made, most))
+
+count_none : (fs : Files) → count_by (λ (e : PathOf × Node). false) fs ≡ 0
+count_none [] = refl
+count_none (f ∷ fs) = sum_by-cons (λ (e : PathOf × Node). 0) f fs ∙ ap (λ n. 0 + n) (count_none fs)
+
+module _ (t : StagedState) where
+  -- files change
+  pub files_refreshed : (walked users : ℕ) → t.user_change ≡ Unchanged → walked ≡ count_by (lies_within t.changed) t.state.tree.files → users ≡ length t.state.people.users → walked * users ≡ most_refreshed t
+  files_refreshed walked users is w u =
+      (λ i. w i * u i)
+      ∙ swapped (count_by (lies_within t.changed) t.state.tree.files) (length t.state.people.users)
+      ∙ ap (λ m. length t.state.people.users * count_by (lies_within t.changed) t.state.tree.files + moves_refreshed m t.state.tree.files) (sym is)
+    where
+      swapped : (a b : ℕ) → a * b ≡ b * a + 0
+      swapped a b = grind arith
+
+  pub files_fit : (walked users : ℕ) → walked ≡ count_by (lies_within t.changed) t.state.tree.files → users ≡ length t.state.people.users → length t.state.tree.files * length t.state.people.users < 2 ^ 64 → walked * users < 2 ^ 64
+  files_fit walked users w u fits =
+      let most = count_most (lies_within t.changed) t.state.tree.files in
+      let le = times_le walked (length t.state.tree.files) users (omega (arith, w, most)) in
+      let same = ap (λ n. length t.state.tree.files * n) u in
+      omega (arith, le, same, fits)
+
+  -- no file changes
+  pub users_refreshed : (n : ℕ) → t.changed ≡ [] → n ≡ moves_refreshed t.user_change t.state.tree.files → n ≡ most_refreshed t
+  users_refreshed n none is =
+      let all : length t.state.people.users * count_by (lies_within t.changed) t.state.tree.files ≡ 0 = ap (λ (es : Files). length t.state.people.users * count_by (lies_within es) t.state.tree.files) none ∙ ap (λ k. length t.state.people.users * k) (count_none t.state.tree.files) ∙ times_none (length t.state.people.users) in
+      is ∙ plus (length t.state.people.users * count_by (lies_within t.changed) t.state.tree.files) (moves_refreshed t.user_change t.state.tree.files) all
+    where
+      times_none : (u : ℕ) → u * 0 ≡ 0
+      times_none u = grind arith
+
+      plus : (a b : ℕ) → a ≡ 0 → b ≡ a + b
+      plus a b h = omega (arith, h)

@@ -1,0 +1,26 @@
+use Rattle.std.proofs.Common.{◌≡◌, ℕ, List, Option, Some, None, true, false, map, sym, ap, subst, ◌∙◌, arith}
+use Rattle.std.specs.Prelude.{slice_get, option_map, option_and_then, nat_lt, if◌then◌else◌}
+use Rattle.std.specs.Option.{option_copied}
+use Rattle.std.specs.FinMap.{find}
+use Rattle.acl_tree.specs.acl_names.Paths.{path_cmp}
+use Rattle.acl_rights.specs.Tables.{Table, Rows, who_in, may_in}
+use Rattle.acl_rights.specs.Reach.{reached_rows}
+use Rattle.acl_rights.specs.Grants.{rows_at}
+use Rattle.acl_rights.proofs.Granted.{row_there, reach_there, reaches_are}
+use Rattle.acl_rights.proofs.index.Index.cell.Goals as goal
+
+pub returns-in-Some : goal.returns-in-Some
+returns-in-Some g c =
+    let t = c.now.inside in
+    let p = c.args.path.now in
+    let same = ap (λ (t : Table). t.rows) (c.now.view_is ∙ c.self.view_is) in
+    let here : Some c.in-Some.cells.now ≡ find path_cmp p c.args.self.now.rows = sym (ap option_copied c.in-Some.is) ∙ c.row.ensures ∙ row_there t.tree.files t.grants c.now.invariant.1 p ∙ ap (λ (rows : Rows). find path_cmp p rows) same in
+    c.get.ensures ∙ ap (option_and_then (λ (cells : List ℕ). slice_get cells c.args.user)) here
+
+pub returns-in-None : goal.returns-in-None
+returns-in-None g c =
+    let t = c.now.inside in
+    let p = c.args.path.now in
+    let same = ap (λ (t : Table). t.rows) (c.now.view_is ∙ c.self.view_is) in
+    let here : None ≡ find path_cmp p c.args.self.now.rows = sym (ap option_copied c.in-None.is) ∙ c.row.ensures ∙ row_there t.tree.files t.grants c.now.invariant.1 p ∙ ap (λ (rows : Rows). find path_cmp p rows) same in
+    ap (option_and_then (λ (cells : List ℕ). slice_get cells c.args.user)) here

@@ -1,0 +1,22 @@
+use Rattle.std.proofs.Common.{◌≡◌, ◌<◌, ◌+◌, ◌∷◌, ◌++◌, [], ℕ, List, Global, true, false, length, take, get_or, Some, sym, ap, subst, ◌∙◌, arith}
+use Rattle.std.specs.List.{AllByRecursion}
+use Rattle.std.specs.FinMap.{find}
+use Rattle.std.specs.declared.rc.Rc.{Rc}
+use Rattle.acl_tree.specs.acl_names.Paths.{path_cmp}
+use Rattle.acl_tree.specs.Files.{PathOf}
+use Rattle.acl_rights.proofs.RowLists.{all_more, all_weaker}
+use Rattle.acl_rights.proofs.label_rows.in_use_at.Goals as goal
+
+pub loop-path-preserved : goal.loop-path-preserved
+loop-path-preserved c =
+    let i = c.loop-path.path-index in
+    let long = c.loop-path.invariant.long in
+    let same : c.deref.result.now ≡ c.path-item.result.value = c.deref.ensures in
+    record {
+      long = c.mark_file.ensures.long ∙ long;
+      used = all_more (λ p. (n : ℕ) → find path_cmp p.value c.args.numbers.now ≡ Some n → n < c.args.count → get_or c.mark_file.new.marks.items n false ≡ true) c.args.paths.now i c.path-item.result c.loop-path-test.true c.path-item.is
+          (all_weaker (λ p. (n : ℕ) → find path_cmp p.value c.args.numbers.now ≡ Some n → n < c.args.count → get_or c.loop-path.marks.items n false ≡ true) (λ p. (n : ℕ) → find path_cmp p.value c.args.numbers.now ≡ Some n → n < c.args.count → get_or c.mark_file.new.marks.items n false ≡ true)
+          (λ p h n is lt. c.mark_file.ensures.kept n (h n is lt)) (take i c.args.paths.now) c.loop-path.invariant.used)
+          (λ n is lt. c.mark_file.ensures.here n (ap (λ (p : PathOf). find path_cmp p c.args.numbers.now) same ∙ is) (omega (arith, lt, long)));
+      few = let one = c.mark_file.ensures.few in let few = c.loop-path.invariant.few in omega (arith, one, few);
+    }

@@ -1,0 +1,92 @@
+//! What is granted on files, and what is reached: each label's row of verdicts, and those that are left at each step.
+
+ghost use Rattle.std.specs.Prelude.{◌≡◌, [], map, option_and_then, slice_get, IfOk};
+ghost use Rattle.std.specs.Option.{option_copied};
+ghost use Rattle.std.specs.FinMap.{find};
+ghost use Rattle.path_map.specs.Entries.{IsInOrder};
+ghost use Rattle.acl_tree.specs.acl_names.Paths.{path_cmp};
+ghost use Rattle.acl_tree.specs.Files.{Files};
+ghost use Rattle.acl_verdicts.specs.Ways.{reaches_of};
+ghost use Rattle.acl_rights.specs.Labels.{AreLabelled, AreAsBefore};
+ghost use Rattle.acl_rights.specs.Grants.{AreGrants};
+
+use crate::label_rows::LabelRows;
+use acl_tree::{Path, Record};
+use acl_verdicts::{Cells, Numbered, Ways, reaches_after};
+use std::alloc::{AllocError, Global};
+use std::rc::Rc;
+
+/// For each file the numbers of its label and of its step, for each label its row of verdicts, and for each step what is
+/// reached at it.
+#[derive(Drop)]
+pub struct Grants {
+    pub rows: LabelRows,
+    pub ways: Ways,
+    pub reaches: Numbered<Cells>,
+    /// How many files there were when all were numbered.
+    pub files_numbered: usize,
+}
+
+impl Grants {
+    /// What is reached by these rows and steps. What is as in another list is shared with it. Fails only if memory runs
+    /// out.
+    pub fn reached(
+        alloc: Global,
+        rows: LabelRows,
+        ways: Ways,
+        others: &Numbered<Cells>,
+        files_numbered: usize,
+    ) -> Result<Grants, AllocError>
+        ensures rows { IfOk result (λ new. new.rows ≡ rows) }
+        ensures ways { IfOk result (λ new. new.ways ≡ ways) }
+        ensures reaches { IfOk result (λ new. new.reaches ≡ reaches_of rows.cells ways.steps) }
+    {
+        let none = Numbered::new(alloc);
+        let reaches = reaches_after(alloc, &rows.cells, ways.steps(), &none, others)?;
+        Ok(Grants {
+            rows,
+            ways,
+            reaches,
+            files_numbered,
+        })
+    }
+
+    /// What is reached by these rows, where steps are found anew. Fails only if memory runs out.
+    pub fn of(alloc: Global, rows: LabelRows, files_numbered: usize) -> Result<Grants, AllocError>
+        ensures rows { IfOk result (λ new. new.rows ≡ rows) }
+        ensures kept { IfOk result (λ new. (fs : Files) → AreLabelled fs rows → AreGrants fs new) }
+    {
+        let ways = Ways::of(alloc, &rows.numbers)?;
+        let none = Numbered::new(alloc);
+        Grants::reached(alloc, rows, ways, &none, files_numbered)
+    }
+
+    /// Whether there are more than twice as many labels, or steps, as there were files when all were numbered, and 1,024
+    /// more. Allocates nothing.
+    pub fn has_many_numbers(&self) -> bool {
+        let most = self.files_numbered.saturating_mul(2).saturating_add(1024);
+        self.rows.labels.len() > most || self.ways.steps().len() > most
+    }
+
+    /// What is granted on the same files, where only labels and steps that files have get numbers. Fails only if memory,
+    /// or the numbers, run out.
+    pub fn renumbered(&self, alloc: Global, files: &[Rc<Record>]) -> Result<Grants, AllocError>
+        requires { IsInOrder (map (λ f. f.value) files.now) }
+        ensures kept { IfOk result (λ new. AreGrants (map (λ f. f.value) files.now) new) }
+        ensures rows { IfOk result (λ new. AreAsBefore (map (λ f. f.value) files.now) self.now.rows new.rows) }
+    {
+        let rows = self.rows.renumbered(alloc, files)?;
+        let new = Grants::of(alloc, rows, files.len())?;
+        Ok(new)
+    }
+
+    /// What is reached at a file, if it is there. Allocates nothing.
+    pub fn reach(&self, path: &Path) -> Option<&Cells>
+        ensures { option_copied result ≡ option_and_then (slice_get self.now.reaches) (find path_cmp path.now self.now.ways.places) }
+    {
+        match self.ways.get(path) {
+            Some(step) => self.reaches.get(step),
+            None => None,
+        }
+    }
+}

@@ -1,0 +1,304 @@
+//! What is granted, and what is reached, after a line, by how the line moves the users.
+
+ghost use Rattle.std.specs.Prelude.{◌≡◌, ◌+◌, ◌*◌, ◌<◌, ◌≤◌, ◌^◌, true, [], Some, length, map, slice_get, count_by, option_map, IfOk};
+ghost use Rattle.path_map.specs.Entries.{IsInOrder};
+ghost use Rattle.path_map.specs.Below.{within};
+ghost use Rattle.acl_tree.specs.acl_people.Registers.{persons};
+ghost use Rattle.acl_tree.specs.declared.user_change.UserChange.TheVariants.{Unchanged, Loaded, Memberships, Added, Removed};
+ghost use Rattle.acl_verdicts.specs.Subtrees.{lies_in, covers};
+ghost use Rattle.acl_rights.specs.Groups.{AreLists};
+ghost use Rattle.acl_rights.specs.Tables.{rows_of};
+ghost use Rattle.acl_rights.specs.Stages.{most_asked, most_looked, moves_groups};
+ghost use Rattle.acl_rights.specs.Reach.{most_refreshed};
+ghost use Rattle.acl_rights.specs.Grants.{rows_at, AreGrants, GoesOn, GoesOnFrom};
+
+use crate::grants::Grants;
+use crate::label_rows::{ChangedRows, LabelRows};
+use crate::lists::{GroupLists, records};
+use crate::touched::touched_paths;
+use acl_tree::{GroupIds, Path, Staged, Subject, Tree, UserChange};
+use acl_verdicts::{Again, Judge, Numbered, reaches_after};
+use path_map::{PathMap, is_within};
+use std::alloc::{AllocError, Global};
+use std::rc::Rc;
+
+/// What is granted after a line, how many labels were fetched for it, and how many verdicts along paths are new or other
+/// ones.
+#[derive(Drop)]
+pub struct After {
+    pub grants: Grants,
+    pub looked: u64,
+    pub refreshed: u64,
+}
+
+/// How many files are at a path or below it.
+fn count_below(numbers: &PathMap<usize>, top: &Path) -> u64
+    requires { length numbers.now < 2 ^ 64 }
+    ensures { result ≡ length (within top.now numbers.now) }
+{
+    let mut count = 0;
+    let mut rest = numbers.within(top);
+    while let Some(_file) = rest.next() {
+        count += 1;
+    }
+    count
+}
+
+/// Whether a path is the last one whose files were counted or below it.
+fn is_covered(last: Option<&Path>, path: &Path) -> bool
+    ensures { result ≡ covers (option_map (λ p. p.now) last.entry) path.now }
+{
+    match last {
+        Some(last) => is_within(last, path),
+        None => false,
+    }
+}
+
+/// How many files are at some paths or below them, where the paths are in order.
+fn count_within(numbers: &PathMap<usize>, paths: &[Rc<Path>]) -> u64
+    requires few { length numbers.now < 2 ^ 64 }
+    requires order { IsInOrder (map (λ p. (p.value, p.value)) paths.now) }
+    ensures { result ≡ count_by (λ e. lies_in (map (λ p. (p.value, p.value)) paths.now) e.0) numbers.now }
+{
+    numbers.is_in_order();
+    let mut count = 0;
+    let mut last: Option<&Path> = None;
+    let mut rest = paths;
+    while let Some((path, more)) = rest.split_first() {
+        rest = more;
+        if is_covered(last, path) {
+            continue;
+        }
+        count += count_below(numbers, path);
+        last = Some(path);
+    }
+    count
+}
+
+/// What is granted after a line by which files change and no user does: labels that no file had are asked for, and files
+/// that changed, and what is below them, are walked.
+fn after_files<J: Judge>(
+    alloc: Global,
+    judge: &mut J,
+    grants: &Grants,
+    staged: &Staged,
+) -> Result<After, AllocError>
+    requires room { J.asked_of judge.old + most_asked staged.now < 2 ^ 64 }
+    requires counts { length staged.now.state.tree.files * length staged.now.state.people.users < 2 ^ 64 }
+    requires goes { GoesOn J.verdict_of grants.now staged.now }
+    requires moved { staged.now.user_change ≡ Unchanged }
+    ensures grants { IfOk result (λ new. AreGrants staged.now.state.tree.files new.grants) }
+    ensures rows { IfOk result (λ new. rows_at new.grants ≡ rows_of J.verdict_of (persons staged.now.state.people) staged.now.state.tree.files) }
+    ensures at_most { J.asked_of judge.new ≤ J.asked_of judge.old + most_asked staged.now }
+    ensures looked { IfOk result (λ new. new.looked ≡ 0) }
+    ensures refreshed { IfOk result (λ new. new.refreshed ≡ most_refreshed staged.now) }
+{
+    staged.tree().is_sound();
+    let old = &grants.rows;
+    old.numbers.is_in_order();
+    let users = staged.people().all_subjects();
+    let gone = staged.gone();
+    let new = old.with_files(alloc, judge, users, staged.changed(), gone)?;
+    let ChangedRows { rows, puts } = new;
+    rows.numbers.is_in_order();
+    let again = grants
+        .ways
+        .again(alloc, &old.numbers, &rows.numbers, &puts, gone)?;
+    let Again { ways, walked } = again;
+    let none = Numbered::new(alloc);
+    let reaches = reaches_after(alloc, &rows.cells, ways.steps(), &grants.reaches, &none)?;
+    Ok(After {
+        grants: Grants {
+            rows,
+            ways,
+            reaches,
+            files_numbered: grants.files_numbered,
+        },
+        looked: 0,
+        refreshed: walked * staged.people().users() as u64,
+    })
+}
+
+/// What is granted after a line by which files change and no user does. Where there are many numbers that no file has, all
+/// are given anew before.
+fn after_files_anew<J: Judge>(
+    alloc: Global,
+    judge: &mut J,
+    grants: &Grants,
+    tree: &Tree,
+    staged: &Staged,
+) -> Result<After, AllocError>
+    requires room { J.asked_of judge.old + most_asked staged.now < 2 ^ 64 }
+    requires counts { length staged.now.state.tree.files * length staged.now.state.people.users < 2 ^ 64 }
+    requires goes { GoesOnFrom J.verdict_of tree.now.files grants.now staged.now }
+    requires moved { staged.now.user_change ≡ Unchanged }
+    ensures grants { IfOk result (λ new. AreGrants staged.now.state.tree.files new.grants) }
+    ensures rows { IfOk result (λ new. rows_at new.grants ≡ rows_of J.verdict_of (persons staged.now.state.people) staged.now.state.tree.files) }
+    ensures at_most { J.asked_of judge.new ≤ J.asked_of judge.old + most_asked staged.now }
+    ensures looked { IfOk result (λ new. new.looked ≡ 0) }
+    ensures refreshed { IfOk result (λ new. new.refreshed ≡ most_refreshed staged.now) }
+{
+    if !grants.has_many_numbers() {
+        return after_files(alloc, judge, grants, staged);
+    }
+    tree.is_sound();
+    let files = records(alloc, tree)?;
+    let anew = grants.renumbered(alloc, &files)?;
+    after_files(alloc, judge, &anew, staged)
+}
+
+/// What is granted after users or groups were loaded: no file is there.
+fn after_load(alloc: Global) -> Result<After, AllocError>
+    ensures grants { IfOk result (λ new. AreGrants [] new.grants) }
+    ensures rows { IfOk result (λ new. rows_at new.grants ≡ []) }
+    ensures looked { IfOk result (λ new. new.looked ≡ 0) }
+    ensures refreshed { IfOk result (λ new. new.refreshed ≡ 0) }
+{
+    Ok(After {
+        grants: Grants::of(alloc, LabelRows::none(alloc), 0)?,
+        looked: 0,
+        refreshed: 0,
+    })
+}
+
+/// The user who moved.
+fn moved_user<'a, J: Judge>(
+    grants: &Grants,
+    staged: &'a Staged,
+    at: usize,
+    groups: &GroupIds,
+) -> &'a Subject
+    requires goes { GoesOn J.verdict_of grants.now staged.now }
+    requires moved { staged.now.user_change ≡ Memberships at groups.now }
+    ensures { slice_get (persons staged.now.state.people) at ≡ Some result.now }
+{
+    match staged.people().subject_at(at) {
+        Some(user) => user,
+        None => unreachable!(),
+    }
+}
+
+/// What is granted after a line that moves a user: that user's verdict is asked for again on labels of files that mention
+/// a group that joined or left. Files keep their steps.
+fn after_move<J: Judge>(
+    alloc: Global,
+    judge: &mut J,
+    grants: &Grants,
+    lists: &GroupLists,
+    staged: &Staged,
+    at: usize,
+    groups: &GroupIds,
+) -> Result<After, AllocError>
+    requires room { J.asked_of judge.old + most_asked staged.now < 2 ^ 64 }
+    requires goes { GoesOn J.verdict_of grants.now staged.now }
+    requires lists { AreLists staged.now.state.tree.files lists.now }
+    requires moved { staged.now.user_change ≡ Memberships at groups.now }
+    ensures grants { IfOk result (λ new. AreGrants staged.now.state.tree.files new.grants) }
+    ensures rows { IfOk result (λ new. rows_at new.grants ≡ rows_of J.verdict_of (persons staged.now.state.people) staged.now.state.tree.files) }
+    ensures at_most { J.asked_of judge.new ≤ J.asked_of judge.old + most_asked staged.now }
+    ensures looked_most { IfOk result (λ new. new.looked ≤ most_looked staged.now.user_change staged.now.state.tree.files) }
+    ensures looked_least { IfOk result (λ new. J.asked_of judge.new ≤ J.asked_of judge.old + new.looked) }
+    ensures refreshed { IfOk result (λ new. new.refreshed ≡ most_refreshed staged.now) }
+{
+    staged.tree().is_sound();
+    grants.rows.numbers.is_in_order();
+    let paths = touched_paths(alloc, lists, groups.as_slice())?;
+    let paths: &[Rc<Path>] = &paths;
+    let user = moved_user::<J>(grants, staged, at, groups);
+    let rows = grants.rows.with_user_again(alloc, judge, paths, at, user)?;
+    let ways = grants.ways.share()?;
+    Ok(After {
+        refreshed: count_within(&rows.numbers, paths),
+        grants: Grants::reached(alloc, rows, ways, &grants.reaches, grants.files_numbered)?,
+        looked: paths.len() as u64,
+    })
+}
+
+/// What is granted after a line by which a user comes, the last: that user's verdict is asked for on each label that a
+/// file has. Files keep their steps.
+fn after_join<J: Judge>(
+    alloc: Global,
+    judge: &mut J,
+    grants: &Grants,
+    staged: &Staged,
+) -> Result<After, AllocError>
+    requires room { J.asked_of judge.old + most_asked staged.now < 2 ^ 64 }
+    requires goes { GoesOn J.verdict_of grants.now staged.now }
+    requires moved { staged.now.user_change ≡ Added }
+    ensures grants { IfOk result (λ new. AreGrants staged.now.state.tree.files new.grants) }
+    ensures rows { IfOk result (λ new. rows_at new.grants ≡ rows_of J.verdict_of (persons staged.now.state.people) staged.now.state.tree.files) }
+    ensures at_most { J.asked_of judge.new ≤ J.asked_of judge.old + most_asked staged.now }
+    ensures looked { IfOk result (λ new. new.looked ≡ 0) }
+    ensures refreshed { IfOk result (λ new. new.refreshed ≡ most_refreshed staged.now) }
+{
+    staged.tree().is_sound();
+    grants.rows.numbers.is_in_order();
+    let users = staged.people().subjects();
+    let user = &users[users.len() - 1];
+    let rows = grants.rows.with_user(alloc, judge, user)?;
+    let ways = grants.ways.share()?;
+    let none = Numbered::new(alloc);
+    Ok(After {
+        refreshed: rows.numbers.len() as u64,
+        grants: Grants::reached(alloc, rows, ways, &none, grants.files_numbered)?,
+        looked: 0,
+    })
+}
+
+/// What is granted after a line by which a user goes. Nobody is asked for, and files keep their steps.
+fn after_leave<J: Judge>(
+    alloc: Global,
+    grants: &Grants,
+    staged: &Staged,
+    at: usize,
+) -> Result<After, AllocError>
+    requires goes { GoesOn J.verdict_of grants.now staged.now }
+    requires moved { staged.now.user_change ≡ Removed at }
+    ensures grants { IfOk result (λ new. AreGrants staged.now.state.tree.files new.grants) }
+    ensures rows { IfOk result (λ new. rows_at new.grants ≡ rows_of J.verdict_of (persons staged.now.state.people) staged.now.state.tree.files) }
+    ensures looked { IfOk result (λ new. new.looked ≡ 0) }
+    ensures refreshed { IfOk result (λ new. new.refreshed ≡ most_refreshed staged.now) }
+{
+    staged.tree().is_sound();
+    grants.rows.numbers.is_in_order();
+    let rows = grants.rows.without_user(alloc, at)?;
+    let ways = grants.ways.share()?;
+    let none = Numbered::new(alloc);
+    Ok(After {
+        grants: Grants::reached(alloc, rows, ways, &none, grants.files_numbered)?,
+        looked: 0,
+        refreshed: 0,
+    })
+}
+
+/// What is granted after a line.
+pub fn after_line<J: Judge>(
+    alloc: Global,
+    judge: &mut J,
+    grants: &Grants,
+    tree: &Tree,
+    lists: &GroupLists,
+    staged: &Staged,
+) -> Result<After, AllocError>
+    requires room { J.asked_of judge.old + most_asked staged.now < 2 ^ 64 }
+    requires counts { length staged.now.state.tree.files * length staged.now.state.people.users < 2 ^ 64 }
+    requires goes { GoesOnFrom J.verdict_of tree.now.files grants.now staged.now }
+    requires lists { moves_groups staged.now.user_change ≡ true → AreLists staged.now.state.tree.files lists.now }
+    ensures grants { IfOk result (λ new. AreGrants staged.now.state.tree.files new.grants) }
+    ensures rows { IfOk result (λ new. rows_at new.grants ≡ rows_of J.verdict_of (persons staged.now.state.people) staged.now.state.tree.files) }
+    ensures at_most { J.asked_of judge.new ≤ J.asked_of judge.old + most_asked staged.now }
+    ensures looked_most { IfOk result (λ new. new.looked ≤ most_looked staged.now.user_change staged.now.state.tree.files) }
+    ensures looked_least { IfOk result (λ new. moves_groups staged.now.user_change ≡ true → J.asked_of judge.new ≤ J.asked_of judge.old + new.looked) }
+    ensures refreshed { IfOk result (λ new. new.refreshed ≡ most_refreshed staged.now) }
+{
+    staged.tree().is_sound();
+    match staged.user_change() {
+        UserChange::Unchanged => after_files_anew(alloc, judge, grants, tree, staged),
+        UserChange::Loaded => after_load(alloc),
+        UserChange::Memberships { user, groups } => {
+            after_move(alloc, judge, grants, lists, staged, *user, groups)
+        }
+        UserChange::Added => after_join(alloc, judge, grants, staged),
+        UserChange::Removed { user } => after_leave::<J>(alloc, grants, staged, *user),
+    }
+}

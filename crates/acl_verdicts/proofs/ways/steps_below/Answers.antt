@@ -1,0 +1,98 @@
+use Rattle.std.proofs.Common.{◌≡◌, ◌++◌, ℕ, [], None, Some, false, map, refl, ap, sym, subst, ◌∙◌}
+use Rattle.std.specs.Prelude.{option_map}
+use Rattle.std.proofs.lemmas.List.{nil_from_length}
+use Rattle.path_map.specs.Entries.{PathOf, IsInOrder}
+use Rattle.path_map.specs.Below.{within}
+use Rattle.acl_verdicts.specs.Subtrees.{covers, IsNearest, AreWalked}
+use Rattle.acl_verdicts.specs.Ways.{Numbers, way_in, ways, wayed, known, IsAbove}
+use Rattle.acl_verdicts.proofs.Orders.{in_order-values}
+use Rattle.acl_verdicts.proofs.Along.{leads_kept, longer_itself, longer_on}
+use Rattle.acl_verdicts.proofs.Tops.{tops_begin, tops_skip, tops_walk, tops_end, top_outermost, top_there}
+use Rattle.acl_verdicts.proofs.ways.steps_below.Goals as goal
+
+ways_order : (ns : Numbers) → IsInOrder ns → IsInOrder (ways ns)
+ways_order ns order = in_order-values (λ e. (way_in ns e).1) ns order
+
+pub loop-top-init : goal.loop-top-init
+loop-top-init c =
+    let ns = c.args.numbers.now in
+    let tops : Numbers = map (λ e. e.value) c.args.tops.now in
+    record {
+      walked = ([], (tops_begin tops c.requires.order (ways ns) (ways_order ns c.is_in_order.ensures) tops [] None refl refl refl, ap (λ l. wayed c.args.steps.now (map (λ e. e.value) l)) c.new-puts.ensures.items));
+      kept = longer_itself c.args.steps.now;
+      back = c.requires.back;
+      rows = λ count h k. h;
+    }
+
+pub loop-top-preserved-then-is_covered : goal.loop-top-preserved-then-is_covered
+loop-top-preserved-then-is_covered c =
+    let ns = c.args.numbers.now in
+    let tops : Numbers = map (λ e. e.value) c.args.tops.now in
+    let last = option_map (λ p. p.now) c.loop-top.last in
+    let same = c.path.ensures ∙ ap (λ (e : PathOf × ℕ). e.0) c.deref.ensures in
+    let w = c.loop-top.invariant.walked in
+    record {
+      walked = (
+        w.0,
+        (
+          tops_skip tops c.requires.order (ways ns) (ways_order ns c.is_in_order.ensures) c.in-Some.top.now.value (map (λ e. e.value) c.loop-top.rest.now) (map (λ e. e.value) c.in-Some.more.now) w.0 last
+              (ap (map (λ e. e.value)) c.in-Some.ensures.cases.0) w.1.0 (ap (covers last) (sym same) ∙ sym c.is_covered.ensures ∙ c.if-is_covered.true),
+          w.1.1,
+        ),
+      );
+      kept = c.loop-top.invariant.kept;
+      back = c.loop-top.invariant.back;
+      rows = c.loop-top.invariant.rows;
+    }
+
+pub add_steps-requires-clause-above : goal.add_steps-requires-clause-above
+add_steps-requires-clause-above c =
+    let ns = c.args.numbers.now in
+    let tops : Numbers = map (λ e. e.value) c.args.tops.now in
+    let order = ways_order ns c.is_in_order.ensures in
+    let last = option_map (λ p. p.now) c.loop-top.last in
+    let t = c.in-Some.top.now.value in
+    let rest : Numbers = map (λ e. e.value) c.loop-top.rest.now in
+    let more : Numbers = map (λ e. e.value) c.in-Some.more.now in
+    let w = c.loop-top.invariant.walked in
+    let is = ap (map (λ e. e.value)) c.in-Some.ensures.cases.0 in
+    let above : Numbers = map (λ e. e.value) c.in_ok-above.above.items in
+    let same = c.path.ensures ∙ ap (λ (e : PathOf × ℕ). e.0) c.deref.ensures in
+    let first = c.path-in-Some.ensures ∙ ap (λ (e : PathOf × ℕ). e.0) c.deref-in-Some.ensures in
+    let second = c.path-in-Some-2.ensures ∙ ap (λ (e : PathOf × ℕ). e.0) c.deref-in-Some-2.ensures in
+    let out : covers last t.0 ≡ false = ap (covers last) (sym same) ∙ sym c.is_covered.ensures ∙ c.if-is_covered.false in
+    let near : IsNearest t.0 c.args.old.now above = subst (λ p. IsNearest p c.args.old.now above) first c.in_ok-above.ensures in
+    let begun = c.requires.above t.0 (top_there tops c.requires.order (ways ns) order t rest more w.0 last is w.1.0) (top_outermost tops c.requires.order (ways ns) order t rest more w.0 last is w.1.0 out) above near in
+    let now : IsAbove t.0 ns c.loop-top.steps above = record { below = begun.below; leads = leads_kept _ _ _ _ c.loop-top.invariant.kept begun.leads } in
+    subst (λ p. IsAbove p ns c.loop-top.steps above) (sym second) now
+
+pub loop-top-preserved : goal.loop-top-preserved
+loop-top-preserved c =
+    let ns = c.args.numbers.now in
+    let tops : Numbers = map (λ e. e.value) c.args.tops.now in
+    let order = ways_order ns c.is_in_order.ensures in
+    let last = option_map (λ p. p.now) c.loop-top.last in
+    let t = c.in-Some.top.now.value in
+    let rest : Numbers = map (λ e. e.value) c.loop-top.rest.now in
+    let more : Numbers = map (λ e. e.value) c.in-Some.more.now in
+    let w = c.loop-top.invariant.walked in
+    let is = ap (map (λ e. e.value)) c.in-Some.ensures.cases.0 in
+    let same = c.path.ensures ∙ ap (λ (e : PathOf × ℕ). e.0) c.deref.ensures in
+    let second = c.path-in-Some-2.ensures ∙ ap (λ (e : PathOf × ℕ). e.0) c.deref-in-Some-2.ensures in
+    let third = c.path-in-Some-3.ensures ∙ ap (λ (e : PathOf × ℕ). e.0) c.deref-in-Some-3.ensures in
+    let out : covers last t.0 ≡ false = ap (covers last) (sym same) ∙ sym c.is_covered.ensures ∙ c.if-is_covered.false in
+    let walked : AreWalked tops (ways ns) more (w.0 ++ within t.0 (ways ns)) (Some t.0) = tops_walk tops c.requires.order (ways ns) order t rest more w.0 last is w.1.0 (w.0 ++ within t.0 (ways ns)) out refl in
+    record {
+      walked = (w.0 ++ within t.0 (ways ns), (subst (λ (p : PathOf). AreWalked tops (ways ns) more (w.0 ++ within t.0 (ways ns)) (Some p)) (sym third) walked, c.in_ok-add_steps.ensures.steps w.0 w.1.1 ∙ ap (λ (p : PathOf). known (w.0 ++ within p (ways ns))) second));
+      kept = longer_on _ _ _ c.loop-top.invariant.kept c.in_ok-add_steps.ensures.kept;
+      back = c.in_ok-add_steps.ensures.back;
+      rows = λ count h k. c.in_ok-add_steps.ensures.rows count (c.loop-top.invariant.rows count h k) k;
+    }
+
+pub returns-clause-puts : goal.returns-clause-puts
+returns-clause-puts c =
+    let ns = c.args.numbers.now in
+    let tops : Numbers = map (λ e. e.value) c.args.tops.now in
+    let w = c.loop-top.invariant.walked in
+    let last = option_map (λ p. p.now) c.loop-top.last in
+    w.1.1 ∙ ap known (tops_end tops c.requires.order (ways ns) (ways_order ns c.is_in_order.ensures) (map (λ e. e.value) c.loop-top.rest.now) w.0 last (ap (map (λ e. e.value)) (nil_from_length c.loop-top.rest.now c.in_default.ensures.cases)) w.1.0)
