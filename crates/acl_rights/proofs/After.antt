@@ -1,7 +1,7 @@
 -- What is granted after a line.
-use Rattle.std.proofs.Common.{◌≡◌, ℕ, ◌+◌, ◌-◌, ◌<◌, ◌≤◌, ◌++◌, ◌||◌, Bool, true, false, List, [], ◌∷◌, length, map, filter, get_or, Some, refl, sym, ap, subst, ◌∙◌, arith}
+use Rattle.std.proofs.Common.{◌≡◌, ℕ, ◌+◌, ◌-◌, ◌<◌, ◌++◌, ◌||◌, false, List, [], ◌∷◌, length, map, filter, get_or, Some, refl, sym, ap, subst, ◌∙◌, arith}
 use Rattle.std.specs.Prelude.{count_by, slice_get, option_map}
-use Rattle.std.specs.List.{AllByRecursion, remove}
+use Rattle.std.specs.List.{AllByRecursion}
 use Rattle.std.proofs.lemmas.List.{length-map, length-append}
 use Rattle.acl_tree.specs.acl_entry.Mentions.{AgreeOnMentions}
 use Rattle.acl_tree.specs.acl_entry.Person.{Person}
@@ -16,7 +16,6 @@ use Rattle.acl_tree.specs.Reports.{StagedState, UsersMoved}
 use Rattle.acl_tree.specs.declared.user_change.UserChange.{UserChange}
 use Rattle.acl_tree.specs.declared.user_change.UserChange.TheVariants.{Unchanged, Memberships, Added, Removed}
 use Rattle.path_map.specs.Entries.{IsInOrder}
-use Rattle.path_map.specs.Merged.{merged}
 use Rattle.acl_verdicts.specs.Subtrees.{has_below, lies_in, IsApart}
 use Rattle.acl_verdicts.specs.declared.steps.Step.{Step}
 use Rattle.acl_verdicts.specs.Ways.{Numbers, rows_in, reaches_of, AreSteps, AreNumbers, HaveRows, AreFirst, IsLonger}
@@ -37,7 +36,7 @@ use Rattle.acl_rights.proofs.Counts.{person_same}
 use Rattle.acl_rights.proofs.Numbers.{get_later}
 use Rattle.acl_rights.proofs.Goes.{moves, joins, leaves}
 use Rattle.acl_rights.proofs.Refreshing.{pairs_paths, count_lying, users_refreshed}
-use Rattle.acl_rights.proofs.Judged.{labelled_paths, numbers_within, rows_are, judged_are, changed_labelled, changed_judged, longer_labelled, longer_judged, shorter_labelled, shorter_judged, again_labelled, again_judged}
+use Rattle.acl_rights.proofs.Judged.{labelled_paths, numbers_in, rows_are, judged_are, changed_labelled, changed_judged, longer_labelled, longer_judged, shorter_labelled, shorter_judged, again_labelled, again_judged}
 
 pub below_paths : {A : Type 0} (es : List (PathOf × A)) (fs : Files) → map (λ (e : PathOf × A). e.0) es ≡ map (λ (e : PathOf × Node). e.0) fs → (p : PathOf) → has_below es p ≡ holds_below fs p
 below_paths [] [] h p = refl
@@ -52,9 +51,6 @@ below_paths {A = A} (e ∷ es) (f ∷ fs) h p =
 apart_from : (ns : Numbers) (fs gone : Files) → map (λ (e : PathOf × ℕ). e.0) ns ≡ map (λ (e : PathOf × Node). e.0) fs → AllByRecursion (λ e. holds_below fs e.0 ≡ false) gone → IsApart ns gone
 apart_from ns fs [] same h = tt
 apart_from ns fs (e ∷ gone) same h = (below_paths ns fs same e.0 ∙ h.0, apart_from ns fs gone same h.1)
-
-pub numbers_in : (fs : Files) (rows : LabelRows) → AreLabelled fs rows → AreNumbers (length rows.cells) rows.numbers
-numbers_in fs rows w = subst (λ n. AreNumbers n rows.numbers) (sym w.long) (numbers_within rows.labels rows.numbers fs w.are)
 
 pub numbers_long : (fs : Files) (rows : LabelRows) → AreLabelled fs rows → length rows.numbers ≡ length fs
 numbers_long fs rows w = same_length (λ (e : PathOf × ℕ). e.0) (λ (e : PathOf × Node). e.0) rows.numbers fs (labelled_paths rows.labels rows.numbers fs w.are)

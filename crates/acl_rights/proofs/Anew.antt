@@ -17,7 +17,7 @@ use Rattle.acl_verdicts.specs.Ways.{Numbers, rows_in}
 use Rattle.acl_rights.specs.Tables.{Verdict, cells_of, rows_of}
 use Rattle.acl_rights.specs.declared.labels.MoreLabels.{MoreLabels}
 use Rattle.acl_rights.specs.declared.label_rows.LabelRows.{LabelRows}
-use Rattle.acl_rights.specs.Labels.{row_of, row_at_path, labels_in, added_in, AreNumbered, AreLabelled, AreAsBefore}
+use Rattle.acl_rights.specs.Labels.{row_of, row_at_path, labels_in, AreNumbered, AreLabelled, AreAsBefore}
 use Rattle.acl_rights.specs.declared.grants.Grants.{Grants}
 use Rattle.acl_rights.specs.Grants.{AreGrants, GoesOn, GoesOnFrom}
 use Rattle.acl_rights.proofs.Maps.{find-values, found_at}

@@ -1,5 +1,5 @@
 -- What a line costs.
-use Rattle.std.proofs.Common.{◌≡◌, not, Option, Some, None, length-append, ℕ, zero, suc, ◌+◌, ◌*◌, ◌<◌, ◌≤◌, Bool, true, false, cond, List, [], ◌∷◌, length, map, filter, refl, sym, ap, subst, ◌∙◌, arith}
+use Rattle.std.proofs.Common.{◌≡◌, not, Option, Some, None, length-append, ℕ, zero, suc, ◌+◌, ◌*◌, ◌<◌, ◌≤◌, Bool, true, false, cond, List, [], ◌∷◌, length, filter, refl, sym, ap, subst, ◌∙◌, arith}
 use Rattle.std.specs.Prelude.{count_by, option_and_then, if◌then◌else◌}
 use Rattle.std.specs.Option.{option_map_or}
 use Rattle.std.specs.FinMap.{find}
@@ -8,7 +8,7 @@ use Rattle.std.proofs.lemmas.List.{length-map}
 use Rattle.std.proofs.lemmas.List.Sums.{length-filter}
 use Rattle.acl_tree.specs.acl_edit.declared.node.Node.{Node}
 use Rattle.acl_tree.specs.acl_people.Registers.{Register}
-use Rattle.acl_tree.specs.Files.{PathOf, Files, Recorded}
+use Rattle.acl_tree.specs.Files.{Files, Recorded}
 use Rattle.acl_tree.specs.Changed.{same_label, is_changed, changed_between}
 use Rattle.acl_tree.proofs.of_acl_files.Changes.{label_itself}
 use Rattle.acl_tree.specs.acl_people.Registers.{persons}
@@ -33,11 +33,6 @@ all_users known = length-map known.users _
 
 pub within : (t : StagedState) → length t.changed * length t.state.people.users ≤ most_asked t
 within t = left_le (length t.changed * length t.state.people.users) (moves_asked t.user_change t.state.tree.files) _ (most_asked t) refl refl
-
--- the changed files, by every user
-pub changed_cost : (t : StagedState) {A : Type 0} (f : A → PathOf × Node) (files : List A) (n : ℕ) → map f files ≡ t.changed → n ≡ length t.state.people.users → length files * n ≤ most_asked t
-changed_cost t f files n is users =
-    subst (λ k. k ≤ most_asked t) (sym (ap (λ k. k * n) (sym (length-map files f)) ∙ (λ i. length (is i) * users i))) (within t)
 
 -- the files that mention a group that joined or left
 pub moved_cost : (t : StagedState) (at : ℕ) (groups : List ℕ) → t.user_change ≡ Memberships at groups → length (filter (mentions_one groups) t.state.tree.files) ≤ most_asked t

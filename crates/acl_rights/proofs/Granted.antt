@@ -1,5 +1,5 @@
 -- What is granted and reached, by the numbers of files.
-use Rattle.std.proofs.Common.{◌≡◌, ℕ, ◌<◌, Bool, true, false, cond, List, [], ◌∷◌, length, map, get_or, Option, Some, None, refl, sym, ap, subst, ◌∙◌}
+use Rattle.std.proofs.Common.{◌≡◌, ℕ, Bool, true, false, cond, List, [], ◌∷◌, length, get_or, Option, Some, refl, sym, ap, subst, ◌∙◌}
 use Rattle.std.specs.Prelude.{slice_get, option_and_then}
 use Rattle.std.specs.Ordering.{is_eq}
 use Rattle.std.specs.FinMap.{find}
@@ -8,7 +8,7 @@ use Rattle.acl_tree.specs.acl_names.Paths.{path_cmp}
 use Rattle.acl_tree.specs.Files.{PathOf, Files}
 use Rattle.acl_verdicts.specs.declared.steps.Step.{Step}
 use Rattle.acl_verdicts.specs.Reach.{reached_rows}
-use Rattle.acl_verdicts.specs.Ways.{Numbers, Way, rows_in, ways, ways_of, wayed, known, reached_by, reaches_of, AreSteps, AreNumbers}
+use Rattle.acl_verdicts.specs.Ways.{Numbers, Way, rows_in, ways, ways_of, wayed, known, reached_by, reaches_of, AreNumbers}
 use Rattle.acl_verdicts.proofs.Reaching.{reach_at, reached_places}
 use Rattle.acl_rights.specs.declared.grants.Grants.{Grants}
 use Rattle.acl_rights.specs.Grants.{rows_at, AreGrants}

@@ -1,6 +1,6 @@
 -- Rows by labels, and the rows of files.
-use Rattle.std.proofs.Common.{◌≡◌, ℕ, zero, suc, ◌+◌, ◌-◌, ◌<◌, ◌≤◌, ◌++◌, Bool, true, false, cond, not, ltb, List, [], ◌∷◌, length, map, filter, take, drop, set, get_or, Option, Some, None, is_some, Ordering, Less, Equal, Greater, inl, inr, length-append, refl, sym, ap, subst, ◌∙◌, arith}
-use Rattle.std.specs.Prelude.{◌⊎◌, ◌&&◌, nat_lt, slice_get, option_map, option_and_then, if◌then◌else◌}
+use Rattle.std.proofs.Common.{◌≡◌, ℕ, suc, ◌+◌, ◌-◌, ◌<◌, ◌++◌, Bool, true, false, cond, not, ltb, List, [], ◌∷◌, length, map, filter, set, get_or, Option, Some, None, Ordering, Less, Equal, Greater, length-append, refl, sym, ap, subst, ◌∙◌, arith}
+use Rattle.std.specs.Prelude.{◌&&◌, nat_lt, slice_get, option_map, option_and_then, if◌then◌else◌}
 use Rattle.std.specs.Option.{option_map_or, option_or}
 use Rattle.std.specs.List.{AllByRecursion, remove}
 use Rattle.std.specs.Ordering.{is_eq}
@@ -23,11 +23,11 @@ use Rattle.path_map.specs.Merged.{has, merged}
 use Rattle.path_map.proofs.Merges.{in_order-merged}
 use Rattle.path_map.proofs.Rows.{find_merged, rows_merged}
 use Rattle.acl_verdicts.specs.Ways.{Numbers, rows_in, AreNumbers}
-use Rattle.acl_rights.specs.Tables.{Verdict, Rows, cells_of, rows_of}
+use Rattle.acl_rights.specs.Tables.{Verdict, cells_of, rows_of}
 use Rattle.acl_rights.specs.Stages.{mentions_one}
 use Rattle.acl_rights.specs.declared.labels.MoreLabels.{MoreLabels}
 use Rattle.acl_rights.specs.declared.label_rows.LabelRows.{LabelRows}
-use Rattle.acl_rights.specs.Labels.{labelled, labels_of, IsUsed, row_of, labels_in, added_in, AreNumbered, AreLabelled, AreJudged, rows_by, longer_row, row_again, shorter_row, AreLonger, AreShorter, AreAgain, AreChangedRows}
+use Rattle.acl_rights.specs.Labels.{labelled, labels_of, IsUsed, row_of, labels_in, added_in, AreNumbered, AreLabelled, AreJudged, longer_row, row_again, shorter_row, AreLonger, AreShorter, AreAgain, AreChangedRows}
 use Rattle.acl_rights.proofs.Maps.{find-values, map_values, map_filter, same_found, found_at}
 use Rattle.acl_rights.proofs.Numbers.{get_front, get_same, get_later, labelled_more}
 use Rattle.acl_rights.proofs.RowLists.{rows_by_got, rows_by_long}

@@ -23,7 +23,7 @@ use Rattle.acl_rights.specs.Stages.{mentions_one}
 use Rattle.path_map.specs.Merged.{merged, put_all}
 use Rattle.path_map.proofs.Merges.{in_order-put_all}
 use Rattle.path_map.proofs.Rows.{find_put_all, rows_merged}
-use Rattle.acl_rights.proofs.Maps.{map_values, map_filter, find-values, find-filter, same_found, seen_at}
+use Rattle.acl_rights.proofs.Maps.{map_values, map_filter, find-values, find-filter, same_found}
 
 -- ---- files that change
 
@@ -180,11 +180,3 @@ map_twice : {A B C : Type 0} (f : A → B) (g : B → C) (es : List A) → map g
 map_twice f g [] = refl
 map_twice f g (e ∷ es) = ap (λ l. g (f e) ∷ l) (map_twice f g es)
 
--- has its row
-pub same_label_row : {A B : Type 0} (V : Verdict) (us : List Person) (f : A → PathOf × List ℕ) (g : B → PathOf × Node) (rows : List A) (files : List B) (i : ℕ) (r : A) (x : B) (n : Node)
-    → map f rows ≡ rows_of V us (map g files) → i < length rows → r ≡ get_or rows i r → x ≡ get_or files i x → (g x).1.label ≡ n.label → (f r).1 ≡ cells_of V us n
-same_label_row {A = A} {B = B} V us f g rows files i r x n h lt here there same =
-    let row : PathOf × Node → PathOf × List ℕ = λ e. (e.0, cells_of V us e.1) in
-    let row_of : B → PathOf × List ℕ = λ y. row (g y) in
-    let found = ap f here ∙ seen_at f row_of rows files (h ∙ map_twice g row files) i r x lt ∙ ap row_of (sym there) in
-    ap (λ (e : PathOf × List ℕ). e.1) found ∙ ap (λ (l : Label). map (λ u. V u l) us) same

@@ -1,5 +1,5 @@
 -- Ordered maps from paths.
-use Rattle.std.proofs.Common.{◌≡◌, ℕ, zero, suc, ◌+◌, ◌*◌, ◌++◌, append-nil, append_assoc, ◌<◌, length, get_or, arith, Bool, true, false, cond, ◌&&◌, List, [], ◌∷◌, map, filter, Option, Some, None, Ordering, Less, Equal, Greater, refl, sym, ap, subst, ◌∙◌}
+use Rattle.std.proofs.Common.{◌≡◌, ℕ, zero, suc, ◌+◌, ◌*◌, ◌++◌, append_assoc, ◌<◌, length, get_or, arith, Bool, true, false, cond, ◌&&◌, List, [], ◌∷◌, map, filter, Option, Some, None, Ordering, Less, Equal, Greater, refl, sym, ap, subst, ◌∙◌}
 use Rattle.std.specs.Prelude.{T, option_map, option_and_then, if◌then◌else◌}
 use Rattle.std.specs.Ordering.{is_eq, is_lt}
 use Rattle.std.specs.FinMap.{find, is_sorted}
@@ -156,9 +156,6 @@ same_length f g xs ys h = sym (length-map xs f) ∙ ap length h ∙ length-map y
 
 -- ---- walks over what is left
 
-pub whole_at_end : {A B : Type 0} (f : A → B) (xs all : List B) (rest : List A) → rest ≡ [] → xs ++ map f rest ≡ all → xs ≡ all
-whole_at_end f xs all rest none h = sym (append-nil xs) ∙ ap (λ r. xs ++ map f r) (sym none) ∙ h
-
 one_more : (n u : ℕ) → suc n * u ≡ u + n * u
 one_more n u = grind arith
 
@@ -166,11 +163,6 @@ pub counted : {A : Type 0} (fs rest : List A) (e : A) (u a b total : ℕ) → fs
 counted fs rest e u a b total is more h =
     let long : length fs * u ≡ u + length rest * u = ap (λ l. length l * u) is ∙ one_more (length rest) u in
     omega (arith, long, more, h)
-
-pub none_seen : {A B C : Type 0} (f : A → C) (g : B → C) (xs : List A) (ys : List B) → map f xs ≡ map g ys → ys ≡ [] → xs ≡ []
-none_seen f g [] ys h none = refl
-none_seen f g (x ∷ xs) [] h none = cc
-none_seen f g (x ∷ xs) (y ∷ ys) h none = cc
 
 -- one more is made of what is left
 pub walked : {A B R : Type 0} (g : PathOf × A → B) (f : R → PathOf × B) (xs : List R) (x : R) (new : List R) (es rest : List (PathOf × A)) (e : PathOf × A) (all : List (PathOf × B))

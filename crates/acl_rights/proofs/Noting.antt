@@ -14,7 +14,7 @@ use Rattle.acl_tree.specs.acl_entry.Mentions.{is_one_of}
 use Rattle.acl_tree.specs.acl_edit.declared.node.Node.{Node}
 use Rattle.acl_tree.specs.Files.{PathOf, Files}
 use Rattle.acl_rights.specs.Groups.{PathSet, set_of}
-use Rattle.acl_rights.specs.Inner.{ByGroups, noted_at, Kept, kept_at}
+use Rattle.acl_rights.specs.Inner.{ByGroups, noted_at}
 
 -- ---- one path
 
@@ -36,19 +36,6 @@ noted_more group entry old mid new entries taken put more q = by (eqb group q) r
     by false other =
         ap (λ o. option_map_or (λ es. map (λ e. e.value) es.items) o [])
         (put q ∙ ap (λ b. cond b (Some entries) (get nat_cmp mid q)) (tied ∙ other) ∙ taken q ∙ ap (λ b. cond b None (get nat_cmp old q)) (tied ∙ other))
-
--- a list is put in place of the one of its group
-pub kept_after : (group : ℕ) (list : Rc PathSet Global) (value : PathSet) (old new : Kept)
-    → ((q : ℕ) → get nat_cmp new q ≡ cond (is_eq (nat_cmp group q)) (Some list) (get nat_cmp old q)) → list.value ≡ value
-    → (q : ℕ) → kept_at new q ≡ (if eqb group q then value else kept_at old q)
-kept_after group list value old new put is q = by (eqb group q) refl
-  where
-    tied : is_eq (nat_cmp group q) ≡ eqb group q
-    tied = unsigned_tied group q
-
-    by : (b : Bool) → eqb group q ≡ b → kept_at new q ≡ (if b then value else kept_at old q)
-    by true same = ap (λ o. option_map_or (λ l. l.value) o []) (put q ∙ ap (λ b. cond b (Some list) (get nat_cmp old q)) (tied ∙ same)) ∙ is
-    by false other = ap (λ o. option_map_or (λ l. l.value) o []) (put q ∙ ap (λ b. cond b (Some list) (get nat_cmp old q)) (tied ∙ other))
 
 -- lists that are cloned one by one
 abbrev value_in : (ℕ → Bool) → List (ℕ × Rc PathSet Global) → PathSet

@@ -1,10 +1,9 @@
 -- Numbers of labels, and how many files have each.
-use Rattle.std.proofs.Common.{◌≡◌, ℕ, zero, suc, ◌+◌, ◌-◌, ◌<◌, ◌≤◌, ◌++◌, List, [], ◌∷◌, length, map, set, get_or, Option, Some, None, inl, inr, append_assoc, append-nil, length-append, length-set, refl, sym, ap, subst, ◌∙◌, arith}
+use Rattle.std.proofs.Common.{◌≡◌, ℕ, zero, suc, ◌+◌, ◌-◌, ◌<◌, ◌≤◌, ◌++◌, List, [], ◌∷◌, length, map, Option, Some, inl, inr, append_assoc, append-nil, length-append, refl, sym, ap, subst, ◌∙◌, arith}
 use Rattle.std.specs.Prelude.{◌⊎◌, slice_get}
-use Rattle.std.specs.List.{AllByRecursion, Contains, sum_by}
-use Rattle.std.proofs.lemmas.List.{length-map, map-append}
+use Rattle.std.specs.List.{AllByRecursion, Contains}
+use Rattle.std.proofs.lemmas.List.{map-append}
 use Rattle.std.proofs.lemmas.List.Elements.{Contains-append_left, Contains-push}
-use Rattle.std.proofs.lemmas.List.Sums.{sum_by-set, sum_by-append, sum_by-cons}
 use Rattle.std.proofs.lemmas.Option.{slice_get_within}
 use Rattle.acl_tree.specs.acl_entry.declared.label.Label.{Label}
 use Rattle.acl_tree.specs.Files.{PathOf, Files}
@@ -33,27 +32,6 @@ get_later (a ∷ xs) ys (suc k) j h = let e : k ≡ length xs + j = omega (arith
 pub all_end : {A : Type 0} (P : A → Type 0) (xs : List A) (x : A) → AllByRecursion P xs → P x → AllByRecursion P (xs ++ x ∷ [])
 all_end P [] x h p = (p, tt)
 all_end P (y ∷ xs) x h p = (h.0, all_end P xs x h.1 p)
-
--- ---- counts
-
-all_set : (xs : List ℕ) (i c : ℕ) → 0 < c → AllByRecursion (λ x. 0 < x) xs → AllByRecursion (λ x. 0 < x) (set xs i c)
-all_set [] i c p h = tt
-all_set (x ∷ xs) zero c p h = (p, h.1)
-all_set (x ∷ xs) (suc i) c p h = (h.0, all_set xs i c p h.1)
-
-pub count_again : (counts : List ℕ) (at c labels files : ℕ) → at < length counts → c ≡ get_or counts at 0 + 1 → AreCounted labels counts files → AreCounted labels (set counts at c) (files + 1)
-count_again counts at c labels files lt is h = record {
-  long = length-set counts at c ∙ h.long;
-  some = all_set counts at c (omega (arith, is)) h.some;
-  total = let s = sum_by-set (λ (x : ℕ). x) counts at c 0 lt in let t = h.total in omega (arith, s, is, t);
-}
-
-pub count_next : (counts : List ℕ) (labels files : ℕ) → AreCounted labels counts files → AreCounted (labels + 1) (counts ++ 1 ∷ []) (files + 1)
-count_next counts labels files h = record {
-  long = let l = h.long in let a = length-append counts (1 ∷ []) in omega (arith, l, a);
-  some = all_end (λ x. 0 < x) counts 1 h.some (omega arith);
-  total = let s = sum_by-append (λ (x : ℕ). x) counts (1 ∷ []) in let one = sum_by-cons (λ (x : ℕ). x) 1 [] in let t = h.total in omega (arith, s, one, t);
-}
 
 -- ---- a number that is given
 

@@ -1,5 +1,5 @@
 -- A line changes few answers along paths.
-use Rattle.std.proofs.Common.{◌≡◌, ℕ, suc, ◌+◌, ◌*◌, ◌^◌, ◌<◌, ◌≤◌, Bool, true, false, not, eqb, ◌&&◌, List, [], ◌∷◌, length, filter, is_some, Option, Some, None, refl, sym, ap, subst, ◌∙◌, arith}
+use Rattle.std.proofs.Common.{◌≡◌, ℕ, suc, ◌+◌, ◌*◌, ◌≤◌, Bool, true, false, not, eqb, ◌&&◌, List, [], ◌∷◌, length, filter, is_some, Option, Some, None, refl, sym, ap, subst, ◌∙◌, arith}
 use Rattle.std.specs.Prelude.{option_map, option_and_then, slice_get, count_by, if◌then◌else◌}
 use Rattle.std.specs.Option.{option_map_or}
 use Rattle.std.specs.List.{sum_by, AllByRecursion}
@@ -365,9 +365,3 @@ module _ (V : Verdict) (local : (u w : Person) (f : Label) → AgreeOnMentions u
       let all : at_changed ≡ length t.state.people.users * count_by (lies_within t.changed) gs =
       (let long = length-map t.state.people.users _ in let reported = sym goes.reports.changed in λ i. long i * count_by (lies_within (reported i)) gs) in
       subst (λ (r : Rows). differing (place_left t.user_change) r (reached_rows (rows_of V ws gs)) ≤ most_refreshed t) (sym is_there) (omega (arith, parts, all))
-
-  pub line_fits : length gs * length t.state.people.users < 2 ^ 64 → differing (place_left t.user_change) (reached_rows rows) (reached_rows (rows_of V ws gs)) < 2 ^ 64
-  line_fits room =
-      let n = all_missed V us ws fs gs fo go t.user_change in
-      let long : length gs * length ws ≡ length gs * length t.state.people.users = ap (λ k. length gs * k) (length-map t.state.people.users _) in
-      subst (λ (r : Rows). differing (place_left t.user_change) r (reached_rows (rows_of V ws gs)) < 2 ^ 64) (sym is_there) (omega (arith, n, long, room))

@@ -22,7 +22,7 @@ use Rattle.path_map.specs.Merged.{has, merged, without_all}
 use Rattle.path_map.proofs.Joined.{merged_nothing}
 use Rattle.path_map.proofs.Merges.{in_order-merged, in_order-without, without_none}
 use Rattle.path_map.proofs.Rows.{find_merged}
-use Rattle.acl_rights.specs.Groups.{mentions_group, PathSet, set_of, mentioning}
+use Rattle.acl_rights.specs.Groups.{mentions_group, PathSet, set_of}
 use Rattle.acl_rights.specs.Inner.{mentioned_group, same_ids, same_mentions, is_regrouped, regrouped, ByGroups, noted_at, list_with, AreNone}
 use Rattle.acl_rights.specs.declared.noted.Noted.{Noted}
 use Rattle.acl_rights.proofs.Maps.{map_filter, find-filter, if_passes, same_found}

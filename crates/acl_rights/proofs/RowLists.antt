@@ -1,16 +1,20 @@
 -- Rows, one after another.
-use Rattle.std.proofs.Common.{◌≡◌, ℕ, zero, suc, ◌+◌, ◌*◌, ◌<◌, ◌≤◌, ◌++◌, Bool, true, false, cond, List, [], ◌∷◌, length, map, take, drop, set, get_or, Option, Some, None, Ordering, Less, Equal, Greater, inl, inr, append_assoc, append-nil, drop-cons, replicate, refl, sym, ap, subst, ◌∙◌, arith}
-use Rattle.std.specs.Prelude.{◌⊎◌, slice_get, count_by, option_map}
+use Rattle.std.proofs.Common.{◌≡◌, ℕ, zero, suc, ◌+◌, ◌*◌, ◌<◌, ◌≤◌, ◌++◌, Bool, true, false, cond, List, [], ◌∷◌, length, map, take, drop, set, get_or, Some, Ordering, Less, Equal, Greater, inl, inr, append_assoc, append-nil, drop-cons, replicate, refl, sym, ap, subst, ◌∙◌, arith}
+use Rattle.std.specs.Prelude.{◌⊎◌, ◌&&◌, nat_lt, slice_get, slice_set, count_by, option_map, if◌then◌else◌}
 use Rattle.std.specs.List.{AllByRecursion, sum_by}
+use Rattle.std.specs.Option.{option_map_or}
 use Rattle.std.specs.Ordering.{is_eq}
 use Rattle.std.specs.FinMap.{find}
 use Rattle.std.proofs.lemmas.List.{take_more}
 use Rattle.std.proofs.lemmas.List.Sums.{sum_by-cons}
 use Rattle.std.proofs.lemmas.List.Folds.{sum_by-replicate}
+use Rattle.acl_tree.specs.acl_entry.Person.{Person}
+use Rattle.acl_tree.specs.acl_entry.declared.label.Label.{Label}
 use Rattle.acl_tree.specs.acl_names.Paths.{path_cmp}
 use Rattle.acl_tree.specs.Files.{PathOf}
 use Rattle.acl_verdicts.specs.Ways.{Numbers}
-use Rattle.acl_rights.specs.Labels.{rows_by, mark_at}
+use Rattle.acl_rights.specs.Tables.{Verdict}
+use Rattle.acl_rights.specs.Labels.{rows_by, row_again, mark_at}
 use Rattle.acl_rights.proofs.Costs.{times_le}
 
 -- ---- what is left of a list
@@ -99,12 +103,6 @@ mark_kept (m ∷ marks) zero (suc n) h = h
 mark_kept (m ∷ marks) (suc k) zero h = h
 mark_kept (m ∷ marks) (suc k) (suc n) h = mark_kept marks k n h
 
-pub no_marks : (n : ℕ) → count_by (λ (m : Bool). m) (replicate n false) ≡ 0
-no_marks n = sum_by-replicate (λ (m : Bool). cond m 1 0) n false ∙ no_times n
-  where
-    no_times : (n : ℕ) → n * 0 ≡ 0
-    no_times n = grind arith
-
 -- a number that a file has is marked, or the file is still to come
 pub mark_found : (marks new : List Bool) (rest : Numbers) (q : PathOf) (k count : ℕ) → ((n : ℕ) → get_or marks n false ≡ true → get_or new n false ≡ true) → (k < count → get_or new k false ≡ true)
     → (p : PathOf) (n : ℕ) → n < count → (get_or marks n false ≡ true) ⊎ (find path_cmp p ((q, k) ∷ rest) ≡ Some n) → (get_or new n false ≡ true) ⊎ (find path_cmp p rest ≡ Some n)
@@ -187,3 +185,20 @@ ones_cost counts k n u a b is le asked =
     let s : sum_by (λ (x : ℕ). x) counts ≡ k = ap (sum_by (λ (x : ℕ). x)) is ∙ ones k in
     let t = times_le (sum_by (λ (x : ℕ). x) counts) n u (omega (arith, s, le)) in
     omega (arith, t, asked)
+
+-- a row without a mark is as it was
+pub unmarked_again : (V : Verdict) (at : ℕ) (u : Person) (ls : List Label) (marks : List Bool) (cells : List (List ℕ)) (n : ℕ) → get_or marks n false ≡ false
+    → get_or (rows_by (row_again V at u ls marks) 0 cells) n [] ≡ get_or cells n []
+unmarked_again V at u ls marks cells n unmarked = go cells 0 n none
+  where
+    none : get_or marks (0 + n) false ≡ false
+    none = let e : 0 + n ≡ n = omega arith in ap (λ k. get_or marks k false) e ∙ unmarked
+
+    go : (cs : List (List ℕ)) (first k : ℕ) → get_or marks (first + k) false ≡ false → get_or (rows_by (row_again V at u ls marks) first cs) k [] ≡ get_or cs k []
+    go [] first k h = refl
+    go (c ∷ cs) first zero h =
+        let e : first + 0 ≡ first = omega arith in
+        ap (λ b. if b && nat_lt at (length c) then option_map_or (λ l. slice_set c at (V u l)) (slice_get ls first) c else c) (ap (λ k. get_or marks k false) (sym e) ∙ h)
+    go (c ∷ cs) first (suc k) h =
+        let e : suc first + k ≡ first + suc k = omega arith in
+        go cs (suc first) k (ap (λ j. get_or marks j false) e ∙ h)

@@ -1,5 +1,5 @@
 -- Search along the path: what is granted where each recorded directory above grants execute.
-use Rattle.std.specs.Prelude.{ℕ, ◌+◌, ◌*◌, ◌||◌, not, Bool, List, map, filter, length, slice_get, Option, Some, None, option_map, option_and_then, count_by, if◌then◌else◌}
+use Rattle.std.specs.Prelude.{ℕ, ◌+◌, ◌*◌, ◌||◌, not, Bool, List, map, filter, length, slice_get, Option, option_map, option_and_then, count_by, if◌then◌else◌}
 use Rattle.std.specs.List.{list_any, list_all}
 use Rattle.std.specs.FinMap.{find}
 use Rattle.acl_tree.specs.acl_entry.Perms.{Perms}

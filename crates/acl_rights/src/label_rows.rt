@@ -32,6 +32,13 @@ pub struct ChangedRows {
     pub puts: Vec<Rc<Entry<usize>>>,
 }
 
+/// Rows of which some were asked for again, and marks at those.
+#[derive(Drop)]
+pub struct AgainRows {
+    pub rows: LabelRows,
+    pub marks: Vec<bool>,
+}
+
 /// The rows of labels, each asked for as often as its count says.
 fn judged_labels<J: Judge>(
     alloc: Global,
@@ -414,8 +421,8 @@ impl LabelRows {
         Ok(rows)
     }
 
-    /// The rows with a user's verdict asked for again where the files at some paths have their numbers. Fails only if
-    /// memory runs out.
+    /// The rows with a user's verdict asked for again where the files at some paths have their numbers, and marks at these.
+    /// Fails only if memory runs out.
     pub fn with_user_again<J: Judge>(
         &self,
         alloc: Global,
@@ -423,15 +430,15 @@ impl LabelRows {
         paths: &[Rc<Path>],
         at: usize,
         user: &Subject,
-    ) -> Result<LabelRows, AllocError>
+    ) -> Result<AgainRows, AllocError>
         requires { J.asked_of judge.old + length paths.now < 2 ^ 64 }
-        ensures rows { IfOk result (λ new. AreAgain J.verdict_of at user.now (map (λ p. p.value) paths.now) self.now new) }
+        ensures rows { IfOk result (λ new. AreAgain J.verdict_of at user.now (map (λ p. p.value) paths.now) self.now new.rows) }
+        ensures same { IfOk result (λ new. (n : ℕ) → get_or new.marks.items n false ≡ false → get_or self.now.cells n [] ≡ get_or new.rows.cells n []) }
         ensures at_most { J.asked_of judge.new ≤ J.asked_of judge.old + length paths.now }
     {
         let marks = in_use_at(alloc, &self.numbers, paths, self.cells.len())?;
-        let marks: &[bool] = &marks;
-        let rows = self.rows_again(alloc, judge, marks, at, user)?;
-        let new = self.with_cells(alloc, rows)?;
-        Ok(new)
+        let rows = self.rows_again(alloc, judge, &marks, at, user)?;
+        let rows = self.with_cells(alloc, rows)?;
+        Ok(AgainRows { rows, marks })
     }
 }

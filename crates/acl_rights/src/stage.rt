@@ -13,11 +13,11 @@ ghost use Rattle.acl_rights.specs.Reach.{most_refreshed};
 ghost use Rattle.acl_rights.specs.Grants.{rows_at, AreGrants, GoesOn, GoesOnFrom};
 
 use crate::grants::Grants;
-use crate::label_rows::{ChangedRows, LabelRows};
+use crate::label_rows::{AgainRows, ChangedRows, LabelRows};
 use crate::lists::{GroupLists, records};
 use crate::touched::touched_paths;
 use acl_tree::{GroupIds, Path, Staged, Subject, Tree, UserChange};
-use acl_verdicts::{Again, Judge, Numbered, reaches_after};
+use acl_verdicts::{Again, Judge, Numbered, reaches_after, reaches_again};
 use path_map::{PathMap, is_within};
 use std::alloc::{AllocError, Global};
 use std::rc::Rc;
@@ -205,11 +205,18 @@ fn after_move<J: Judge>(
     let paths = touched_paths(alloc, lists, groups.as_slice())?;
     let paths: &[Rc<Path>] = &paths;
     let user = moved_user::<J>(grants, staged, at, groups);
-    let rows = grants.rows.with_user_again(alloc, judge, paths, at, user)?;
+    let again = grants.rows.with_user_again(alloc, judge, paths, at, user)?;
+    let AgainRows { rows, marks } = again;
     let ways = grants.ways.share()?;
+    let reaches = reaches_again(alloc, &rows.cells, ways.steps(), &grants.reaches, &marks)?;
     Ok(After {
         refreshed: count_within(&rows.numbers, paths),
-        grants: Grants::reached(alloc, rows, ways, &grants.reaches, grants.files_numbered)?,
+        grants: Grants {
+            rows,
+            ways,
+            reaches,
+            files_numbered: grants.files_numbered,
+        },
         looked: paths.len() as u64,
     })
 }

@@ -8,6 +8,15 @@ pub mod NewUsers
 pub mod AsItIs
 pub mod MasksEach
 pub mod Reported
+pub mod Refused
+pub mod RefusedPeople
+pub mod RefusedFiles
+pub mod FirstAmong
+pub mod RefusedRemovals
+pub mod RefusedOperands
+pub mod RefusedEdits
+pub mod RefusedLoads
+pub mod FirstFaults
 pub use Rattle.acl_files.proofs.of_acl_dump
 pub use Rattle.acl_files.proofs.of_acl_entry
 pub use Rattle.acl_files.proofs as of_acl_files

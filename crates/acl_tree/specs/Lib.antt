@@ -13,6 +13,7 @@ pub mod EditCommand
 pub mod Restoring
 pub mod Inner
 pub mod Laws
+pub mod Refusals
 pub use Rattle.acl_files.specs.acl_dump
 pub use Rattle.acl_files.specs.acl_edit
 pub use Rattle.acl_files.specs.acl_entry

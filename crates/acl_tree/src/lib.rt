@@ -10,6 +10,7 @@ mod find_people;
 mod gpasswd;
 mod laws;
 mod load;
+mod refusals;
 mod restore;
 mod rm;
 mod stage_people;
@@ -36,6 +37,7 @@ pub use laws::{
     each_file_is_edited, new_file_is_removed, new_user_is_removed,
     restore_of_what_is_changes_nothing, unnamed_files_stay,
 };
+pub use refusals::commands_are_refused_for_their_first_fault;
 pub use staged::Staged;
 pub use state::State;
 pub use tree::Tree;

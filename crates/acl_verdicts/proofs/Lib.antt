@@ -1,6 +1,7 @@
 pub mod Places
 pub mod Blocks
 pub mod Reaching
+pub mod Alike
 pub mod Orders
 pub mod Walks
 mod Begins

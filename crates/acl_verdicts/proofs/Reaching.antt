@@ -2,21 +2,18 @@
 use Rattle.std.proofs.Common.{◌≡◌, ℕ, zero, suc, ◌+◌, ◌≤◌, ◌++◌, append_assoc, Bool, true, false, not, ◌||◌, ◌&&◌, List, [], ◌∷◌, length, map, filter, cond, drop, get_or, Option, Some, None, refl, ap, sym, ◌∙◌, arith}
 use Rattle.std.specs.Prelude.{slice_get, unwrap_or, option_map, option_and_then, if◌then◌else◌}
 use Rattle.std.specs.List.{list_all}
-use Rattle.std.specs.FinMap.{find}
 use Rattle.std.proofs.Math.ListN.{get_or-append}
 use Rattle.std.proofs.Math.Seq.{drop-append_seam}
 use Rattle.std.proofs.lemmas.List.{map-append, length-append}
 use Rattle.std.proofs.lemmas.Option.{slice_get_within, slice_get-map, unwrap_or-slice_get}
 use Rattle.acl_files.specs.acl_entry.Check.{has}
-use Rattle.acl_files.specs.acl_names.Paths.{path_cmp}
 use Rattle.acl_files.specs.Below.{is_below}
 use Rattle.path_map.specs.Entries.{PathOf}
 use Rattle.acl_verdicts.specs.declared.steps.Step.{Step}
 use Rattle.acl_verdicts.specs.Reach.{execute, can_search, passes_in, reached_from, reached_rows}
 use Rattle.acl_verdicts.specs.Walks.{cut_from}
-use Rattle.acl_verdicts.specs.Ways.{Numbers, Way, rows_in, above_in, way_in, ways, along, way_on, ways_from, ways_of, passed_from, reached_by, reach_on, reaches_from, reaches_of, wayed, known, IsLonger, AreSteps, HaveRows, AreFirst}
+use Rattle.acl_verdicts.specs.Ways.{Numbers, Way, rows_in, above_in, way_in, along, way_on, ways_from, ways_of, passed_from, reached_by, reach_on, reaches_from, reaches_of, wayed, known, IsLonger, AreSteps, HaveRows, AreFirst}
 use Rattle.acl_verdicts.proofs.Walks.{all-append}
-use Rattle.acl_verdicts.proofs.Changes.{find-along}
 
 -- where nothing is above, all is let through
 pub cut_none : (n : ℕ) (cells : List ℕ) → cut_from None n cells ≡ cells
@@ -52,13 +49,6 @@ reaches_length cells rs (s ∷ ss) = let more = reaches_length cells (rs ++ reac
 first_length : (cells : List (List ℕ)) (ss : List Step) (first : List (List ℕ)) → (w : AreFirst cells ss first) → length first ≡ length w.known
 first_length cells ss first w = let long = reaches_length cells [] w.known in let same = ap length w.reached in omega (arith, long, same)
 
-pub first_within : (cells : List (List ℕ)) (ss : List Step) (first : List (List ℕ)) → AreFirst cells ss first → length first ≤ length ss
-first_within cells ss first w =
-    let long = first_length cells ss first w in
-    let front = length-append w.known w.longer.more in
-    let all = ap length w.longer.is in
-    omega (arith, long, front, all)
-
 pub first_all : (cells : List (List ℕ)) (ss : List Step) (first : List (List ℕ)) → AreFirst cells ss first → reaches_from cells first (drop (length first) ss) ≡ reaches_of cells ss
 first_all cells ss first w =
     (λ i. reaches_from cells first (drop (first_length cells ss first w i) (w.longer.is i)))
@@ -66,10 +56,6 @@ first_all cells ss first w =
     ∙ ap (λ rs. reaches_from cells rs w.longer.more) w.reached
     ∙ sym (reaches_two cells [] w.known w.longer.more)
     ∙ ap (reaches_of cells) (sym w.longer.is)
-
--- none is known
-pub first_none : (cells : List (List ℕ)) (ss : List Step) → AreFirst cells ss []
-first_none cells ss = record { known = []; longer = record { more = ss; is = refl }; reached = refl }
 
 -- ---- where rows are added
 
@@ -194,23 +180,3 @@ reached_places cells ss places ns w = go places ns w.are
             sym (unwrap_or-slice_get (reaches_of cells ss) e.1 [])
             ∙ ap (λ o. unwrap_or o []) (reach_at cells ss e.1 (way_in ns r).1 (ap (λ (x : PathOf × Option Way). x.1) (pair h)))
             ∙ reached_passed cells ns r.0 0 (get_or cells r.1 [])
-
--- a file's is found by the number of its step
-pub found_reached : (cells : List (List ℕ)) (ss : List Step) (places ns : Numbers) (p : PathOf) → AreSteps ss places ns → option_and_then (slice_get (reaches_of cells ss)) (find path_cmp p places) ≡ find path_cmp p (reached_rows (rows_in cells ns))
-found_reached cells ss places ns p w =
-    by (find path_cmp p places) (find path_cmp p (ways ns)) same
-    ∙ sym (find-along (λ _ k. get_or (reaches_of cells ss) k []) p places)
-    ∙ ap (find path_cmp p) (reached_places cells ss places ns w)
-  where
-    same : option_map (slice_get (ways_of ss)) (find path_cmp p places) ≡ option_map Some (find path_cmp p (ways ns))
-    same = sym (find-along (λ _. slice_get (ways_of ss)) p places) ∙ ap (find path_cmp p) w.are ∙ find-along (λ _. Some) p (ways ns)
-
-    some : (a b : Option Way) → Some a ≡ Some b → a ≡ b
-    some a b h = cc
-
-    by : (o : Option ℕ) (v : Option Way) → option_map (slice_get (ways_of ss)) o ≡ option_map Some v → option_and_then (slice_get (reaches_of cells ss)) o ≡ option_map (λ k. get_or (reaches_of cells ss) k []) o
-    by None v h = refl
-    by (Some k) None h = cc
-    by (Some k) (Some way) h =
-        let there = reach_at cells ss k way (some (slice_get (ways_of ss) k) (Some way) h) in
-        there ∙ ap Some (ap (λ o. unwrap_or o []) (sym there) ∙ unwrap_or-slice_get (reaches_of cells ss) k [])

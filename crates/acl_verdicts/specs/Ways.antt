@@ -1,5 +1,5 @@
 -- The ways to files, by the numbers of rows: search along a path asks the rows of the recorded directories above it.
-use Rattle.std.specs.Prelude.{◌≡◌, ◌<◌, ℕ, suc, true, false, List, [], ◌∷◌, ◌++◌, map, filter, slice_get, get_or, Option, Some, None, option_and_then, if◌then◌else◌}
+use Rattle.std.specs.Prelude.{◌≡◌, ◌<◌, ℕ, suc, Bool, true, false, List, [], ◌∷◌, ◌++◌, map, filter, slice_get, get_or, Option, Some, None, option_and_then, if◌then◌else◌}
 use Rattle.std.specs.List.{list_all, list_any, AllByRecursion}
 use Rattle.std.specs.Option.{option_map_or}
 use Rattle.acl_files.specs.Below.{is_below}
@@ -81,6 +81,12 @@ pub record AreFirst (cells : List (List ℕ)) (ss : List Step) (first : List (Li
   pub known : List Step
   pub longer : IsLonger known ss
   pub reached : first ≡ reaches_of cells known
+
+-- this was reached at steps by rows of which those without a mark are as they were
+pub record WereReached (cells : List (List ℕ)) (ss : List Step) (marks : List Bool) (old : List (List ℕ)) : Type 0 where
+  pub before : List (List ℕ)
+  pub reached : old ≡ reaches_of before ss
+  pub same : (n : ℕ) → get_or marks n false ≡ false → get_or before n [] ≡ get_or cells n []
 
 -- each step's row is one of so many
 abbrev pub HaveRows : ℕ → List Step → Type 0

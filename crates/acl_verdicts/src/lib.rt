@@ -22,6 +22,6 @@ pub use hints::{Hints, mixed};
 pub use judge::Judge;
 pub use numbered::Numbered;
 pub use posix::Posix;
-pub use reaches::reaches_after;
+pub use reaches::{reaches_after, reaches_again};
 pub use steps::Step;
 pub use ways::{Again, Ways};

@@ -1,9 +1,9 @@
 //! What is reached at each step.
 
-ghost use Rattle.std.specs.Prelude.{◌≡◌, ◌++◌, [], length, slice_get, unwrap_or, option_and_then, IfOk};
-ghost use Rattle.std.specs.Option.{option_copied};
+ghost use Rattle.std.specs.Prelude.{◌≡◌, ◌++◌, ◌||◌, true, false, [], length, get_or, slice_get, unwrap_or, option_and_then, IfOk, IfSome};
+ghost use Rattle.std.specs.Option.{option_copied, option_map_or};
 ghost use Rattle.acl_verdicts.specs.Walks.{cut_from};
-ghost use Rattle.acl_verdicts.specs.Ways.{reach_on, reaches_of, AreFirst};
+ghost use Rattle.acl_verdicts.specs.Ways.{reach_on, reaches_of, AreFirst, WereReached};
 
 use crate::cells::Cells;
 use crate::cut::cut_or_shared;
@@ -97,4 +97,65 @@ pub fn reaches_after(
         more.push(reach)?;
     }
     first.pushed(alloc, more)
+}
+
+/// Whether what is reached at a step may be other than before: its row is marked, or so is the step above it, of the steps
+/// looked at so far.
+fn may_differ(rows: &[bool], steps: &[bool], step: Step) -> bool
+    ensures { result ≡ (get_or rows.now step.row false || option_map_or (λ k. get_or steps.now k true) step.above false) }
+{
+    if rows.get(step.row).copied().unwrap_or(false) {
+        return true;
+    }
+    match step.above {
+        Some(number) => steps.get(number).copied().unwrap_or(true),
+        None => false,
+    }
+}
+
+/// What is reached at a step: shared with what was reached there, unless that may differ.
+fn reach_again(
+    alloc: Global,
+    cells: &Numbered<Cells>,
+    more: &[Cells],
+    step: Step,
+    old: Option<&Cells>,
+    differs: bool,
+) -> Result<Cells, AllocError>
+    requires { differs ≡ false → IfSome (option_copied old) (λ known. known ≡ reach_on cells.now more.now step) }
+    ensures { IfOk result (λ new. new ≡ reach_on cells.now more.now step) }
+{
+    if !differs {
+        if let Some(known) = old {
+            return known.share();
+        }
+    }
+    let none = Numbered::new(alloc);
+    reach_of(alloc, cells, &none, more, step, old)
+}
+
+/// What is reached at each step after the rows that are marked were replaced: where neither a step's row nor one above it is
+/// marked, what was reached there is shared. Fails only if memory runs out.
+pub fn reaches_again(
+    alloc: Global,
+    cells: &Numbered<Cells>,
+    steps: &Numbered<Step>,
+    old: &Numbered<Cells>,
+    marks: &[bool],
+) -> Result<Numbered<Cells>, AllocError>
+    requires { WereReached cells.now steps.now marks.now old.now }
+    ensures { IfOk result (λ all. all ≡ reaches_of cells.now steps.now) }
+{
+    let mut new: Vec<Cells> = Vec::with_capacity(alloc, steps.len())?;
+    let mut differing: Vec<bool> = Vec::with_capacity(alloc, steps.len())?;
+    for number in 0..steps.len() {
+        let Some(step) = steps.get(number) else {
+            unreachable!();
+        };
+        let differs = may_differ(marks, &differing, *step);
+        let reach = reach_again(alloc, cells, &new, *step, old.get(number), differs)?;
+        differing.push(differs)?;
+        new.push(reach)?;
+    }
+    Numbered::new(alloc).pushed(alloc, new)
 }

@@ -1,10 +1,9 @@
-use Rattle.std.proofs.Common.{◌≡◌, ◌<◌, ℕ, true, false, length, get_or, Some, inl, inr, sym, ap, subst, ◌∙◌, arith}
+use Rattle.std.proofs.Common.{◌≡◌, ℕ, true, false, length, get_or, Some, ap, subst, ◌∙◌, arith}
 use Rattle.std.specs.Prelude.{◌⊎◌}
 use Rattle.std.specs.FinMap.{find}
 use Rattle.acl_tree.specs.acl_names.Paths.{path_cmp}
 use Rattle.acl_tree.specs.Files.{PathOf}
 use Rattle.acl_verdicts.specs.Ways.{Numbers}
-use Rattle.acl_rights.specs.Labels.{IsUsed}
 use Rattle.acl_rights.proofs.RowLists.{mark_found, found_none}
 use Rattle.acl_rights.proofs.label_rows.in_use.Goals as goal
 

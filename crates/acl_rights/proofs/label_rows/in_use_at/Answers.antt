@@ -1,7 +1,5 @@
-use Rattle.std.proofs.Common.{◌≡◌, ◌<◌, ◌+◌, ◌∷◌, ◌++◌, [], ℕ, List, Global, true, false, length, take, get_or, Some, sym, ap, subst, ◌∙◌, arith}
-use Rattle.std.specs.List.{AllByRecursion}
+use Rattle.std.proofs.Common.{◌≡◌, ◌<◌, ℕ, true, false, take, get_or, Some, ap, ◌∙◌, arith}
 use Rattle.std.specs.FinMap.{find}
-use Rattle.std.specs.declared.rc.Rc.{Rc}
 use Rattle.acl_tree.specs.acl_names.Paths.{path_cmp}
 use Rattle.acl_tree.specs.Files.{PathOf}
 use Rattle.acl_rights.proofs.RowLists.{all_more, all_weaker}

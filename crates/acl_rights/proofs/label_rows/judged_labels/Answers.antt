@@ -1,5 +1,4 @@
-use Rattle.std.proofs.Common.{◌≡◌, ◌*◌, ◌<◌, ◌+◌, ℕ, List, length, map, get_or, ap, sym, subst, ◌∙◌, arith}
-use Rattle.acl_tree.specs.acl_entry.declared.label.Label.{Label}
+use Rattle.std.proofs.Common.{◌<◌, ℕ, List, length, ap, ◌∙◌, arith}
 use Rattle.acl_tree.specs.acl_edit.declared.node.Node.{Node}
 use Rattle.acl_tree.specs.Files.{PathOf}
 use Rattle.acl_rights.specs.Labels.{row_of}

@@ -1,10 +1,11 @@
-use Rattle.std.proofs.Common.{◌≡◌, ◌≤◌, ℕ, List, map, filter, length, sym, ap, subst, ◌∙◌, arith}
+use Rattle.std.proofs.Common.{◌≤◌, ℕ, Bool, false, List, map, filter, length, get_or, refl, sym, ap, subst, ◌∙◌, arith}
 use Rattle.path_map.specs.Entries.{IsInOrder}
 use Rattle.acl_tree.specs.acl_edit.declared.node.Node.{Node}
 use Rattle.acl_tree.specs.Files.{PathOf, Recorded, max_files}
 use Rattle.acl_tree.specs.declared.user_change.UserChange.{UserChange}
-use Rattle.acl_verdicts.specs.Ways.{rows_in}
-use Rattle.acl_rights.specs.declared.label_rows.LabelRows.{LabelRows}
+use Rattle.acl_verdicts.specs.Ways.{reaches_of}
+use Rattle.acl_verdicts.specs.declared.steps.Step.{Step}
+use Rattle.acl_verdicts.specs.declared.ways.Ways.{Ways}
 use Rattle.acl_rights.specs.Stages.{mentions_one, most_looked}
 use Rattle.acl_rights.proofs.Maps.{same_length}
 use Rattle.acl_rights.proofs.Costs.{moved_cost}
@@ -22,8 +23,8 @@ with_user_again-requires g c =
     let long = same_length (λ p. p.value) (λ (e : PathOf × Node). e.0) c.deref-paths.result.now touched paths in
     omega (arith, long, moved_cost t c.args.at c.args.groups.now c.requires.moved, c.requires.room)
 
-pub returns-in_err-rows-clause-at_most : goal.returns-in_err-rows-clause-at_most
-returns-in_err-rows-clause-at_most g c =
+pub returns-in_err-again-clause-at_most : goal.returns-in_err-again-clause-at_most
+returns-in_err-again-clause-at_most g c =
     let V = g.J.Judge.verdict_of in
     let t = c.args.staged.now in
     let order = subst (λ (r : Recorded). IsInOrder r.files) c.tree.ensures c.is_sound.ensures.order in
@@ -42,8 +43,8 @@ returns-in_err-ways-clause-at_most g c =
     let long = same_length (λ p. p.value) (λ (e : PathOf × Node). e.0) c.deref-paths.result.now touched paths in
     omega (arith, long, moved_cost t c.args.at c.args.groups.now c.requires.moved, c.with_user_again.ensures.at_most)
 
-pub returns-in_err-reached-clause-at_most : goal.returns-in_err-reached-clause-at_most
-returns-in_err-reached-clause-at_most g c =
+pub returns-in_err-reaches-clause-at_most : goal.returns-in_err-reaches-clause-at_most
+returns-in_err-reaches-clause-at_most g c =
     let V = g.J.Judge.verdict_of in
     let t = c.args.staged.now in
     let order = subst (λ (r : Recorded). IsInOrder r.files) c.tree.ensures c.is_sound.ensures.order in
@@ -69,7 +70,7 @@ count_within-requires-clause-few g c =
     let order = subst (λ (r : Recorded). IsInOrder r.files) c.tree.ensures c.is_sound.ensures.order in
     let touched = filter (mentions_one c.args.groups.now) t.state.tree.files in
     let paths = ap (map (λ p. p.value)) c.deref-paths.ensures.value ∙ c.in_ok-paths.ensures t.state.tree.files order c.requires.lists ∙ ap (λ (ids : List ℕ). map (λ (e : PathOf × Node). e.0) (filter (mentions_one ids) t.state.tree.files)) c.as_slice.ensures in
-    let files = numbers_long t.state.tree.files c.in_ok-rows.rows (moved_labelled V c.args.grants.now t c.requires.goes c.is_in_order.ensures order g.met.J.Judge.local c.args.at c.args.groups.now c.requires.moved c.moved_user-user.result.now c.moved_user-user.ensures (map (λ p. p.value) c.deref-paths.result.now) paths c.in_ok-rows.rows c.in_ok-rows.ensures.rows) in
+    let files = numbers_long t.state.tree.files c.in_ok-again.again.rows (moved_labelled V c.args.grants.now t c.requires.goes c.is_in_order.ensures order g.met.J.Judge.local c.args.at c.args.groups.now c.requires.moved c.moved_user-user.result.now c.moved_user-user.ensures (map (λ p. p.value) c.deref-paths.result.now) paths c.in_ok-again.again.rows c.in_ok-again.ensures.rows) in
     let few = subst (λ (r : Recorded). length r.files ≤ max_files) c.tree.ensures c.is_sound.ensures.few in
     omega (arith, files, few)
 
@@ -80,7 +81,7 @@ count_within-requires-clause-order g c =
     let order = subst (λ (r : Recorded). IsInOrder r.files) c.tree.ensures c.is_sound.ensures.order in
     let touched = filter (mentions_one c.args.groups.now) t.state.tree.files in
     let paths = ap (map (λ p. p.value)) c.deref-paths.ensures.value ∙ c.in_ok-paths.ensures t.state.tree.files order c.requires.lists ∙ ap (λ (ids : List ℕ). map (λ (e : PathOf × Node). e.0) (filter (mentions_one ids) t.state.tree.files)) c.as_slice.ensures in
-    moved_order V c.args.grants.now t c.requires.goes c.is_in_order.ensures order g.met.J.Judge.local c.args.at c.args.groups.now c.requires.moved c.moved_user-user.result.now c.moved_user-user.ensures (map (λ p. p.value) c.deref-paths.result.now) paths c.in_ok-rows.rows c.in_ok-rows.ensures.rows (λ p. p.value) c.deref-paths.result.now paths
+    moved_order V c.args.grants.now t c.requires.goes c.is_in_order.ensures order g.met.J.Judge.local c.args.at c.args.groups.now c.requires.moved c.moved_user-user.result.now c.moved_user-user.ensures (map (λ p. p.value) c.deref-paths.result.now) paths c.in_ok-again.again.rows c.in_ok-again.ensures.rows (λ p. p.value) c.deref-paths.result.now paths
 
 pub returns-clause-grants : goal.returns-clause-grants
 returns-clause-grants g c =
@@ -89,8 +90,20 @@ returns-clause-grants g c =
     let order = subst (λ (r : Recorded). IsInOrder r.files) c.tree.ensures c.is_sound.ensures.order in
     let touched = filter (mentions_one c.args.groups.now) t.state.tree.files in
     let paths = ap (map (λ p. p.value)) c.deref-paths.ensures.value ∙ c.in_ok-paths.ensures t.state.tree.files order c.requires.lists ∙ ap (λ (ids : List ℕ). map (λ (e : PathOf × Node). e.0) (filter (mentions_one ids) t.state.tree.files)) c.as_slice.ensures in
-    grants_kept c.in_ok-rows.rows c.in_ok-ways.ways c.args.grants.now c.in_ok-reached.field-0 c.in_ok-reached.ensures.rows c.in_ok-reached.ensures.ways c.in_ok-reached.ensures.reaches c.in_ok-ways.ensures
-    c.requires.goes.goes.state.tree.files t.state.tree.files c.requires.goes.kept (moved_labelled V c.args.grants.now t c.requires.goes c.is_in_order.ensures order g.met.J.Judge.local c.args.at c.args.groups.now c.requires.moved c.moved_user-user.result.now c.moved_user-user.ensures (map (λ p. p.value) c.deref-paths.result.now) paths c.in_ok-rows.rows c.in_ok-rows.ensures.rows) c.in_ok-rows.ensures.rows.numbers c.in_ok-rows.ensures.rows.labels
+    let rows = c.in_ok-again.again.rows in
+    let ways = c.in_ok-ways.ways in
+    grants_kept rows ways c.args.grants.now (record { rows = rows; ways = ways; reaches = c.in_ok-reaches.reaches; files_numbered = c.args.grants.now.files_numbered }) refl refl
+    (c.in_ok-reaches.ensures ∙ ap (λ (ss : List Step). reaches_of rows.cells ss) c.steps.ensures) c.in_ok-ways.ensures
+    c.requires.goes.goes.state.tree.files t.state.tree.files c.requires.goes.kept (moved_labelled V c.args.grants.now t c.requires.goes c.is_in_order.ensures order g.met.J.Judge.local c.args.at c.args.groups.now c.requires.moved c.moved_user-user.result.now c.moved_user-user.ensures (map (λ p. p.value) c.deref-paths.result.now) paths rows c.in_ok-again.ensures.rows) c.in_ok-again.ensures.rows.numbers c.in_ok-again.ensures.rows.labels
+
+pub reaches_again-requires : goal.reaches_again-requires
+reaches_again-requires g c =
+    let old = c.args.grants.now in
+    record {
+      before = old.rows.cells;
+      reached = c.requires.goes.kept.reaches ∙ ap (λ (ss : List Step). reaches_of old.rows.cells ss) (sym (c.steps.ensures ∙ ap (λ (w : Ways). w.steps) c.in_ok-ways.ensures));
+      same = λ n unmarked. c.in_ok-again.ensures.same n (ap (λ (ms : List Bool). get_or ms n false) (sym c.deref.ensures.value) ∙ unmarked);
+    }
 
 pub returns-clause-rows : goal.returns-clause-rows
 returns-clause-rows g c =
@@ -99,8 +112,7 @@ returns-clause-rows g c =
     let order = subst (λ (r : Recorded). IsInOrder r.files) c.tree.ensures c.is_sound.ensures.order in
     let touched = filter (mentions_one c.args.groups.now) t.state.tree.files in
     let paths = ap (map (λ p. p.value)) c.deref-paths.ensures.value ∙ c.in_ok-paths.ensures t.state.tree.files order c.requires.lists ∙ ap (λ (ids : List ℕ). map (λ (e : PathOf × Node). e.0) (filter (mentions_one ids) t.state.tree.files)) c.as_slice.ensures in
-    ap (λ (r : LabelRows). rows_in r.cells r.numbers) c.in_ok-reached.ensures.rows
-    ∙ moved_rows V c.args.grants.now t c.requires.goes c.is_in_order.ensures order g.met.J.Judge.local c.args.at c.args.groups.now c.requires.moved c.moved_user-user.result.now c.moved_user-user.ensures (map (λ p. p.value) c.deref-paths.result.now) paths c.in_ok-rows.rows c.in_ok-rows.ensures.rows (subst IsInOrder (sym c.in_ok-rows.ensures.rows.numbers) c.is_in_order.ensures)
+    moved_rows V c.args.grants.now t c.requires.goes c.is_in_order.ensures order g.met.J.Judge.local c.args.at c.args.groups.now c.requires.moved c.moved_user-user.result.now c.moved_user-user.ensures (map (λ p. p.value) c.deref-paths.result.now) paths c.in_ok-again.again.rows c.in_ok-again.ensures.rows (subst IsInOrder (sym c.in_ok-again.ensures.rows.numbers) c.is_in_order.ensures)
 
 pub returns-clause-looked_most : goal.returns-clause-looked_most
 returns-clause-looked_most g c =
@@ -121,4 +133,4 @@ returns-clause-refreshed g c =
     let order = subst (λ (r : Recorded). IsInOrder r.files) c.tree.ensures c.is_sound.ensures.order in
     let touched = filter (mentions_one c.args.groups.now) t.state.tree.files in
     let paths = ap (map (λ p. p.value)) c.deref-paths.ensures.value ∙ c.in_ok-paths.ensures t.state.tree.files order c.requires.lists ∙ ap (λ (ids : List ℕ). map (λ (e : PathOf × Node). e.0) (filter (mentions_one ids) t.state.tree.files)) c.as_slice.ensures in
-    moved_refreshed V c.args.grants.now t c.requires.goes c.is_in_order.ensures order g.met.J.Judge.local c.args.at c.args.groups.now c.requires.moved c.moved_user-user.result.now c.moved_user-user.ensures (map (λ p. p.value) c.deref-paths.result.now) paths c.in_ok-rows.rows c.in_ok-rows.ensures.rows (λ p. p.value) c.deref-paths.result.now paths c.count_within.result c.count_within.ensures
+    moved_refreshed V c.args.grants.now t c.requires.goes c.is_in_order.ensures order g.met.J.Judge.local c.args.at c.args.groups.now c.requires.moved c.moved_user-user.result.now c.moved_user-user.ensures (map (λ p. p.value) c.deref-paths.result.now) paths c.in_ok-again.again.rows c.in_ok-again.ensures.rows (λ p. p.value) c.deref-paths.result.now paths c.count_within.result c.count_within.ensures

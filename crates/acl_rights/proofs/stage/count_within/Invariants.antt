@@ -1,4 +1,4 @@
-use Rattle.std.proofs.Common.{◌≡◌, ℕ, List, length, map}
+use Rattle.std.proofs.Common.{◌≡◌, length, map}
 use Rattle.std.specs.Prelude.{option_map}
 use Rattle.acl_verdicts.specs.Subtrees.{AreWalked}
 use Rattle.acl_verdicts.specs.Ways.{Numbers}

@@ -1,11 +1,12 @@
-use Rattle.std.proofs.Common.{◌≡◌, length, Result, Ok, Err}
+use Rattle.std.proofs.Common.{◌≡◌, length, Ok, Err}
 use Rattle.std.specs.Prelude.{IfOk}
 use Rattle.acl_tree.specs.Files.{Files}
 use Rattle.acl_verdicts.specs.Ways.{reaches_of}
 use Rattle.acl_rights.specs.declared.grants.Grants.{Grants}
 use Rattle.acl_rights.specs.Labels.{AreLabelled}
 use Rattle.acl_rights.specs.Grants.{AreGrants}
-use Rattle.acl_rights.proofs.After.{numbers_in, grants_made}
+use Rattle.acl_rights.proofs.After.{grants_made}
+use Rattle.acl_rights.proofs.Judged.{numbers_in}
 use Rattle.acl_rights.proofs.grants.Grants.of.Goals as goal
 
 pub returns-clause-kept : goal.returns-clause-kept

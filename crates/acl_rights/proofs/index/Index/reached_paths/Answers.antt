@@ -1,12 +1,8 @@
-use Rattle.std.proofs.Common.{◌≡◌, ℕ, List, Option, Some, None, true, false, map, sym, ap, subst, ◌∙◌, arith}
-use Rattle.std.specs.Prelude.{slice_get, option_map, option_and_then, nat_lt, if◌then◌else◌}
-use Rattle.std.specs.Option.{option_copied}
-use Rattle.std.specs.FinMap.{find}
-use Rattle.acl_tree.specs.acl_names.Paths.{path_cmp}
-use Rattle.acl_rights.specs.Tables.{Table, Rows, who_in, may_in}
+use Rattle.std.proofs.Common.{◌≡◌, Some, None, true, sym, ap, ◌∙◌, arith}
+use Rattle.std.specs.Prelude.{nat_lt, if◌then◌else◌}
+use Rattle.acl_rights.specs.Tables.{Table, may_in}
 use Rattle.acl_rights.specs.Reach.{reached_rows}
-use Rattle.acl_rights.specs.Grants.{rows_at}
-use Rattle.acl_rights.proofs.Granted.{row_there, reach_there, reaches_are}
+use Rattle.acl_rights.proofs.Granted.{reaches_are}
 use Rattle.acl_verdicts.specs.Ways.{Numbers, rows_in}
 use Rattle.std.proofs.lemmas.Bool.{lt-ltb}
 use Rattle.acl_rights.proofs.index.Index.reached_paths.Goals as goal

@@ -1,9 +1,9 @@
-use Rattle.std.proofs.Common.{◌≡◌, ◌≤◌, ℕ, List, [], get_or, ap, sym, subst, ◌∙◌, arith}
+use Rattle.std.proofs.Common.{◌≤◌, ℕ, [], get_or, ap, sym, subst, ◌∙◌, arith}
 use Rattle.path_map.specs.Entries.{IsInOrder}
 use Rattle.acl_tree.specs.acl_people.Registers.{persons}
 use Rattle.acl_tree.specs.Files.{PathOf, Files, Recorded}
 use Rattle.acl_rights.specs.Tables.{Table, Rows, rows_of}
-use Rattle.acl_rights.specs.Reach.{unlike, most_refreshed}
+use Rattle.acl_rights.specs.Reach.{unlike}
 use Rattle.acl_rights.specs.Kept.{GoesFrom}
 use Rattle.acl_rights.specs.Grants.{AreGrants}
 use Rattle.acl_rights.proofs.Maps.{map_values}

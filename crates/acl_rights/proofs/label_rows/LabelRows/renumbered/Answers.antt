@@ -1,4 +1,4 @@
-use Rattle.std.proofs.Common.{◌≡◌, ◌++◌, [], ℕ, List, Global, map, ap, sym, subst, ◌∙◌}
+use Rattle.std.proofs.Common.{◌≡◌, ◌++◌, ℕ, List, Global, map, ap, sym, subst, ◌∙◌}
 use Rattle.std.specs.declared.rc.Rc.{Rc}
 use Rattle.acl_tree.specs.acl_edit.declared.node.Node.{Node}
 use Rattle.acl_tree.specs.Files.{PathOf}

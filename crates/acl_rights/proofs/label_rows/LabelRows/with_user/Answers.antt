@@ -1,4 +1,4 @@
-use Rattle.std.proofs.Common.{◌≡◌, ◌<◌, ◌+◌, ◌≤◌, Bool, List, ap, sym, subst, ◌∙◌, arith}
+use Rattle.std.proofs.Common.{Bool, List, ap, ◌∙◌, arith}
 use Rattle.acl_rights.specs.Labels.{rows_by, longer_row}
 use Rattle.acl_rights.proofs.label_rows.LabelRows.with_user.Goals as goal
 

@@ -1,4 +1,4 @@
-use Rattle.std.proofs.Common.{◌≡◌, ℕ, filter, ap, sym, subst, ◌∙◌}
+use Rattle.std.proofs.Common.{filter, ap, sym, subst, ◌∙◌}
 use Rattle.path_map.specs.Entries.{IsInOrder}
 use Rattle.path_map.specs.Merged.{merged, without_all}
 use Rattle.acl_tree.specs.Files.{Files}

@@ -1,4 +1,4 @@
-use Rattle.std.proofs.Common.{◌≡◌, [], ◌++◌, List, ℕ, ap, sym, ◌∙◌}
+use Rattle.std.proofs.Common.{◌++◌, List, ℕ, ap, sym, ◌∙◌}
 use Rattle.std.specs.BTreeMap.{keys}
 use Rattle.acl_tree.specs.acl_entry.Mentions.{is_one_of}
 use Rattle.acl_rights.proofs.Replaced.{none_noted, none_of}
