@@ -29,6 +29,6 @@ lint() {
 
 export MYPYPATH=commands:commands/tests
 lint shellcheck commands/facl-snapshot tools/check_commands.sh tools/install.sh tools/package.sh tools/check/live.sh
-lint mypy --strict --cache-dir=/dev/null --scripts-are-modules commands/facl_commands commands/facl-plan \
-    commands/facl-apply commands/tests/*.py tools/check/live.py
+lint mypy --strict --cache-dir=/dev/null --scripts-are-modules commands/facl_commands commands/facl-ask \
+    commands/facl-plan commands/facl-apply commands/tests/*.py tools/check/live.py
 exec python3 commands/tests/run.py "$lint_faults"

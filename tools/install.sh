@@ -1,5 +1,5 @@
 #!/bin/sh
-# Installs the program as `facl`, the commands facl-snapshot, facl-plan and facl-apply, and their manual pages.
+# Installs the program as `facl`, the commands facl-snapshot, facl-ask, facl-plan and facl-apply, and their manual pages.
 #
 # usage: tools/install.sh [--program FILE] [PREFIX]      into PREFIX/bin, PREFIX/lib/facl and PREFIX/share/man
 #        tools/install.sh --uninstall [PREFIX]           removes what it installs
@@ -46,10 +46,11 @@ done
 prefix=${1:-/usr/local}
 case $prefix in /*) ;; *) fail "$prefix: PREFIX has to begin with a slash" ;; esac
 to=${DESTDIR:-}${prefix%/}
-pages='facl facl-commands facl-snapshot facl-plan facl-apply'
+python_commands='facl-ask facl-plan facl-apply'
+pages="facl facl-commands facl-snapshot $python_commands"
 
 uninstall() {
-    for name in facl facl-snapshot facl-plan facl-apply; do rm -f -- "$to/bin/$name"; done
+    for name in facl facl-snapshot $python_commands; do rm -f -- "$to/bin/$name"; done
     for page in $pages; do rm -f -- "$to/share/man/man1/$page.1"; done
     rm -rf -- "$to/lib/facl"
 }
@@ -69,12 +70,12 @@ install_files() {
     rm -rf -- "$to/lib/facl"
     install -d -m 755 -- "$to/lib/facl" "$to/lib/facl/facl_commands"
     install -m 644 -- "$top"/commands/facl_commands/*.py "$to/lib/facl/facl_commands"
-    for name in facl-plan facl-apply; do
+    for name in $python_commands; do
         install -m 755 -- "$top/commands/$name" "$to/lib/facl"
         ln -sf -- "../lib/facl/$name" "$to/bin/$name"
     done
     for page in facl facl-commands; do install -m 644 -- "$top/docs/$page.1" "$to/share/man/man1"; done
-    for name in facl-snapshot facl-plan facl-apply; do
+    for name in facl-snapshot $python_commands; do
         echo ".so man1/facl-commands.1" >"$to/share/man/man1/$name.1"
         chmod 644 "$to/share/man/man1/$name.1"
     done
@@ -86,7 +87,9 @@ say_what_is_missing() {
         command -v "${needed% *}" >/dev/null || warn "${needed% *} is missing (package ${needed#* }), which the commands call"
     done
     ! command -v python3 >/dev/null || python3 -c 'import sys; sys.exit(sys.version_info < (3, 7))' ||
-        warn "python3 is older than 3.7, which facl-plan and facl-apply need"
+        warn "python3 is older than 3.7, which the commands need"
+    ! command -v python3 >/dev/null || python3 -c 'import prompt_toolkit' 2>/dev/null ||
+        warn "without the package python3-prompt-toolkit the prompt of facl-ask completes no words"
     case :$PATH: in *:"$prefix/bin":*) ;; *) warn "$prefix/bin is not on the path" ;; esac
 }
 
@@ -97,5 +100,5 @@ else
     check_parts
     install_files
     [ -n "${DESTDIR:-}" ] || say_what_is_missing
-    echo "tools/install.sh: facl, facl-snapshot, facl-plan and facl-apply are in $prefix/bin; man facl"
+    echo "tools/install.sh: facl, facl-snapshot, facl-ask, facl-plan and facl-apply are in $prefix/bin; man facl"
 fi

@@ -73,12 +73,14 @@ Architecture: $architecture
 Maintainer: facl
 Installed-Size: $size
 Depends: libc6, libc-bin, acl, findutils, coreutils, python3 (>= 3.7)
+Recommends: python3-prompt-toolkit
 Section: admin
 Priority: optional
 Description: plans changes of access control lists
  facl runs getfacl, setfacl, chacl and chmod over a recorded tree of files, and
  answers who may do what with which file. facl-snapshot records a live system,
- facl-plan prints what edits would change, facl-apply takes them there and back.
+ facl-ask asks of it at a prompt, facl-plan prints what edits would change, and
+ facl-apply takes them there and back.
  .
 $(printf '%s\n' "$origin" | fold -s -w 76 | sed 's/^/ /')
 END

@@ -1,17 +1,32 @@
 """What the tests have in common: a snapshot of their own, and runs of the commands over it."""
 from __future__ import annotations
 
+import fcntl
 import os
 import shutil
 import signal
 import subprocess
 import sys
 import tempfile
+import termios
 import unittest
 from typing import Dict, List, NamedTuple, Optional
 
 HERE = os.path.dirname(os.path.realpath(__file__))
 COMMANDS = os.path.dirname(HERE)
+
+
+def restore_signals() -> None:
+    """In a child: signals end it, also where the tests run in the background, with SIGINT ignored."""
+    for number in (signal.SIGHUP, signal.SIGINT, signal.SIGTERM):
+        signal.signal(number, signal.SIG_DFL)
+
+
+def take_terminal() -> None:
+    """In a child whose standard input is a terminal: makes that the one whose keys send it signals."""
+    restore_signals()
+    os.setsid()
+    fcntl.ioctl(0, termios.TIOCSCTTY, 0)
 
 
 class Done(NamedTuple):

@@ -9,7 +9,7 @@ import time
 import unittest
 from typing import List
 
-from common import COMMANDS, Case
+from common import COMMANDS, Case, restore_signals
 
 WRITTEN = b"before.plan: is written; next: facl-apply before.plan\n"
 ONE_FILE = b"1 file changes owner, group, flags or lists"
@@ -342,7 +342,8 @@ class Interruptions(Case):
         self.write("slow", b"#!/bin/sh\n: >at_work\nexec sleep 100\n")
         os.chmod(self.path("slow"), 0o755)
         for number, status in ((signal.SIGINT, 130), (signal.SIGTERM, 143), (signal.SIGHUP, 129)):
-            with self.start("facl-plan", "--program", "./slow", "before", "edits") as run:
+            words = [os.path.join(COMMANDS, "facl-plan"), "--program", "./slow", "before", "edits"]
+            with subprocess.Popen(words, cwd=self.folder, stdout=subprocess.PIPE, stderr=subprocess.PIPE, preexec_fn=restore_signals) as run:
                 while not os.path.exists(self.path("before/at_work")):
                     time.sleep(0.01)
                 run.send_signal(number)

@@ -1,0 +1,136 @@
+"""facl-ask: the program over a snapshot, with scripts by name, or with a prompt at a terminal."""
+from __future__ import annotations
+
+import argparse
+import contextlib
+import os
+import signal
+import sys
+from typing import List, NoReturn
+
+from . import manual, overview, terminal
+from .completion import Completer
+from .desk import WORDS_OF_PROMPT, Desk, refuse_early_end
+from .messages import Command, Failure, reason
+from .program import Session, find_program
+from .scripts import Unit, read_script
+
+ANSWERED, REFUSED = 0, 1
+HELP = """\
+Asks the program facl over a snapshot.
+
+With SCRIPTs it answers their lines; the SCRIPT - is standard input. Without one, at a terminal, it is a prompt: `help`
+lists the tools, tab completes words, each answer comes below its line, and where a line is refused for its words, the
+synopsis and the likely cause. Else it answers standard input.
+
+Where it has one SCRIPT, or standard input that is no terminal, it is the program itself: it prints the same, and ends
+with the same status. With several SCRIPTs a message names the SCRIPT, and its line there.
+"""
+STATUS = """\
+The exit status is that of facl: 0 where every line was accepted, 1 where some line was refused, 2 where it ended early,
+or where the words, the snapshot or a script cannot be used. A prompt ends with 0.
+"""
+
+
+def parse(words: List[str]) -> argparse.Namespace:
+    parser = argparse.ArgumentParser(
+        prog="facl-ask", description=HELP, epilog=STATUS, formatter_class=argparse.RawDescriptionHelpFormatter, allow_abbrev=False,
+    )
+    parser.add_argument("--program", metavar="FILE", help="the program facl; without it $FACL, or facl on the path")
+    parser.add_argument("snapshot", metavar="SNAPSHOT")
+    parser.add_argument("scripts", metavar="SCRIPT", nargs="*")
+    return parser.parse_args(words)
+
+
+def program_words(program: str, folder: bytes) -> List[bytes]:
+    """The program's command line; it takes no words that are not UTF-8, so a folder of such a name is gone to."""
+    try:
+        folder.decode("utf-8")
+    except UnicodeDecodeError:
+        os.chdir(folder)
+        folder = b""
+    words = [os.fsencode(program)]
+    for name in (b"passwd", b"group", b"dump"):
+        words += [b"--" + name, os.path.join(folder, name)]
+    return words
+
+
+def become_program(program: str, folder: bytes, script: str) -> NoReturn:
+    """Goes on as the program, with a script as its standard input."""
+    if script != "-":
+        try:
+            descriptor = os.open(script, os.O_RDONLY)
+            os.read(descriptor, 0)  # A folder cannot be read.
+        except OSError as error:
+            raise Failure(os.fsencode(script) + b": " + reason(error)) from error
+        os.dup2(descriptor, 0)
+    words = program_words(program, folder)
+    signal.signal(signal.SIGPIPE, signal.SIG_DFL)  # Which Python ignores, and the program need not.
+    try:
+        os.execv(program, words)
+    except OSError as error:
+        raise Failure(os.fsencode(program) + b": " + reason(error)) from error
+
+
+def read_units(names: List[str]) -> List[Unit]:
+    """The lines of all scripts."""
+    units: List[Unit] = []
+    for name in names:
+        try:
+            with open(0 if name == "-" else name, "rb", closefd=name != "-") as file:
+                units += read_script(b"standard input" if name == "-" else os.fsencode(name), file.read())
+        except OSError as error:
+            raise Failure(os.fsencode(name) + b": " + reason(error)) from error
+    return units
+
+
+def answer_scripts(command: Command, program: str, folder: bytes, names: List[str]) -> int:
+    """Answers several scripts one after another; a message names the script."""
+    status = ANSWERED
+    with Session(program, folder) as session:
+        for unit in read_units(names):
+            messages = [b"facl: text without end"]
+            if unit.is_ended:
+                answer = session.ask(b"".join(line + b"\n" for line in unit.lines))
+                messages = answer.messages
+                for piece in answer.output.pieces():
+                    command.write(piece)
+            command.out.flush()
+            for message in messages:
+                command.messages.write(unit.place() + b": " + message + b"\n")
+                status = status if b": warning: " in message else REFUSED
+            command.messages.flush()
+    return status
+
+
+def prompt(command: Command, program: str, folder: bytes) -> int:
+    """Answers a person's lines."""
+    texts = overview.read_texts(folder)
+    completer = Completer(manual.find_page(), texts.passwd, texts.group, lambda: texts.dump, WORDS_OF_PROMPT)
+
+    def out(text: bytes) -> None:
+        command.write(text)
+        command.out.flush()
+
+    desk = Desk(lambda: Session(program, folder), completer.page, completer, out)
+    with contextlib.closing(desk):
+        refuse_early_end(desk.session)
+        out(overview.summary(texts) + b"; `help` lists the tools, control-D ends\n")
+        for warning in overview.warnings(texts):
+            command.say(warning)
+        if terminal.find_toolkit() is None:
+            command.say(b"without python3-prompt-toolkit, which is not installed: no completion")
+        desk.run(terminal.reader(completer))
+    return ANSWERED
+
+
+def body(command: Command, words: List[str]) -> int:
+    given = parse(words)
+    folder = os.fsencode(given.snapshot)
+    overview.check_texts(folder)
+    program = find_program(given.program)
+    if len(given.scripts) > 1:
+        return answer_scripts(command, program, folder, given.scripts)
+    if not given.scripts and sys.stdin.isatty() and sys.stdout.isatty():
+        return prompt(command, program, folder)
+    become_program(program, folder, given.scripts[0] if given.scripts else "-")

@@ -1,0 +1,190 @@
+"""The prompt of facl-ask, apart from how a line is read: what is done with the lines that a person writes."""
+from __future__ import annotations
+
+import re
+from typing import Callable, List, Optional
+
+from . import causes
+from .completion import Completer
+from .manual import Page
+from .messages import Failure
+from .names import json_text, read_path
+from .program import Answer, Region, Session
+from .scripts import LINE_LIMIT, Unit, is_empty, read_script, takes_text, words_of
+
+Read = Callable[[str], str]  # Reads a line, after a prompt; raises EOFError and KeyboardInterrupt.
+HELP_WORDS, END_WORDS = (b"help", b"?"), (b"quit", b"exit")
+WORDS_OF_PROMPT = ["help", "quit"]
+EMPTY_ANSWERS = {b"who": b"(nobody)\n", b"may": b"(nothing)\n", b"index": b"(nothing)\n", b"getfacl": b"(nothing)\n"}
+QUESTIONS = (*EMPTY_ANSWERS, b"can", b"attr")
+CONTROLS = {code: "\\%03o" % code for code in [*range(32), 127] if chr(code) not in "\t\n"}
+CONTROLS.update({code: "".join("\\%03o" % byte for byte in chr(code).encode()) for code in range(128, 160)})
+KEYS = """\
+A line is a tool and its words: `help TOOL` has its options, and `help TOPIC` another section of the manual page.
+Tab completes a word. Control-C ends a line, a text or an answer; control-D or `quit` ends the prompt.
+"""
+
+
+def shown(text: bytes) -> bytes:
+    """What is printed at a terminal: bytes that are no UTF-8, and characters that could control the terminal, are escapes."""
+    return json_text(text).translate(CONTROLS).encode()
+
+
+class Desk:
+    """A session with a person."""
+
+    def __init__(self, start: Callable[[], Session], page: Optional[Page], completer: Completer, out: Callable[[bytes], None]) -> None:
+        self.start = start
+        self.session = start()
+        self.page = page
+        self.completer = completer
+        self.out = out
+        self.number = 0  # Of the person's last line.
+        self.accepted: List[bytes] = []  # Lines that changed something, with their texts.
+        self.waiting: List[str] = []  # Lines that were pasted at once.
+
+    def run(self, read: Read) -> None:
+        """Answers lines until there are no more."""
+        try:
+            while True:
+                try:
+                    line = self.next_line(read, "%d> " % (self.number + 1))
+                except KeyboardInterrupt:
+                    self.out(b"(a line is given up; control-D ends the prompt)\n")
+                    continue
+                if not self.answer_line(line, read):
+                    return
+        except EOFError:
+            self.out(b"\n")
+
+    def close(self) -> None:
+        """Ends the program."""
+        self.session.__exit__(None, None, None)
+
+    def next_line(self, read: Read, prompt: str) -> bytes:
+        if not self.waiting:
+            self.waiting = read(prompt).split("\n")
+        self.number += 1
+        return self.waiting.pop(0).encode("utf-8", "surrogateescape")
+
+    def answer_line(self, line: bytes, read: Read) -> bool:
+        """Whether the session goes on."""
+        words = (words_of(line) if len(line) <= LINE_LIMIT else None) or []
+        if words[:1] and words[0] in END_WORDS and len(words) == 1:
+            return False
+        if words[:1] and words[0] in HELP_WORDS:
+            self.help(words[1:])
+            return True
+        number, lines = self.number, [line]
+        if not is_empty(line) and takes_text(words):
+            try:
+                lines += self.text(read)
+            except KeyboardInterrupt:
+                self.out(b"(the text is given up, and line %d with it)\n" % number)
+                return True
+        for unit in read_script(b"", b"".join(it + b"\n" for it in lines)):
+            self.answer(unit._replace(number=number))
+        return True
+
+    def text(self, read: Read) -> List[bytes]:
+        """The lines of a text, with its end."""
+        lines: List[bytes] = []
+        while not lines or lines[-1] != b".":
+            lines.append(self.next_line(read, "%d| " % (self.number + 1)))
+        return lines
+
+    def answer(self, unit: Unit) -> None:
+        """Answers a line with its text."""
+        lines = b"".join(line + b"\n" for line in unit.lines)
+        try:
+            answer = self.session.ask(lines)
+        except KeyboardInterrupt:
+            self.start_again(b"line %d: given up, and changed nothing\n" % unit.number)
+            return
+        try:
+            self.show(unit, answer)
+        except KeyboardInterrupt:
+            self.out(b"\n(the rest is not shown)\n")
+        if not is_refused(answer) and not unit.is_of(*QUESTIONS):
+            self.accepted.append(lines)
+            self.follow(unit)
+
+    def start_again(self, message: bytes) -> None:
+        """Ends the program, which is at a long answer, and brings another one to where it was."""
+        self.close()
+        self.session = self.start()
+        for lines in self.accepted:
+            self.session.ask(lines)
+        self.out(message)
+
+    def show(self, unit: Unit, answer: Answer) -> None:
+        """An answer below its line."""
+        self.show_region(answer.output)
+        if answer.output.start == answer.output.end and not is_refused(answer) and unit.words:
+            self.out(EMPTY_ANSWERS.get(unit.words[0], b""))
+        for message in answer.messages:
+            self.out(b"line %d: %s\n" % (unit.number, shown(message)))
+            for line in self.advice(unit, message):
+                self.out(b"    " + line.encode() + b"\n")
+
+    def show_region(self, region: Region) -> None:
+        for line in region.lines():
+            self.out(shown(line) + b"\n")
+
+    def advice(self, unit: Unit, message: bytes) -> List[str]:
+        """The synopses of the tool where its words are wrong, and what was probably meant."""
+        found: List[str] = []
+        tool = unit.words[0].decode("utf-8", "replace") if unit.words else ""
+        if message.endswith(b": usage") and self.page and tool in self.page.tools:
+            found += self.page.tools[tool].synopses
+        text = causes.advice(unit.lines[0], message)
+        if text is not None:
+            found.append(text)
+        if message == b"facl: unknown tool" and text is None:
+            found.append("The tools are listed by `help`.")
+        return found + self.elsewhere(message)
+
+    def elsewhere(self, message: bytes) -> List[str]:
+        """Recorded files whose paths end in one that is not there."""
+        match = re.match(rb"[a-z]+: (.*): no such file\Z", message, re.DOTALL)
+        path = read_path(match[1]) if match else b""
+        return ["There is " + json_text(found) for found in self.completer.ending(path)] if path else []
+
+    def follow(self, unit: Unit) -> None:
+        """Keeps the paths that are completed up to date."""
+        if self.completer.known is None or not unit.is_of(b"creat", b"rm"):
+            return
+        for word in unit.words[1:]:
+            if not word.startswith(b"-"):
+                change = self.completer.known.add if unit.is_of(b"creat") else self.completer.known.remove
+                change(read_path(word))
+
+    def help(self, words: List[bytes]) -> None:
+        topic = b" ".join(words).decode("utf-8", "replace")
+        if self.page is None:
+            text = "The manual page is not beside this command: man facl\n"
+        elif not topic:
+            text = overview_of(self.page)
+        elif topic in self.page.tools:
+            text = self.page.tools[topic].text
+        else:
+            text = self.page.sections.get(topic.lower(), "There is no tool and no section of this name: `help` lists them.\n")
+        self.out(text.encode())
+
+
+def is_refused(answer: Answer) -> bool:
+    return any(b": warning: " not in message for message in answer.messages)
+
+
+def overview_of(page: Page) -> str:
+    """What `help` prints."""
+    synopses = [synopsis for tool in page.tools.values() for synopsis in tool.synopses]
+    topics = [name for name in page.sections if name not in ("name", "synopsis", "see also", "options")]
+    return KEYS + "\nTools:\n" + "".join("    " + it + "\n" for it in synopses) + "\nTopics: " + ", ".join(topics) + "\n"
+
+
+def refuse_early_end(session: Session) -> None:
+    """Fails where the program does not load the snapshot."""
+    answer = session.ask(b"")
+    if answer.messages:
+        raise Failure(answer.messages[0])

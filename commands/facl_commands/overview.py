@@ -1,0 +1,99 @@
+"""What is in a snapshot: the numbers of its rows and files, and what makes answers differ from what a reader expects.
+
+The warnings are those of facl-snapshot, as far as the files of the snapshot show them.
+"""
+from __future__ import annotations
+
+import os
+import re
+from typing import Iterator, List, NamedTuple, Set
+
+from .messages import Failure, counted
+from .names import read_path
+from .people import rows_of
+from .records import EMPTY_MASK, OTHERS_WITH_SOMETHING
+from .snapshot import read_file, read_links
+
+FILE_NAME = re.compile(rb"^# file: (.*)$", re.MULTILINE)
+GROUP_IDS = re.compile(rb"^(?:# group: |(?:default:)?group:)([0-9]+)(?:$|:)", re.MULTILINE)
+USER_IDS = re.compile(rb"^(?:# owner: |(?:default:)?user:)([0-9]+)(?:$|:)", re.MULTILINE)
+
+
+class Texts(NamedTuple):
+    """The texts that the program loads, and the names that are one file."""
+
+    folder: bytes
+    passwd: bytes
+    group: bytes
+    dump: bytes
+    links: bytes
+
+
+def check_texts(folder: bytes) -> None:
+    """Fails where the program would not find its texts."""
+    if not os.path.isdir(folder):
+        raise Failure(folder + b": no such folder: make a snapshot by facl-snapshot")
+    for name in (b"passwd", b"group", b"dump"):
+        if not os.path.exists(os.path.join(folder, name)):
+            raise Failure(folder + b": is no snapshot: " + name + b" is not in it")
+
+
+def read_texts(folder: bytes) -> Texts:
+    passwd, group, dump = (read_file(os.path.join(folder, name)) for name in (b"passwd", b"group", b"dump"))
+    links = os.path.join(folder, b"links")
+    return Texts(folder, passwd, group, dump, read_file(links) if os.path.exists(links) else b"")
+
+
+def summary(texts: Texts) -> bytes:
+    users, groups = (len(rows_of(text)) for text in (texts.passwd, texts.group))
+    files = sum(1 for _ in FILE_NAME.finditer(texts.dump))
+    return b"%s: %s, %s, %s" % (texts.folder, counted(users, "user"), counted(groups, "group"), counted(files, "file"))
+
+
+def open_empty_masks(dump: bytes) -> Iterator[bytes]:
+    """The files that have an empty mask, and something for others."""
+    for mask in EMPTY_MASK.finditer(dump):
+        start = dump.rfind(b"# file: ", 0, mask.start())
+        end = dump.find(b"\n\n", mask.end())
+        if OTHERS_WITH_SOMETHING.search(dump[start : end + 1]):
+            yield dump[start + len(b"# file: ") : dump.index(b"\n", start)]
+
+
+def ids_without_row(texts: Texts) -> List[bytes]:
+    found: List[bytes] = []
+    for kind, pattern, rows in ((b"user", USER_IDS, texts.passwd), (b"group", GROUP_IDS, texts.group)):
+        known = {row[2] for row in rows_of(rows) if len(row) > 2}
+        ids: Set[bytes] = {match[1] for match in pattern.finditer(texts.dump)}
+        found += [kind + b" " + it for it in sorted(ids - known, key=int)]
+    return found
+
+
+def members_without_row(texts: Texts) -> List[bytes]:
+    users = {row[0] for row in rows_of(texts.passwd)}
+    members = {name for row in rows_of(texts.group) if len(row) > 3 for name in row[3].split(b",") if name}
+    return sorted(members - users)
+
+
+def rows_with_returns(text: bytes) -> List[bytes]:
+    return [row.split(b":")[0] for row in text.split(b"\n") if b"\r" in row]
+
+
+def warnings(texts: Texts) -> Iterator[bytes]:
+    """Each with a number and the first name."""
+    found = [
+        (b"names of files that have another name in the snapshot too (see links)",
+         [b"/" + name for names in read_links(texts.links) for name in names]),
+        (b"lists with an empty mask whose others have something, which Linux grants to named users and groups too, and facl does not",
+         list(open_empty_masks(texts.dump))),
+        (b"ids in the dump without a row in passwd or group", ids_without_row(texts)),
+        (b"members of groups without a row in passwd", members_without_row(texts)),
+        (b"rows of passwd with a carriage return, which facl takes for a part of a name", rows_with_returns(texts.passwd)),
+        (b"rows of group with a carriage return, which facl takes for a part of a name", rows_with_returns(texts.group)),
+    ]
+    for text, names in found:
+        if names:
+            yield b"warning: %s: %d, first: %s" % (text, len(names), names[0])
+    if not rows_of(texts.passwd):
+        yield b"warning: passwd is empty: who, may and index will name nobody"
+    if FILE_NAME.search(texts.dump) and not any(read_path(match[1]) == b"" for match in FILE_NAME.finditer(texts.dump)):
+        yield b"warning: the directories above are not recorded, so --reach does not ask them"
