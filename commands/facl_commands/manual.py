@@ -85,7 +85,9 @@ class Writer:
             self.lines.append(" " * self.indent + text)
         elif self.tags_wanted:
             self.tags_wanted = 0
-            self.lines.append(" " * self.outer + text)
+            self.indent = self.outer
+            self.words = [text]
+            self.flush()
             self.indent = self.outer + STEP
         else:
             self.words.append(text)
