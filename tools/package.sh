@@ -74,6 +74,7 @@ Maintainer: facl
 Installed-Size: $size
 Depends: libc6, libc-bin, acl, findutils, coreutils, python3 (>= 3.7)
 Recommends: python3-prompt-toolkit
+Suggests: parallel
 Section: admin
 Priority: optional
 Description: plans changes of access control lists

@@ -8,7 +8,7 @@ import signal
 import sys
 from typing import List, NoReturn
 
-from . import manual, overview, terminal
+from . import each, manual, overview, part, terminal
 from .completion import Completer
 from .desk import WORDS_OF_PROMPT, Desk, refuse_early_end
 from .messages import Command, Failure, reason
@@ -25,6 +25,10 @@ synopsis and the likely cause. Else it answers standard input.
 
 Where it has one SCRIPT, or standard input that is no terminal, it is the program itself: it prints the same, and ends
 with the same status. With several SCRIPTs a message names the SCRIPT, and its line there.
+
+With --each all words are SNAPSHOTs, of parts of one tree, as facl-snapshot --split makes them; HOST:DIR is one on another
+machine. They answer standard input side by side, by GNU parallel, and the answers are joined in the order of paths. A line
+that edits is taken where all its files lie in one of them.
 """
 STATUS = """\
 The exit status is that of facl: 0 where every line was accepted, 1 where some line was refused, 2 where it ended early,
@@ -37,6 +41,8 @@ def parse(words: List[str]) -> argparse.Namespace:
         prog="facl-ask", description=HELP, epilog=STATUS, formatter_class=argparse.RawDescriptionHelpFormatter, allow_abbrev=False,
     )
     parser.add_argument("--program", metavar="FILE", help="the program facl; without it $FACL, or facl on the path")
+    parser.add_argument("--each", action="store_true", help="answer standard input over several SNAPSHOTs side by side")
+    parser.add_argument("--part", action="store_true", help=argparse.SUPPRESS)  # What --each runs for each of them.
     parser.add_argument("snapshot", metavar="SNAPSHOT")
     parser.add_argument("scripts", metavar="SCRIPT", nargs="*")
     return parser.parse_args(words)
@@ -126,9 +132,13 @@ def prompt(command: Command, program: str, folder: bytes) -> int:
 
 def body(command: Command, words: List[str]) -> int:
     given = parse(words)
+    if given.each:
+        return each.body(command, [given.snapshot, *given.scripts], given.program)
     folder = os.fsencode(given.snapshot)
     overview.check_texts(folder)
     program = find_program(given.program)
+    if given.part:
+        return part.write_part(command, program, folder, sys.stdin.buffer.read())
     if len(given.scripts) > 1:
         return answer_scripts(command, program, folder, given.scripts)
     if not given.scripts and sys.stdin.isatty() and sys.stdout.isatty():

@@ -1,0 +1,303 @@
+"""facl-ask --each: a script over several snapshots side by side, by GNU parallel, with the answers joined in path order.
+
+Each snapshot answers the whole script (part.py). A line is then taken where the snapshots agree on it. One that is not
+taken, since its files lie in several snapshots, may have been done by some of them: then all answer the script again,
+without it.
+"""
+from __future__ import annotations
+
+import heapq
+import os
+import re
+import shlex
+import shutil
+import subprocess
+import sys
+import tempfile
+from typing import IO, Callable, Dict, Iterator, List, NamedTuple, Optional, Set, Tuple
+
+from .messages import Command, Failure
+from .names import path_order, read_path, write_name
+from .part import EDITS, Header, read_header
+from .program import HOME, Region
+from .scripts import Unit, read_script
+
+ANSWERED, REFUSED = 0, 1
+NO_FILE = b": no such file"
+HOST = re.compile(rb"([A-Za-z0-9@._-]+):(.*)\Z", re.DOTALL)
+PEOPLE = (b"gpasswd", b"usermod", b"useradd", b"userdel")
+Item = Tuple[bytes, int, bytes]  # A path, the number of its snapshot, and what is printed for it.
+SEVERAL = b"its files lie in several snapshots; name those of one in a line of its own"
+
+
+class Answered(NamedTuple):
+    """A line's answer by one snapshot."""
+
+    header: Header
+    output: Region
+
+
+class Part(NamedTuple):
+    folder: bytes
+    answers: Dict[int, Answered]  # By the number of the line.
+
+
+class Joined(NamedTuple):
+    """What a line prints, and its messages."""
+
+    output: Iterator[bytes]
+    messages: List[bytes]
+    is_dropped: bool = False  # Whether the script is answered again without it.
+
+
+def hosts_of(folders: List[bytes]) -> Dict[bytes, List[bytes]]:
+    """The snapshots by the machine that they are on: HOST:DIR, or a folder of this machine."""
+    found: Dict[bytes, List[bytes]] = {}
+    for folder in folders:
+        match = None if b"/" in folder.partition(b":")[0] or os.path.exists(folder) else HOST.match(folder)
+        host, name = (match[1], match[2]) if match else (b":", folder)
+        found.setdefault(host, []).append(name)
+    return found
+
+
+def parallel_words(host: bytes, folders: List[bytes], program: Optional[str]) -> List[bytes]:
+    """GNU parallel's command line, which gives each job all of its standard input."""
+    found = shutil.which("parallel")
+    if found is None:
+        raise Failure(b"GNU parallel is not installed (package parallel)")
+    here = [os.fsencode(sys.executable), os.fsencode(os.path.join(HOME, "facl-ask"))]
+    command = (here if host == b":" else [b"facl-ask"]) + [b"--part"]
+    if program is not None:
+        command += [b"--program", os.fsencode(program)]
+    words = [b"--will-cite", b"--keep-order", b"--pipe", b"--tee", b"--jobs", b"%d" % len(folders), b"--sshlogin", host]
+    quoted = [os.fsencode(shlex.quote(os.fsdecode(word))) for word in command]
+    return [os.fsencode(found), *words, b" ".join(quoted) + b" -- {}", b":::", *folders]
+
+
+def run_parts(folders: List[bytes], program: Optional[str], script: bytes, work: str) -> List[Part]:
+    """Runs all snapshots side by side, and reads what they wrote."""
+    with open(os.path.join(work, "script"), "wb") as file:
+        file.write(script + b"\n")
+    runs: List[Tuple["subprocess.Popen[bytes]", IO[bytes], IO[bytes]]] = []
+    try:
+        for host, names in hosts_of(folders).items():
+            out, messages = tempfile.TemporaryFile(dir=work), tempfile.TemporaryFile(dir=work)
+            with open(os.path.join(work, "script"), "rb") as given:
+                words = parallel_words(host, names, program)
+                environment = {**os.environ, "TMPDIR": work, "PARALLEL_HOME": work}
+                runs.append((subprocess.Popen(words, stdin=given, stdout=out, stderr=messages, env=environment), out, messages))
+        parts: List[Part] = []
+        for run, out, messages in runs:
+            run.wait()
+            parts += read_parts(out, run.returncode, messages)
+    finally:
+        for run, _, _ in runs:
+            end(run)
+    if len(parts) != len(folders):
+        raise Failure(b"%d of %d snapshots did not answer" % (len(folders) - len(parts), len(folders)))
+    return parts
+
+
+def end(run: "subprocess.Popen[bytes]") -> None:
+    """Ends a run of parallel, which at a second signal ends its jobs."""
+    while run.poll() is None:
+        run.terminate()
+        try:
+            run.wait(0.2)
+        except subprocess.TimeoutExpired:
+            pass
+
+
+def read_parts(out: IO[bytes], status: int, messages: IO[bytes]) -> List[Part]:
+    """The places of the answers in what one run of parallel wrote."""
+    messages.seek(0)
+    said = [line for line in messages.read().splitlines() if line]
+    if status != 0:
+        raise Failure(said[0].replace(b"facl-ask: ", b"", 1) if said else b"parallel ended with status %d" % status)
+    out.seek(0)
+    parts: List[Part] = []
+    is_open = False
+    while True:
+        line = out.readline()
+        if not line:
+            break
+        if line.startswith(b'{"part": '):
+            parts.append(Part(line, {}))
+            is_open = True
+        elif line == b"end\n":
+            is_open = False
+        else:
+            header = read_header(line)
+            start = out.tell()
+            out.seek(header.size + 1, os.SEEK_CUR)
+            parts[-1].answers[header.line] = Answered(header, Region(out, start, start + header.size))
+    if is_open:
+        raise Failure(b"a snapshot did not answer to the end")
+    return parts
+
+
+def path_key(name: bytes) -> bytes:
+    """What printed names of files are sorted by: the order of their paths."""
+    path = name.rstrip(b"/") if b"\\" not in name else read_path(name)
+    return b"" if path in (b".", b"") else path.replace(b"/", b"\0")
+
+
+def line_items(place: int, region: Region, name_of: Callable[[bytes], bytes]) -> Iterator[Item]:
+    for line in region.lines():
+        yield path_key(name_of(line)), place, line + b"\n"
+
+
+def record_items(place: int, region: Region) -> Iterator[Item]:
+    """The records of a listing, each of which ends in an empty line."""
+    lines: List[bytes] = []
+    for line in region.lines():
+        lines.append(line)
+        if not line:
+            yield path_key(lines[0][len(b"# file: ") :]), place, b"\n".join(lines) + b"\n"
+            lines = []
+
+
+def items_of(unit: Unit, place: int, region: Region) -> Optional[Iterator[Item]]:
+    """What a line printed, file by file; None where it names no files."""
+    if unit.is_of(b"may"):
+        return line_items(place, region, lambda line: line)
+    if unit.is_of(b"index"):
+        return line_items(place, region, lambda line: line.split(b" ", 2)[2])
+    if unit.is_of(b"chacl"):
+        return line_items(place, region, lambda line: line.rpartition(b" [")[0])
+    if unit.is_of(b"setfacl"):
+        return line_items(place, region, lambda line: line.rpartition(b": ")[0])
+    if unit.is_of(b"getfacl", b"attr"):
+        start = region._replace(end=min(region.end, region.start + 8)).read()
+        return record_items(place, region) if start in (b"", b"# file: ") else None
+    return None
+
+
+def merged(streams: List[Iterator[Item]]) -> Iterator[bytes]:
+    """The files in path order; of one that several snapshots have, what the first of them printed."""
+    last: Optional[Tuple[bytes, int]] = None
+    for key, place, text in heapq.merge(*streams, key=lambda item: item[:2]):
+        if last is not None and last[0] == key and last[1] != place:
+            continue
+        last = (key, place)
+        yield text
+
+
+def is_refused(answered: Answered) -> bool:
+    return any(b": warning: " not in message for message in answered.header.messages)
+
+
+def refused(unit: Unit, text: bytes, is_dropped: bool = False) -> Joined:
+    tool = unit.words[0] if unit.words else b"facl"
+    return Joined(iter(()), [tool + b": " + text], is_dropped)
+
+
+def join_accepted(unit: Unit, accepted: List[Answered]) -> Joined:
+    """What the snapshots that accepted a line printed."""
+    regions = [it.output for it in accepted]
+    streams = [items_of(unit, place, region) for place, region in enumerate(regions)]
+    messages = accepted[0].header.messages
+    if all(stream is not None for stream in streams):
+        return Joined(merged([stream for stream in streams if stream is not None]), messages)
+    if unit.is_of(b"getfacl") and len(regions) > 1 and is_recursive(unit):
+        return refused(unit, b"a listing of several snapshots is joined by its headers; leave -c away")
+    return Joined(regions[0].pieces(), messages)
+
+
+def join(unit: Unit, answers: List[Answered]) -> Joined:
+    """A line's answer by all snapshots."""
+    accepted = [it for it in answers if not is_refused(it)]
+    others = [it.header.messages for it in answers if is_refused(it) and not it.header.messages[0].endswith(NO_FILE)]
+    if not accepted:
+        return join_refusals(unit, answers)
+    if is_edit(unit):
+        fault = fault_of_edit(unit, answers)
+        if fault is not None:
+            return refused(unit, fault, is_dropped=True)
+    elif unit.is_of(*PEOPLE) and len(accepted) < len(answers):
+        return refused(unit, b"the snapshots have other users or groups", is_dropped=True)
+    elif others:
+        return Joined(iter(()), others[0])
+    return join_accepted(unit, accepted)
+
+
+def is_edit(unit: Unit) -> bool:
+    """Whether a line changes files."""
+    is_question = b"--test" in unit.words or unit.is_of(b"chacl") and has_letter(unit, b"l")
+    return unit.is_of(*(name.encode() for name in EDITS)) and not is_question
+
+
+def fault_of_edit(unit: Unit, answers: List[Answered]) -> Optional[bytes]:
+    """Why an edit that some snapshot accepted is not taken: each snapshot that has a file of it has to have all, and to take
+    it too; and what goes to all files below has to be in one snapshot."""
+    concerned = [it for it in answers if it.header.has]
+    is_several = len(concerned) > 1 and is_recursive(unit)
+    if is_several or any(it.header.lacks or is_refused(it) for it in concerned):
+        return SEVERAL
+    return None
+
+
+def has_letter(unit: Unit, letter: bytes) -> bool:
+    """Whether a line has an option of this letter."""
+    return any(re.match(rb"-[A-Za-z]*" + letter, word) is not None for word in unit.words[1:])
+
+
+def is_recursive(unit: Unit) -> bool:
+    """Whether a line goes to all files below."""
+    return b"--recursive" in unit.words or has_letter(unit, b"r" if unit.is_of(b"rm", b"chacl") else b"R")
+
+
+def join_refusals(unit: Unit, answers: List[Answered]) -> Joined:
+    """The message of a line that no snapshot accepts: one that is not about a missing file comes first, and then one about
+    a file that no snapshot has."""
+    messages = [it.header.messages for it in answers]
+    others = [it for it in messages if not it[0].endswith(NO_FILE)]
+    known = {read_path(write_name(name)) for it in answers for name in it.header.has}
+    missing = [it for it in messages if it[0].endswith(NO_FILE) and missing_path(it[0]) not in known]
+    found = others or sorted(missing, key=lambda it: path_order(missing_path(it[0])))
+    return Joined(iter(()), found[0]) if found else refused(unit, SEVERAL)
+
+
+def missing_path(message: bytes) -> bytes:
+    """The path in a message about a missing file."""
+    return read_path(message.partition(b": ")[2][: -len(NO_FILE)])
+
+
+def without(script: bytes, units: List[Unit], dropped: Set[int]) -> bytes:
+    """The script with comments in the place of some of its lines."""
+    lines = script.split(b"\n")
+    for unit in units:
+        if unit.number in dropped:
+            lines[unit.number - 1 : unit.number - 1 + len(unit.lines)] = [b"#"] * len(unit.lines)
+    return b"\n".join(lines)
+
+
+def body(command: Command, folders: List[str], program: Optional[str]) -> int:
+    """Answers standard input over all snapshots."""
+    script = sys.stdin.buffer.read()
+    units = read_script(b"standard input", script)
+    dropped: Dict[int, Joined] = {}
+    with tempfile.TemporaryDirectory(prefix="facl-ask.") as work:
+        while True:
+            parts = run_parts([os.fsencode(it) for it in folders], program, without(script, units, set(dropped)), work)
+            joined: Dict[int, Joined] = dict(dropped)
+            for unit in units:
+                if unit.number not in joined:
+                    joined[unit.number] = join(unit, [part.answers[unit.number] for part in parts])
+            new = next((unit.number for unit in units if joined[unit.number].is_dropped and unit.number not in dropped), None)
+            if new is None:
+                return write(command, units, joined)
+            dropped[new] = joined[new]
+
+
+def write(command: Command, units: List[Unit], joined: Dict[int, Joined]) -> int:
+    status = ANSWERED
+    for unit in units:
+        for text in joined[unit.number].output:
+            command.write(text)
+        command.out.flush()
+        for message in joined[unit.number].messages:
+            command.messages.write(b"line %d: %s\n" % (unit.number, message))
+            status = status if b": warning: " in message else REFUSED
+        command.messages.flush()
+    return status

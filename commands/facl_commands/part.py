@@ -1,0 +1,123 @@
+"""The answers of one snapshot of several: what `facl-ask --part` writes for `facl-ask --each`.
+
+Each line of the script that does something gives a header, which is a line of JSON, and then the bytes that the program
+printed, with a line feed. Names in a header are bytes, a letter for each.
+"""
+from __future__ import annotations
+
+import json
+import re
+from typing import Dict, List, NamedTuple, Optional
+
+from .completion import OPERANDS, VALUES
+from .messages import Command
+from .names import read_name, script_word
+from .program import Session
+from .scripts import Unit, read_script
+
+EDITS = ("setfacl", "chacl", "chmod", "creat", "rm", "setattr")
+OF_FILES = (*EDITS, "getfacl", "attr")  # Tools that take several FILEs, or edit one.
+RECORD = re.compile(rb"^[ \t]*#[ \t]*file:[ ]?(.*)$", re.MULTILINE)
+
+
+class Header(NamedTuple):
+    line: int
+    size: int  # Of the output after it.
+    messages: List[bytes]
+    lacks: List[bytes]  # Which FILEs are not recorded here,
+    has: List[bytes]  # and which are.
+
+    def write(self) -> bytes:
+        fields = {"line": self.line, "size": self.size}
+        lists = {name: [it.decode("latin-1") for it in getattr(self, name)] for name in ("messages", "lacks", "has")}
+        return json.dumps({**fields, **lists}).encode() + b"\n"
+
+
+def read_header(text: bytes) -> Header:
+    fields: Dict[str, object] = json.loads(text)
+    lists: List[List[bytes]] = []
+    for name in ("messages", "lacks", "has"):
+        value = fields[name]
+        assert isinstance(value, list)
+        lists.append([str(it).encode("latin-1") for it in value])
+    line, size = fields["line"], fields["size"]
+    assert isinstance(line, int) and isinstance(size, int)
+    return Header(line, size, *lists)
+
+
+def operands_of(words: List[bytes]) -> List[bytes]:
+    """The words of a tool that are neither options nor values of options."""
+    values = VALUES.get(words[0].decode("utf-8", "replace"), {})
+    found: List[bytes] = []
+    is_value = is_ended = False
+    for word in words[1:]:
+        text = word.decode("utf-8", "replace")
+        if is_value:
+            is_value = False
+        elif is_ended or not text.startswith("-") or text == "-":
+            found.append(word)
+        elif text == "--":
+            is_ended = True
+        else:
+            bundle = text if text.startswith("--") else "-" + text[-1]
+            letters = [] if text.startswith("--") else ["-" + letter for letter in text[1:-1]]
+            is_value = bundle in values and "=" not in text and not any(letter in values for letter in letters)
+    return found
+
+
+def lists_of_chacl(unit: Unit) -> int:
+    """How many operands of a line of chacl are lists."""
+    letters = b"".join(word[1:] for word in unit.words[1:] if word.startswith(b"-"))
+    return 0 if set(letters) & set(b"lRDB") else 2 if b"b" in letters else 1
+
+
+def files_of(unit: Unit) -> List[bytes]:
+    """The FILEs of a line, as names; of creat the directory that the file is to be in."""
+    if not unit.is_of(*(name.encode() for name in OF_FILES)):
+        return []
+    if any(word.startswith(b"--restore") for word in unit.words):
+        return [read_name(name) for name in RECORD.findall(b"\n".join(unit.lines[1:-1]))]
+    operands = [read_name(word) for word in operands_of(unit.words)]
+    tool = unit.words[0].decode()
+    if tool == "creat":
+        return [name.rstrip(b"/").rpartition(b"/")[0] or b"." for name in operands]
+    lists = lists_of_chacl(unit) if tool == "chacl" else OPERANDS[tool].index("file")
+    return operands[lists:]
+
+
+def is_recorded(session: Session, name: bytes) -> Optional[bool]:
+    """Whether a file is recorded; None where the word is no path."""
+    answer = session.ask(b"getfacl -- " + script_word(name.replace(b"\\", b"\\\\")) + b"\n")
+    if not answer.messages:
+        return True
+    return False if answer.messages[0].endswith(b": no such file") else None
+
+
+def answer(command: Command, session: Session, unit: Unit) -> None:
+    """Answers a line, after a look at its files."""
+    has: List[bytes] = []
+    lacks: List[bytes] = []
+    for name in files_of(unit):
+        found = is_recorded(session, name)
+        if found is not None:
+            (has if found else lacks).append(name)
+    if not unit.is_ended:
+        command.write(Header(unit.number, 0, [b"facl: text without end"], lacks, has).write() + b"\n")
+        return
+    answered = session.ask(b"".join(line + b"\n" for line in unit.lines))
+    size = answered.output.end - answered.output.start
+    command.write(Header(unit.number, size, answered.messages, lacks, has).write())
+    for piece in answered.output.pieces():
+        command.write(piece)
+    command.write(b"\n")
+
+
+def write_part(command: Command, program: str, folder: bytes, script: bytes) -> int:
+    """Answers a script over one snapshot, between a first and a last line of our own."""
+    with Session(program, folder) as session:
+        session.ask(b"")
+        command.write(json.dumps({"part": folder.decode("latin-1")}).encode() + b"\n")
+        for unit in read_script(b"", script):
+            answer(command, session, unit)
+        command.write(b"end\n")
+    return 0
