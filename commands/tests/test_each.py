@@ -77,7 +77,7 @@ class Split(Case):
         self.assertEqual(self.snapshot("one", "tree").status, 0)
         whole = names_of(self.read("one/dump"))
         above = os.path.realpath(self.folder).count("/") + 1
-        for count in (above + 6, above + 12, 1000):
+        for count in (above + 12, 1000):
             done = self.snapshot("--split", str(count), "parts", "tree")
             self.assertEqual(done.status, 0, done)
             dumps = self.dumps("parts")
