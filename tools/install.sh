@@ -1,5 +1,6 @@
 #!/bin/sh
-# Installs the program as `facl`, the commands facl-snapshot, facl-ask, facl-plan and facl-apply, and their manual pages.
+# Installs the program as `facl`, the commands facl-snapshot, facl-ask, facl-plan, facl-apply and facl-report, and
+# their manual pages.
 #
 # usage: tools/install.sh [--program FILE] [PREFIX]      into PREFIX/bin, PREFIX/lib/facl and PREFIX/share/man
 #        tools/install.sh --uninstall [PREFIX]           removes what it installs
@@ -32,11 +33,11 @@ while [ $# -gt 0 ]; do
         shift
         ;;
     --help)
-        sed -n '2,8s/^# \{0,1\}//p' "$0"
+        sed -n '2,9s/^# \{0,1\}//p' "$0"
         exit 0
         ;;
     -*)
-        sed -n '4,5s/^# //p' "$0" >&2
+        sed -n '5,6s/^# //p' "$0" >&2
         exit 2
         ;;
     *) break ;;
@@ -46,7 +47,7 @@ done
 prefix=${1:-/usr/local}
 case $prefix in /*) ;; *) fail "$prefix: PREFIX has to begin with a slash" ;; esac
 to=${DESTDIR:-}${prefix%/}
-python_commands='facl-ask facl-plan facl-apply'
+python_commands='facl-ask facl-plan facl-apply facl-report'
 pages="facl facl-commands facl-snapshot $python_commands"
 
 uninstall() {
@@ -69,7 +70,8 @@ install_files() {
     install -m 755 -- "$top/commands/facl-snapshot" "$to/bin"
     rm -rf -- "$to/lib/facl"
     install -d -m 755 -- "$to/lib/facl" "$to/lib/facl/facl_commands"
-    install -m 644 -- "$top"/commands/facl_commands/*.py "$to/lib/facl/facl_commands"
+    install -m 644 -- "$top"/commands/facl_commands/*.py "$top"/commands/facl_commands/report.css \
+        "$top"/commands/facl_commands/report.js "$to/lib/facl/facl_commands"
     for name in $python_commands; do
         install -m 755 -- "$top/commands/$name" "$to/lib/facl"
         ln -sf -- "../lib/facl/$name" "$to/bin/$name"
@@ -100,5 +102,5 @@ else
     check_parts
     install_files
     [ -n "${DESTDIR:-}" ] || say_what_is_missing
-    echo "tools/install.sh: facl, facl-snapshot, facl-ask, facl-plan and facl-apply are in $prefix/bin; man facl"
+    echo "tools/install.sh: facl, facl-snapshot, facl-ask, facl-plan, facl-apply and facl-report are in $prefix/bin; man facl"
 fi

@@ -80,8 +80,8 @@ Priority: optional
 Description: plans changes of access control lists
  facl runs getfacl, setfacl, chacl and chmod over a recorded tree of files, and
  answers who may do what with which file. facl-snapshot records a live system,
- facl-ask asks of it at a prompt, facl-plan prints what edits would change, and
- facl-apply takes them there and back.
+ facl-ask asks of it at a prompt, facl-report writes a page to look at,
+ facl-plan prints what edits would change, facl-apply takes them there and back.
  .
 $(printf '%s\n' "$origin" | fold -s -w 76 | sed 's/^/ /')
 END
