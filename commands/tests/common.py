@@ -61,21 +61,6 @@ class Case(unittest.TestCase):
         )
         return Done(done.returncode, done.stdout, done.stderr)
 
-    def start(self, name: str, *words: str) -> subprocess.Popen[bytes]:
-        """Starts a command that signals end, also where the tests run in the background of a shell, which ignores SIGINT there."""
-
-        def take_signals() -> None:
-            for number in (signal.SIGHUP, signal.SIGINT, signal.SIGTERM):
-                signal.signal(number, signal.SIG_DFL)
-
-        return subprocess.Popen(
-            [os.path.join(COMMANDS, name), *words],
-            cwd=self.folder,
-            stdout=subprocess.PIPE,
-            stderr=subprocess.PIPE,
-            preexec_fn=take_signals,
-        )
-
     def plan(self, script: bytes, *options: str) -> Done:
         """Runs facl-plan over the snapshot and a script of this text."""
         self.write("edits", script)
