@@ -1,5 +1,5 @@
 -- Lines that are refused before their words are known, and what a session returns for a unit.
-use Rattle.std.proofs.Common.{◌≡◌, ◌≢◌, ◌∙◌, ◌+◌, ◌≤◌, ℕ, Bool, true, false, [], Err, ap, sym, subst, refl, arith, true≢false}
+use Rattle.std.proofs.Common.{◌≡◌, ◌≢◌, ◌∙◌, ◌+◌, ◌≤◌, ℕ, Bool, true, false, [], Err, ap, sym, subst, refl, true≢false}
 use Rattle.facl_tools.specs.acl_tree.Step.{State}
 use Rattle.facl_tools.specs.acl_rights.Tables.{Verdict}
 use Rattle.facl_tools.specs.facl_script.Play.{Answer}

@@ -50,12 +50,23 @@ pub record Stops (fault : ScriptFault) (verdict : Verdict) (initial_state : Resu
   pub state : State
   pub stops : IfSome remaining (λ script. StopsWith line_asks fault (answered verdict) start script state (all_pairs start) asked remaining' out out' err err')
 
+-- the most verdicts that are asked for before the script is read: on every user and every file of the state that the
+-- setup gives, and none where it gives none
+abbrev pub most_at_start : Result State RunFault → ℕ
+most_at_start (Ok start) = all_pairs start
+most_at_start (Err fault) = 0
+
+-- memory ran out before the script was read
+pub record EndsEarly (initial_state : Result State RunFault) (asked : ℕ) (remaining remaining' out out' err err' : Option (List ℕ)) : Type 0 where
+  pub untouched : IsUntouched remaining remaining' out out' err err'
+  pub asks : asked ≤ most_at_start initial_state
+
 -- How a run that returns a fault has ended. Before the script nothing is read or written.
 abbrev pub EndsBy : RunFault → Verdict → Result State RunFault → (asked : ℕ) (remaining remaining' out out' err err' : Option (List ℕ)) → Type 0
 EndsBy (Setup which fault) verdict initial_state asked remaining remaining' out out' err err' =
     (initial_state ≡ Err (Setup which fault)) × (asked ≡ 0) × IsUntouched remaining remaining' out out' err err'
 EndsBy NoMemory verdict initial_state asked remaining remaining' out out' err err' =
-    IsUntouched remaining remaining' out out' err err' ⊎ Stops scripts.NoMemory verdict initial_state asked remaining remaining' out out' err err'
+    EndsEarly initial_state asked remaining remaining' out out' err err' ⊎ Stops scripts.NoMemory verdict initial_state asked remaining remaining' out out' err err'
 EndsBy Read verdict initial_state asked remaining remaining' out out' err err' = Stops scripts.Read verdict initial_state asked remaining remaining' out out' err err'
 EndsBy Write verdict initial_state asked remaining remaining' out out' err err' = Stops scripts.Write verdict initial_state asked remaining remaining' out out' err err'
 EndsBy ScriptTooLong verdict initial_state asked remaining remaining' out out' err err' = Stops scripts.TooLong verdict initial_state asked remaining remaining' out out' err err'

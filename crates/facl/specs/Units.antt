@@ -6,17 +6,14 @@ use Rattle.facl_tools.specs.facl_script.Words.{has_no_words, line_words}
 use Rattle.facl_tools.specs.facl_script.declared.words.SplitFault.{SplitFault}
 use Rattle.facl_tools.specs.facl_words.Args.{files_for}
 use Rattle.facl_tools.specs.facl_words.Forms.{Text}
-use Rattle.facl_tools.specs.facl_words.Tools.{tool_named}
-use Rattle.facl_tools.specs.facl_words.Words.{words_for}
-use Rattle.facl_tools.specs.facl_words.declared.tool.Tool.{Tool}
-use Rattle.facl_tools.specs.facl_words.declared.words.Words.{Words}
 use Rattle.facl_tools.specs.acl_tree.Step.{State}
 use Rattle.facl_tools.specs.facl_messages.Faults.{line_fault_of_split}
 use Rattle.facl_tools.specs.facl_messages.Messages.{message, warning}
 use Rattle.facl_tools.specs.facl_messages.declared.fault.LineFault.{LineFault}
 use Rattle.facl_tools.specs.facl_messages.declared.fault.LineFault.TheVariants.{LineTooLong, UnknownTool, UnendedText, TextLineTooLong, Usage, NoMemory}
 use Rattle.facl_tools.specs.Replies.{Reply, after, or_fault, printed}
-use Rattle.facl_tools.specs.Tools.{Verdict, tool_line}
+use Rattle.facl_tools.specs.Tools.{Verdict, tool_line, tool_named}
+use Rattle.facl_tools.specs.declared.tools.Tool.{Tool}
 use Rattle.facl.specs.Costs.{most_between}
 
 -- a line that is blank or a comment, as far as it is within the limit
@@ -45,9 +42,6 @@ text_or_fault (whole text) = Ok text
 text_or_fault too_long = Err TextLineTooLong
 text_or_fault unended = Err UnendedText
 
-abbrev pub words_or_fault : Tool → List Text → Result Words LineFault
-words_or_fault tool words = or_fault Usage (words_for tool words)
-
 -- the FILEs of the program's words, or usage
 abbrev pub args_or_fault : List Text → Result (List (Option Text)) LineFault
 args_or_fault words = or_fault Usage (files_for words)
@@ -57,7 +51,7 @@ args_or_fault words = or_fault Usage (files_for words)
 -- what a tool does at a state with the text and the words after its name
 abbrev pub tool_reply : Verdict → State → UnitText → List Text → Tool → Result Reply LineFault
 tool_reply verdict s text words tool =
-    after (text_or_fault text) (λ content. after (words_or_fault tool words) (λ w. tool_line verdict s tool w content))
+    after (text_or_fault text) (λ content. tool_line verdict s tool words content)
 
 -- what the words of a line do at a state: its reply, or its first fault
 abbrev pub reply : Verdict → State → UnitText → List Text → Result Reply LineFault

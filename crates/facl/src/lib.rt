@@ -15,11 +15,11 @@ mod words;
 mod world;
 
 pub use facl_tools::{
-    Feed, Flags, Judge, Key, Label, LineFault, Operands, Perm, Posix, Requests, RunFault,
-    ScriptFault, Sink, Source, StdFeed, StdSink, Subject, Tool, Values, Word, Words,
-    append_message, append_run_fault, places, write_whole,
+    Feed, Flags, Judge, Key, Label, LineFault, LineRows, LineWord, OperandRow, Operands, Perm,
+    Posix, Requests, RunFault, ScriptFault, Sink, Source, StdFeed, StdSink, Subject, SwitchRow,
+    Tool, Values, Word, Words, append_message, append_run_fault, read_words, rows_for, write_whole,
 };
 pub use program::{run, run_judged};
 pub use setup::Setup;
 pub use status::Status;
-pub use words::{read_args, read_words};
+pub use words::read_args;

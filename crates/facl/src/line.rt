@@ -8,7 +8,6 @@ ghost use Rattle.facl_tools.specs.acl_rights.Tables.{IsWhole};
 ghost use Rattle.facl_tools.specs.Replies.{Gives, IsPrepared, Replies};
 ghost use Rattle.facl.specs.Units.{is_silent, words_of_line, tool_or_fault, text_or_fault, tool_reply, reply, tool_word};
 
-use crate::words::read_words;
 use crate::world::World;
 use facl_tools::{Effect, Judge, LineFault, TextFound, Tool, has_no_words, split_words, tool_line};
 use std::alloc::Global;
@@ -82,8 +81,7 @@ fn tool_reply<J: Judge>(
     ensures prepared { IfOk result (λ effect. IsPrepared world.now.state effect.staged) }
 {
     let text = text_of_unit(found, text)?;
-    let words = read_words(alloc, tool, words)?;
-    tool_line(alloc, &world.state, &world.index, tool, &words, text)
+    tool_line(alloc, &world.state, &world.index, tool, words, text)
 }
 
 /// What the words of a line do at a state.

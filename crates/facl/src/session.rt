@@ -47,6 +47,7 @@ impl<J: Judge> Facl<J> {
         ensures state { IfOk result (λ facl. state_of facl ≡ state) }
         ensures ready { IfOk result (λ facl. IsReady J.verdict_of (J.asked_of judge.new) 1 (state_of facl) (index_of facl)) }
         ensures asked { OnOk result (J.asked_of judge.new ≡ all_pairs state) }
+        ensures at_most { J.asked_of judge.new ≤ all_pairs state }
     {
         let spare = Spare::new(alloc)?;
         let world = World::new(alloc, judge, state)?;

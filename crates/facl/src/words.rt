@@ -1,23 +1,11 @@
-//! The words of a tool, and of the program, with the faults of a line.
+//! The words of the program, with the faults of a line.
 
 ghost use Rattle.std.specs.Prelude.{map, option_map, string_bytes};
 ghost use Rattle.facl_tools.specs.Replies.{Gives};
-ghost use Rattle.facl.specs.Units.{args_or_fault, words_or_fault};
+ghost use Rattle.facl.specs.Units.{args_or_fault};
 
-use facl_tools::{LineFault, Tool, Words};
+use facl_tools::LineFault;
 use std::alloc::Global;
-
-/// The meaning of the words after a tool's name: its flags, the values of its options and its operands, each in the
-/// order of the tool's table.
-///
-/// # Errors
-///
-/// `Usage` where `clap` or the tool's own rules refuse the words; `NoMemory` only if memory runs out.
-pub fn read_words(alloc: Global, tool: Tool, words: &[String]) -> Result<Words, LineFault>
-    ensures { Gives (λ w. w) result (words_or_fault tool (map string_bytes words.now)) }
-{
-    Ok(facl_tools::read_words(alloc, tool, words)?)
-}
 
 /// The FILEs of `--passwd`, `--group` and `--dump`, in this order, from the words after the program's name; `None` for
 /// an absent option.

@@ -26,6 +26,7 @@ impl<J: Judge> World<J> {
         ensures state { IfOk result (λ world. world.state ≡ state) }
         ensures whole { IfOk result (λ world. IsWhole J.verdict_of world.state world.index) }
         ensures asked { OnOk result (J.asked_of judge.new ≡ all_pairs state) }
+        ensures at_most { J.asked_of judge.new ≤ all_pairs state }
         ensures few { all_pairs state ≤ most_pairs }
     {
         state.tree().is_sound();

@@ -15,9 +15,10 @@ pub use acl_tree::{
     read_path,
 };
 pub use facl_words::{
-    Feed, Flags, OperandPlace, Operands, ScriptFault, Session, Sink, StdFeed, StdSink, TextFound,
-    Tool, UnitFound, Values, Word, Words, WordsFault, asks_for_text, forms, has_no_words, places,
-    read_args, read_words, run_session, split_words, write_whole,
+    Feed, Flags, LineFiles, LineRows, LineWord, OperandRow, Operands, ScriptFault, Session, Sink,
+    StdFeed, StdSink, SwitchRow, TextFound, UnitFound, Values, Word, Words, WordsFault,
+    asks_for_text, has_no_words, is_text_word, read_args, read_by, run_session, split_words,
+    write_whole,
 };
 pub use fault::{LineFault, RunFault, Source};
 pub use message::{append_message, append_warning};

@@ -31,6 +31,8 @@ mod mixed_rows;
 #[cfg(test)]
 mod modes;
 #[cfg(test)]
+mod options;
+#[cfg(test)]
 mod questions;
 #[cfg(test)]
 mod restores;

@@ -2,7 +2,7 @@
 use Rattle.std.proofs.Common.{◌≡◌, ◌<◌, ◌≤◌, ℕ, ◌/◌, Bool, ◌&&◌, List, [], ◌∷◌, length, nat_le, nat_lt, IsTrue, true, false, refl, rules, arith}
 use Rattle.std.proofs.lemmas.Bool.{and_parts}
 use Rattle.std.specs.List.{list_all, slice_index_or}
-use Rattle.facl_messages.specs.facl_words.Forms.{is_octal_digit, is_mode}
+use Rattle.facl_tools.specs.Modes.{is_octal_digit, is_mode}
 
 -- a number below this stays below 4096 when these digits are written after it
 abbrev pub room : List ℕ → ℕ

@@ -1,5 +1,5 @@
 -- chacl(1).
-use Rattle.std.specs.Prelude.{ℕ, List, [], ◌∷◌, Bool, true, false, if◌then◌else◌, codes, Some, None, Result, Err}
+use Rattle.std.specs.Prelude.{ℕ, ◌+◌, List, [], ◌∷◌, Bool, true, false, if◌then◌else◌, nat_le, codes, Option, Some, None, Result}
 use Rattle.facl_listings.specs.acl_edit.declared.edit.Edit.TheVariants.{Put, Flatten}
 use Rattle.facl_listings.specs.acl_syntax.declared.fault.Which.TheVariants.{Access, Default}
 use Rattle.facl_listings.specs.acl_people.Registers.{Register, users_of, groups_of}
@@ -7,14 +7,14 @@ use Rattle.facl_listings.specs.acl_people.Rolls.{name_shown}
 use Rattle.facl_listings.specs.acl_tree.Found.{FoundFile, files_found}
 use Rattle.facl_listings.specs.acl_tree.Operands.{first_missing}
 use Rattle.facl_listings.specs.acl_tree.Step.{State}
-use Rattle.facl_messages.specs.facl_words.Forms.{Text}
-use Rattle.facl_messages.specs.facl_words.Places.{has, operands_from}
-use Rattle.facl_messages.specs.facl_words.declared.tool.Tool.TheVariants as tools
+use Rattle.facl_messages.specs.facl_words.Forms.{Text, files_of}
+use Rattle.facl_messages.specs.facl_words.Lines.{Line, by_letter, some}
+use Rattle.facl_messages.specs.facl_words.Naming.{has, operands_from}
 use Rattle.facl_messages.specs.facl_words.declared.words.Words.{Words}
 use Rattle.facl_messages.specs.declared.fault.LineFault.{LineFault}
-use Rattle.facl_messages.specs.declared.fault.LineFault.TheVariants.{Usage}
 use Rattle.facl_messages.specs.declared.fault.Source.TheVariants.{Entry, DefaultEntry}
 use Rattle.facl_listings.specs.ChaclListings.{chacl_listing}
+use Rattle.facl_tools.specs.Readers.{and_then}
 use Rattle.facl_tools.specs.Replies.{Reply, after, printed}
 use Rattle.facl_tools.specs.Operands.{paths_from, recorded_or_fault}
 use Rattle.facl_tools.specs.Edits.{edited}
@@ -23,37 +23,78 @@ use Rattle.facl_tools.specs.declared.chacl.ChaclLine.{ChaclLine}
 use Rattle.facl_tools.specs.declared.chacl.Task.{Task}
 use Rattle.facl_tools.specs.declared.chacl.Task.TheVariants as tasks
 
-abbrev pub task_of : Words → Task
-task_of w =
-    if has tools.Chacl w (codes "b") then tasks.PutBoth
-    else if has tools.Chacl w (codes "d") then tasks.PutDefault
-    else if has tools.Chacl w (codes "R") then tasks.RemoveAccess
-    else if has tools.Chacl w (codes "D") then tasks.RemoveDefault
-    else if has tools.Chacl w (codes "B") then tasks.RemoveBoth
-    else if has tools.Chacl w (codes "l") then tasks.List
-    else tasks.PutAccess
+abbrev pub row : Line
+row = record {
+  flags = by_letter (codes "b")
+      ∷ by_letter (codes "d")
+      ∷ by_letter (codes "R")
+      ∷ by_letter (codes "D")
+      ∷ by_letter (codes "B")
+      ∷ by_letter (codes "l")
+      ∷ by_letter (codes "r") ∷ [];
+  options = [];
+  operands = some (codes "word") ∷ [];
+}
 
--- what the flags of a line mean
-abbrev pub line_of : Words → ChaclLine
-line_of w = record { task = task_of w; recursive = has tools.Chacl w (codes "r") }
+abbrev pub one_if : Bool → ℕ
+one_if b = if b then 1 else 0
+
+-- how many of the flags are given that select what is done
+abbrev pub tasks_given : Words → ℕ
+tasks_given w = one_if (has row w (codes "b")) + one_if (has row w (codes "d"))
+    + one_if (has row w (codes "R")) + one_if (has row w (codes "D"))
+    + one_if (has row w (codes "B")) + one_if (has row w (codes "l"))
+
+-- the line of a task on these files
+abbrev pub line_with : Task → Bool → List Text → Option ChaclLine
+line_with task recursive words =
+    and_then (files_of words) (λ files. Some (record { task = task; recursive = recursive; files = files }))
 
 -- an access list is put into the files that come after it
-abbrev pub put_access : State → Bool → List Text → Result Reply LineFault
-put_access s recursive [] = Err Usage
-put_access s recursive (text ∷ files) =
+abbrev pub read_access : Bool → List Text → Option ChaclLine
+read_access recursive [] = None
+read_access recursive (access ∷ files) = line_with (tasks.PutAccess access) recursive files
+
+-- a default list
+abbrev pub read_default : Bool → List Text → Option ChaclLine
+read_default recursive [] = None
+read_default recursive (default_text ∷ files) = line_with (tasks.PutDefault default_text) recursive files
+
+-- both
+abbrev pub read_both : Bool → List Text → Option ChaclLine
+read_both recursive [] = None
+read_both recursive (access ∷ []) = None
+read_both recursive (access ∷ default_text ∷ files) = line_with (tasks.PutBoth access default_text) recursive files
+
+-- the line of the flag that selects what is done
+abbrev pub line_of : Words → Bool → List Text → Option ChaclLine
+line_of w recursive operands =
+    if has row w (codes "b") then read_both recursive operands
+    else if has row w (codes "d") then read_default recursive operands
+    else if has row w (codes "R") then line_with tasks.RemoveAccess recursive operands
+    else if has row w (codes "D") then line_with tasks.RemoveDefault recursive operands
+    else if has row w (codes "B") then line_with tasks.RemoveBoth recursive operands
+    else if has row w (codes "l") then line_with tasks.List recursive operands
+    else read_access recursive operands
+
+-- what words ask for, where they are no usage: at most one thing is done, and a file is given after the lists
+abbrev pub read : Words → Option ChaclLine
+read w =
+    if nat_le (tasks_given w) 1 then line_of w (has row w (codes "r")) (operands_from row w (codes "word")) else None
+
+-- an access list is put into files
+abbrev pub put_access : State → Bool → Text → List Text → Result Reply LineFault
+put_access s recursive text files =
     after (list_of s.people Entry Access text) (λ access. edited s recursive (Put (Some access) None) files)
 
 -- a default list
-abbrev pub put_default : State → Bool → List Text → Result Reply LineFault
-put_default s recursive [] = Err Usage
-put_default s recursive (text ∷ files) =
+abbrev pub put_default : State → Bool → Text → List Text → Result Reply LineFault
+put_default s recursive text files =
     after (list_of s.people DefaultEntry Default text) (λ dacl. edited s recursive (Put None (Some dacl)) files)
 
 -- an access list and a default list, read in this order
-abbrev pub put_both : State → Bool → List Text → Result Reply LineFault
-put_both s recursive [] = Err Usage
-put_both s recursive (text ∷ []) = Err Usage
-put_both s recursive (text ∷ default_text ∷ files) =
+abbrev pub put_both : State → Bool → Text → Text → List Text → Result Reply LineFault
+put_both s recursive text default_text files =
     after (list_of s.people Entry Access text)
     (λ access. after (list_of s.people DefaultEntry Default default_text)
     (λ dacl. edited s recursive (Put (Some access) (Some dacl)) files))
@@ -69,15 +110,15 @@ list_files s recursive files =
     (λ paths. recorded_or_fault (first_missing paths s.tree.files)
     (printed s (named_listing s.people (files_found recursive paths s.tree.files))))
 
--- what the words of a line do, by its task
-abbrev pub line_at : State → Bool → Task → List Text → Result Reply LineFault
-line_at s recursive tasks.PutAccess words = put_access s recursive words
-line_at s recursive tasks.PutDefault words = put_default s recursive words
-line_at s recursive tasks.PutBoth words = put_both s recursive words
-line_at s recursive tasks.RemoveAccess words = edited s recursive (Flatten true false) words
-line_at s recursive tasks.RemoveDefault words = edited s recursive (Flatten false true) words
-line_at s recursive tasks.RemoveBoth words = edited s recursive (Flatten true true) words
-line_at s recursive tasks.List words = list_files s recursive words
+-- a task is done with files
+abbrev pub task_done : State → Bool → Task → List Text → Result Reply LineFault
+task_done s recursive (tasks.PutAccess text) files = put_access s recursive text files
+task_done s recursive (tasks.PutDefault text) files = put_default s recursive text files
+task_done s recursive (tasks.PutBoth text default_text) files = put_both s recursive text default_text files
+task_done s recursive tasks.RemoveAccess files = edited s recursive (Flatten true false) files
+task_done s recursive tasks.RemoveDefault files = edited s recursive (Flatten false true) files
+task_done s recursive tasks.RemoveBoth files = edited s recursive (Flatten true true) files
+task_done s recursive tasks.List files = list_files s recursive files
 
-abbrev pub chacl_line : State → Words → Result Reply LineFault
-chacl_line s w = line_at s (line_of w).recursive (line_of w).task (operands_from tools.Chacl w (codes "word"))
+abbrev pub answered : State → ChaclLine → Result Reply LineFault
+answered s line = task_done s line.recursive line.task line.files

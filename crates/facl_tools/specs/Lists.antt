@@ -37,5 +37,5 @@ specs_of known source text =
     text_or_fault source (entries_of (λ name. id_named name (users_of known)) (λ name. id_named name (groups_of known)) Comma Plain text)
 
 -- the list that a text names: entries with permissions, with a comma between each two
-abbrev pub list_of : Register → Source → Which → Text → Result KeyMap LineFault
+unfoldable pub list_of : Register → Source → Which → Text → Result KeyMap LineFault
 list_of known source which text = after (specs_of known source text) (λ specs. list_from source which (map entry_of specs))

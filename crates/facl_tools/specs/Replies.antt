@@ -44,6 +44,10 @@ done s command = replied (users_move s command) (step s command)
 abbrev pub printed : State → List ℕ → Reply
 printed s out = record { state = s; user_change = Unchanged; out = out; warns = false }
 
+-- the state stays, and this is printed
+abbrev pub printed_or_fault : State → Result (List ℕ) LineFault → Result Reply LineFault
+printed_or_fault s text = after text (λ out. Ok (printed s out))
+
 -- ---- what is done to answer a line
 
 -- the reply of a line that does this at a state

@@ -4,6 +4,8 @@ use Rattle.std.specs.Bool.{beq}
 use Rattle.std.specs.List.{find, list_any}
 use Rattle.facl_listings.specs.acl_entry.Keys.{same_key}
 use Rattle.facl_listings.specs.acl_syntax.Entries.{entries_of}
+use Rattle.facl_listings.specs.acl_syntax.declared.entries.Sep.{Sep}
+use Rattle.facl_listings.specs.acl_syntax.declared.entries.Sep.TheVariants.{Comma, Line}
 use Rattle.facl_listings.specs.acl_syntax.declared.entries.Spec.{Spec}
 use Rattle.facl_listings.specs.acl_syntax.declared.entries.Want.{Want}
 use Rattle.facl_listings.specs.acl_syntax.declared.entries.Want.TheVariants.{WithPerms, WithoutPerms}
@@ -20,9 +22,8 @@ use Rattle.facl_listings.specs.acl_tree.Found.{FoundFile, files_found}
 use Rattle.facl_listings.specs.acl_tree.Restoring.{paths_of}
 use Rattle.facl_listings.specs.acl_tree.Step.{State, step}
 use Rattle.facl_listings.specs.acl_tree.declared.command.Command.{Command}
-use Rattle.facl_listings.specs.acl_tree.declared.command.Command.TheVariants.{Edit, Restore}
+use Rattle.facl_listings.specs.acl_tree.declared.command.Command.TheVariants.{Chmod, Creat, Edit, Gpasswd, Load, Restore, Rm, Useradd, Userdel, Usermod}
 use Rattle.facl_listings.specs.acl_files.declared.fault.TreeFault.{TreeFault}
-use Rattle.facl_messages.specs.facl_words.declared.words.Words.{Words}
 use Rattle.facl_messages.specs.Faults.{line_fault_of_text, line_fault_of_tree}
 use Rattle.facl_messages.specs.declared.fault.LineFault.{LineFault}
 use Rattle.facl_messages.specs.declared.fault.LineFault.TheVariants as faults
@@ -31,7 +32,11 @@ use Rattle.facl_messages.specs.declared.fault.Source.TheVariants.{Entry, TextLin
 use Rattle.facl_listings.specs.TestListing.{test_listing}
 use Rattle.facl_tools.specs.Replies.{Reply, after, done, printed}
 use Rattle.facl_tools.specs.Operands.{paths_from}
-use Rattle.facl_tools.specs.SetfaclLine.{Asked, EntryText, asked}
+use Rattle.facl_tools.specs.declared.setfacl_line.ChangeLine.{ChangeLine}
+use Rattle.facl_tools.specs.declared.setfacl_line.Entries.{Entries}
+use Rattle.facl_tools.specs.declared.setfacl_line.Entries.TheVariants.{InText, InWord}
+use Rattle.facl_tools.specs.declared.setfacl_line.SetfaclLine.{SetfaclLine}
+use Rattle.facl_tools.specs.declared.setfacl_line.SetfaclLine.TheVariants as lines
 use Rattle.facl_tools.specs.declared.setfacl_entries.Given.{Given}
 
 -- ---- entry texts
@@ -41,17 +46,24 @@ abbrev pub at_source : {A : Type 0} → Source → Result A TextFault → Result
 at_source source (Ok a) = Ok a
 at_source source (Err fault) = Err (line_fault_of_text source fault)
 
--- the entries of a text, where there is one
-abbrev pub entries_given : Register → Want → Option EntryText → Result (List Spec) LineFault
-entries_given known want None = Ok []
-entries_given known want (Some t) = at_source Entry (entries_of (λ name. id_named name (users_of known)) (λ name. id_named name (groups_of known)) t.sep want t.bytes)
+-- the entries of a text
+abbrev pub entries_in : Register → Want → Sep → List ℕ → Result (List Spec) LineFault
+entries_in known want sep text =
+    at_source Entry (entries_of (λ name. id_named name (users_of known)) (λ name. id_named name (groups_of known)) sep want text)
+
+-- the entries of an option, if it is given: in a word they are separated by commas, in the text after the line each has
+-- a line
+abbrev pub entries_given : Register → Want → Option Entries → List ℕ → Result (List Spec) LineFault
+entries_given known want None text = Ok []
+entries_given known want (Some (InWord word)) text = entries_in known want Comma word
+entries_given known want (Some InText) text = entries_in known want Line text
 
 -- the entries of a line: the first fault is that of the removed ones, then of the modified ones, then of the set ones
-abbrev pub given : Register → Asked → Result Given LineFault
-given known line =
-    after (entries_given known WithoutPerms line.removed)
-    (λ removed. after (entries_given known WithPerms line.modified)
-    (λ modified. after (entries_given known WithPerms line.set)
+abbrev pub given : Register → ChangeLine → List ℕ → Result Given LineFault
+given known line text =
+    after (entries_given known WithoutPerms line.removed text)
+    (λ removed. after (entries_given known WithPerms line.modified text)
+    (λ modified. after (entries_given known WithPerms line.set text)
     (λ set. Ok (record { removed = removed; modified = modified; set = set }))))
 
 -- two entries of one list with one key; `-d` drops default entries
@@ -81,7 +93,14 @@ drops as_default entries = as_default && (has_default entries.removed || (has_de
 abbrev pub command_files : Command → Files → List FoundFile
 command_files (Edit paths e recursive) files = files_found recursive paths files
 command_files (Restore records) files = files_found false (paths_of records) files
-command_files _ files = []
+command_files (Load which bytes) files = []
+command_files (Chmod paths mode recursive) files = []
+command_files (Creat new) files = []
+command_files (Rm paths recursive) files = []
+command_files (Gpasswd user group change) files = []
+command_files (Usermod user group) files = []
+command_files (Useradd new) files = []
+command_files (Userdel user) files = []
 
 -- ids print as the names that these people have
 abbrev pub named_test_listing : Register → List FoundFile → List ℕ
@@ -107,19 +126,19 @@ warning_if warns r = after r (λ reply. Ok (record reply { warns = warns }))
 -- ---- lists are changed
 
 -- what a line does with the lists of a file: its options, and its entries
-abbrev pub edit_of : Asked → Given → FileEdit
+abbrev pub edit_of : ChangeLine → Given → FileEdit
 edit_of line entries =
     edits.Change line.strip line.drop_default line.as_default line.no_mask line.remask entries.removed entries.set entries.modified
 
 -- these entries are put into the files
-abbrev pub change_files : State → Asked → Given → Result Reply LineFault
+abbrev pub change_files : State → ChangeLine → Given → Result Reply LineFault
 change_files s line entries =
     after (paths_from 1 line.files)
     (λ paths. warning_if (drops line.as_default entries) (done_or_tested line.test s (Edit paths (edit_of line entries) line.recursive)))
 
-abbrev pub change_line : State → Asked → Result Reply LineFault
-change_line s line =
-    after (given s.people line) (λ entries. unless_both (both_at line.as_default entries) (change_files s line entries))
+abbrev pub change_line : State → ChangeLine → List ℕ → Result Reply LineFault
+change_line s line text =
+    after (given s.people line text) (λ entries. unless_both (both_at line.as_default entries) (change_files s line entries))
 
 -- ---- a dump is restored
 
@@ -132,9 +151,6 @@ restore_line s test text = after (records_or_fault s.people text) (λ records. d
 
 -- ---- the line
 
-abbrev pub restore_or_change : State → Asked → Option (List ℕ) → Result Reply LineFault
-restore_or_change s line None = change_line s line
-restore_or_change s line (Some text) = restore_line s line.test text
-
-abbrev pub setfacl_line : State → Words → List ℕ → Result Reply LineFault
-setfacl_line s w text = restore_or_change s (asked w text) (asked w text).restored
+abbrev pub answered : State → SetfaclLine → List ℕ → Result Reply LineFault
+answered s (lines.Change line) text = change_line s line text
+answered s (lines.Restore test) text = restore_line s test text

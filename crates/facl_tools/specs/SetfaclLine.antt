@@ -1,53 +1,91 @@
--- What the words of a setfacl(1) line ask for.
-use Rattle.std.specs.Prelude.{ℕ, List, Bool, Option, Some, None, codes, if◌then◌else◌}
-use Rattle.facl_listings.specs.acl_syntax.declared.entries.Sep.{Sep}
-use Rattle.facl_listings.specs.acl_syntax.declared.entries.Sep.TheVariants.{Comma, Line}
-use Rattle.facl_messages.specs.facl_words.Forms.{Text}
-use Rattle.facl_messages.specs.facl_words.Places.{gives, has, value, operands_from}
-use Rattle.facl_messages.specs.facl_words.declared.tool.Tool.TheVariants.{Setfacl}
+-- The words of setfacl(1), and what they ask for.
+use Rattle.std.specs.Prelude.{List, [], ◌∷◌, ◌&&◌, ◌||◌, Bool, not, codes, if◌then◌else◌, Option, None, Some}
+use Rattle.std.specs.Bool.{beq}
+use Rattle.facl_messages.specs.facl_words.Forms.{Text, files_of, is_empty}
+use Rattle.facl_messages.specs.facl_words.Lines.{Line, any, both, by_name, of_text}
+use Rattle.facl_messages.specs.facl_words.Naming.{gives, has, operands_from, value}
 use Rattle.facl_messages.specs.facl_words.declared.words.Words.{Words}
+use Rattle.facl_tools.specs.Readers.{and_then}
+use Rattle.facl_tools.specs.declared.setfacl_line.ChangeLine.{ChangeLine}
+use Rattle.facl_tools.specs.declared.setfacl_line.Entries.{Entries}
+use Rattle.facl_tools.specs.declared.setfacl_line.Entries.TheVariants.{InText, InWord}
+use Rattle.facl_tools.specs.declared.setfacl_line.SetfaclLine.{SetfaclLine}
+use Rattle.facl_tools.specs.declared.setfacl_line.SetfaclLine.TheVariants.{Change, Restore}
 
--- entries that a line gives: in a word they are separated by commas, in the text after the line each has a line
-pub record EntryText : Type 0 where
-  pub bytes : List ℕ
-  pub sep : Sep
-
--- what a line asks for; a dump that is restored is the text after the line
-pub record Asked : Type 0 where
-  pub strip : Bool
-  pub drop_default : Bool
-  pub as_default : Bool
-  pub no_mask : Bool
-  pub remask : Bool
-  pub recursive : Bool
-  pub test : Bool
-  pub removed : Option EntryText
-  pub modified : Option EntryText
-  pub set : Option EntryText
-  pub restored : Option (List ℕ)
-  pub files : List Text
-
--- the text, where it is asked for
-abbrev pub text_if : Bool → List ℕ → Option (List ℕ)
-text_if asked text = if asked then Some text else None
+abbrev pub row : Line
+row = record {
+  flags = both (codes "b") (codes "remove-all")
+      ∷ both (codes "k") (codes "remove-default")
+      ∷ both (codes "n") (codes "no-mask")
+      ∷ by_name (codes "mask")
+      ∷ both (codes "d") (codes "default")
+      ∷ both (codes "R") (codes "recursive")
+      ∷ by_name (codes "test") ∷ [];
+  options = both (codes "m") (codes "modify")
+      ∷ of_text (both (codes "M") (codes "modify-file"))
+      ∷ both (codes "x") (codes "remove")
+      ∷ of_text (both (codes "X") (codes "remove-file"))
+      ∷ by_name (codes "set")
+      ∷ of_text (by_name (codes "set-file"))
+      ∷ of_text (by_name (codes "restore")) ∷ [];
+  operands = any (codes "file") ∷ [];
+}
 
 -- the entries of an option: those of its word, or else those of the text, where the option for a file is given
-abbrev pub entries_from : Option Text → Bool → List ℕ → Option EntryText
-entries_from (Some word) from_text text = Some (record { bytes = word; sep = Comma })
-entries_from None from_text text = if from_text then Some (record { bytes = text; sep = Line }) else None
+abbrev pub entries_from : Option Text → Bool → Option Entries
+entries_from (Some word) in_text = Some (InWord word)
+entries_from None in_text = if in_text then Some InText else None
 
-abbrev pub asked : Words → List ℕ → Asked
-asked w text = record {
-  strip = has Setfacl w (codes "remove-all");
-  drop_default = has Setfacl w (codes "remove-default");
-  as_default = has Setfacl w (codes "default");
-  no_mask = has Setfacl w (codes "no-mask");
-  remask = has Setfacl w (codes "mask");
-  recursive = has Setfacl w (codes "recursive");
-  test = has Setfacl w (codes "test");
-  removed = entries_from (value Setfacl w (codes "remove")) (gives Setfacl w (codes "remove-file")) text;
-  modified = entries_from (value Setfacl w (codes "modify")) (gives Setfacl w (codes "modify-file")) text;
-  set = entries_from (value Setfacl w (codes "set")) (gives Setfacl w (codes "set-file")) text;
-  restored = text_if (gives Setfacl w (codes "restore")) text;
-  files = operands_from Setfacl w (codes "file");
+-- entries are removed or modified
+abbrev pub changes_entries : Words → Bool
+changes_entries w = has row w (codes "remove-all") || has row w (codes "remove-default")
+    || gives row w (codes "modify") || gives row w (codes "modify-file")
+    || gives row w (codes "remove") || gives row w (codes "remove-file")
+
+-- whole lists are replaced
+abbrev pub replaces_lists : Words → Bool
+replaces_lists w = gives row w (codes "set") || gives row w (codes "set-file")
+
+-- one thing is given in two ways
+abbrev pub contradicts_itself : Words → Bool
+contradicts_itself w = (gives row w (codes "modify") && gives row w (codes "modify-file"))
+    || (gives row w (codes "remove") && gives row w (codes "remove-file"))
+    || (gives row w (codes "set") && gives row w (codes "set-file"))
+    || (has row w (codes "no-mask") && has row w (codes "mask"))
+
+-- a flag determines how lists are changed
+abbrev pub has_edit_flag : Words → Bool
+has_edit_flag w = has row w (codes "no-mask") || has row w (codes "mask")
+    || has row w (codes "default") || has row w (codes "recursive")
+
+-- the line that changes these files
+abbrev pub change_of : Words → List Text → ChangeLine
+change_of w files = record {
+  strip = has row w (codes "remove-all");
+  drop_default = has row w (codes "remove-default");
+  as_default = has row w (codes "default");
+  no_mask = has row w (codes "no-mask");
+  remask = has row w (codes "mask");
+  recursive = has row w (codes "recursive");
+  test = has row w (codes "test");
+  removed = entries_from (value row w (codes "remove")) (gives row w (codes "remove-file"));
+  modified = entries_from (value row w (codes "modify")) (gives row w (codes "modify-file"));
+  set = entries_from (value row w (codes "set")) (gives row w (codes "set-file"));
+  files = files;
 }
+
+-- a dump is put back, with nothing else but `--test`
+abbrev pub read_restore : Words → Option SetfaclLine
+read_restore w =
+    if changes_entries w || replaces_lists w || has_edit_flag w || not (is_empty (operands_from row w (codes "file")))
+    then None else Some (Restore (has row w (codes "test")))
+
+-- the entries of lists are changed, or whole lists replaced
+abbrev pub read_change : Words → Option SetfaclLine
+read_change w =
+    if contradicts_itself w || beq (changes_entries w) (replaces_lists w)
+    then None else and_then (files_of (operands_from row w (codes "file"))) (λ files. Some (Change (change_of w files)))
+
+-- what words ask for, where they are no usage
+abbrev pub read : Words → Option SetfaclLine
+read w = if gives row w (codes "restore") then read_restore w else read_change w

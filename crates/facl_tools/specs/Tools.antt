@@ -1,103 +1,139 @@
--- What each tool does, by the words that it was given.
-use Rattle.std.specs.Prelude.{ℕ, List, Bool, if◌then◌else◌, codes, Result}
+-- The tools: their names, the words that each takes, what these ask for as a value of the tool's type, and what that does.
+use Rattle.std.specs.Prelude.{ℕ, List, [], ◌∷◌, Option, Some, option_map, codes, Result, Ok}
+use Rattle.std.specs.List.{find}
 use Rattle.std.specs.Str.{bytes_eq}
-use Rattle.facl_listings.specs.acl_dump.declared.effective.Effective.{Effective}
-use Rattle.facl_listings.specs.acl_dump.declared.effective.Effective.TheVariants.{WhereMasked, Always, Never}
-use Rattle.facl_listings.specs.acl_tree.declared.command.Command.TheVariants.{Chmod}
-use Rattle.facl_listings.specs.acl_tree.declared.command.Table.{Table}
-use Rattle.facl_listings.specs.acl_tree.declared.command.Table.TheVariants.{Passwd, Group, Dump}
-use Rattle.facl_listings.specs.acl_tree.Operands.{first_missing}
 pub use Rattle.facl_listings.specs.acl_rights.Tables.{Verdict}
-use Rattle.facl_listings.specs.acl_people.Registers.{Register, users_of, groups_of}
-use Rattle.facl_listings.specs.acl_people.Rolls.{name_shown}
-use Rattle.facl_listings.specs.acl_tree.Found.{FoundFile, files_found}
-use Rattle.facl_listings.specs.acl_tree.Step.{State, load}
-use Rattle.facl_listings.specs.acl_tree.Reports.{load_moves}
+use Rattle.facl_listings.specs.acl_tree.Step.{State}
 use Rattle.facl_messages.specs.facl_words.Forms.{Text}
-use Rattle.facl_messages.specs.facl_words.Places.{has, operand, operands_from}
-use Rattle.facl_messages.specs.facl_words.declared.tool.Tool.{Tool}
-use Rattle.facl_messages.specs.facl_words.declared.tool.Tool.TheVariants as tools
+use Rattle.facl_messages.specs.facl_words.Lines.{Line}
+use Rattle.facl_messages.specs.facl_words.Words.{words_by}
 use Rattle.facl_messages.specs.facl_words.declared.words.Words.{Words}
 use Rattle.facl_messages.specs.declared.fault.LineFault.{LineFault}
 use Rattle.facl_messages.specs.declared.fault.LineFault.TheVariants.{Usage}
-use Rattle.facl_listings.specs.declared.options.Options.{Options}
-use Rattle.facl_listings.specs.Listings.{listing}
-use Rattle.facl_tools.specs.Replies.{Reply, after, or_fault, done, printed, replied}
-use Rattle.facl_tools.specs.Modes.{mode_of}
-use Rattle.facl_tools.specs.Queries.{can_line, who_line, may_line, index_line}
-use Rattle.facl_tools.specs.Setfacl.{setfacl_line}
-use Rattle.facl_tools.specs.Chacl.{chacl_line}
-use Rattle.facl_tools.specs.Creation.{creat_line}
-use Rattle.facl_tools.specs.Removal.{rm_line}
-use Rattle.facl_tools.specs.Attributes.{attr_line, setattr_line}
-use Rattle.facl_tools.specs.Memberships.{gpasswd_line, usermod_line}
-use Rattle.facl_tools.specs.Accounts.{useradd_line, userdel_line}
-use Rattle.facl_tools.specs.Operands.{paths_from, recorded_or_fault}
+use Rattle.facl_tools.specs.Replies.{Reply, after, or_fault}
+use Rattle.facl_tools.specs.Attr as attr
+use Rattle.facl_tools.specs.Can as can
+use Rattle.facl_tools.specs.Chacl as chacl
+use Rattle.facl_tools.specs.Chmod as chmod
+use Rattle.facl_tools.specs.Creat as creat
+use Rattle.facl_tools.specs.Getfacl as getfacl
+use Rattle.facl_tools.specs.Gpasswd as gpasswd
+use Rattle.facl_tools.specs.Index as index
+use Rattle.facl_tools.specs.Load as load
+use Rattle.facl_tools.specs.May as may
+use Rattle.facl_tools.specs.Rm as rm
+use Rattle.facl_tools.specs.Setattr as setattr
+use Rattle.facl_tools.specs.Setfacl as setfacl
+use Rattle.facl_tools.specs.SetfaclLine as setfacl_line
+use Rattle.facl_tools.specs.Useradd as useradd
+use Rattle.facl_tools.specs.Userdel as userdel
+use Rattle.facl_tools.specs.Usermod as usermod
+use Rattle.facl_tools.specs.Who as who
+use Rattle.facl_tools.specs.declared.tools.Tool.{Tool}
+use Rattle.facl_tools.specs.declared.tools.Tool.TheVariants as tools
+use Rattle.facl_tools.specs.declared.tools.ToolLine.{ToolLine}
+use Rattle.facl_tools.specs.declared.tools.ToolLine.TheVariants as lines
 
--- ---- load
+abbrev pub name_of : Tool → Text
+name_of tools.Load = codes "load"
+name_of tools.Getfacl = codes "getfacl"
+name_of tools.Setfacl = codes "setfacl"
+name_of tools.Chacl = codes "chacl"
+name_of tools.Chmod = codes "chmod"
+name_of tools.Creat = codes "creat"
+name_of tools.Rm = codes "rm"
+name_of tools.Gpasswd = codes "gpasswd"
+name_of tools.Usermod = codes "usermod"
+name_of tools.Attr = codes "attr"
+name_of tools.Setattr = codes "setattr"
+name_of tools.Can = codes "can"
+name_of tools.Who = codes "who"
+name_of tools.May = codes "may"
+name_of tools.Index = codes "index"
+name_of tools.Useradd = codes "useradd"
+name_of tools.Userdel = codes "userdel"
 
-abbrev pub table_named : Text → Table
-table_named name = if bytes_eq name (codes "passwd") then Passwd else if bytes_eq name (codes "group") then Group else Dump
+abbrev pub all_tools : List Tool
+all_tools = tools.Load ∷ tools.Getfacl ∷ tools.Setfacl ∷ tools.Chacl ∷ tools.Chmod ∷ tools.Creat ∷ tools.Rm ∷ tools.Gpasswd
+    ∷ tools.Usermod ∷ tools.Attr ∷ tools.Setattr ∷ tools.Can ∷ tools.Who ∷ tools.May ∷ tools.Index ∷ tools.Useradd ∷ tools.Userdel ∷ []
 
--- a text is read as this
-abbrev pub load_table : State → Table → List ℕ → Result Reply LineFault
-load_table s which text = replied (load_moves which) (load s which text)
+-- the tool of this name
+abbrev pub tool_named : Text → Option Tool
+tool_named name = find (λ tool. bytes_eq (name_of tool) name) all_tools
 
-abbrev pub load_line : State → Words → List ℕ → Result Reply LineFault
-load_line s w text = load_table s (table_named (operand tools.Load w (codes "table"))) text
+-- the words that a tool takes
+abbrev pub row_of : Tool → Line
+row_of tools.Load = load.row
+row_of tools.Getfacl = getfacl.row
+row_of tools.Setfacl = setfacl_line.row
+row_of tools.Chacl = chacl.row
+row_of tools.Chmod = chmod.row
+row_of tools.Creat = creat.row
+row_of tools.Rm = rm.row
+row_of tools.Gpasswd = gpasswd.row
+row_of tools.Usermod = usermod.row
+row_of tools.Attr = attr.row
+row_of tools.Setattr = setattr.row
+row_of tools.Can = can.row
+row_of tools.Who = who.row
+row_of tools.May = may.row
+row_of tools.Index = index.row
+row_of tools.Useradd = useradd.row
+row_of tools.Userdel = userdel.row
 
--- ---- chmod(1)
+-- what words ask their tool for, where they are no usage
+abbrev pub read_line : Tool → Words → Option ToolLine
+read_line tools.Load w = option_map (λ line. lines.Load line) (load.read w)
+read_line tools.Getfacl w = option_map (λ line. lines.Getfacl line) (getfacl.read w)
+read_line tools.Setfacl w = option_map (λ line. lines.Setfacl line) (setfacl_line.read w)
+read_line tools.Chacl w = option_map (λ line. lines.Chacl line) (chacl.read w)
+read_line tools.Chmod w = option_map (λ line. lines.Chmod line) (chmod.read w)
+read_line tools.Creat w = option_map (λ line. lines.Creat line) (creat.read w)
+read_line tools.Rm w = option_map (λ line. lines.Rm line) (rm.read w)
+read_line tools.Gpasswd w = option_map (λ line. lines.Gpasswd line) (gpasswd.read w)
+read_line tools.Usermod w = option_map (λ line. lines.Usermod line) (usermod.read w)
+read_line tools.Attr w = option_map (λ line. lines.Attr line) (attr.read w)
+read_line tools.Setattr w = option_map (λ line. lines.Setattr line) (setattr.read w)
+read_line tools.Can w = option_map (λ line. lines.Can line) (can.read w)
+read_line tools.Who w = option_map (λ line. lines.Who line) (who.read w)
+read_line tools.May w = option_map (λ line. lines.May line) (may.read w)
+read_line tools.Index w = Some lines.Index
+read_line tools.Useradd w = option_map (λ line. lines.Useradd line) (useradd.read w)
+read_line tools.Userdel w = Some (lines.Userdel (userdel.read w))
 
--- this mode is put into the files
-abbrev pub chmod_files : State → Words → ℕ → Result Reply LineFault
-chmod_files s w mode =
-    after (paths_from 1 (operands_from tools.Chmod w (codes "file")))
-    (λ paths. done s (Chmod paths mode (has tools.Chmod w (codes "R"))))
+-- the line of words, or usage
+unfoldable pub line_or_fault : Tool → Words → Result ToolLine LineFault
+line_or_fault tool w = or_fault Usage (read_line tool w)
 
-abbrev pub chmod_line : State → Words → Result Reply LineFault
-chmod_line s w = after (or_fault Usage (mode_of (operand tools.Chmod w (codes "mode")))) (chmod_files s w)
+-- the words after a tool's name by its row, or usage
+unfoldable pub words_of : Tool → List Text → Result Words LineFault
+words_of tool words = or_fault Usage (words_by (row_of tool) words)
 
--- ---- getfacl(1)
+-- the words, where they are a line of the tool
+abbrev pub words_or_fault : Tool → List Text → Result Words LineFault
+words_or_fault tool words = after (words_of tool words) (λ w. after (line_or_fault tool w) (λ line. Ok w))
 
-abbrev pub effective_for : Bool → Bool → Effective
-effective_for always never = if always then Always else if never then Never else WhereMasked
+-- what a line does at a state
+unfoldable pub answered : Verdict → State → ToolLine → List ℕ → Result Reply LineFault
+answered verdict s (lines.Load line) text = load.answered s line text
+answered verdict s (lines.Getfacl line) text = getfacl.answered s line
+answered verdict s (lines.Setfacl line) text = setfacl.answered s line text
+answered verdict s (lines.Chacl line) text = chacl.answered s line
+answered verdict s (lines.Chmod line) text = chmod.answered s line
+answered verdict s (lines.Creat line) text = creat.answered s line
+answered verdict s (lines.Rm line) text = rm.answered s line
+answered verdict s (lines.Gpasswd line) text = gpasswd.answered s line
+answered verdict s (lines.Usermod line) text = usermod.answered s line
+answered verdict s (lines.Attr line) text = attr.answered s line
+answered verdict s (lines.Setattr line) text = setattr.answered s line
+answered verdict s (lines.Can line) text = can.answered verdict s line
+answered verdict s (lines.Who line) text = who.answered verdict s line
+answered verdict s (lines.May line) text = may.answered verdict s line
+answered verdict s lines.Index text = index.answered verdict s
+answered verdict s (lines.Useradd line) text = useradd.answered s line
+answered verdict s (lines.Userdel line) text = userdel.answered s line
 
-abbrev pub options_of : Words → Options
-options_of w = record {
-  access_only = has tools.Getfacl w (codes "access");
-  omit_header = has tools.Getfacl w (codes "omit-header");
-  effective = effective_for (has tools.Getfacl w (codes "all-effective")) (has tools.Getfacl w (codes "no-effective"));
-  skip_base = has tools.Getfacl w (codes "skip-base");
-  numeric = has tools.Getfacl w (codes "numeric");
-}
-
--- ids print as the names that these people have
-abbrev pub named_listing : Register → Options → List FoundFile → List ℕ
-named_listing known options files = listing (λ id. name_shown id (users_of known)) (λ id. name_shown id (groups_of known)) options files
-
-abbrev pub getfacl_line : State → Words → Result Reply LineFault
-getfacl_line s w =
-    after (paths_from 1 (operands_from tools.Getfacl w (codes "file")))
-    (λ paths. recorded_or_fault (first_missing paths s.tree.files)
-    (printed s (named_listing s.people (options_of w) (files_found (has tools.Getfacl w (codes "recursive")) paths s.tree.files))))
-
--- ---- all tools
-
-unfoldable pub tool_line : Verdict → State → Tool → Words → List ℕ → Result Reply LineFault
-tool_line verdict s tools.Load w text = load_line s w text
-tool_line verdict s tools.Getfacl w text = getfacl_line s w
-tool_line verdict s tools.Setfacl w text = setfacl_line s w text
-tool_line verdict s tools.Chacl w text = chacl_line s w
-tool_line verdict s tools.Chmod w text = chmod_line s w
-tool_line verdict s tools.Creat w text = creat_line s w
-tool_line verdict s tools.Rm w text = rm_line s w
-tool_line verdict s tools.Gpasswd w text = gpasswd_line s w
-tool_line verdict s tools.Usermod w text = usermod_line s w
-tool_line verdict s tools.Attr w text = attr_line s w
-tool_line verdict s tools.Setattr w text = setattr_line s w
-tool_line verdict s tools.Can w text = can_line verdict s w
-tool_line verdict s tools.Who w text = who_line verdict s w
-tool_line verdict s tools.May w text = may_line verdict s w
-tool_line verdict s tools.Index w text = index_line verdict s
-tool_line verdict s tools.Useradd w text = useradd_line s w
-tool_line verdict s tools.Userdel w text = userdel_line s w
+-- what a tool does at a state with the words after its name and the text after the line, or usage
+abbrev pub tool_line : Verdict → State → Tool → List Text → List ℕ → Result Reply LineFault
+tool_line verdict s tool words text =
+    after (words_of tool words) (λ w. after (line_or_fault tool w) (λ line. answered verdict s line text))

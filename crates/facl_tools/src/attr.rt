@@ -1,20 +1,43 @@
 //! The tool `attr`: the lists of a file as extended attributes.
 
+ghost use Rattle.std.specs.Prelude.{◌≡◌};
+ghost use Rattle.facl_tools.specs.Attr.{answered, read};
 ghost use Rattle.facl_tools.specs.Replies.{Replies};
-ghost use Rattle.facl_tools.specs.Attributes.{attr_line};
 
 use crate::effect::Effect;
 use crate::operands::paths_of;
+use crate::rows::one;
 use facl_listings::{State, write_attributes};
-use facl_messages::places::attr::FILE;
-use facl_messages::{LineFault, Words};
+use facl_messages::{LineFault, LineFiles, LineRows, OperandRow, Words};
 use std::alloc::Global;
 
-/// Prints the attributes of a file.
-pub(crate) fn attr(alloc: Global, state: &State, words: &Words) -> Result<Effect, LineFault>
-    ensures { Replies state.now result (attr_line state.now words.now) }
+/// The words of the tool.
+pub(crate) static ROW: LineRows = LineRows {
+    flags: &[],
+    options: &[],
+    operands: &[one!("file")],
+};
+
+/// A line of `attr`.
+#[derive(Debug, Drop)]
+pub struct AttrLine<'a> {
+    /// The FILE.
+    pub files: LineFiles<'a>,
+}
+
+/// What words ask for. `None` where they are usage.
+pub(crate) fn read(words: &Words) -> Option<AttrLine<'_>>
+    ensures { result ≡ read words.now }
 {
-    let paths = paths_of(alloc, words.operands.starting_at(FILE))?;
+    let files = words.files(&ROW, "file")?;
+    Some(AttrLine { files })
+}
+
+/// Prints the attributes of a file.
+pub(crate) fn answer(alloc: Global, state: &State, line: AttrLine<'_>) -> Result<Effect, LineFault>
+    ensures { Replies state.now result (answered state.now line.entry) }
+{
+    let paths = paths_of(alloc, line.files.as_slice())?;
     let files = state.tree().files(alloc, &paths, false)?;
     let out = write_attributes(alloc, &files)?;
     Ok(Effect::prints(out))

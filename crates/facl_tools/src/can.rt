@@ -1,16 +1,45 @@
 //! The tool `can`: what a user may do with a file.
 
+ghost use Rattle.std.specs.Prelude.{◌≡◌};
 ghost use Rattle.facl_listings.specs.acl_rights.Tables.{IsWhole};
 ghost use Rattle.facl_listings.specs.acl_tree.Step as step;
+ghost use Rattle.facl_tools.specs.Can.{answered, can_of, read, requests_at};
 ghost use Rattle.facl_tools.specs.Replies.{Gives, Replies};
-ghost use Rattle.facl_tools.specs.Queries.{can_line, can_of, requests_at};
 
 use crate::effect::Effect;
 use crate::operands::{path_at, user_at};
+use crate::rows::{by_name, one};
 use facl_listings::{Index, Judge, Path, State, TreeFault, append_requests, can_requests};
-use facl_messages::places::can::{FILE, REACH, USER};
-use facl_messages::{LineFault, Words};
+use facl_messages::{LineFault, LineRows, LineWord, OperandRow, SwitchRow, Words};
 use std::alloc::Global;
+
+/// The words of the tool.
+pub(crate) static ROW: LineRows = LineRows {
+    flags: &[by_name!("reach")],
+    options: &[],
+    operands: &[one!("user"), one!("file")],
+};
+
+/// A line of `can`.
+#[derive(Debug, Drop)]
+pub struct CanLine<'a> {
+    /// `--reach`: search on the directories above is asked too.
+    pub reach: bool,
+    pub user: LineWord<'a>,
+    pub file: LineWord<'a>,
+}
+
+/// What words ask for. `None` where they are usage.
+pub(crate) fn read(words: &Words) -> Option<CanLine<'_>>
+    ensures { result ≡ read words.now }
+{
+    let file = words.file(&ROW, "file")?;
+    Some(CanLine {
+        reach: words.has(&ROW, "reach"),
+        user: words.operand(&ROW, "user"),
+        file,
+    })
+}
 
 /// The line of what the user at a place may do with the file of a path.
 fn requests_at<J: Judge>(
@@ -37,7 +66,7 @@ fn can_of<J: Judge>(
     state: &State,
     index: &Index<J>,
     along: bool,
-    word: &str,
+    word: &LineWord<'_>,
     path: Path,
 ) -> Result<Vec<u8>, LineFault>
     requires { IsWhole J.verdict_of state.now index.now }
@@ -48,17 +77,16 @@ fn can_of<J: Judge>(
 }
 
 /// What a user may do with a file; with `--reach` only where the user can search each recorded directory above it.
-pub fn can_line<J: Judge>(
+pub(crate) fn answer<J: Judge>(
     alloc: Global,
     state: &State,
     index: &Index<J>,
-    words: &Words,
+    line: CanLine<'_>,
 ) -> Result<Effect, LineFault>
     requires { IsWhole J.verdict_of state.now index.now }
-    ensures { Replies state.now result (can_line J.verdict_of state.now words.now) }
+    ensures { Replies state.now result (answered J.verdict_of state.now line.entry) }
 {
-    let path = path_at(alloc, 1, words.operands.get(FILE))?;
-    let along = words.flags.has(REACH);
-    let out = can_of(alloc, state, index, along, words.operands.get(USER), path)?;
+    let path = path_at(alloc, 1, line.file.as_bytes())?;
+    let out = can_of(alloc, state, index, line.reach, &line.user, path)?;
     Ok(Effect::prints(out))
 }

@@ -1,29 +1,44 @@
 //! The tool chacl(1).
 
 ghost use Rattle.std.specs.Prelude.{◌≡◌};
+ghost use Rattle.facl_tools.specs.Chacl.{answered, line_of, line_with, list_files, put_access, put_both, put_default, read, read_access, read_both, read_default, tasks_given};
 ghost use Rattle.facl_tools.specs.Replies.{Replies};
-ghost use Rattle.facl_tools.specs.Chacl.{line_of, put_access, put_default, put_both, list_files, line_at, chacl_line};
 
 use crate::edits::edit_files;
 use crate::effect::Effect;
 use crate::lists::list_of;
 use crate::operands::paths_of;
+use crate::rows::{by_letter, some};
 use facl_listings::{Edit, State, Which, write_chacl_listing};
-use facl_messages::places::chacl::{
-    LIST, PUT_BOTH, PUT_DEFAULT, RECURSIVE, REMOVE_ACCESS, REMOVE_BOTH, REMOVE_DEFAULT, WORDS,
+use facl_messages::{
+    LineFault, LineFiles, LineRows, LineWord, OperandRow, Source, SwitchRow, Word, Words,
 };
-use facl_messages::{LineFault, Source, Word, Words};
 use std::alloc::Global;
 
+/// The words of the tool: lists, where the flags ask for them, and then files.
+pub(crate) static ROW: LineRows = LineRows {
+    flags: &[
+        by_letter!('b', "b"),
+        by_letter!('d', "d"),
+        by_letter!('R', "R"),
+        by_letter!('D', "D"),
+        by_letter!('B', "B"),
+        by_letter!('l', "l"),
+        by_letter!('r', "r"),
+    ],
+    options: &[],
+    operands: &[some!("word")],
+};
+
 /// What a line does with its files.
-#[derive(Clone, Copy, Debug)]
-enum Task {
-    /// Puts the access list that the first word names.
-    PutAccess,
-    /// `-d`: puts the default list that the first word names.
-    PutDefault,
-    /// `-b`: puts the access list and the default list that the first two words name.
-    PutBoth,
+#[derive(Debug, Drop)]
+pub enum Task<'a> {
+    /// Puts the access list that the word names.
+    PutAccess(LineWord<'a>),
+    /// `-d`: puts the default list that the word names.
+    PutDefault(LineWord<'a>),
+    /// `-b`: puts the access list and the default list that the words name.
+    PutBoth(LineWord<'a>, LineWord<'a>),
     /// `-R`: leaves the access list with what the mode shows.
     RemoveAccess,
     /// `-D`: removes the default list.
@@ -34,35 +49,105 @@ enum Task {
     List,
 }
 
-/// A line of chacl(1): what its flags mean.
-#[derive(Clone, Copy, Debug)]
-struct ChaclLine {
-    task: Task,
-    recursive: bool,
+/// A line of chacl(1).
+#[derive(Debug, Drop)]
+pub struct ChaclLine<'a> {
+    pub task: Task<'a>,
+    /// `-r`: with all below.
+    pub recursive: bool,
+    pub files: LineFiles<'a>,
 }
 
-fn line_of(words: &Words) -> ChaclLine
-    ensures { result ≡ line_of words.now }
+/// How many of the flags are given that select what is done.
+fn tasks_given(words: &Words) -> usize
+    ensures { result ≡ tasks_given words.now }
 {
-    let flags = &words.flags;
-    let task = if flags.has(PUT_BOTH) {
-        Task::PutBoth
-    } else if flags.has(PUT_DEFAULT) {
-        Task::PutDefault
-    } else if flags.has(REMOVE_ACCESS) {
-        Task::RemoveAccess
-    } else if flags.has(REMOVE_DEFAULT) {
-        Task::RemoveDefault
-    } else if flags.has(REMOVE_BOTH) {
-        Task::RemoveBoth
-    } else if flags.has(LIST) {
-        Task::List
-    } else {
-        Task::PutAccess
-    };
-    ChaclLine {
+    usize::from(words.has(&ROW, "b"))
+        + usize::from(words.has(&ROW, "d"))
+        + usize::from(words.has(&ROW, "R"))
+        + usize::from(words.has(&ROW, "D"))
+        + usize::from(words.has(&ROW, "B"))
+        + usize::from(words.has(&ROW, "l"))
+}
+
+/// The line of a task on these files.
+fn line_with<'a>(task: Task<'a>, recursive: bool, words: &'a [Word]) -> Option<ChaclLine<'a>>
+    ensures { result ≡ line_with task.entry recursive words.now }
+{
+    let files = LineFiles::of(words)?;
+    Some(ChaclLine {
         task,
-        recursive: flags.has(RECURSIVE),
+        recursive,
+        files,
+    })
+}
+
+/// The line that puts an access list into the files after it.
+fn read_access(recursive: bool, words: &[Word]) -> Option<ChaclLine<'_>>
+    ensures { result ≡ read_access recursive words.now }
+{
+    let [access, files @ ..] = words else {
+        return None;
+    };
+    let task = Task::PutAccess(LineWord::new(access.as_bytes()));
+    line_with(task, recursive, files)
+}
+
+/// The line that puts a default list.
+fn read_default(recursive: bool, words: &[Word]) -> Option<ChaclLine<'_>>
+    ensures { result ≡ read_default recursive words.now }
+{
+    let [default, files @ ..] = words else {
+        return None;
+    };
+    let task = Task::PutDefault(LineWord::new(default.as_bytes()));
+    line_with(task, recursive, files)
+}
+
+/// The line that puts both.
+fn read_both(recursive: bool, words: &[Word]) -> Option<ChaclLine<'_>>
+    ensures { result ≡ read_both recursive words.now }
+{
+    let [access, default, files @ ..] = words else {
+        return None;
+    };
+    let task = Task::PutBoth(
+        LineWord::new(access.as_bytes()),
+        LineWord::new(default.as_bytes()),
+    );
+    line_with(task, recursive, files)
+}
+
+/// The line of the flag that selects what is done.
+fn line_of<'a>(words: &Words, recursive: bool, operands: &'a [Word]) -> Option<ChaclLine<'a>>
+    ensures { result ≡ line_of words.now recursive operands.now }
+{
+    if words.has(&ROW, "b") {
+        read_both(recursive, operands)
+    } else if words.has(&ROW, "d") {
+        read_default(recursive, operands)
+    } else if words.has(&ROW, "R") {
+        line_with(Task::RemoveAccess, recursive, operands)
+    } else if words.has(&ROW, "D") {
+        line_with(Task::RemoveDefault, recursive, operands)
+    } else if words.has(&ROW, "B") {
+        line_with(Task::RemoveBoth, recursive, operands)
+    } else if words.has(&ROW, "l") {
+        line_with(Task::List, recursive, operands)
+    } else {
+        read_access(recursive, operands)
+    }
+}
+
+/// What words ask for. `None` where they are usage: two tasks, or too few words.
+pub(crate) fn read(words: &Words) -> Option<ChaclLine<'_>>
+    ensures { result ≡ read words.now }
+{
+    if tasks_given(words) <= 1 {
+        let operands = words.operands_from(&ROW, "word");
+        line_of(words, words.has(&ROW, "r"), operands)
+    } else {
+        None
     }
 }
 
@@ -70,15 +155,13 @@ fn put_access(
     alloc: Global,
     state: &State,
     recursive: bool,
-    words: &[Word],
+    text: &[u8],
+    files: &[Word],
 ) -> Result<Effect, LineFault>
-    ensures { Replies state.now result (put_access state.now recursive words.now) }
+    ensures { Replies state.now result (put_access state.now recursive text.now files.now) }
 {
-    let [text, files @ ..] = words else {
-        return Err(LineFault::Usage);
-    };
     let people = state.people();
-    let access = list_of(alloc, people, Source::Entry, Which::Access, text.as_str())?;
+    let access = list_of(alloc, people, Source::Entry, Which::Access, text)?;
     let edit = Edit::Put {
         access: Some(access),
         dacl: None,
@@ -90,21 +173,13 @@ fn put_default(
     alloc: Global,
     state: &State,
     recursive: bool,
-    words: &[Word],
+    text: &[u8],
+    files: &[Word],
 ) -> Result<Effect, LineFault>
-    ensures { Replies state.now result (put_default state.now recursive words.now) }
+    ensures { Replies state.now result (put_default state.now recursive text.now files.now) }
 {
-    let [text, files @ ..] = words else {
-        return Err(LineFault::Usage);
-    };
     let people = state.people();
-    let dacl = list_of(
-        alloc,
-        people,
-        Source::DefaultEntry,
-        Which::Default,
-        text.as_str(),
-    )?;
+    let dacl = list_of(alloc, people, Source::DefaultEntry, Which::Default, text)?;
     let edit = Edit::Put {
         access: None,
         dacl: Some(dacl),
@@ -112,25 +187,25 @@ fn put_default(
     edit_files(alloc, state, recursive, edit, files)
 }
 
+/// Puts an access list and a default list, read in this order.
 fn put_both(
     alloc: Global,
     state: &State,
     recursive: bool,
-    words: &[Word],
+    text: &[u8],
+    default_text: &[u8],
+    files: &[Word],
 ) -> Result<Effect, LineFault>
-    ensures { Replies state.now result (put_both state.now recursive words.now) }
+    ensures { Replies state.now result (put_both state.now recursive text.now default_text.now files.now) }
 {
-    let [access, dacl, files @ ..] = words else {
-        return Err(LineFault::Usage);
-    };
     let people = state.people();
-    let access = list_of(alloc, people, Source::Entry, Which::Access, access.as_str())?;
+    let access = list_of(alloc, people, Source::Entry, Which::Access, text)?;
     let dacl = list_of(
         alloc,
         people,
         Source::DefaultEntry,
         Which::Default,
-        dacl.as_str(),
+        default_text,
     )?;
     let edit = Edit::Put {
         access: Some(access),
@@ -154,20 +229,28 @@ fn list_files(
     Ok(Effect::prints(out))
 }
 
-fn line_at(
-    alloc: Global,
-    state: &State,
-    line: ChaclLine,
-    words: &[Word],
-) -> Result<Effect, LineFault>
-    ensures { Replies state.now result (line_at state.now line.recursive line.task words.now) }
+/// Puts or removes lists of files, or prints them.
+pub(crate) fn answer(alloc: Global, state: &State, line: ChaclLine<'_>) -> Result<Effect, LineFault>
+    ensures { Replies state.now result (answered state.now line.entry) }
 {
-    let recursive = line.recursive;
-    let (access, dacl) = match line.task {
-        Task::PutAccess => return put_access(alloc, state, recursive, words),
-        Task::PutDefault => return put_default(alloc, state, recursive, words),
-        Task::PutBoth => return put_both(alloc, state, recursive, words),
-        Task::List => return list_files(alloc, state, recursive, words),
+    let ChaclLine {
+        task,
+        recursive,
+        files,
+    } = line;
+    let files = files.as_slice();
+    let (access, dacl) = match task {
+        Task::PutAccess(text) => {
+            return put_access(alloc, state, recursive, text.as_bytes(), files);
+        }
+        Task::PutDefault(text) => {
+            return put_default(alloc, state, recursive, text.as_bytes(), files);
+        }
+        Task::PutBoth(access, default) => {
+            let (access, default) = (access.as_bytes(), default.as_bytes());
+            return put_both(alloc, state, recursive, access, default, files);
+        }
+        Task::List => return list_files(alloc, state, recursive, files),
         Task::RemoveAccess => (true, false),
         Task::RemoveDefault => (false, true),
         Task::RemoveBoth => (true, true),
@@ -177,14 +260,6 @@ fn line_at(
         state,
         recursive,
         Edit::Flatten { access, dacl },
-        words,
+        files,
     )
-}
-
-/// Puts or removes lists of files, or prints them.
-pub(crate) fn chacl(alloc: Global, state: &State, words: &Words) -> Result<Effect, LineFault>
-    ensures { Replies state.now result (chacl_line state.now words.now) }
-{
-    let line = line_of(words);
-    line_at(alloc, state, line, words.operands.starting_at(WORDS))
 }

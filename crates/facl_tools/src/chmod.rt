@@ -1,39 +1,57 @@
 //! The tool chmod(1), with an octal mode.
 
-ghost use Rattle.std.specs.Prelude.{◌≡◌, codes};
-ghost use Rattle.facl_messages.specs.facl_words.Places.{operand};
-ghost use Rattle.facl_messages.specs.facl_words.declared.tool.Tool.TheVariants as tools;
+ghost use Rattle.std.specs.Prelude.{◌≡◌};
+ghost use Rattle.facl_tools.specs.Chmod.{answered, read};
 ghost use Rattle.facl_tools.specs.Replies.{Replies};
-ghost use Rattle.facl_tools.specs.Tools.{chmod_files, chmod_line};
 
 use crate::change::prepare;
 use crate::effect::Effect;
 use crate::mode::mode_of;
 use crate::operands::paths_of;
+use crate::rows::{by_letter, one, some};
 use facl_listings::{Command, State};
-use facl_messages::places::chmod::{FILES, MODE, RECURSIVE};
-use facl_messages::{LineFault, Words};
+use facl_messages::{LineFault, LineFiles, LineRows, OperandRow, SwitchRow, Words};
 use std::alloc::Global;
 
-/// Puts a mode into the files of a line.
-fn chmod_files(alloc: Global, state: &State, words: &Words, mode: u16) -> Result<Effect, LineFault>
-    ensures { Replies state.now result (chmod_files state.now words.now mode) }
+/// The words of the tool.
+pub(crate) static ROW: LineRows = LineRows {
+    flags: &[by_letter!('R', "R")],
+    options: &[],
+    operands: &[one!("mode"), some!("file")],
+};
+
+/// A line of chmod(1).
+#[derive(Debug, Drop)]
+pub struct ChmodLine<'a> {
+    /// `-R`: with all below.
+    pub recursive: bool,
+    /// One to four octal digits.
+    pub mode: u16,
+    pub files: LineFiles<'a>,
+}
+
+/// What words ask for. `None` where they are usage.
+pub(crate) fn read(words: &Words) -> Option<ChmodLine<'_>>
+    ensures { result ≡ read words.now }
 {
-    let paths = paths_of(alloc, words.operands.starting_at(FILES))?;
-    let command = Command::Chmod {
-        paths,
+    let mode = mode_of(words.operand(&ROW, "mode").as_bytes())?;
+    let files = words.files(&ROW, "file")?;
+    Some(ChmodLine {
+        recursive: words.has(&ROW, "R"),
         mode,
-        recursive: words.flags.has(RECURSIVE),
-    };
-    prepare(alloc, state, &command)
+        files,
+    })
 }
 
 /// Puts a mode into files.
-pub(crate) fn chmod(alloc: Global, state: &State, words: &Words) -> Result<Effect, LineFault>
-    ensures { Replies state.now result (chmod_line state.now words.now) }
+pub(crate) fn answer(alloc: Global, state: &State, line: ChmodLine<'_>) -> Result<Effect, LineFault>
+    ensures { Replies state.now result (answered state.now line.entry) }
 {
-    match mode_of(words.operands.get(MODE)) {
-        Some(mode) => chmod_files(alloc, state, words, mode),
-        None => Err(LineFault::Usage),
-    }
+    let paths = paths_of(alloc, line.files.as_slice())?;
+    let command = Command::Chmod {
+        paths,
+        mode: line.mode,
+        recursive: line.recursive,
+    };
+    prepare(alloc, state, &command)
 }

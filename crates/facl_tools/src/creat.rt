@@ -1,75 +1,96 @@
 //! The tool `creat`: a new file, with what it inherits from its directory.
 
 ghost use Rattle.std.specs.Prelude.{◌≡◌};
-ghost use Rattle.facl_tools.specs.Replies.{Replies, Gives};
-ghost use Rattle.facl_tools.specs.Creation.{modes_of, kind_of, user_of, new_file, creat_line};
+ghost use Rattle.facl_tools.specs.Creat.{answered, kind_of, mode_given, new_file, read};
+ghost use Rattle.facl_tools.specs.Replies.{Gives, Replies};
 
 use crate::change::prepare;
 use crate::effect::Effect;
 use crate::mode::permission_mode_of;
 use crate::operands::{name_meant, path_at};
-use facl_listings::{Command, Kind, Name, NewFile, State};
-use facl_messages::places::creat::{DIRECTORY, FILE, MODE, UMASK, USER};
-use facl_messages::{LineFault, Words};
+use crate::rows::{by_letter, by_name, one};
+use facl_listings::{Command, Kind, NewFile, State};
+use facl_messages::{LineFault, LineRows, LineWord, OperandRow, SwitchRow, Words};
 use std::alloc::Global;
 
-/// The permissions that a line asks for, and those that it withholds.
-#[derive(Clone, Copy, Debug)]
-struct Modes {
-    mode: u16,
-    umask: u16,
+/// The words of the tool.
+pub(crate) static ROW: LineRows = LineRows {
+    flags: &[by_letter!('d', "d")],
+    options: &[
+        by_name!("user"),
+        by_name!("mode"),
+        by_name!("umask" or "022"),
+    ],
+    operands: &[one!("file")],
+};
+
+/// A line of `creat`.
+#[derive(Debug, Drop)]
+pub struct CreatLine<'a> {
+    /// `-d`: a directory.
+    pub kind: Kind,
+    /// `--user`: the owner.
+    pub user: LineWord<'a>,
+    /// `--mode`: the permissions that are asked for.
+    pub mode: u16,
+    /// `--umask`: the permissions that are withheld, 022 where it is absent.
+    pub umask: u16,
+    pub file: LineWord<'a>,
 }
 
-fn modes_of(words: &Words) -> Option<Modes>
-    ensures { result ≡ modes_of words.now }
+/// The mode of an option.
+fn mode_given(words: &Words, name: &str) -> Option<u16>
+    ensures { result ≡ mode_given words.now name.now }
 {
-    let mode = permission_mode_of(words.values.get(MODE)?)?;
-    let umask = permission_mode_of(words.values.get(UMASK)?)?;
-    Some(Modes { mode, umask })
+    permission_mode_of(words.value(&ROW, name)?.as_bytes())
 }
 
-fn kind_of(words: &Words) -> Kind
-    ensures { result ≡ kind_of words.now }
+fn kind_of(is_directory: bool) -> Kind
+    ensures { result ≡ kind_of is_directory }
 {
-    if words.flags.has(DIRECTORY) {
+    if is_directory {
         Kind::Directory
     } else {
         Kind::Plain
     }
 }
 
-/// The word for the user who creates the file.
-fn user_of(alloc: Global, words: &Words) -> Result<Name, LineFault>
-    ensures { Gives (λ name. name) result (user_of words.now) }
+/// What words ask for. `None` where they are usage.
+pub(crate) fn read(words: &Words) -> Option<CreatLine<'_>>
+    ensures { result ≡ read words.now }
 {
-    match words.values.get(USER) {
-        Some(word) => Ok(name_meant(alloc, word)?),
-        None => Err(LineFault::Usage),
-    }
+    let user = words.value(&ROW, "user")?;
+    let mode = mode_given(words, "mode")?;
+    let umask = mode_given(words, "umask")?;
+    let file = words.file(&ROW, "file")?;
+    Some(CreatLine {
+        kind: kind_of(words.has(&ROW, "d")),
+        user,
+        mode,
+        umask,
+        file,
+    })
 }
 
 /// The new file of a line.
-fn new_file(alloc: Global, words: &Words) -> Result<NewFile, LineFault>
-    ensures { Gives (λ new. new) result (new_file words.now) }
+fn new_file(alloc: Global, line: CreatLine<'_>) -> Result<NewFile, LineFault>
+    ensures { Gives (λ new. new) result (new_file line.entry) }
 {
-    let Some(modes) = modes_of(words) else {
-        return Err(LineFault::Usage);
-    };
-    let user = user_of(alloc, words)?;
-    let path = path_at(alloc, 1, words.operands.get(FILE))?;
+    let user = name_meant(alloc, &line.user)?;
+    let path = path_at(alloc, 1, line.file.as_bytes())?;
     Ok(NewFile {
         path,
-        kind: kind_of(words),
+        kind: line.kind,
         user,
-        mode: modes.mode,
-        umask: modes.umask,
+        mode: line.mode,
+        umask: line.umask,
     })
 }
 
 /// Makes a plain file or a directory.
-pub(crate) fn creat(alloc: Global, state: &State, words: &Words) -> Result<Effect, LineFault>
-    ensures { Replies state.now result (creat_line state.now words.now) }
+pub(crate) fn answer(alloc: Global, state: &State, line: CreatLine<'_>) -> Result<Effect, LineFault>
+    ensures { Replies state.now result (answered state.now line.entry) }
 {
-    let new = new_file(alloc, words)?;
+    let new = new_file(alloc, line)?;
     prepare(alloc, state, &Command::Creat(new))
 }

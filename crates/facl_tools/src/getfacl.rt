@@ -1,52 +1,85 @@
 //! The tool getfacl(1).
 
 ghost use Rattle.std.specs.Prelude.{◌≡◌};
+ghost use Rattle.facl_tools.specs.Getfacl.{answered, effective_for, read};
 ghost use Rattle.facl_tools.specs.Replies.{Replies};
-ghost use Rattle.facl_tools.specs.Tools.{effective_for, options_of, getfacl_line};
 
 use crate::effect::Effect;
 use crate::operands::paths_of;
+use crate::rows::{both, some};
 use facl_listings::{Effective, Options, State, append_listing};
-use facl_messages::places::getfacl::{
-    ACCESS, ALL_EFFECTIVE, FILES, NO_EFFECTIVE, NUMERIC, OMIT_HEADER, RECURSIVE, SKIP_BASE,
-};
-use facl_messages::{LineFault, Words};
+use facl_messages::{LineFault, LineFiles, LineRows, OperandRow, SwitchRow, Words};
 use std::alloc::Global;
 
-fn effective_for(always: bool, never: bool) -> Effective
+/// The words of the tool.
+pub(crate) static ROW: LineRows = LineRows {
+    flags: &[
+        both!('a', "access"),
+        both!('c', "omit-header"),
+        both!('e', "all-effective"),
+        both!('E', "no-effective"),
+        both!('s', "skip-base"),
+        both!('R', "recursive"),
+        both!('n', "numeric"),
+    ],
+    options: &[],
+    operands: &[some!("file")],
+};
+
+/// A line of getfacl(1).
+#[derive(Debug, Drop)]
+pub struct GetfaclLine<'a> {
+    pub options: Options,
+    /// `-R`: with all below.
+    pub recursive: bool,
+    pub files: LineFiles<'a>,
+}
+
+/// Where effective permissions are printed: `-e` and `-E` exclude each other.
+fn effective_for(always: bool, never: bool) -> Option<Effective>
     ensures { result ≡ effective_for always never }
 {
-    if always {
-        Effective::Always
-    } else if never {
-        Effective::Never
-    } else {
-        Effective::WhereMasked
+    match (always, never) {
+        (true, true) => None,
+        (true, false) => Some(Effective::Always),
+        (false, true) => Some(Effective::Never),
+        (false, false) => Some(Effective::WhereMasked),
     }
 }
 
-fn options_of(words: &Words) -> Options
-    ensures { result ≡ options_of words.now }
+/// What words ask for. `None` where they are usage.
+pub(crate) fn read(words: &Words) -> Option<GetfaclLine<'_>>
+    ensures { result ≡ read words.now }
 {
-    let flags = &words.flags;
-    Options {
-        access_only: flags.has(ACCESS),
-        omit_header: flags.has(OMIT_HEADER),
-        effective: effective_for(flags.has(ALL_EFFECTIVE), flags.has(NO_EFFECTIVE)),
-        skip_base: flags.has(SKIP_BASE),
-        numeric: flags.has(NUMERIC),
-    }
+    let effective = effective_for(
+        words.has(&ROW, "all-effective"),
+        words.has(&ROW, "no-effective"),
+    )?;
+    let files = words.files(&ROW, "file")?;
+    Some(GetfaclLine {
+        options: Options {
+            access_only: words.has(&ROW, "access"),
+            omit_header: words.has(&ROW, "omit-header"),
+            effective,
+            skip_base: words.has(&ROW, "skip-base"),
+            numeric: words.has(&ROW, "numeric"),
+        },
+        recursive: words.has(&ROW, "recursive"),
+        files,
+    })
 }
 
 /// Lists files.
-pub(crate) fn getfacl(alloc: Global, state: &State, words: &Words) -> Result<Effect, LineFault>
-    ensures { Replies state.now result (getfacl_line state.now words.now) }
+pub(crate) fn answer(
+    alloc: Global,
+    state: &State,
+    line: GetfaclLine<'_>,
+) -> Result<Effect, LineFault>
+    ensures { Replies state.now result (answered state.now line.entry) }
 {
-    let paths = paths_of(alloc, words.operands.starting_at(FILES))?;
-    let files = state
-        .tree()
-        .files(alloc, &paths, words.flags.has(RECURSIVE))?;
+    let paths = paths_of(alloc, line.files.as_slice())?;
+    let files = state.tree().files(alloc, &paths, line.recursive)?;
     let mut out = Vec::new(alloc);
-    append_listing(&mut out, state.people(), &options_of(words), &files)?;
+    append_listing(&mut out, state.people(), &line.options, &files)?;
     Ok(Effect::prints(out))
 }

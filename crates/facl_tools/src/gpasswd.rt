@@ -1,57 +1,81 @@
 //! The tool gpasswd(1): a user is added to a group, or removed from it.
 
-ghost use Rattle.std.specs.Prelude.{◌≡◌, codes, option_map};
-ghost use Rattle.facl_messages.specs.facl_words.Places.{value};
-ghost use Rattle.facl_messages.specs.facl_words.declared.tool.Tool.TheVariants.{Gpasswd};
+ghost use Rattle.std.specs.Prelude.{◌≡◌};
+ghost use Rattle.facl_tools.specs.Gpasswd.{answered, line_of, read};
 ghost use Rattle.facl_tools.specs.Replies.{Replies};
-ghost use Rattle.facl_tools.specs.Memberships.{member_of, gpasswd_user, gpasswd_line};
 
 use crate::change::prepare;
 use crate::effect::Effect;
-use crate::operands::{name_at, name_meant};
+use crate::operands::name_meant;
+use crate::rows::{by_letter, one};
 use facl_listings::{Command, Membership, State};
-use facl_messages::places::gpasswd::{ADD, DELETE, GROUP};
-use facl_messages::{LineFault, Words};
+use facl_messages::{LineFault, LineRows, LineWord, OperandRow, SwitchRow, Words};
 use std::alloc::Global;
 
-/// The user who is added or removed. `None` where the line gives none, or one of each.
-fn member_of(words: &Words) -> Option<(Membership, &str)>
-    ensures { option_map (λ member. (member.0, member.1.now)) result
-        ≡ member_of (value Gpasswd words.now (codes "a")) (value Gpasswd words.now (codes "d")) }
+/// The words of the tool.
+pub(crate) static ROW: LineRows = LineRows {
+    flags: &[],
+    options: &[by_letter!('a', "a"), by_letter!('d', "d")],
+    operands: &[one!("group")],
+};
+
+/// A line of gpasswd(1).
+#[derive(Debug, Drop)]
+pub struct GpasswdLine<'a> {
+    pub change: Membership,
+    /// The user who is added or removed.
+    pub user: LineWord<'a>,
+    pub group: LineWord<'a>,
+}
+
+/// The line of a user who is added, or of one who is removed: one of the two is given.
+fn line_of<'a>(
+    added: Option<LineWord<'a>>,
+    removed: Option<LineWord<'a>>,
+    group: LineWord<'a>,
+) -> Option<GpasswdLine<'a>>
+    ensures { result ≡ line_of added.entry removed.entry group.entry }
 {
-    match (words.values.get(ADD), words.values.get(DELETE)) {
-        (Some(user), None) => Some((Membership::Add, user)),
-        (None, Some(user)) => Some((Membership::Remove, user)),
+    match (added, removed) {
+        (Some(user), None) => Some(GpasswdLine {
+            change: Membership::Add,
+            user,
+            group,
+        }),
+        (None, Some(user)) => Some(GpasswdLine {
+            change: Membership::Remove,
+            user,
+            group,
+        }),
         (Some(_), Some(_)) | (None, None) => None,
     }
 }
 
-/// Adds a user to the group of a line, or removes one from it.
-fn gpasswd_user(
+/// What words ask for. `None` where they are usage.
+pub(crate) fn read(words: &Words) -> Option<GpasswdLine<'_>>
+    ensures { result ≡ read words.now }
+{
+    line_of(
+        words.value(&ROW, "a"),
+        words.value(&ROW, "d"),
+        words.operand(&ROW, "group"),
+    )
+}
+
+/// Adds a user to a group, or removes one from it.
+pub(crate) fn answer(
     alloc: Global,
     state: &State,
-    words: &Words,
-    change: Membership,
-    user: &str,
+    line: GpasswdLine<'_>,
 ) -> Result<Effect, LineFault>
-    ensures { Replies state.now result (gpasswd_user state.now words.now change user.now) }
+    ensures { Replies state.now result (answered state.now line.entry) }
 {
-    let user = name_meant(alloc, user)?;
-    let group = name_at(alloc, words, GROUP)?;
+    let user = name_meant(alloc, &line.user)?;
+    let group = name_meant(alloc, &line.group)?;
     let command = Command::Gpasswd {
         user,
         group,
-        change,
+        change: line.change,
     };
     prepare(alloc, state, &command)
-}
-
-/// Changes the members of a group.
-pub(crate) fn gpasswd(alloc: Global, state: &State, words: &Words) -> Result<Effect, LineFault>
-    ensures { Replies state.now result (gpasswd_line state.now words.now) }
-{
-    match member_of(words) {
-        Some((change, user)) => gpasswd_user(alloc, state, words, change, user),
-        None => Err(LineFault::Usage),
-    }
 }

@@ -1,7 +1,9 @@
 //! The tools of a script: what each does at a state, by the words that it was given.
 //!
-//! [`tool_line`] reads a line's words into an effect: what is printed, and the state that is to replace the present
-//! one. It changes nothing; whoever answers the line puts the effect in place. What `can`, `who`, `may` and `index`
+//! Each tool has one file: the row of its options, its reader from the words of a line to a value of its own type
+//! (`None`: usage), and what it does at a state. [`tool_line`] reads a line's words and does it; its effect is what is
+//! printed, and the state that is to replace the present one. It changes nothing; whoever answers the line puts the
+//! effect in place. [`read_words`] asks the same readers. What `can`, `who`, `may` and `index`
 //! print comes from the index of the state, without a new verdict.
 #![tactic(auto)]
 
@@ -23,6 +25,7 @@ mod mode;
 mod operands;
 mod removed_keys;
 mod rm;
+mod rows;
 mod setattr;
 mod setfacl;
 mod setfacl_entries;
@@ -40,9 +43,9 @@ pub use facl_listings::{
     TreeFault,
 };
 pub use facl_messages::{
-    Feed, Flags, LineFault, Operands, RunFault, ScriptFault, Session, Sink, Source, Spare, StdFeed,
-    StdSink, TextFound, Tool, UnitFound, Values, Word, Words, WordsFault, append_message,
-    append_run_fault, append_warning, asks_for_text, has_no_words, places, read_args, read_words,
-    run_session, split_words, write_whole,
+    Feed, Flags, LineFault, LineRows, LineWord, OperandRow, Operands, RunFault, ScriptFault,
+    Session, Sink, Source, Spare, StdFeed, StdSink, SwitchRow, TextFound, UnitFound, Values, Word,
+    Words, WordsFault, append_message, append_run_fault, append_warning, asks_for_text,
+    has_no_words, is_text_word, read_args, run_session, split_words, write_whole,
 };
-pub use tools::tool_line;
+pub use tools::{Tool, read_words, rows_for, tool_line};

@@ -57,23 +57,24 @@ fn specs_of(
     alloc: Global,
     people: &People,
     source: Source,
-    text: &str,
+    text: &[u8],
 ) -> Result<Vec<Spec>, LineFault>
     ensures { Gives (λ specs. specs.items) result (specs_of people.now source text.now) }
 {
-    match read_entries(alloc, text.as_bytes(), Sep::Comma, Want::Plain, people) {
+    match read_entries(alloc, text, Sep::Comma, Want::Plain, people) {
         Ok(specs) => Ok(specs),
         Err(fault) => Err(LineFault::of_text(source, fault)),
     }
 }
 
 /// The list that a text names. A fault of the list as a whole is reported at place 0.
+#[tactic(auto, unfolding(crate::specs::Lists::list_of))]
 pub(crate) fn list_of(
     alloc: Global,
     people: &People,
     source: Source,
     which: Which,
-    text: &str,
+    text: &[u8],
 ) -> Result<Acl, LineFault>
     ensures { Gives (λ acl. acl) result (list_of people.now source which text.now) }
 {

@@ -1,39 +1,63 @@
 //! The tool `load`: a text is read as users, groups or files.
 
-ghost use Rattle.std.specs.Prelude.{◌≡◌, codes};
-ghost use Rattle.facl_messages.specs.facl_words.Places.{operand};
-ghost use Rattle.facl_messages.specs.facl_words.declared.tool.Tool.TheVariants as tools;
+ghost use Rattle.std.specs.Prelude.{◌≡◌};
+ghost use Rattle.facl_tools.specs.Load.{answered, read, table_named};
 ghost use Rattle.facl_tools.specs.Replies.{Replies};
-ghost use Rattle.facl_tools.specs.Tools.{table_named, load_line};
 
 use crate::change::prepare;
 use crate::effect::Effect;
+use crate::rows::one;
 use facl_listings::{Command, State, Table};
-use facl_messages::places::load::TABLE;
-use facl_messages::{LineFault, Words};
+use facl_messages::{LineFault, LineRows, OperandRow, Words};
 use std::alloc::Global;
 
-fn table_named(name: &str) -> Table
+/// The words of the tool.
+pub(crate) static ROW: LineRows = LineRows {
+    flags: &[],
+    options: &[],
+    operands: &[one!("table")],
+};
+
+/// A line of `load`, but for its text.
+#[derive(Debug, Drop)]
+pub struct LoadLine {
+    /// `passwd`, `group` or `dump`.
+    pub table: Table,
+}
+
+fn table_named(name: &[u8]) -> Option<Table>
     ensures { result ≡ table_named name.now }
 {
-    match name {
-        "passwd" => Table::Passwd,
-        "group" => Table::Group,
-        _ => Table::Dump,
+    if name == b"passwd".as_slice() {
+        Some(Table::Passwd)
+    } else if name == b"group".as_slice() {
+        Some(Table::Group)
+    } else if name == b"dump".as_slice() {
+        Some(Table::Dump)
+    } else {
+        None
     }
 }
 
+/// What words ask for. `None` where they are usage.
+pub(crate) fn read(words: &Words) -> Option<LoadLine>
+    ensures { result ≡ read words.now }
+{
+    let table = table_named(words.operand(&ROW, "table").as_bytes())?;
+    Some(LoadLine { table })
+}
+
 /// Loads the text of a line.
-pub(crate) fn load(
+pub(crate) fn answer(
     alloc: Global,
     state: &State,
-    words: &Words,
+    line: LoadLine,
     text: &[u8],
 ) -> Result<Effect, LineFault>
-    ensures { Replies state.now result (load_line state.now words.now text.now) }
+    ensures { Replies state.now result (answered state.now line text.now) }
 {
     let command = Command::Load {
-        which: table_named(words.operands.get(TABLE)),
+        which: line.table,
         bytes: text,
     };
     prepare(alloc, state, &command)

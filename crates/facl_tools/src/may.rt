@@ -2,15 +2,44 @@
 
 ghost use Rattle.std.specs.Prelude.{◌≡◌, IfOk, option_map};
 ghost use Rattle.facl_listings.specs.acl_rights.Tables.{IsWhole};
+ghost use Rattle.facl_tools.specs.May.{answered, may_of, may_text_of, read};
 ghost use Rattle.facl_tools.specs.Replies.{Gives, Replies};
-ghost use Rattle.facl_tools.specs.Queries.{may_line, may_of, may_text_of};
 
 use crate::effect::Effect;
 use crate::operands::name_meant;
+use crate::rows::{by_name, one};
 use facl_listings::{Index, Judge, Name, Perm, State, TreeFault, read_perms, write_may};
-use facl_messages::places::may::{PERMISSIONS, REACH, USER};
-use facl_messages::{LineFault, Words};
+use facl_messages::{LineFault, LineRows, LineWord, OperandRow, SwitchRow, Words};
 use std::alloc::{AllocError, Global};
+
+/// The words of the tool.
+pub(crate) static ROW: LineRows = LineRows {
+    flags: &[by_name!("reach")],
+    options: &[],
+    operands: &[one!("user"), one!("perms")],
+};
+
+/// A line of `may`.
+#[derive(Debug, Drop)]
+pub struct MayLine<'a> {
+    /// `--reach`: search on the directories above is asked too.
+    pub reach: bool,
+    pub user: LineWord<'a>,
+    /// The permissions that are asked about.
+    pub request: Perm,
+}
+
+/// What words ask for. `None` where they are usage.
+pub(crate) fn read(words: &Words) -> Option<MayLine<'_>>
+    ensures { result ≡ read words.now }
+{
+    let request = read_perms(words.operand(&ROW, "perms").as_bytes())?;
+    Some(MayLine {
+        reach: words.has(&ROW, "reach"),
+        user: words.operand(&ROW, "user"),
+        request,
+    })
+}
 
 /// The files on which a request is granted to the user of a name, if there is one.
 fn may_text_of<J: Judge>(
@@ -37,7 +66,7 @@ fn may_of<J: Judge>(
     state: &State,
     index: &Index<J>,
     along: bool,
-    word: &str,
+    word: &LineWord<'_>,
     request: Perm,
 ) -> Result<Vec<u8>, LineFault>
     requires { IsWhole J.verdict_of state.now index.now }
@@ -52,26 +81,15 @@ fn may_of<J: Judge>(
 
 /// The files with which a user may do something; with `--reach` only those whose recorded directories above the user
 /// can search.
-pub fn may_line<J: Judge>(
+pub(crate) fn answer<J: Judge>(
     alloc: Global,
     state: &State,
     index: &Index<J>,
-    words: &Words,
+    line: MayLine<'_>,
 ) -> Result<Effect, LineFault>
     requires { IsWhole J.verdict_of state.now index.now }
-    ensures { Replies state.now result (may_line J.verdict_of state.now words.now) }
+    ensures { Replies state.now result (answered J.verdict_of state.now line.entry) }
 {
-    let Some(request) = read_perms(words.operands.get(PERMISSIONS).as_bytes()) else {
-        return Err(LineFault::Usage);
-    };
-    let along = words.flags.has(REACH);
-    let out = may_of(
-        alloc,
-        state,
-        index,
-        along,
-        words.operands.get(USER),
-        request,
-    )?;
+    let out = may_of(alloc, state, index, line.reach, &line.user, line.request)?;
     Ok(Effect::prints(out))
 }

@@ -1,10 +1,28 @@
 //! Octal modes: chmod(1), umask(1).
 
+ghost use Rattle.std.specs.List.{list_all};
 ghost use Rattle.std.specs.Prelude.{◌≡◌, IsTrue};
-ghost use Rattle.facl_messages.specs.facl_words.Forms.{is_mode};
-ghost use Rattle.facl_tools.specs.Modes.{mode_of, octal_number, permission_mode_of};
+ghost use Rattle.facl_tools.specs.Modes.{is_mode, is_octal_digit, mode_of, octal_number, permission_mode_of, starts_with_zero};
 
-use facl_messages::forms::{is_mode, is_permission_mode};
+fn are_octal_digits(bytes: &[u8]) -> bool
+    ensures { result ≡ list_all is_octal_digit bytes.now }
+{
+    bytes.iter().all(|b| b'0' <= *b && *b <= b'7')
+}
+
+/// Whether the text is one to four octal digits.
+fn is_mode(text: &[u8]) -> bool
+    ensures { result ≡ is_mode text.now }
+{
+    0 < text.len() && text.len() <= 4 && are_octal_digits(text)
+}
+
+/// Whether the first of four digits is 0.
+fn starts_with_zero(text: &[u8]) -> bool
+    ensures { result ≡ starts_with_zero text.now }
+{
+    text.len() < 4 || text[0] == b'0'
+}
 
 /// The number that octal digits write.
 fn octal_number(digits: &[u8]) -> u16
@@ -21,21 +39,21 @@ fn octal_number(digits: &[u8]) -> u16
 }
 
 /// The number that one to four octal digits write. `None` for any other text.
-pub fn mode_of(text: &str) -> Option<u16>
+pub fn mode_of(text: &[u8]) -> Option<u16>
     ensures { result ≡ mode_of text.now }
 {
     if is_mode(text) {
-        Some(octal_number(text.as_bytes()))
+        Some(octal_number(text))
     } else {
         None
     }
 }
 
 /// The number that one to four octal digits write, where it is at most 0777. `None` for any other text.
-pub fn permission_mode_of(text: &str) -> Option<u16>
+pub fn permission_mode_of(text: &[u8]) -> Option<u16>
     ensures { result ≡ permission_mode_of text.now }
 {
-    if is_permission_mode(text) {
+    if starts_with_zero(text) {
         mode_of(text)
     } else {
         None

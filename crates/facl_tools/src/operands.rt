@@ -1,21 +1,20 @@
 //! The operands of a line: files and users.
 
-ghost use Rattle.std.specs.Prelude.{◌≡◌, [], IfOk};
-ghost use Rattle.std.specs.List.{slice_index_or};
+ghost use Rattle.std.specs.Prelude.{◌≡◌, IfOk};
 ghost use Rattle.facl_tools.specs.Replies.{Gives};
 ghost use Rattle.facl_tools.specs.Operands.{path_at, paths_from, name_meant, user_or_fault};
 
 use facl_listings::{
     FaultKind, Name, Path, Paths, People, TextFault, TreeFault, read_name, read_path, trim,
 };
-use facl_messages::{LineFault, OperandPlace, Source, Word, Words};
+use facl_messages::{LineFault, LineWord, Source, Word};
 use std::alloc::{AllocError, Global};
 
 /// The path of the operand at a place, counted from 1.
-pub fn path_at(alloc: Global, at: usize, word: &str) -> Result<Path, LineFault>
+pub fn path_at(alloc: Global, at: usize, word: &[u8]) -> Result<Path, LineFault>
     ensures { Gives (λ path. path) result (path_at at word.now) }
 {
-    match read_path(alloc, word.as_bytes())? {
+    match read_path(alloc, word)? {
         Some(path) => Ok(path),
         None => Err(LineFault::Text(
             Source::Operand,
@@ -34,28 +33,21 @@ pub fn paths_of(alloc: Global, words: &[Word]) -> Result<Paths, LineFault>
     let mut paths = Vec::new(alloc);
     let mut rest = words;
     while let [word, more @ ..] = rest {
-        paths.push(path_at(alloc, paths.len() + 1, word.as_str())?)?;
+        paths.push(path_at(alloc, paths.len() + 1, word.as_bytes())?)?;
         rest = more;
     }
     Ok(Paths::new(paths))
 }
 
 /// The name that a word for a user or a group means.
-pub fn name_meant(alloc: Global, word: &str) -> Result<Name, AllocError>
+pub fn name_meant(alloc: Global, word: &LineWord<'_>) -> Result<Name, AllocError>
     ensures { IfOk result (λ name. name ≡ name_meant word.now) }
 {
     read_name(alloc, trim(word.as_bytes()))
 }
 
-/// The name that an operand for a user or a group means.
-pub fn name_at(alloc: Global, words: &Words, operand: OperandPlace) -> Result<Name, AllocError>
-    ensures { IfOk result (λ name. name ≡ name_meant (slice_index_or words.now.operands operand.0 [])) }
-{
-    name_meant(alloc, words.operands.get(operand))
-}
-
 /// The place of the user that a word means.
-pub fn user_at(alloc: Global, people: &People, word: &str) -> Result<usize, LineFault>
+pub fn user_at(alloc: Global, people: &People, word: &LineWord<'_>) -> Result<usize, LineFault>
     ensures { Gives (λ user. user) result (user_or_fault people.now (name_meant word.now)) }
 {
     let name = name_meant(alloc, word)?;

@@ -1,24 +1,51 @@
 //! The tool rm(1).
 
+ghost use Rattle.std.specs.Prelude.{◌≡◌};
 ghost use Rattle.facl_tools.specs.Replies.{Replies};
-ghost use Rattle.facl_tools.specs.Removal.{rm_line};
+ghost use Rattle.facl_tools.specs.Rm.{answered, read};
 
 use crate::change::prepare;
 use crate::effect::Effect;
 use crate::operands::paths_of;
+use crate::rows::{by_letter, some};
 use facl_listings::{Command, State};
-use facl_messages::places::rm::{FILES, RECURSIVE};
-use facl_messages::{LineFault, Words};
+use facl_messages::{LineFault, LineFiles, LineRows, OperandRow, SwitchRow, Words};
 use std::alloc::Global;
 
-/// Removes files.
-pub(crate) fn rm(alloc: Global, state: &State, words: &Words) -> Result<Effect, LineFault>
-    ensures { Replies state.now result (rm_line state.now words.now) }
+/// The words of the tool.
+pub(crate) static ROW: LineRows = LineRows {
+    flags: &[by_letter!('r', "r")],
+    options: &[],
+    operands: &[some!("file")],
+};
+
+/// A line of rm(1).
+#[derive(Debug, Drop)]
+pub struct RmLine<'a> {
+    /// `-r`: with all below.
+    pub recursive: bool,
+    pub files: LineFiles<'a>,
+}
+
+/// What words ask for. `None` where they are usage.
+pub(crate) fn read(words: &Words) -> Option<RmLine<'_>>
+    ensures { result ≡ read words.now }
 {
-    let paths = paths_of(alloc, words.operands.starting_at(FILES))?;
+    let files = words.files(&ROW, "file")?;
+    Some(RmLine {
+        recursive: words.has(&ROW, "r"),
+        files,
+    })
+}
+
+/// Removes files.
+pub(crate) fn answer(alloc: Global, state: &State, line: RmLine<'_>) -> Result<Effect, LineFault>
+    ensures { Replies state.now result (answered state.now line.entry) }
+{
+    let paths = paths_of(alloc, line.files.as_slice())?;
     let command = Command::Rm {
         paths,
-        recursive: words.flags.has(RECURSIVE),
+        recursive: line.recursive,
     };
     prepare(alloc, state, &command)
 }

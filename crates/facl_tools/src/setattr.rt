@@ -1,22 +1,38 @@
 //! The tool `setattr`: an extended attribute is put into a file as a list.
 
 ghost use Rattle.std.specs.Prelude.{◌≡◌, option_map};
-ghost use Rattle.facl_tools.specs.Replies.{Replies, Gives};
-ghost use Rattle.facl_tools.specs.Attributes.{rest_of, digits_of, attribute_of, bytes_of, list_of, put_of, set_files, setattr_line};
+ghost use Rattle.facl_tools.specs.Replies.{Gives, Replies};
+ghost use Rattle.facl_tools.specs.Setattr.{answered, attribute_of, bytes_of, digits_of, list_of, put_of, read, rest_of};
 
 use crate::edits::edit_files;
 use crate::effect::Effect;
+use crate::rows::one;
 use facl_listings::{Acl, Edit, FaultKind, State, TextFault, Which, decode_attr};
-use facl_messages::places::setattr::{ATTRIBUTE, FILE};
-use facl_messages::{LineFault, Source, Words};
+use facl_messages::{LineFault, LineFiles, LineRows, LineWord, OperandRow, Source, Words};
 use hex::FromHexError;
 use std::alloc::Global;
 
+/// The words of the tool.
+pub(crate) static ROW: LineRows = LineRows {
+    flags: &[],
+    options: &[],
+    operands: &[one!("attribute"), one!("file")],
+};
+
 /// An attribute: the list that its name means, and the hex digits of its bytes.
-#[derive(Clone, Copy, Debug)]
-struct Attribute<'a> {
-    which: Which,
-    digits: &'a [u8],
+#[derive(Debug, Drop)]
+pub struct Attribute<'a> {
+    pub which: Which,
+    pub digits: LineWord<'a>,
+}
+
+/// A line of `setattr`.
+#[derive(Debug, Drop)]
+pub struct SetattrLine<'a> {
+    /// `NAME=0xHEX`.
+    pub attribute: Attribute<'a>,
+    /// The FILE.
+    pub files: LineFiles<'a>,
 }
 
 /// What follows a beginning of a word.
@@ -41,10 +57,9 @@ fn digits_of<'a>(word: &'a [u8], lower: &[u8], upper: &[u8]) -> Option<&'a [u8]>
 }
 
 /// The attribute of a word `NAME=0xHEX`.
-fn attribute_of(word: &str) -> Option<Attribute<'_>>
-    ensures { option_map (λ a. (a.which, a.digits.now)) result ≡ attribute_of word.now }
+fn attribute_of(word: &[u8]) -> Option<Attribute<'_>>
+    ensures { result ≡ attribute_of word.now }
 {
-    let word = word.as_bytes();
     if let Some(digits) = digits_of(
         word,
         b"system.posix_acl_access=0x",
@@ -52,7 +67,7 @@ fn attribute_of(word: &str) -> Option<Attribute<'_>>
     ) {
         return Some(Attribute {
             which: Which::Access,
-            digits,
+            digits: LineWord::new(digits),
         });
     }
     let digits = digits_of(
@@ -62,8 +77,17 @@ fn attribute_of(word: &str) -> Option<Attribute<'_>>
     )?;
     Some(Attribute {
         which: Which::Default,
-        digits,
+        digits: LineWord::new(digits),
     })
+}
+
+/// What words ask for. `None` where they are usage.
+pub(crate) fn read(words: &Words) -> Option<SetattrLine<'_>>
+    ensures { result ≡ read words.now }
+{
+    let attribute = attribute_of(words.operand(&ROW, "attribute").as_bytes())?;
+    let files = words.files(&ROW, "file")?;
+    Some(SetattrLine { attribute, files })
 }
 
 /// The bytes of hex digits. Digits that are none, and an odd number of them, are a bad attribute at 0.
@@ -109,27 +133,15 @@ fn put_of(which: Which, acl: Acl) -> Edit
     }
 }
 
-/// Puts an attribute into the file of a line.
-fn set_files(
+/// Puts an attribute into a file.
+pub(crate) fn answer(
     alloc: Global,
     state: &State,
-    words: &Words,
-    which: Which,
-    digits: &[u8],
+    line: SetattrLine<'_>,
 ) -> Result<Effect, LineFault>
-    ensures { Replies state.now result (set_files state.now words.now which digits.now) }
+    ensures { Replies state.now result (answered state.now line.entry) }
 {
-    let acl = list_of(alloc, digits)?;
-    let edit = put_of(which, acl);
-    edit_files(alloc, state, false, edit, words.operands.starting_at(FILE))
-}
-
-/// Puts an attribute into a file.
-pub(crate) fn setattr(alloc: Global, state: &State, words: &Words) -> Result<Effect, LineFault>
-    ensures { Replies state.now result (setattr_line state.now words.now) }
-{
-    match attribute_of(words.operands.get(ATTRIBUTE)) {
-        Some(attribute) => set_files(alloc, state, words, attribute.which, attribute.digits),
-        None => Err(LineFault::Usage),
-    }
+    let acl = list_of(alloc, line.attribute.digits.as_bytes())?;
+    let edit = put_of(line.attribute.which, acl);
+    edit_files(alloc, state, false, edit, line.files.as_slice())
 }

@@ -3,27 +3,27 @@
 ghost use Rattle.std.specs.Prelude.{◌≡◌};
 ghost use Rattle.facl_listings.specs.acl_tree.declared.command.Command.TheVariants.{Restore};
 ghost use Rattle.facl_tools.specs.Replies.{Replies, Gives};
-ghost use Rattle.facl_tools.specs.Setfacl.{change_files, change_line, done_or_tested, records_or_fault, restore_line, setfacl_line};
+ghost use Rattle.facl_tools.specs.Setfacl.{answered, change_files, change_line, done_or_tested, records_or_fault, restore_line};
 
 use crate::effect::Effect;
 use crate::operands::paths_of;
 use crate::setfacl_entries::Given;
-use crate::setfacl_line::SetfaclLine;
+use crate::setfacl_line::{ChangeLine, SetfaclLine};
 use crate::tested::do_or_test;
 use facl_listings::{Command, DumpRecords, DumpUse, People, State, read_dump};
-use facl_messages::{LineFault, Source, Words};
+use facl_messages::{LineFault, Source};
 use std::alloc::Global;
 
 /// Changes the lists of the files of a line.
 fn change_files(
     alloc: Global,
     state: &State,
-    line: &SetfaclLine<'_>,
+    line: &ChangeLine<'_>,
     entries: Given,
 ) -> Result<Effect, LineFault>
     ensures { Replies state.now result (change_files state.now line.now entries) }
 {
-    let paths = paths_of(alloc, line.files)?;
+    let paths = paths_of(alloc, line.files.as_slice())?;
     let warns = entries.drops(line.as_default);
     let command = Command::Edit {
         paths,
@@ -35,10 +35,15 @@ fn change_files(
 }
 
 /// Changes the lists of files.
-fn change(alloc: Global, state: &State, line: &SetfaclLine<'_>) -> Result<Effect, LineFault>
-    ensures { Replies state.now result (change_line state.now line.now) }
+fn change(
+    alloc: Global,
+    state: &State,
+    line: &ChangeLine<'_>,
+    text: &[u8],
+) -> Result<Effect, LineFault>
+    ensures { Replies state.now result (change_line state.now line.now text.now) }
 {
-    let entries = Given::of(alloc, state.people(), line)?;
+    let entries = Given::of(alloc, state.people(), line, text)?;
     match entries.both_at(alloc, line.as_default)? {
         Some(at) => Err(LineFault::Both { at }),
         None => change_files(alloc, state, line, entries),
@@ -78,17 +83,16 @@ fn restore(alloc: Global, state: &State, dump: &[u8], is_test: bool) -> Result<E
 }
 
 /// Changes lists, or restores those of a dump.
-pub(crate) fn setfacl(
+pub(crate) fn answer(
     alloc: Global,
     state: &State,
-    words: &Words,
+    line: SetfaclLine<'_>,
     text: &[u8],
 ) -> Result<Effect, LineFault>
-    ensures { Replies state.now result (setfacl_line state.now words.now text.now) }
+    ensures { Replies state.now result (answered state.now line.entry text.now) }
 {
-    let line = SetfaclLine::of(words, text);
-    match line.restored {
-        Some(dump) => restore(alloc, state, dump, line.test),
-        None => change(alloc, state, &line),
+    match line {
+        SetfaclLine::Change(line) => change(alloc, state, &line, text),
+        SetfaclLine::Restore { test } => restore(alloc, state, text, test),
     }
 }

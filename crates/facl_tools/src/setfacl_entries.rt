@@ -4,11 +4,11 @@ ghost use Rattle.std.specs.Prelude.{◌≡◌, option_map, IfOk};
 ghost use Rattle.std.specs.List.{find};
 ghost use Rattle.facl_tools.specs.RemovedKeys.{removes};
 ghost use Rattle.facl_tools.specs.Replies.{Gives};
-ghost use Rattle.facl_tools.specs.Setfacl.{both_at, drops, edit_of, entries_given, given, has_default};
+ghost use Rattle.facl_tools.specs.Setfacl.{both_at, drops, edit_of, entries_given, entries_in, given, has_default};
 
 use crate::removed_keys::RemovedKeys;
-use crate::setfacl_line::{EntryText, SetfaclLine};
-use facl_listings::{Edit, People, Spec, Specs, Want, read_entries};
+use crate::setfacl_line::{ChangeLine, Entries};
+use facl_listings::{Edit, People, Sep, Spec, Specs, Want, read_entries};
 use facl_messages::{LineFault, Source};
 use std::alloc::{AllocError, Global};
 
@@ -20,21 +20,38 @@ pub(crate) struct Given {
     pub set: Specs,
 }
 
-/// The entries of a text, if there is one.
+/// The entries of a text.
+fn entries_in(
+    alloc: Global,
+    people: &People,
+    want: Want,
+    sep: Sep,
+    text: &[u8],
+) -> Result<Specs, LineFault>
+    ensures { Gives (λ specs. specs) result (entries_in people.now want sep text.now) }
+{
+    match read_entries(alloc, text, sep, want, people) {
+        Ok(specs) => Ok(Specs::new(specs)),
+        Err(fault) => Err(LineFault::of_text(Source::Entry, fault)),
+    }
+}
+
+/// The entries of an option, if it is given.
 fn entries_given(
     alloc: Global,
     people: &People,
     want: Want,
-    text: &Option<EntryText<'_>>,
+    entries: &Option<Entries<'_>>,
+    text: &[u8],
 ) -> Result<Specs, LineFault>
-    ensures { Gives (λ specs. specs) result (entries_given people.now want text.now) }
+    ensures { Gives (λ specs. specs) result (entries_given people.now want entries.now text.now) }
 {
-    let Some(text) = text else {
-        return Ok(Specs::new(Vec::new(alloc)));
-    };
-    match read_entries(alloc, text.bytes, text.sep, want, people) {
-        Ok(specs) => Ok(Specs::new(specs)),
-        Err(fault) => Err(LineFault::of_text(Source::Entry, fault)),
+    match entries {
+        Some(Entries::InWord(word)) => {
+            entries_in(alloc, people, want, Sep::Comma, word.as_bytes())
+        }
+        Some(Entries::InText) => entries_in(alloc, people, want, Sep::Line, text),
+        None => Ok(Specs::new(Vec::new(alloc))),
     }
 }
 
@@ -54,12 +71,17 @@ fn has_default(specs: &[Spec]) -> bool
 
 impl Given {
     /// The entries of a line.
-    pub fn of(alloc: Global, people: &People, line: &SetfaclLine<'_>) -> Result<Given, LineFault>
-        ensures { Gives (λ entries. entries) result (given people.now line.now) }
+    pub fn of(
+        alloc: Global,
+        people: &People,
+        line: &ChangeLine<'_>,
+        text: &[u8],
+    ) -> Result<Given, LineFault>
+        ensures { Gives (λ entries. entries) result (given people.now line.now text.now) }
     {
-        let removed = entries_given(alloc, people, Want::WithoutPerms, &line.removed)?;
-        let modified = entries_given(alloc, people, Want::WithPerms, &line.modified)?;
-        let set = entries_given(alloc, people, Want::WithPerms, &line.set)?;
+        let removed = entries_given(alloc, people, Want::WithoutPerms, &line.removed, text)?;
+        let modified = entries_given(alloc, people, Want::WithPerms, &line.modified, text)?;
+        let set = entries_given(alloc, people, Want::WithPerms, &line.set, text)?;
         Ok(Given {
             removed,
             modified,
@@ -86,7 +108,7 @@ impl Given {
     }
 
     /// What the line does with the lists of a file.
-    pub fn edit(self, line: &SetfaclLine<'_>) -> Edit
+    pub fn edit(self, line: &ChangeLine<'_>) -> Edit
         ensures { result ≡ edit_of line.now self }
     {
         Edit::Change {

@@ -1,37 +1,46 @@
-//! What the words of a setfacl(1) line ask for.
+//! The words of the tool setfacl(1), and what they ask for.
 
-ghost use Rattle.std.specs.Prelude.{◌≡◌, option_map, codes};
-ghost use Rattle.facl_messages.specs.facl_words.Places.{gives, value};
-ghost use Rattle.facl_messages.specs.facl_words.declared.tool.Tool.TheVariants.{Setfacl};
-ghost use Rattle.facl_tools.specs.SetfaclLine.{asked, entries_from, text_if};
+ghost use Rattle.std.specs.Prelude.{◌≡◌};
+ghost use Rattle.facl_tools.specs.SetfaclLine.{change_of, changes_entries, contradicts_itself, entries_from, has_edit_flag, read, read_change, read_restore, replaces_lists};
 
-use facl_listings::Sep;
-use facl_messages::places::setfacl::{
-    DEFAULT, FILES, MASK, MODIFY, MODIFY_FILE, NO_MASK, RECURSIVE, REMOVE, REMOVE_ALL,
-    REMOVE_DEFAULT, REMOVE_FILE, RESTORE, SET, SET_FILE, TEST,
+use crate::rows::{any, both, by_name};
+use facl_messages::{LineFiles, LineRows, LineWord, OperandRow, SwitchRow, Words};
+
+/// The words of the tool.
+pub(crate) static ROW: LineRows = LineRows {
+    flags: &[
+        both!('b', "remove-all"),
+        both!('k', "remove-default"),
+        both!('n', "no-mask"),
+        by_name!("mask"),
+        both!('d', "default"),
+        both!('R', "recursive"),
+        by_name!("test"),
+    ],
+    options: &[
+        both!('m', "modify"),
+        both!('M', "modify-file", of_text),
+        both!('x', "remove"),
+        both!('X', "remove-file", of_text),
+        by_name!("set"),
+        by_name!("set-file", of_text),
+        by_name!("restore", of_text),
+    ],
+    operands: &[any!("file")],
 };
-use facl_messages::{Word, Words};
-use std::marker::Model;
 
-/// A text of entries that a line gives.
-#[derive(Drop)]
-pub(crate) struct EntryText<'a> {
-    pub bytes: &'a [u8],
-    /// A word's entries are separated by commas; in the text after the line each has a line.
-    pub sep: Sep,
+/// Where the entries of an option are.
+#[derive(Debug, Drop)]
+pub enum Entries<'a> {
+    /// In its word, with a comma between each two.
+    InWord(LineWord<'a>),
+    /// In the text after the line, each on a line.
+    InText,
 }
 
-impl<'a> Model for EntryText<'a> {
-    ghost use Rattle.facl_tools.specs.SetfaclLine.{EntryText as Seen};
-
-    ghost Value = { Seen };
-
-    ghost view = { λ t. record { bytes = t.bytes.now; sep = t.sep } };
-}
-
-/// What a line of setfacl(1) asks for.
-#[derive(Drop)]
-pub(crate) struct SetfaclLine<'a> {
+/// A line of setfacl(1) that changes lists.
+#[derive(Debug, Drop)]
+pub struct ChangeLine<'a> {
     /// `-b`: the access list keeps its base entries, and the default list goes.
     pub strip: bool,
     /// `-k`: the default list goes.
@@ -47,69 +56,134 @@ pub(crate) struct SetfaclLine<'a> {
     /// `--test`: the lists are printed, and nothing changes.
     pub test: bool,
     /// `-x`, `-X`: the entries that are removed.
-    pub removed: Option<EntryText<'a>>,
+    pub removed: Option<Entries<'a>>,
     /// `-m`, `-M`: the entries that are modified or added.
-    pub modified: Option<EntryText<'a>>,
+    pub modified: Option<Entries<'a>>,
     /// `--set`, `--set-file`: the entries that replace a list.
-    pub set: Option<EntryText<'a>>,
-    /// `--restore`: a dump.
-    pub restored: Option<&'a [u8]>,
-    /// The operands.
-    pub files: &'a [Word],
+    pub set: Option<Entries<'a>>,
+    pub files: LineFiles<'a>,
 }
 
-impl<'a> Model for SetfaclLine<'a> {
-    ghost use Rattle.std.specs.Prelude.{option_map};
-    ghost use Rattle.facl_tools.specs.SetfaclLine.{Asked};
-
-    ghost Value = { Asked };
-
-    ghost view = { λ l. record { strip = l.strip; drop_default = l.drop_default; as_default = l.as_default; no_mask = l.no_mask; remask = l.remask; recursive = l.recursive; test = l.test; removed = l.removed; modified = l.modified; set = l.set; restored = option_map (λ t. t.now) l.restored; files = l.files.now } };
+/// A line of setfacl(1), but for its text.
+#[derive(Debug, Drop)]
+pub enum SetfaclLine<'a> {
+    /// The lists of files are changed or replaced.
+    Change(ChangeLine<'a>),
+    /// `--restore`: a dump, which is the text, is put back; with `--test` it is only tried.
+    Restore { test: bool },
 }
 
 /// The entries of an option: those of its word, or those of the text after the line.
-fn entries_from<'a>(word: Option<&'a str>, from_text: bool, text: &'a [u8]) -> Option<EntryText<'a>>
-    ensures { result ≡ entries_from (option_map (λ w. w.now) word.entry) from_text text.now }
+fn entries_from<'a>(word: Option<LineWord<'a>>, in_text: bool) -> Option<Entries<'a>>
+    ensures { result ≡ entries_from word.entry in_text }
 {
     match word {
-        Some(word) => Some(EntryText {
-            bytes: word.as_bytes(),
-            sep: Sep::Comma,
-        }),
-        None if from_text => Some(EntryText {
-            bytes: text,
-            sep: Sep::Line,
-        }),
+        Some(word) => Some(Entries::InWord(word)),
+        None if in_text => Some(Entries::InText),
         None => None,
     }
 }
 
-fn text_if(asked: bool, text: &[u8]) -> Option<&[u8]>
-    ensures { option_map (λ t. t.now) result ≡ text_if asked text.now }
+/// Whether entries are removed or modified.
+fn changes_entries(words: &Words) -> bool
+    ensures { result ≡ changes_entries words.now }
 {
-    if asked { Some(text) } else { None }
+    words.has(&ROW, "remove-all")
+        || words.has(&ROW, "remove-default")
+        || words.gives(&ROW, "modify")
+        || words.gives(&ROW, "modify-file")
+        || words.gives(&ROW, "remove")
+        || words.gives(&ROW, "remove-file")
 }
 
-impl<'a> SetfaclLine<'a> {
-    /// What these words ask for, with the text after the line.
-    pub fn of(words: &'a Words, text: &'a [u8]) -> SetfaclLine<'a>
-        ensures { result ≡ asked words.now text.now }
+/// Whether whole lists are replaced.
+fn replaces_lists(words: &Words) -> bool
+    ensures { result ≡ replaces_lists words.now }
+{
+    words.gives(&ROW, "set") || words.gives(&ROW, "set-file")
+}
+
+/// Whether one thing is given in two ways.
+fn contradicts_itself(words: &Words) -> bool
+    ensures { result ≡ contradicts_itself words.now }
+{
+    (words.gives(&ROW, "modify") && words.gives(&ROW, "modify-file"))
+        || (words.gives(&ROW, "remove") && words.gives(&ROW, "remove-file"))
+        || (words.gives(&ROW, "set") && words.gives(&ROW, "set-file"))
+        || (words.has(&ROW, "no-mask") && words.has(&ROW, "mask"))
+}
+
+/// Whether a flag determines how lists are changed.
+fn has_edit_flag(words: &Words) -> bool
+    ensures { result ≡ has_edit_flag words.now }
+{
+    words.has(&ROW, "no-mask")
+        || words.has(&ROW, "mask")
+        || words.has(&ROW, "default")
+        || words.has(&ROW, "recursive")
+}
+
+/// The line that changes these files.
+fn change_of<'a>(words: &'a Words, files: LineFiles<'a>) -> ChangeLine<'a>
+    ensures { result ≡ change_of words.now files.entry }
+{
+    ChangeLine {
+        strip: words.has(&ROW, "remove-all"),
+        drop_default: words.has(&ROW, "remove-default"),
+        as_default: words.has(&ROW, "default"),
+        no_mask: words.has(&ROW, "no-mask"),
+        remask: words.has(&ROW, "mask"),
+        recursive: words.has(&ROW, "recursive"),
+        test: words.has(&ROW, "test"),
+        removed: entries_from(
+            words.value(&ROW, "remove"),
+            words.gives(&ROW, "remove-file"),
+        ),
+        modified: entries_from(
+            words.value(&ROW, "modify"),
+            words.gives(&ROW, "modify-file"),
+        ),
+        set: entries_from(words.value(&ROW, "set"), words.gives(&ROW, "set-file")),
+        files,
+    }
+}
+
+/// A dump is put back, with nothing else but `--test`.
+fn read_restore(words: &Words) -> Option<SetfaclLine<'_>>
+    ensures { result ≡ read_restore words.now }
+{
+    if changes_entries(words)
+        || replaces_lists(words)
+        || has_edit_flag(words)
+        || !words.operands_from(&ROW, "file").is_empty()
     {
-        let flags = &words.flags;
-        let values = &words.values;
-        SetfaclLine {
-            strip: flags.has(REMOVE_ALL),
-            drop_default: flags.has(REMOVE_DEFAULT),
-            as_default: flags.has(DEFAULT),
-            no_mask: flags.has(NO_MASK),
-            remask: flags.has(MASK),
-            recursive: flags.has(RECURSIVE),
-            test: flags.has(TEST),
-            removed: entries_from(values.get(REMOVE), values.is_given(REMOVE_FILE), text),
-            modified: entries_from(values.get(MODIFY), values.is_given(MODIFY_FILE), text),
-            set: entries_from(values.get(SET), values.is_given(SET_FILE), text),
-            restored: text_if(values.is_given(RESTORE), text),
-            files: words.operands.starting_at(FILES),
-        }
+        None
+    } else {
+        Some(SetfaclLine::Restore {
+            test: words.has(&ROW, "test"),
+        })
+    }
+}
+
+/// Entries are changed, or whole lists replaced.
+fn read_change(words: &Words) -> Option<SetfaclLine<'_>>
+    ensures { result ≡ read_change words.now }
+{
+    if contradicts_itself(words) || changes_entries(words) == replaces_lists(words) {
+        None
+    } else {
+        let files = words.files(&ROW, "file")?;
+        Some(SetfaclLine::Change(change_of(words, files)))
+    }
+}
+
+/// What words ask for. `None` where they are usage.
+pub(crate) fn read(words: &Words) -> Option<SetfaclLine<'_>>
+    ensures { result ≡ read words.now }
+{
+    if words.gives(&ROW, "restore") {
+        read_restore(words)
+    } else {
+        read_change(words)
     }
 }

@@ -73,7 +73,14 @@ fn files_after(
             ..
         } => files_of(alloc, staged.tree(), paths, *recursive),
         Command::Restore { records } => files_of_records(alloc, staged.tree(), records),
-        _ => Ok(Vec::new(alloc)),
+        Command::Load { .. }
+        | Command::Chmod { .. }
+        | Command::Creat(_)
+        | Command::Rm { .. }
+        | Command::Gpasswd { .. }
+        | Command::Usermod { .. }
+        | Command::Useradd(_)
+        | Command::Userdel { .. } => Ok(Vec::new(alloc)),
     }
 }
 

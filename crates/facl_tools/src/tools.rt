@@ -1,61 +1,295 @@
-//! What the tools do, by the words that they were given.
+//! The tools of a script: their names, the words that each takes, what these ask for, and what that does.
 
+ghost use Rattle.std.specs.Prelude.{◌≡◌, IfOk, is_some, map, string_bytes};
 ghost use Rattle.facl_listings.specs.acl_rights.Tables.{IsWhole};
-ghost use Rattle.facl_tools.specs.Replies.{Replies};
-ghost use Rattle.facl_tools.specs.Tools.{tool_line};
+ghost use Rattle.facl_messages.specs.facl_words.Rows.{line_of};
+ghost use Rattle.facl_tools.specs.Replies.{Gives, Replies};
+ghost use Rattle.facl_tools.specs.Tools.{answered, line_or_fault, name_of, read_line, row_of, tool_line, tool_named, words_of, words_or_fault};
 
-use crate::attr::attr;
-use crate::can::can_line;
-use crate::chacl::chacl;
-use crate::chmod::chmod;
-use crate::creat::creat;
+use crate::attr::{self, AttrLine};
+use crate::can::{self, CanLine};
+use crate::chacl::{self, ChaclLine};
+use crate::chmod::{self, ChmodLine};
+use crate::creat::{self, CreatLine};
 use crate::effect::Effect;
-use crate::getfacl::getfacl;
-use crate::gpasswd::gpasswd;
-use crate::index::index_line;
-use crate::load::load;
-use crate::may::may_line;
-use crate::rm::rm;
-use crate::setattr::setattr;
-use crate::setfacl::setfacl;
-use crate::useradd::useradd;
-use crate::userdel::userdel;
-use crate::usermod::usermod;
-use crate::who::who_line;
+use crate::getfacl::{self, GetfaclLine};
+use crate::gpasswd::{self, GpasswdLine};
+use crate::load::{self, LoadLine};
+use crate::may::{self, MayLine};
+use crate::rm::{self, RmLine};
+use crate::setattr::{self, SetattrLine};
+use crate::setfacl_line::{self, SetfaclLine};
+use crate::useradd::{self, UseraddLine};
+use crate::userdel::{self, UserdelLine};
+use crate::usermod::{self, UsermodLine};
+use crate::who::{self, WhoLine};
+use crate::{index as index_tool, setfacl};
 use facl_listings::{Index, Judge, State};
-use facl_messages::{LineFault, Tool, Words};
-use std::alloc::Global;
+use facl_messages::{LineFault, LineRows, Words, read_by};
+use std::alloc::{AllocError, Global};
 
-/// What a tool does at a state. Questions of who may do what are answered from the index of the state.
-#[tactic(auto, unfolding(crate::specs::Tools::tool_line))]
+/// A tool that a line of a script may name.
+#[derive(Clone, Copy, Debug, PartialEq, Eq)]
+pub enum Tool {
+    /// Loads a text: passwd(5), group(5), or a dump of getfacl(1).
+    Load,
+    /// getfacl(1).
+    Getfacl,
+    /// setfacl(1).
+    Setfacl,
+    /// chacl(1).
+    Chacl,
+    /// chmod(1).
+    Chmod,
+    /// Makes a file or a directory.
+    Creat,
+    /// rm(1).
+    Rm,
+    /// gpasswd(1).
+    Gpasswd,
+    /// usermod(8).
+    Usermod,
+    /// Prints a file's lists as the attributes that acl(5) keeps them in.
+    Attr,
+    /// Puts a list from such an attribute.
+    Setattr,
+    /// What a user may do with a file.
+    Can,
+    /// Who may do something with a file.
+    Who,
+    /// With which files a user may do something.
+    May,
+    /// What each user may do with each file.
+    Index,
+    /// useradd(8).
+    Useradd,
+    /// userdel(8).
+    Userdel,
+}
+
+static TOOLS: [Tool; 17] = [
+    Tool::Load,
+    Tool::Getfacl,
+    Tool::Setfacl,
+    Tool::Chacl,
+    Tool::Chmod,
+    Tool::Creat,
+    Tool::Rm,
+    Tool::Gpasswd,
+    Tool::Usermod,
+    Tool::Attr,
+    Tool::Setattr,
+    Tool::Can,
+    Tool::Who,
+    Tool::May,
+    Tool::Index,
+    Tool::Useradd,
+    Tool::Userdel,
+];
+
+impl Tool {
+    /// The tool's name: the first word of its lines.
+    pub fn name(self) -> &'static str
+        ensures { result.now ≡ name_of self }
+    {
+        match self {
+            Tool::Load => "load",
+            Tool::Getfacl => "getfacl",
+            Tool::Setfacl => "setfacl",
+            Tool::Chacl => "chacl",
+            Tool::Chmod => "chmod",
+            Tool::Creat => "creat",
+            Tool::Rm => "rm",
+            Tool::Gpasswd => "gpasswd",
+            Tool::Usermod => "usermod",
+            Tool::Attr => "attr",
+            Tool::Setattr => "setattr",
+            Tool::Can => "can",
+            Tool::Who => "who",
+            Tool::May => "may",
+            Tool::Index => "index",
+            Tool::Useradd => "useradd",
+            Tool::Userdel => "userdel",
+        }
+    }
+
+    /// The tool of this name.
+    pub fn named(name: &str) -> Option<Tool>
+        ensures { result ≡ tool_named name.now }
+    {
+        TOOLS.iter().copied().find(|tool| tool.name() == name)
+    }
+}
+
+/// A line of a script, but for its text.
+#[derive(Debug, Drop)]
+pub enum ToolLine<'a> {
+    Load(LoadLine),
+    Getfacl(GetfaclLine<'a>),
+    Setfacl(SetfaclLine<'a>),
+    Chacl(ChaclLine<'a>),
+    Chmod(ChmodLine<'a>),
+    Creat(CreatLine<'a>),
+    Rm(RmLine<'a>),
+    Gpasswd(GpasswdLine<'a>),
+    Usermod(UsermodLine<'a>),
+    Attr(AttrLine<'a>),
+    Setattr(SetattrLine<'a>),
+    Can(CanLine<'a>),
+    Who(WhoLine<'a>),
+    May(MayLine<'a>),
+    Index,
+    Useradd(UseraddLine<'a>),
+    Userdel(UserdelLine<'a>),
+}
+
+/// The words that a tool takes: flags, options and operands.
+pub fn rows_for(tool: Tool) -> &'static LineRows
+    ensures { line_of result.now ≡ row_of tool }
+{
+    match tool {
+        Tool::Load => &load::ROW,
+        Tool::Getfacl => &getfacl::ROW,
+        Tool::Setfacl => &setfacl_line::ROW,
+        Tool::Chacl => &chacl::ROW,
+        Tool::Chmod => &chmod::ROW,
+        Tool::Creat => &creat::ROW,
+        Tool::Rm => &rm::ROW,
+        Tool::Gpasswd => &gpasswd::ROW,
+        Tool::Usermod => &usermod::ROW,
+        Tool::Attr => &attr::ROW,
+        Tool::Setattr => &setattr::ROW,
+        Tool::Can => &can::ROW,
+        Tool::Who => &who::ROW,
+        Tool::May => &may::ROW,
+        Tool::Index => &index_tool::ROW,
+        Tool::Useradd => &useradd::ROW,
+        Tool::Userdel => &userdel::ROW,
+    }
+}
+
+/// The line of `load`, which borrows nothing from its words.
+fn load_line(words: &Words) -> Option<ToolLine<'_>>
+    ensures { result ≡ read_line Tool.Load words.now }
+{
+    let line = load::read(words)?;
+    Some(ToolLine::Load(line))
+}
+
+/// What words ask their tool for. `None` where they are usage. Fails only if memory runs out.
+fn read_line(alloc: Global, tool: Tool, words: &Words) -> Result<Option<ToolLine<'_>>, AllocError>
+    ensures { IfOk result (λ line. line ≡ read_line tool words.now) }
+{
+    match tool {
+        Tool::Load => Ok(load_line(words)),
+        Tool::Getfacl => Ok(getfacl::read(words).map(ToolLine::Getfacl)),
+        Tool::Setfacl => Ok(setfacl_line::read(words).map(ToolLine::Setfacl)),
+        Tool::Chacl => Ok(chacl::read(words).map(ToolLine::Chacl)),
+        Tool::Chmod => Ok(chmod::read(words).map(ToolLine::Chmod)),
+        Tool::Creat => Ok(creat::read(words).map(ToolLine::Creat)),
+        Tool::Rm => Ok(rm::read(words).map(ToolLine::Rm)),
+        Tool::Gpasswd => Ok(gpasswd::read(words).map(ToolLine::Gpasswd)),
+        Tool::Usermod => Ok(usermod::read(words).map(ToolLine::Usermod)),
+        Tool::Attr => Ok(attr::read(words).map(ToolLine::Attr)),
+        Tool::Setattr => Ok(setattr::read(words).map(ToolLine::Setattr)),
+        Tool::Can => Ok(can::read(words).map(ToolLine::Can)),
+        Tool::Who => Ok(who::read(words).map(ToolLine::Who)),
+        Tool::May => Ok(may::read(words).map(ToolLine::May)),
+        Tool::Index => Ok(Some(ToolLine::Index)),
+        Tool::Useradd => Ok(useradd::read(alloc, words)?.map(ToolLine::Useradd)),
+        Tool::Userdel => Ok(Some(ToolLine::Userdel(userdel::read(words)))),
+    }
+}
+
+/// What words ask their tool for, or usage.
+#[tactic(auto, unfolding(crate::specs::Tools::line_or_fault))]
+fn line_of(alloc: Global, tool: Tool, words: &Words) -> Result<ToolLine<'_>, LineFault>
+    ensures { Gives (λ line. line) result (line_or_fault tool words.now) }
+{
+    match read_line(alloc, tool, words)? {
+        Some(line) => Ok(line),
+        None => Err(LineFault::Usage),
+    }
+}
+
+/// Whether words are a line of their tool. Fails only if memory runs out.
+fn is_line(alloc: Global, tool: Tool, words: &Words) -> Result<bool, AllocError>
+    ensures { IfOk result (λ is_line. is_line ≡ is_some (read_line tool words.now)) }
+{
+    Ok(read_line(alloc, tool, words)?.is_some())
+}
+
+/// The words after a tool's name by its row.
+#[tactic(auto, unfolding(crate::specs::Tools::words_of))]
+fn words_of(alloc: Global, tool: Tool, words: &[String]) -> Result<Words, LineFault>
+    ensures { Gives (λ w. w) result (words_of tool (map string_bytes words.now)) }
+{
+    Ok(read_by(alloc, rows_for(tool), words)?)
+}
+
+/// The words after a tool's name as flags, the values of options and operands, each in the order of the tool's row.
+///
+/// # Errors
+///
+/// `Usage` where `clap` or the tool's own rules refuse the words; `NoMemory` only if memory runs out.
+#[tactic(auto, unfolding(crate::specs::Tools::line_or_fault))]
+pub fn read_words(alloc: Global, tool: Tool, words: &[String]) -> Result<Words, LineFault>
+    ensures { Gives (λ w. w) result (words_or_fault tool (map string_bytes words.now)) }
+{
+    let words = words_of(alloc, tool, words)?;
+    if is_line(alloc, tool, &words)? {
+        Ok(words)
+    } else {
+        Err(LineFault::Usage)
+    }
+}
+
+/// What a line does at a state. Questions of who may do what are answered from the index of the state.
+#[tactic(auto, unfolding(crate::specs::Tools::answered))]
+fn answer<J: Judge>(
+    alloc: Global,
+    state: &State,
+    index: &Index<J>,
+    line: ToolLine<'_>,
+    text: &[u8],
+) -> Result<Effect, LineFault>
+    requires { IsWhole J.verdict_of state.now index.now }
+    ensures { Replies state.now result (answered J.verdict_of state.now line.entry text.now) }
+{
+    match line {
+        ToolLine::Load(line) => load::answer(alloc, state, line, text),
+        ToolLine::Getfacl(line) => getfacl::answer(alloc, state, line),
+        ToolLine::Setfacl(line) => setfacl::answer(alloc, state, line, text),
+        ToolLine::Chacl(line) => chacl::answer(alloc, state, line),
+        ToolLine::Chmod(line) => chmod::answer(alloc, state, line),
+        ToolLine::Creat(line) => creat::answer(alloc, state, line),
+        ToolLine::Rm(line) => rm::answer(alloc, state, line),
+        ToolLine::Gpasswd(line) => gpasswd::answer(alloc, state, line),
+        ToolLine::Usermod(line) => usermod::answer(alloc, state, line),
+        ToolLine::Attr(line) => attr::answer(alloc, state, line),
+        ToolLine::Setattr(line) => setattr::answer(alloc, state, line),
+        ToolLine::Can(line) => can::answer(alloc, state, index, line),
+        ToolLine::Who(line) => who::answer(alloc, state, index, line),
+        ToolLine::May(line) => may::answer(alloc, state, index, line),
+        ToolLine::Index => index_tool::answer(alloc, state, index),
+        ToolLine::Useradd(line) => useradd::answer(alloc, state, line),
+        ToolLine::Userdel(line) => userdel::answer(alloc, state, line),
+    }
+}
+
+/// What a tool does at a state, by the words after its name and the text after the line.
 pub fn tool_line<J: Judge>(
     alloc: Global,
     state: &State,
     index: &Index<J>,
     tool: Tool,
-    words: &Words,
+    words: &[String],
     text: &[u8],
 ) -> Result<Effect, LineFault>
     requires { IsWhole J.verdict_of state.now index.now }
-    ensures { Replies state.now result (tool_line J.verdict_of state.now tool words.now text.now) }
+    ensures { Replies state.now result (tool_line J.verdict_of state.now tool (map string_bytes words.now) text.now) }
 {
-    match tool {
-        Tool::Load => load(alloc, state, words, text),
-        Tool::Getfacl => getfacl(alloc, state, words),
-        Tool::Setfacl => setfacl(alloc, state, words, text),
-        Tool::Chacl => chacl(alloc, state, words),
-        Tool::Chmod => chmod(alloc, state, words),
-        Tool::Creat => creat(alloc, state, words),
-        Tool::Rm => rm(alloc, state, words),
-        Tool::Gpasswd => gpasswd(alloc, state, words),
-        Tool::Usermod => usermod(alloc, state, words),
-        Tool::Attr => attr(alloc, state, words),
-        Tool::Setattr => setattr(alloc, state, words),
-        Tool::Can => can_line(alloc, state, index, words),
-        Tool::Who => who_line(alloc, state, index, words),
-        Tool::May => may_line(alloc, state, index, words),
-        Tool::Index => index_line(alloc, state, index),
-        Tool::Useradd => useradd(alloc, state, words),
-        Tool::Userdel => userdel(alloc, state, words),
-    }
+    let words = words_of(alloc, tool, words)?;
+    let line = line_of(alloc, tool, &words)?;
+    answer(alloc, state, index, line, text)
 }

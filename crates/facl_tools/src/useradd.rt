@@ -1,61 +1,89 @@
 //! The tool useradd(8): a new user.
 
-ghost use Rattle.std.specs.Prelude.{◌≡◌};
-ghost use Rattle.facl_tools.specs.Replies.{Replies, Gives};
-ghost use Rattle.facl_tools.specs.Accounts.{uid_of, name_of, group_of, new_user, useradd_line};
+ghost use Rattle.std.specs.Prelude.{◌≡◌, IfOk};
+ghost use Rattle.facl_tools.specs.Replies.{Replies};
+ghost use Rattle.facl_tools.specs.Useradd.{answered, line_with, name_of, new_user, read, uid_of};
 
 use crate::change::prepare;
 use crate::effect::Effect;
 use crate::operands::name_meant;
-use facl_listings::{Command, Id, Name, NewUser, State, UserName, read_id, read_name};
-use facl_messages::places::useradd::{GROUP, NAME, UID};
-use facl_messages::{LineFault, Words};
-use std::alloc::Global;
+use crate::rows::{by_letter, one};
+use facl_listings::{Command, Id, NewUser, State, UserName, read_id, read_name};
+use facl_messages::{LineFault, LineRows, LineWord, OperandRow, SwitchRow, Words};
+use std::alloc::{AllocError, Global};
+
+/// The words of the tool.
+pub(crate) static ROW: LineRows = LineRows {
+    flags: &[],
+    options: &[by_letter!('u', "u"), by_letter!('g', "g")],
+    operands: &[one!("name")],
+};
+
+/// A line of useradd(8).
+#[derive(Debug, Drop)]
+pub struct UseraddLine<'a> {
+    /// The operand is decoded, and not trimmed.
+    pub name: UserName,
+    /// `-u`: digits alone.
+    pub uid: Id,
+    /// `-g`: the primary group.
+    pub group: LineWord<'a>,
+}
 
 /// The id that a line gives: digits alone.
 fn uid_of(words: &Words) -> Option<Id>
     ensures { result ≡ uid_of words.now }
 {
-    read_id(words.values.get(UID)?.as_bytes())
+    read_id(words.value(&ROW, "u")?.as_bytes())
 }
 
-/// The name of the new user: the operand is decoded, and not trimmed.
-fn name_of(alloc: Global, words: &Words) -> Result<UserName, LineFault>
-    ensures { Gives (λ name. name) result (name_of words.now) }
+/// The name of the new user, where it may be one. Fails only if memory runs out.
+fn name_of(alloc: Global, words: &Words) -> Result<Option<UserName>, AllocError>
+    ensures { IfOk result (λ name. name ≡ name_of words.now) }
 {
-    let name = read_name(alloc, words.operands.get(NAME).as_bytes())?;
-    match UserName::new(name) {
-        Some(name) => Ok(name),
-        None => Err(LineFault::Usage),
+    let name = read_name(alloc, words.operand(&ROW, "name").as_bytes())?;
+    Ok(UserName::new(name))
+}
+
+/// The line with this name.
+fn line_with(words: &Words, name: UserName) -> Option<UseraddLine<'_>>
+    ensures { result ≡ line_with words.now name }
+{
+    let uid = uid_of(words)?;
+    let group = words.value(&ROW, "g")?;
+    Some(UseraddLine { name, uid, group })
+}
+
+/// What words ask for. `None` where they are usage. Fails only if memory runs out.
+pub(crate) fn read(alloc: Global, words: &Words) -> Result<Option<UseraddLine<'_>>, AllocError>
+    ensures { IfOk result (λ line. line ≡ read words.now) }
+{
+    match name_of(alloc, words)? {
+        Some(name) => Ok(line_with(words, name)),
+        None => Ok(None),
     }
 }
 
-/// The word for the primary group.
-fn group_of(alloc: Global, words: &Words) -> Result<Name, LineFault>
-    ensures { Gives (λ name. name) result (group_of words.now) }
+/// The new user of a line. Fails only if memory runs out.
+fn new_user(alloc: Global, line: UseraddLine<'_>) -> Result<NewUser, AllocError>
+    ensures { IfOk result (λ new. new ≡ new_user line.entry) }
 {
-    match words.values.get(GROUP) {
-        Some(word) => Ok(name_meant(alloc, word)?),
-        None => Err(LineFault::Usage),
-    }
-}
-
-/// The new user of a line.
-fn new_user(alloc: Global, words: &Words) -> Result<NewUser, LineFault>
-    ensures { Gives (λ new. new) result (new_user words.now) }
-{
-    let Some(uid) = uid_of(words) else {
-        return Err(LineFault::Usage);
-    };
-    let group = group_of(alloc, words)?;
-    let name = name_of(alloc, words)?;
-    Ok(NewUser { name, uid, group })
+    let group = name_meant(alloc, &line.group)?;
+    Ok(NewUser {
+        name: line.name,
+        uid: line.uid,
+        group,
+    })
 }
 
 /// Adds a user.
-pub(crate) fn useradd(alloc: Global, state: &State, words: &Words) -> Result<Effect, LineFault>
-    ensures { Replies state.now result (useradd_line state.now words.now) }
+pub(crate) fn answer(
+    alloc: Global,
+    state: &State,
+    line: UseraddLine<'_>,
+) -> Result<Effect, LineFault>
+    ensures { Replies state.now result (answered state.now line.entry) }
 {
-    let new = new_user(alloc, words)?;
+    let new = new_user(alloc, line)?;
     prepare(alloc, state, &Command::Useradd(new))
 }

@@ -1,20 +1,47 @@
 //! The tool userdel(8): a user goes.
 
+ghost use Rattle.std.specs.Prelude.{◌≡◌};
 ghost use Rattle.facl_tools.specs.Replies.{Replies};
-ghost use Rattle.facl_tools.specs.Accounts.{userdel_line};
+ghost use Rattle.facl_tools.specs.Userdel.{answered, read};
 
 use crate::change::prepare;
 use crate::effect::Effect;
-use crate::operands::name_at;
+use crate::operands::name_meant;
+use crate::rows::one;
 use facl_listings::{Command, State};
-use facl_messages::places::userdel::USER;
-use facl_messages::{LineFault, Words};
+use facl_messages::{LineFault, LineRows, LineWord, OperandRow, Words};
 use std::alloc::Global;
 
-/// Removes a user.
-pub(crate) fn userdel(alloc: Global, state: &State, words: &Words) -> Result<Effect, LineFault>
-    ensures { Replies state.now result (userdel_line state.now words.now) }
+/// The words of the tool.
+pub(crate) static ROW: LineRows = LineRows {
+    flags: &[],
+    options: &[],
+    operands: &[one!("user")],
+};
+
+/// A line of userdel(8).
+#[derive(Debug, Drop)]
+pub struct UserdelLine<'a> {
+    pub user: LineWord<'a>,
+}
+
+/// What words ask for.
+pub(crate) fn read(words: &Words) -> UserdelLine<'_>
+    ensures { result ≡ read words.now }
 {
-    let user = name_at(alloc, words, USER)?;
+    UserdelLine {
+        user: words.operand(&ROW, "user"),
+    }
+}
+
+/// Removes a user.
+pub(crate) fn answer(
+    alloc: Global,
+    state: &State,
+    line: UserdelLine<'_>,
+) -> Result<Effect, LineFault>
+    ensures { Replies state.now result (answered state.now line.entry) }
+{
+    let user = name_meant(alloc, &line.user)?;
     prepare(alloc, state, &Command::Userdel { user })
 }

@@ -1,36 +1,52 @@
 //! The tool usermod(8): a user gets another primary group.
 
+ghost use Rattle.std.specs.Prelude.{◌≡◌};
 ghost use Rattle.facl_tools.specs.Replies.{Replies};
-ghost use Rattle.facl_tools.specs.Memberships.{usermod_group, usermod_line};
+ghost use Rattle.facl_tools.specs.Usermod.{answered, read};
 
 use crate::change::prepare;
 use crate::effect::Effect;
-use crate::operands::{name_at, name_meant};
+use crate::operands::name_meant;
+use crate::rows::{by_letter, one};
 use facl_listings::{Command, State};
-use facl_messages::places::usermod::{GROUP, USER};
-use facl_messages::{LineFault, Words};
+use facl_messages::{LineFault, LineRows, LineWord, OperandRow, SwitchRow, Words};
 use std::alloc::Global;
 
-/// Makes a group the primary group of the user of a line.
-fn usermod_group(
-    alloc: Global,
-    state: &State,
-    words: &Words,
-    group: &str,
-) -> Result<Effect, LineFault>
-    ensures { Replies state.now result (usermod_group state.now words.now group.now) }
-{
-    let user = name_at(alloc, words, USER)?;
-    let group = name_meant(alloc, group)?;
-    prepare(alloc, state, &Command::Usermod { user, group })
+/// The words of the tool.
+pub(crate) static ROW: LineRows = LineRows {
+    flags: &[],
+    options: &[by_letter!('g', "g")],
+    operands: &[one!("user")],
+};
+
+/// A line of usermod(8).
+#[derive(Debug, Drop)]
+pub struct UsermodLine<'a> {
+    pub user: LineWord<'a>,
+    /// `-g`: the primary group.
+    pub group: LineWord<'a>,
 }
 
-/// Changes the primary group of a user.
-pub(crate) fn usermod(alloc: Global, state: &State, words: &Words) -> Result<Effect, LineFault>
-    ensures { Replies state.now result (usermod_line state.now words.now) }
+/// What words ask for. `None` where they are usage.
+pub(crate) fn read(words: &Words) -> Option<UsermodLine<'_>>
+    ensures { result ≡ read words.now }
 {
-    match words.values.get(GROUP) {
-        Some(group) => usermod_group(alloc, state, words, group),
-        None => Err(LineFault::Usage),
-    }
+    let group = words.value(&ROW, "g")?;
+    Some(UsermodLine {
+        user: words.operand(&ROW, "user"),
+        group,
+    })
+}
+
+/// Makes a group the primary group of a user.
+pub(crate) fn answer(
+    alloc: Global,
+    state: &State,
+    line: UsermodLine<'_>,
+) -> Result<Effect, LineFault>
+    ensures { Replies state.now result (answered state.now line.entry) }
+{
+    let user = name_meant(alloc, &line.user)?;
+    let group = name_meant(alloc, &line.group)?;
+    prepare(alloc, state, &Command::Usermod { user, group })
 }

@@ -1,15 +1,46 @@
 //! The tool `who`: the users who may do something with a file.
 
+ghost use Rattle.std.specs.Prelude.{◌≡◌};
 ghost use Rattle.facl_listings.specs.acl_rights.Tables.{IsWhole};
 ghost use Rattle.facl_tools.specs.Replies.{Gives, Replies};
-ghost use Rattle.facl_tools.specs.Queries.{who_at, who_line, who_of};
+ghost use Rattle.facl_tools.specs.Who.{answered, read, who_at, who_of};
 
 use crate::effect::Effect;
 use crate::operands::path_at;
+use crate::rows::{by_name, one};
 use facl_listings::{Index, Judge, Path, Perm, State, TreeFault, read_perms, write_who};
-use facl_messages::places::who::{FILE, PERMISSIONS, REACH};
-use facl_messages::{LineFault, Words};
+use facl_messages::{LineFault, LineRows, LineWord, OperandRow, SwitchRow, Words};
 use std::alloc::Global;
+
+/// The words of the tool.
+pub(crate) static ROW: LineRows = LineRows {
+    flags: &[by_name!("reach")],
+    options: &[],
+    operands: &[one!("perms"), one!("file")],
+};
+
+/// A line of `who`.
+#[derive(Debug, Drop)]
+pub struct WhoLine<'a> {
+    /// `--reach`: search on the directories above is asked too.
+    pub reach: bool,
+    /// The permissions that are asked about.
+    pub request: Perm,
+    pub file: LineWord<'a>,
+}
+
+/// What words ask for. `None` where they are usage.
+pub(crate) fn read(words: &Words) -> Option<WhoLine<'_>>
+    ensures { result ≡ read words.now }
+{
+    let request = read_perms(words.operand(&ROW, "perms").as_bytes())?;
+    let file = words.file(&ROW, "file")?;
+    Some(WhoLine {
+        reach: words.has(&ROW, "reach"),
+        request,
+        file,
+    })
+}
 
 /// The users who are granted a request on the file of a path.
 fn who_at<J: Judge>(
@@ -35,38 +66,27 @@ fn who_of<J: Judge>(
     state: &State,
     index: &Index<J>,
     along: bool,
-    word: &str,
+    word: &LineWord<'_>,
     request: Perm,
 ) -> Result<Vec<u8>, LineFault>
     requires { IsWhole J.verdict_of state.now index.now }
     ensures { Gives (λ out. out.items) result (who_of J.verdict_of along state.now word.now request) }
 {
-    let path = path_at(alloc, 1, word)?;
+    let path = path_at(alloc, 1, word.as_bytes())?;
     who_at(alloc, state, index, along, request, path)
 }
 
 /// The users who may do something with a file; with `--reach` only those who can search each recorded directory above
 /// it.
-pub fn who_line<J: Judge>(
+pub(crate) fn answer<J: Judge>(
     alloc: Global,
     state: &State,
     index: &Index<J>,
-    words: &Words,
+    line: WhoLine<'_>,
 ) -> Result<Effect, LineFault>
     requires { IsWhole J.verdict_of state.now index.now }
-    ensures { Replies state.now result (who_line J.verdict_of state.now words.now) }
+    ensures { Replies state.now result (answered J.verdict_of state.now line.entry) }
 {
-    let Some(request) = read_perms(words.operands.get(PERMISSIONS).as_bytes()) else {
-        return Err(LineFault::Usage);
-    };
-    let along = words.flags.has(REACH);
-    let out = who_of(
-        alloc,
-        state,
-        index,
-        along,
-        words.operands.get(FILE),
-        request,
-    )?;
+    let out = who_of(alloc, state, index, line.reach, &line.file, line.request)?;
     Ok(Effect::prints(out))
 }

@@ -1,8 +1,16 @@
 -- The program's own words.
-use Rattle.std.specs.Prelude.{List, Option, option_map}
+use Rattle.std.specs.Prelude.{List, [], ◌∷◌, Option, codes, option_map}
 use Rattle.facl_words.specs.Forms.{Text}
-use Rattle.facl_words.specs.Tools.{program_line}
+use Rattle.facl_words.specs.Lines.{Line, by_name}
 use Rattle.facl_words.specs.Commands.{taken, values_in}
+
+-- the three files
+abbrev pub program_line : Line
+program_line = record {
+  flags = [];
+  options = by_name (codes "passwd") ∷ by_name (codes "group") ∷ by_name (codes "dump") ∷ [];
+  operands = [];
+}
 
 -- the files of `--passwd`, `--group` and `--dump`, where clap takes the words
 unfoldable pub files_for : List Text → Option (List (Option Text))

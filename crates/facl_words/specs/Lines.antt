@@ -10,6 +10,8 @@ pub record Switch : Type 0 where
   pub long : Option Text
   -- the value of an option that is absent
   pub fallback : Option Text
+  -- its value is `-`, and the lines after the line are its text
+  pub is_text : Bool
 
 -- a switch with a letter and a long name
 abbrev pub both : Text → Text → Switch
@@ -18,6 +20,7 @@ both letter name = record {
   short = slice_get letter 0;
   long = Some name;
   fallback = None;
+  is_text = false;
 }
 
 -- a switch with a letter alone
@@ -27,11 +30,22 @@ by_letter letter = record {
   short = slice_get letter 0;
   long = None;
   fallback = None;
+  is_text = false;
 }
 
 -- a switch with a long name alone
 abbrev pub by_name : Text → Switch
-by_name name = record { id = name; short = None; long = Some name; fallback = None }
+by_name name = record {
+  id = name;
+  short = None;
+  long = Some name;
+  fallback = None;
+  is_text = false;
+}
+
+-- an option that reads the lines after the line
+abbrev pub of_text : Switch → Switch
+of_text s = record s { is_text = true }
 
 -- an option with a long name alone, and its value where it is absent
 abbrev pub by_name_or : Text → Text → Switch

@@ -1,12 +1,40 @@
 //! The program's own words.
 ghost use Rattle.std.specs.Prelude.{◌≡◌, MatchResult, Some, map, option_map, string_bytes};
-ghost use Rattle.facl_words.specs.Args.{files_for};
+ghost use Rattle.facl_words.specs.Args.{files_for, program_line};
 ghost use Rattle.facl_words.specs.Refusals.{IsRefusal};
+ghost use Rattle.facl_words.specs.Rows.{line_of};
 
 use crate::commands::{matches_for, value_of};
 use crate::fault::WordsFault;
-use crate::table::program_rows;
+use crate::rows::{LineRows, SwitchRow};
 use std::alloc::Global;
+
+/// An option with a long name alone.
+macro_rules! by_name {
+    ($name:literal) => {
+        SwitchRow {
+            id: $name,
+            short: None,
+            long: Some($name),
+            fallback: None,
+            is_text: false,
+        }
+    };
+}
+
+/// The options of the program.
+static FILES: [SwitchRow; 3] = [by_name!("passwd"), by_name!("group"), by_name!("dump")];
+
+/// The words that the program takes: the three files.
+fn program_rows() -> LineRows
+    ensures { line_of result ≡ program_line }
+{
+    LineRows {
+        flags: &[],
+        options: &FILES,
+        operands: &[],
+    }
+}
 
 /// The files of `--passwd`, `--group` and `--dump`, in this order, from the words after the program's
 /// name; `None` for an absent option.

@@ -78,7 +78,7 @@ pub(crate) fn matches_for<'a>(
     Ok(matches)
 }
 
-/// The value of an option.
+/// A copy of the value of an option. `None` where it is absent. Fails only if memory runs out.
 pub(crate) fn value_of(
     alloc: Global,
     matches: &ArgMatches<'_>,

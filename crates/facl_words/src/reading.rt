@@ -1,16 +1,21 @@
 //! A line's words, taken from what clap found.
 ghost use Rattle.std.specs.Prelude.{◌≡◌, ◌++◌, [], IfOk, MatchResult, OnOk, Some, map};
-ghost use Rattle.std.specs.Prelude.{string_bytes, true, unwrap_or};
+ghost use Rattle.std.specs.Prelude.{count_by, string_bytes, true, unwrap_or};
+ghost use Rattle.std.specs.List.{list_all};
 ghost use Rattle.clap.specs.Words.{all_of, first_of, found_of, is_simple_and_free, rows_of};
 ghost use Rattle.facl_words.specs.Rows.{line_of, switch_of};
 ghost use Rattle.facl_words.specs.Commands.{app_for, is_on};
 ghost use Rattle.facl_words.specs.Commands.{flags_in, operands_in, value_or, values_in};
 ghost use Rattle.facl_words.specs.Refusals.{IsRefusal};
-ghost use Rattle.facl_words.specs.Words.{words_read};
+ghost use Rattle.facl_words.specs.Rules.{fits_text, is_named, texts_given};
+ghost use Rattle.facl_words.specs.TextWords.{is_text_word as is_text_spelling};
+ghost use Rattle.facl_words.specs.Words.{words_by, words_read};
 
 use crate::commands::matches_for;
 use crate::fault::WordsFault;
+use crate::given::is_dash;
 use crate::rows::{LineRows, SwitchRow};
+use crate::text_words::is_text_word;
 use crate::words::{Flags, Operands, Values, Word, Words};
 use clap::ArgMatches;
 use std::alloc::{AllocError, Global};
@@ -104,11 +109,7 @@ fn operands_of(
 }
 
 /// The words as clap reads them.
-pub(crate) fn words_by_clap(
-    alloc: Global,
-    line: &LineRows,
-    words: &[String],
-) -> Result<Words, WordsFault>
+fn words_by_clap(alloc: Global, line: &LineRows, words: &[String]) -> Result<Words, WordsFault>
     requires { is_simple_and_free (app_for (line_of line.now)) ≡ true }
     ensures { MatchResult result
         (λ w. words_read (line_of line.now) (map string_bytes words.now) ≡ Some w)
@@ -120,4 +121,77 @@ pub(crate) fn words_by_clap(
         values: values_of(alloc, line, &matches)?,
         operands: operands_of(alloc, line, &matches)?,
     })
+}
+
+/// How many of the options that read a text were given.
+fn texts_given(line: &LineRows, found: &Words) -> usize
+    ensures { result ≡ texts_given (line_of line.now) found.now }
+{
+    line.options
+        .iter()
+        .filter(|option| option.is_text && found.gives(line, option.id))
+        .count()
+}
+
+/// Whether an option reads no text, is absent, or names standard input.
+fn is_named(line: &LineRows, found: &Words, option: &SwitchRow) -> bool
+    ensures { result ≡ is_named (line_of line.now) found.now (switch_of option.now) }
+{
+    if !option.is_text {
+        return true;
+    }
+    match found.value(line, option.id) {
+        Some(file) => is_dash(file.as_bytes()),
+        None => true,
+    }
+}
+
+/// Whether each option that reads a text is absent or names standard input.
+fn are_named(line: &LineRows, found: &Words) -> bool
+    ensures { result ≡ list_all (λ option. is_named (line_of line.now) found.now (switch_of option))
+        line.now.options.now }
+{
+    line.options
+        .iter()
+        .all(|option| is_named(line, found, option))
+}
+
+/// How many words name standard input as a text.
+fn texts_named(words: &[String]) -> usize
+    ensures { result ≡ count_by is_text_spelling (map string_bytes words.now) }
+{
+    words
+        .iter()
+        .filter(|word| is_text_word(word.as_bytes()))
+        .count()
+}
+
+/// Whether each option that reads a text names standard input, and the words that do so are as many as these options:
+/// at most one.
+#[tactic(auto, using(crate::proofs::Named::all_by_rows))]
+fn fits_text(line: &LineRows, words: &[String], found: &Words) -> bool
+    ensures { result ≡ fits_text (line_of line.now) (map string_bytes words.now) found.now }
+{
+    let given = texts_given(line, found);
+    are_named(line, found) && texts_named(words) == given && given <= 1
+}
+
+/// The words of a line by the row of its tool: flags, options and operands.
+///
+/// Returns `Usage` where `clap` refuses the words by the row, and where those that name the lines after the line as
+/// its text are not as many as the options that read one, at most one. Returns `NoMemory` only if memory runs out, and
+/// then in place of any answer.
+#[tactic(auto, unfolding(crate::specs::Words::words_by))]
+pub fn read_by(alloc: Global, line: &LineRows, words: &[String]) -> Result<Words, WordsFault>
+    requires { is_simple_and_free (app_for (line_of line.now)) ≡ true }
+    ensures { MatchResult result
+        (λ w. words_by (line_of line.now) (map string_bytes words.now) ≡ Some w)
+        (IsRefusal (words_by (line_of line.now) (map string_bytes words.now))) }
+{
+    let found = words_by_clap(alloc, line, words)?;
+    if fits_text(line, words, &found) {
+        Ok(found)
+    } else {
+        Err(WordsFault::Usage)
+    }
 }

@@ -1,4 +1,4 @@
-//! A row of the table of the tools, as the program contains it.
+//! A row: the words that a tool takes, or the program.
 
 /// A flag, or an option with one value.
 #[derive(Clone, Copy)]
@@ -11,6 +11,8 @@ pub struct SwitchRow {
     pub long: Option<&'static str>,
     /// The value of an option that is absent.
     pub fallback: Option<&'static str>,
+    /// Whether its value is `-`, and the lines after the line are its text.
+    pub is_text: bool,
 }
 
 /// An operand, or the operands at the end of a line.
@@ -34,87 +36,3 @@ pub struct LineRows {
     /// The operands, in their order.
     pub operands: &'static [OperandRow],
 }
-
-/// A flag or an option with a letter and a long name.
-macro_rules! both {
-    ($letter:literal, $name:literal) => {
-        SwitchRow {
-            id: $name,
-            short: Some($letter),
-            long: Some($name),
-            fallback: None,
-        }
-    };
-}
-
-/// A flag or an option with a letter alone, given as a character and as a text.
-macro_rules! by_letter {
-    ($letter:literal, $id:literal) => {
-        SwitchRow {
-            id: $id,
-            short: Some($letter),
-            long: None,
-            fallback: None,
-        }
-    };
-}
-
-/// A flag or an option with a long name alone, and for an option its value where it is absent.
-macro_rules! by_name {
-    ($name:literal) => {
-        SwitchRow {
-            id: $name,
-            short: None,
-            long: Some($name),
-            fallback: None,
-        }
-    };
-    ($name:literal or $value:literal) => {
-        SwitchRow {
-            id: $name,
-            short: None,
-            long: Some($name),
-            fallback: Some($value),
-        }
-    };
-}
-
-/// An operand that has to be given, once.
-macro_rules! one {
-    ($id:literal) => {
-        OperandRow {
-            id: $id,
-            is_required: true,
-            is_repeated: false,
-        }
-    };
-}
-
-/// Operands of which at least one has to be given.
-macro_rules! some {
-    ($id:literal) => {
-        OperandRow {
-            id: $id,
-            is_required: true,
-            is_repeated: true,
-        }
-    };
-}
-
-/// Operands of any number.
-macro_rules! any {
-    ($id:literal) => {
-        OperandRow {
-            id: $id,
-            is_required: false,
-            is_repeated: true,
-        }
-    };
-}
-
-pub(crate) use any;
-pub(crate) use both;
-pub(crate) use by_letter;
-pub(crate) use by_name;
-pub(crate) use one;
-pub(crate) use some;

@@ -1,8 +1,13 @@
 //! The words of a line, by their kinds: which flags and options were given, and the operands.
-ghost use Rattle.std.specs.Prelude.{◌≡◌, [], IfOk, None, drop, false, is_some, option_map};
+ghost use Rattle.std.specs.Prelude.{◌≡◌, [], IfOk, None, drop, false};
 ghost use Rattle.std.specs.List.{slice_index_or};
+ghost use Rattle.facl_words.specs.Forms.{file_of, files_of};
+ghost use Rattle.facl_words.specs.Naming.{gives, has, operand, operands_from, value};
+ghost use Rattle.facl_words.specs.Rows.{line_of};
 
-use crate::places::{FlagPlace, OperandPlace, ValuePlace};
+use crate::given::{LineFiles, LineWord};
+use crate::naming::{operand_place, switch_place};
+use crate::rows::LineRows;
 use std::alloc::{AllocError, Global};
 use std::marker::Model;
 
@@ -36,9 +41,16 @@ impl Word {
     {
         self.text.as_str()
     }
+
+    /// The word's bytes.
+    pub fn as_bytes(&self) -> &[u8]
+        ensures { result.now ≡ self.now }
+    {
+        self.text.as_bytes()
+    }
 }
 
-/// Which of a tool's flags were given, in the order of the table.
+/// Which flags were given, in the order of the row.
 #[derive(Debug, Drop)]
 pub struct Flags {
     items: Vec<bool>,
@@ -53,22 +65,22 @@ impl Model for Flags {
 }
 
 impl Flags {
-    /// The flags of a line: one for each flag of its tool, in the order of the table.
+    /// The flags of a line: one for each flag of its row, in that order.
     pub fn new(items: Vec<bool>) -> Flags
         ensures { result ≡ items.items }
     {
         Flags { items }
     }
 
-    /// Whether the flag was given. False at a place where the tool has no flag.
-    pub fn has(&self, flag: FlagPlace) -> bool
-        ensures { result ≡ slice_index_or self.now flag.0 false }
+    /// Whether the flag at a place was given. False where the row has no flag there.
+    pub fn get(&self, place: usize) -> bool
+        ensures { result ≡ slice_index_or self.now place false }
     {
-        self.items.get(flag.0).copied().unwrap_or(false)
+        self.items.get(place).copied().unwrap_or(false)
     }
 }
 
-/// The values of a tool's options, in the order of the table; `None` for an absent option.
+/// The values of the options, in the order of the row; `None` for an absent option.
 #[derive(Debug, Drop)]
 pub struct Values {
     items: Vec<Option<Word>>,
@@ -83,28 +95,21 @@ impl Model for Values {
 }
 
 impl Values {
-    /// The values of a line: one for each option of its tool, in the order of the table.
+    /// The values of a line: one for each option of its row, in that order.
     pub fn new(items: Vec<Option<Word>>) -> Values
         ensures { result ≡ items.items }
     {
         Values { items }
     }
 
-    /// The value of the option. `None` at a place where the tool has no option.
-    pub fn get(&self, option: ValuePlace) -> Option<&str>
-        ensures { option_map (λ t. t.now) result ≡ slice_index_or self.now option.0 None }
+    /// The value of the option at a place. `None` where it is absent, or the row has no option there.
+    pub fn get(&self, place: usize) -> Option<LineWord<'_>>
+        ensures { result ≡ slice_index_or self.now place None }
     {
-        match self.items.get(option.0) {
-            Some(Some(word)) => Some(word.as_str()),
+        match self.items.get(place) {
+            Some(Some(word)) => Some(LineWord::new(word.as_bytes())),
             _ => None,
         }
-    }
-
-    /// Whether the option was given.
-    pub fn is_given(&self, option: ValuePlace) -> bool
-        ensures { result ≡ is_some (slice_index_or self.now option.0 None) }
-    {
-        self.get(option).is_some()
     }
 }
 
@@ -138,33 +143,84 @@ impl Operands {
     }
 
     /// The operand at a place, and an empty text where there is none.
-    pub fn get(&self, operand: OperandPlace) -> &str
-        ensures { result.now ≡ slice_index_or self.now operand.0 [] }
+    pub fn get(&self, place: usize) -> LineWord<'_>
+        ensures { result ≡ slice_index_or self.now place [] }
     {
-        match self.items.get(operand.0) {
-            Some(word) => word.as_str(),
-            None => "",
+        match self.items.get(place) {
+            Some(word) => LineWord::new(word.as_bytes()),
+            None => LineWord::new(b""),
         }
     }
 
     /// The operands from a place on: an empty slice where there is no such place.
-    pub fn starting_at(&self, operand: OperandPlace) -> &[Word]
-        ensures { result.now ≡ drop operand.0 self.now }
+    pub fn starting_at(&self, place: usize) -> &[Word]
+        ensures { result.now ≡ drop place self.now }
     {
-        match self.items.get(operand.0..) {
+        match self.items.get(place..) {
             Some(words) => words,
             None => &[],
         }
     }
 }
 
-/// The words of a line, each kind in the order of the table.
+/// The words of a line, each kind in the order of its row.
 #[derive(Debug, Drop)]
 pub struct Words {
-    /// One for each flag of the tool.
+    /// One for each flag of the row.
     pub flags: Flags,
-    /// One for each option of the tool.
+    /// One for each option of the row.
     pub values: Values,
     /// All that were given.
     pub operands: Operands,
+}
+
+impl Words {
+    /// Whether the flag of this name was given, in a line of this row.
+    pub fn has(&self, row: &LineRows, name: &str) -> bool
+        ensures { result ≡ has (line_of row.now) self.now name.now }
+    {
+        self.flags.get(switch_place(row.flags, name))
+    }
+
+    /// The value of the option of this name. `None` where it is absent.
+    pub fn value(&self, row: &LineRows, name: &str) -> Option<LineWord<'_>>
+        ensures { result ≡ value (line_of row.now) self.now name.now }
+    {
+        self.values.get(switch_place(row.options, name))
+    }
+
+    /// Whether the option of this name was given.
+    pub fn gives(&self, row: &LineRows, name: &str) -> bool
+        ensures { result ≡ gives (line_of row.now) self.now name.now }
+    {
+        self.value(row, name).is_some()
+    }
+
+    /// The operand of this name. Empty where it is absent.
+    pub fn operand(&self, row: &LineRows, name: &str) -> LineWord<'_>
+        ensures { result ≡ operand (line_of row.now) self.now name.now }
+    {
+        self.operands.get(operand_place(row.operands, name))
+    }
+
+    /// The operands from the one of this name on.
+    pub fn operands_from(&self, row: &LineRows, name: &str) -> &[Word]
+        ensures { result.now ≡ operands_from (line_of row.now) self.now name.now }
+    {
+        self.operands.starting_at(operand_place(row.operands, name))
+    }
+
+    /// The operand of this name as a FILE. `None` where it is `-`.
+    pub fn file(&self, row: &LineRows, name: &str) -> Option<LineWord<'_>>
+        ensures { result ≡ file_of (operand (line_of row.now) self.now name.now) }
+    {
+        self.operand(row, name).file()
+    }
+
+    /// The operands from the one of this name on, as FILEs. `None` where there are none, or one is `-`.
+    pub fn files(&self, row: &LineRows, name: &str) -> Option<LineFiles<'_>>
+        ensures { result ≡ files_of (operands_from (line_of row.now) self.now name.now) }
+    {
+        LineFiles::of(self.operands_from(row, name))
+    }
 }

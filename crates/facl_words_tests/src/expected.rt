@@ -1,126 +1,51 @@
 //! What is read of a line, as text: the flags and options that were given, in the order of the
 //! table, a colon, and the operands. An empty operand is `''`, and a refused line is `usage`.
-use facl_words::places::{
-    can, chacl, chmod, creat, getfacl, gpasswd, may, rm, setfacl, useradd, usermod, who,
-};
-use facl_words::{FlagPlace, Tool, ValuePlace, Word, Words, WordsFault, read_words};
+use facl_tools::{LineFault, SwitchRow, Tool, Word, Words, read_words, rows_for};
 use std::alloc::Global;
 use std::process::Abort;
-
-static GETFACL_FLAGS: [(FlagPlace, &str); 7] = [
-    (getfacl::ACCESS, "-a"),
-    (getfacl::OMIT_HEADER, "-c"),
-    (getfacl::ALL_EFFECTIVE, "-e"),
-    (getfacl::NO_EFFECTIVE, "-E"),
-    (getfacl::SKIP_BASE, "-s"),
-    (getfacl::RECURSIVE, "-R"),
-    (getfacl::NUMERIC, "-n"),
-];
-
-static SETFACL_FLAGS: [(FlagPlace, &str); 7] = [
-    (setfacl::REMOVE_ALL, "-b"),
-    (setfacl::REMOVE_DEFAULT, "-k"),
-    (setfacl::NO_MASK, "-n"),
-    (setfacl::MASK, "--mask"),
-    (setfacl::DEFAULT, "-d"),
-    (setfacl::RECURSIVE, "-R"),
-    (setfacl::TEST, "--test"),
-];
-
-static SETFACL_OPTIONS: [(ValuePlace, &str); 7] = [
-    (setfacl::MODIFY, "-m"),
-    (setfacl::MODIFY_FILE, "-M"),
-    (setfacl::REMOVE, "-x"),
-    (setfacl::REMOVE_FILE, "-X"),
-    (setfacl::SET, "--set"),
-    (setfacl::SET_FILE, "--set-file"),
-    (setfacl::RESTORE, "--restore"),
-];
-
-static CHACL_FLAGS: [(FlagPlace, &str); 7] = [
-    (chacl::PUT_BOTH, "-b"),
-    (chacl::PUT_DEFAULT, "-d"),
-    (chacl::REMOVE_ACCESS, "-R"),
-    (chacl::REMOVE_DEFAULT, "-D"),
-    (chacl::REMOVE_BOTH, "-B"),
-    (chacl::LIST, "-l"),
-    (chacl::RECURSIVE, "-r"),
-];
-
-static CHMOD_FLAGS: [(FlagPlace, &str); 1] = [(chmod::RECURSIVE, "-R")];
-
-static CREAT_FLAGS: [(FlagPlace, &str); 1] = [(creat::DIRECTORY, "-d")];
-
-static CREAT_OPTIONS: [(ValuePlace, &str); 3] = [
-    (creat::USER, "--user"),
-    (creat::MODE, "--mode"),
-    (creat::UMASK, "--umask"),
-];
-
-static RM_FLAGS: [(FlagPlace, &str); 1] = [(rm::RECURSIVE, "-r")];
-
-static CAN_FLAGS: [(FlagPlace, &str); 1] = [(can::REACH, "--reach")];
-
-static WHO_FLAGS: [(FlagPlace, &str); 1] = [(who::REACH, "--reach")];
-
-static MAY_FLAGS: [(FlagPlace, &str); 1] = [(may::REACH, "--reach")];
-
-static GPASSWD_OPTIONS: [(ValuePlace, &str); 2] = [(gpasswd::ADD, "-a"), (gpasswd::DELETE, "-d")];
-
-static USERMOD_OPTIONS: [(ValuePlace, &str); 1] = [(usermod::GROUP, "-g")];
-
-static USERADD_OPTIONS: [(ValuePlace, &str); 2] = [(useradd::UID, "-u"), (useradd::GROUP, "-g")];
-
-fn flags_of(tool: Tool) -> &'static [(FlagPlace, &'static str)] {
-    match tool {
-        Tool::Getfacl => &GETFACL_FLAGS,
-        Tool::Setfacl => &SETFACL_FLAGS,
-        Tool::Chacl => &CHACL_FLAGS,
-        Tool::Chmod => &CHMOD_FLAGS,
-        Tool::Creat => &CREAT_FLAGS,
-        Tool::Rm => &RM_FLAGS,
-        Tool::Can => &CAN_FLAGS,
-        Tool::Who => &WHO_FLAGS,
-        Tool::May => &MAY_FLAGS,
-        _ => &[],
-    }
-}
-
-fn options_of(tool: Tool) -> &'static [(ValuePlace, &'static str)] {
-    match tool {
-        Tool::Setfacl => &SETFACL_OPTIONS,
-        Tool::Creat => &CREAT_OPTIONS,
-        Tool::Gpasswd => &GPASSWD_OPTIONS,
-        Tool::Usermod => &USERMOD_OPTIONS,
-        Tool::Useradd => &USERADD_OPTIONS,
-        _ => &[],
-    }
-}
 
 fn push(rt: &impl Abort, text: &mut String, part: &str) {
     text.push_str(part).expect(rt, "memory");
 }
 
-fn push_flags(rt: &impl Abort, text: &mut String, tool: Tool, words: &Words) {
-    for (place, label) in flags_of(tool) {
-        if words.flags.has(*place) {
-            push(rt, text, label);
-            push(rt, text, " ");
+/// A flag or an option as the manual pages write it: by its letter where it has one.
+fn push_label(rt: &impl Abort, text: &mut String, row: &SwitchRow) {
+    match row.short {
+        Some(letter) => {
+            push(rt, text, "-");
+            text.push(letter).expect(rt, "memory");
+        }
+        None => {
+            push(rt, text, "--");
+            push(rt, text, row.id);
         }
     }
 }
 
-fn push_option(rt: &impl Abort, text: &mut String, label: &str, value: &str) {
-    push(rt, text, label);
+fn push_flag(rt: &impl Abort, text: &mut String, row: &SwitchRow) {
+    push_label(rt, text, row);
+    push(rt, text, " ");
+}
+
+fn push_flags(rt: &impl Abort, text: &mut String, tool: Tool, words: &Words) {
+    for row in rows_for(tool).flags {
+        if words.has(rows_for(tool), row.id) {
+            push_flag(rt, text, row);
+        }
+    }
+}
+
+fn push_option(rt: &impl Abort, text: &mut String, row: &SwitchRow, value: &[u8]) {
+    push_label(rt, text, row);
     push(rt, text, "=");
-    push(rt, text, value);
+    push(rt, text, str::from_utf8(value).expect(rt, "UTF-8"));
     push(rt, text, " ");
 }
 
 fn push_options(rt: &impl Abort, text: &mut String, tool: Tool, words: &Words) {
-    for (place, label) in options_of(tool) {
-        if let Some(value) = words.values.get(*place) {
-            push_option(rt, text, label, value);
+    for row in rows_for(tool).options {
+        if let Some(value) = words.value(rows_for(tool), row.id) {
+            push_option(rt, text, row, value.as_bytes());
         }
     }
 }
@@ -158,8 +83,8 @@ pub(crate) fn words_of(rt: &impl Abort, alloc: Global, line: &str) -> Vec<String
 fn push_read(rt: &impl Abort, alloc: Global, text: &mut String, tool: Tool, rest: &[String]) {
     match read_words(alloc, tool, rest) {
         Ok(words) => push_words(rt, text, tool, &words),
-        Err(WordsFault::Usage) => push(rt, text, "usage"),
-        Err(WordsFault::NoMemory) => push(rt, text, "no memory"),
+        Err(LineFault::Usage) => push(rt, text, "usage"),
+        Err(_) => push(rt, text, "no memory"),
     }
 }
 

@@ -1,6 +1,6 @@
 //! The program's own words, and the names of the tools.
 use crate::expected::words_of;
-use facl_words::{Tool, WordsFault, read_args};
+use facl_tools::{Tool, WordsFault, read_args};
 use std::alloc::Global;
 use std::process::Abort;
 

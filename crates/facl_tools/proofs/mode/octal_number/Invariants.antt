@@ -1,7 +1,6 @@
 use Rattle.std.proofs.Common.{◌≡◌, ◌<◌, ℕ, List, true, length}
 use Rattle.std.specs.List.{list_all}
-use Rattle.facl_messages.specs.facl_words.Forms.{is_octal_digit}
-use Rattle.facl_tools.specs.Modes.{octal_after, octal_number}
+use Rattle.facl_tools.specs.Modes.{is_octal_digit, octal_after, octal_number}
 use Rattle.facl_tools.proofs.Modes.{room}
 use Rattle.facl_tools.proofs.mode.octal_number.Given as goal
 

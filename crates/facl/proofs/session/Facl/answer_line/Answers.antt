@@ -1,4 +1,4 @@
-use Rattle.std.proofs.Common.{true, subst, map, string_bytes}
+use Rattle.std.proofs.Common.{subst, map, string_bytes}
 use Rattle.facl_tools.specs.Replies.{Gives}
 use Rattle.facl.specs.Sessions.{state_of, ran_out_of_memory}
 use Rattle.facl.specs.Units.{words_of_line}

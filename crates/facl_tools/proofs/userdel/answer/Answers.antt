@@ -1,7 +1,7 @@
 use Rattle.std.proofs.Common.{ℕ, List, subst}
 use Rattle.facl_listings.specs.acl_tree.declared.command.Command.TheVariants.{Userdel}
 use Rattle.facl_tools.specs.Replies.{Replies, done}
-use Rattle.facl_tools.proofs.userdel.userdel.Goals as goal
+use Rattle.facl_tools.proofs.userdel.answer.Goals as goal
 
 pub returns : goal.returns
 returns c =
