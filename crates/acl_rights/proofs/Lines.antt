@@ -179,4 +179,3 @@ module _ (V : Verdict) where
 map_twice : {A B C : Type 0} (f : A → B) (g : B → C) (es : List A) → map g (map f es) ≡ map (λ e. g (f e)) es
 map_twice f g [] = refl
 map_twice f g (e ∷ es) = ap (λ l. g (f e) ∷ l) (map_twice f g es)
-
