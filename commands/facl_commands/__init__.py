@@ -1,1 +1,1 @@
-"""What facl-plan and facl-apply share. It needs Python 3.7 or later, and its standard library alone."""
+"""What the commands share. It needs Python 3.7 or later and its standard library; the prompt of facl-ask takes prompt_toolkit too."""

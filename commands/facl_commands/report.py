@@ -92,13 +92,14 @@ def shown(text: bytes) -> str:
 def unused_ids(passwd: bytes, files: Files) -> Iterator[int]:
     """Ids that neither rows nor lists have, from the greatest one down."""
     used = {int(row[2]) for row in rows_of(passwd)}
-    used |= {int(it) for file in files.values() for it in re.findall(rb"[0-9]+", file.body)}
+    used |= {int(it) for body in {file.body for file in files.values()} for it in re.findall(rb"[0-9]+", body)}
     return (it for it in range(GREATEST_ID, 0, -1) if it not in used)
 
 
 def add_probes(session: Session, snapshot: Snapshot, files: Files) -> List[Who]:
     """Adds a user for each group that lists name, who has that group alone, and one for everybody."""
-    named = {it for file in files.values() for it in re.findall(rb"^(?:# group: |group:)([0-9]+)", file.body, re.MULTILINE)}
+    bodies = {file.body for file in files.values()}
+    named = {it for body in bodies for it in re.findall(rb"^(?:# group: |group:)([0-9]+)", body, re.MULTILINE)}
     groups = rows_of(snapshot.group)
     unnamed = next((row for row in groups if row[2] not in named), None)
     wanted = [("group", row[0], row) for row in groups if row[2] in named]
@@ -113,10 +114,11 @@ def add_probes(session: Session, snapshot: Snapshot, files: Files) -> List[Who]:
     return found
 
 
-def vectors_of(region: Region, users: List[bytes]) -> Iterator[Tuple[bytes, bytes]]:
-    """Each printed name of a file, with the two digits of each user. All lines of a file have one length but for the user."""
-    if region.start == region.end:
-        return
+def vectors_of(region: Region, users: List[bytes], files: Files) -> Dict[bytes, bytes]:
+    """For each path two digits of each user. All lines of a file have one length but for the user; files with one owner, group
+    and list have the same digits, which are read once."""
+    found: Dict[bytes, bytes] = {}
+    known: Dict[bytes, bytes] = {}
     starts = [0]
     for user in users:
         starts.append(starts[-1] + len(user))
@@ -124,10 +126,15 @@ def vectors_of(region: Region, users: List[bytes]) -> Iterator[Tuple[bytes, byte
         place = region.start
         while place < region.end:
             name = text[place : text.find(b"\n", place)].split(b" ", 2)[2]
+            path = read_path(name)
             step = len(name) + 5
-            heads = [place + start + k * step for k, start in enumerate(starts)]
-            yield name, b"".join([text[head : head + 2] for head in heads[:-1]])
-            place = heads[-1]
+            label = files[path].body
+            if label not in known:
+                heads = [place + start + k * step for k, start in enumerate(starts[:-1])]
+                known[label] = b"".join([text[head : head + 2] for head in heads])
+            found[path] = known[label]
+            place += starts[-1] + len(users) * step
+    return found
 
 
 def state_of(session: Session) -> State:
@@ -136,7 +143,7 @@ def state_of(session: Session) -> State:
     files = {} if answer.messages else read_listing(answer.output.read())
     table = session.ask_surely(b"index")
     users = rights.users_of(table)
-    return State(files, users, {read_path(name): vector for name, vector in vectors_of(table, users)})
+    return State(files, users, vectors_of(table, users, files) if users else {})
 
 
 class Table:
@@ -158,6 +165,8 @@ class Builder:
     def __init__(self, old: State, new: State, whos: List[Who]) -> None:
         self.old, self.new, self.whos = old, new, whos
         self.rows, self.lists, self.reaches = Table(), Table(), Table()
+        self.known_digits: Dict[Tuple[int, bytes], str] = {}
+        self.known_lists: Dict[bytes, int] = {}
         self.places = [self.picker(state) for state in (old, new)]
         paths = sorted({*old.files, *new.files}, key=path_order)
         self.children: Dict[bytes, List[bytes]] = {}
@@ -175,7 +184,10 @@ class Builder:
         vector = (self.old, self.new)[which].vectors.get(path)
         if vector is None:
             return ""
-        return b"".join([ABSENT if place < 0 else vector[2 * place : 2 * place + 2] for place in self.places[which]]).decode()
+        if (which, vector) not in self.known_digits:
+            digits = [ABSENT if place < 0 else vector[2 * place : 2 * place + 2] for place in self.places[which]]
+            self.known_digits[which, vector] = b"".join(digits).decode()
+        return self.known_digits[which, vector]
 
     def inside(self, reach: str, digits: str) -> str:
         """Who can get to what is in a directory: those who can get to it, and are granted search there."""
@@ -185,7 +197,12 @@ class Builder:
 
     def list_number(self, which: int, path: bytes) -> int:
         file = (self.old, self.new)[which].files.get(path)
-        return -1 if file is None else self.lists.number(shown(file.body.rstrip(b"\n")).replace("\\012", "\n"))
+        if file is None:
+            return -1
+        if file.body not in self.known_lists:
+            lines = file.body.rstrip(b"\n").split(b"\n")
+            self.known_lists[file.body] = self.lists.number("\n".join(map(shown, lines)))
+        return self.known_lists[file.body]
 
     def node(self, path: bytes, above: Tuple[str, str]) -> Dict[str, object]:
         """A file with all below it. Its keys: name, directory, row, list, the reach of what is in it, children; and, where

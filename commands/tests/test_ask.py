@@ -118,7 +118,8 @@ class Causes(unittest.TestCase):
             b"setfacl --modify=u:ines:r -m u:ben:r srv/share/one": "an option twice", b"rm -f srv/share/one": "force",
             b"touch srv/share/x": "another command", b"groupadd x": "left out", b"getfacl ~/x": "names are not expanded",
             b"setfacl -m u:ines:r srv/../srv": "a path of the directory above", b"setfacl -m audit:r srv/share/one": "an entry without its tag",
-            b"who rw 'a": "open quote", b"may": "a word is missing",
+            b"setfacl -P -R -m u:ines:r srv": "an option that is left out", b"chmod -v 600 srv": "an option that is left out",
+            b"getfacl -t": "an option that is left out", b"useradd -m nell": "an option that is left out", b"who rw 'a": "open quote", b"may": "a word is missing",
         }
         with Session(find_program(None), SHARE) as session:
             for line, name in wanted.items():
@@ -129,7 +130,7 @@ class Causes(unittest.TestCase):
     def test_the_advice_names_what_is_there(self) -> None:
         self.assertEqual(causes.advice(b"mkdir x", b"facl: unknown tool"), "Here it is creat -d --user=USER --mode=MODE FILE")
         self.assertIsNone(causes.advice(b"frob", b"facl: unknown tool"))
-        self.assertIsNone(causes.advice(b"getfacl -p x", b"getfacl: usage"))
+        self.assertIsNone(causes.advice(b"index x", b"index: usage"))
 
 
 class Manual(unittest.TestCase):
