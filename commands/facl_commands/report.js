@@ -3,8 +3,10 @@
 (() => {
 const data = JSON.parse(document.getElementById("data").textContent);
 const REQUESTS = ["---", "--x", "-w-", "-wx", "r--", "r-x", "rw-", "rwx"];
-const SHOWN = 500; // Rows of one group, or of a search, that are shown at once.
-let who = 0, alongPaths = false, changesAlone = false, search = "", chosen = null;
+const SHOWN = 500; // Files of a search that are shown at once.
+const FIRST = 200; // Rows of the tree at the start, about.
+const ROWS = 4000; // Rows of the tree that are shown at once.
+let rows = 0, who = 0, alongPaths = false, changesAlone = false, search = "", chosen = null;
 
 function element(name, properties, ...inner) {
   const made = Object.assign(document.createElement(name), properties);
@@ -52,13 +54,18 @@ function prepare(node, parent, above, aboveOld) {
   node.files = files.size > 1 ? new Set([0, 1]) : files;
   node.folders = folders.size > 1 ? new Set([0, 1]) : folders;
   node.isAlike = files.size < 2 && folders.size < 2 && node.count > 1 && !node.changes;
-  node.isOpen = !node.isAlike && (!parent || parent.isOpen !== false) && depth(node) < 3 && node.c.length <= 40;
+  node.isOpen = false;
 }
 
-function depth(node) {
-  let steps = 0;
-  for (let it = node.parent; it; it = it.parent) steps += 1;
-  return steps;
+// Opens directories from the top down, as long as that makes no more than so many rows.
+function openFirst(room) {
+  const coming = [...data.tree];
+  for (const node of coming) {
+    if (!node.d || node.isAlike || (node.parent && node.c.length > room)) continue;
+    node.isOpen = true;
+    room -= node.c.length;
+    coming.push(...node.c);
+  }
 }
 
 function pathOf(node) {
@@ -105,8 +112,8 @@ function drawBelow(node, deep, out) {
   let group = [];
   const flush = () => {
     const isGroup = group.length > 3 && !node.openGroups?.has(group[0].r) && !group.includes(chosen);
-    if (isGroup) out.append(groupRow(node, group, deep));
-    else for (const it of group.slice(0, 4 * SHOWN)) out.append(nodeRow(it, deep));
+    if (isGroup) addRow(out, () => groupRow(node, group, deep));
+    else for (const it of group) addRow(out, () => nodeRow(it, deep));
     group = [];
   };
   for (const child of children) {
@@ -121,8 +128,15 @@ function drawBelow(node, deep, out) {
   flush();
 }
 
+// Adds a row where there is room for it.
+function addRow(out, make) {
+  rows += 1;
+  if (rows <= ROWS) out.append(make());
+}
+
 function drawNode(node, deep, out) {
-  out.append(nodeRow(node, deep));
+  if (rows > ROWS) return;
+  addRow(out, () => nodeRow(node, deep));
   if (node.d && node.isOpen) drawBelow(node, deep + 1, out);
 }
 
@@ -173,8 +187,10 @@ function drawSide() {
 
 function draw() {
   const out = document.createDocumentFragment();
+  rows = 0;
   if (search) drawFound(out);
   else data.tree.filter(isShown).forEach(node => drawNode(node, 0, out));
+  if (rows > ROWS) out.append(element("p", {className: "row count", textContent: "only the first " + ROWS + " rows are shown: close directories, or search"}));
   document.getElementById("tree").replaceChildren(out);
   drawSide();
 }
@@ -187,6 +203,7 @@ function choice(text, change) {
 
 function start() {
   data.tree.forEach(node => prepare(node, null, data.start, data.start));
+  openFirst(FIRST);
   const files = data.tree.reduce((sum, node) => sum + node.count, 0), changes = data.tree.reduce((sum, node) => sum + node.changes, 0);
   const select = element("select", {id: "who"});
   data.whos.forEach((it, place) => select.append(element("option", {value: place, textContent: whoText(it)})));
