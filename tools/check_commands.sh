@@ -28,7 +28,7 @@ lint() {
 }
 
 export MYPYPATH=commands:commands/tests
-lint shellcheck commands/facl-snapshot tools/check_commands.sh tools/install.sh tools/package.sh tools/check/live.sh
+lint shellcheck commands/facl-snapshot tools/check_commands.sh tools/install.sh tools/package.sh tools/check/live.sh tools/check/split.sh
 lint mypy --strict --cache-dir=/dev/null --scripts-are-modules commands/facl_commands commands/facl-ask \
     commands/facl-plan commands/facl-apply commands/facl-report commands/tests/*.py tools/check/live.py tools/check/each.py tools/check/report.py
 exec python3 commands/tests/run.py "$lint_faults"

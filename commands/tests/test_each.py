@@ -81,7 +81,7 @@ class Split(Case):
             done = self.snapshot("--split", str(count), "parts", "tree")
             self.assertEqual(done.status, 0, done)
             dumps = self.dumps("parts")
-            self.assertIn(b"%d files in %d snapshots" % (len(whole), len(dumps)), done.out)
+            self.assertIn(b"%d files in %d snapshot%s;" % (len(whole), len(dumps), b"s" * (len(dumps) > 1)), done.out)
             self.assertEqual(sorted({name for names in dumps for name in names}), sorted(whole))
             seen: Dict[bytes, int] = {}
             for number, names in enumerate(dumps):
