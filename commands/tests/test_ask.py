@@ -70,6 +70,11 @@ class AsTheProgram(Case):
         wanted = subprocess.run(["bash", "-c", command], cwd=self.folder, capture_output=True, check=False)
         self.assertEqual((done.stdout, done.stderr), (wanted.stdout, wanted.stderr))
 
+    def test_the_session_of_readme(self) -> None:
+        demo = os.path.join(COMMANDS, "..", "demo")
+        with open(os.path.join(demo, "plan.stdout"), "rb") as file:
+            self.expect(self.run_command("facl-ask", [demo, os.path.join(demo, "plan")]), 0, file.read())
+
     def test_several_scripts(self) -> None:
         self.write("first", b"# one\nfrob\nsetfacl -m u:guest:r srv/share/one\nsetfacl -M - srv/share/two\nu:guest:r")
         self.write("second", b"who r srv/share/one\nwho r\n")
