@@ -17,7 +17,7 @@ from .scripts import Unit, read_script
 
 ANSWERED, REFUSED = 0, 1
 HELP = """\
-Asks the program facl over a snapshot.
+Answers questions and edits over a snapshot, by the program facl.
 
 With SCRIPTs it answers their lines; the SCRIPT - is standard input. Without one, at a terminal, it is a prompt: `help`
 lists the tools, tab completes words, each answer comes below its line, and where a line is refused for its words, the
@@ -49,7 +49,7 @@ def parse(words: List[str]) -> argparse.Namespace:
 
 
 def program_words(program: str, folder: bytes) -> List[bytes]:
-    """The program's command line; it takes no words that are not UTF-8, so a folder of such a name is gone to."""
+    """The program's command line; it takes no words that are not UTF-8, so the command changes to a folder of such a name."""
     try:
         folder.decode("utf-8")
     except UnicodeDecodeError:

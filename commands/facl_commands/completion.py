@@ -93,7 +93,7 @@ def written(name: bytes) -> str:
 
 
 def quoted(word: str, is_whole: bool) -> str:
-    """A word with its quotes where it needs them; the last one is left away where it goes on."""
+    """A word with its quotes where it needs them; without the last one where the word goes on."""
     if PLAIN_WORD.match(word):
         return word
     return "'" + word + "'" * is_whole

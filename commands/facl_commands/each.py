@@ -200,7 +200,7 @@ def join_accepted(unit: Unit, accepted: List[Answered]) -> Joined:
     if all(stream is not None for stream in streams):
         return Joined(merged([stream for stream in streams if stream is not None]), messages)
     if unit.is_of(b"getfacl") and len(regions) > 1 and is_recursive(unit):
-        return refused(unit, b"a listing of several snapshots is joined by its headers; leave -c away")
+        return refused(unit, b"a listing of several snapshots is joined by its headers; omit -c")
     return Joined(regions[0].pieces(), messages)
 
 

@@ -96,4 +96,4 @@ def warnings(texts: Texts) -> Iterator[bytes]:
     if not rows_of(texts.passwd):
         yield b"warning: passwd is empty: who, may and index will name nobody"
     if FILE_NAME.search(texts.dump) and not any(read_path(match[1]) == b"" for match in FILE_NAME.finditer(texts.dump)):
-        yield b"warning: the directories above are not recorded, so --reach does not ask them"
+        yield b"warning: the directories above are not recorded, so --reach does not judge them"

@@ -36,7 +36,7 @@ def history() -> Any:
 
 
 def completer_of(known: Completer) -> Any:
-    """A completer of prompt_toolkit, which asks ours."""
+    """A completer of prompt_toolkit that calls ours."""
 
     def get_completions(_self: object, document: Any, _event: object) -> Iterator[Any]:
         line = document.text_before_cursor

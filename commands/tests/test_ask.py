@@ -233,7 +233,7 @@ class Overview(Case):
             self.write("before/" + name, text)
         self.assertEqual(list(overview.warnings(overview.read_texts(os.fsencode(self.path("before"))))), [
             b"warning: passwd is empty: who, may and index will name nobody",
-            b"warning: the directories above are not recorded, so --reach does not ask them",
+            b"warning: the directories above are not recorded, so --reach does not judge them",
         ])
         with self.assertRaises(Failure):
             overview.check_texts(os.fsencode(self.path("absent")))

@@ -206,7 +206,7 @@ class Each(Case):
 
     def test_listings_that_cannot_be_joined(self) -> None:
         self.expect(self.each(b"getfacl -c -R srv\n"), 1, b"",
-                    b"line 1: getfacl: a listing of several snapshots is joined by its headers; leave -c away\n")
+                    b"line 1: getfacl: a listing of several snapshots is joined by its headers; omit -c\n")
 
     def test_other_users(self) -> None:
         self.write("2/group", self.read("2/group").replace(b"audit:x:400:ben", b"audit:x:400:"))

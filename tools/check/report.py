@@ -4,8 +4,8 @@
 usage: report.py PROGRAM [--files N] [--users N] [--pictures FOLDER]
 
 It looks at the page of the stored snapshot with hostile names and a script: what is shown of users and groups, on files and
-along paths, the list of a file, changes, the search, and that nothing of a name became markup and nothing was loaded or run
-but the page itself. Then a page of --files files and --users users of tools/make_tree.py is measured (5,000 and 20). With
+along paths, the list of a file, changes, the search, and that no name is markup, and nothing is loaded or run but the
+page itself. Then a page of --files files and --users users of tools/make_tree.py is measured (5,000 and 20). With
 --pictures it keeps pictures at 1,280 and 400 points of width, light and dark, in FOLDER, to be looked at.
 """
 from __future__ import annotations
@@ -95,7 +95,7 @@ class Page:
     def side(self) -> str:
         return str(self.run("return document.getElementById('side').innerText"))
 
-    def check_nothing_came_from_a_name(self) -> None:
+    def check_no_name_is_markup(self) -> None:
         self.open_all()
         expect(self.run("return document.title") == "Who may do what", "a name ran")
         expect(self.run("return document.querySelectorAll('script').length") == 2, "a name became a script")
@@ -133,7 +133,7 @@ def check_share(driver: Any, program: str, work: str, pictures: Optional[str]) -
     page.find("lo")
     expect([row[0] for row in page.rows()] == ["/srv/share/drafts/logo.svg", ""], "search: %r" % page.rows())
     page.find("")
-    page.check_nothing_came_from_a_name()
+    page.check_no_name_is_markup()
     if pictures:
         take_pictures(driver, file, pictures)
 
