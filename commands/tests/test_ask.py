@@ -341,7 +341,7 @@ class Terminal(Case):
 
     def expect_output(self, text: bytes) -> None:
         """Waits for a text, and forgets what comes before its end."""
-        last = time.time() + 30
+        last = time.time() + 120
         while text not in self.seen:
             ready, _, _ = select.select([self.side], [], [], max(0.0, last - time.time()))
             self.assertTrue(ready, (text, self.seen))
@@ -355,14 +355,14 @@ class Terminal(Case):
         os.write(self.side, keys)
 
     def expect_end(self, status: int) -> None:
-        last = time.time() + 30
+        last = time.time() + 120
         while self.run_of.poll() is None and time.time() < last:
             if select.select([self.side], [], [], 0.05)[0]:
                 try:
                     os.read(self.side, 65536)
                 except OSError:
                     break
-        self.assertEqual(self.run_of.wait(10), status)
+        self.assertEqual(self.run_of.wait(60), status)
 
     def session(self) -> None:
         self.expect_output(b"before: 5 users, 5 groups, ")

@@ -235,7 +235,7 @@ class Each(Case):
         self.assertIn(b"machine\n", self.read("called"))
 
     def test_signals_leave_nothing(self) -> None:
-        self.write("slow", b"#!/bin/sh\necho $$ >at_work\nexec sleep 100\n")
+        self.write("slow", b"#!/bin/sh\necho $$ >writing\nmv writing at_work\nexec sleep 100\n")
         os.chmod(self.path("slow"), 0o755)
         os.mkdir(self.path("temporary"))
         for number, status in ((signal.SIGTERM, 143), (signal.SIGINT, 130)):
@@ -258,7 +258,7 @@ class Each(Case):
                 os.unlink(self.path(name))
 
     def expect_gone(self, process: int) -> None:
-        last = time.time() + 10
+        last = time.time() + 60
         while os.path.exists("/proc/%d" % process):
             self.assertLess(time.time(), last)
             time.sleep(0.02)
