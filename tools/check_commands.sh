@@ -4,8 +4,8 @@
 #
 # usage: tools/check_commands.sh [PROGRAM]      PROGRAM: one that is built; without it crates/facl_cli/out/facl_cli
 #
-# The linters shellcheck and mypy --strict are asked too where they are installed. What needs a real file system and root is in
-# tools/check/live.sh and tools/check_snapshot.sh.
+# The linters shellcheck and mypy --strict are asked too where they are installed, and tools/check/memory_faults.py of the
+# sources. What needs a real file system and root is in tools/check/live.sh and tools/check_snapshot.sh.
 set -eu
 top=$(cd "$(dirname "$0")/.." && pwd)
 FACL=$(realpath "${1:-$top/crates/facl_cli/out/facl_cli}")
@@ -27,8 +27,10 @@ lint() {
     fi
 }
 
-export MYPYPATH=commands:commands/tests
+export MYPYPATH=commands:commands/tests:tools/check
 lint shellcheck commands/facl-snapshot tools/check_commands.sh tools/install.sh tools/package.sh tools/check/live.sh tools/check/split.sh
 lint mypy --strict --cache-dir=/dev/null --scripts-are-modules commands/facl_commands commands/facl-ask \
-    commands/facl-plan commands/facl-apply commands/facl-report commands/tests/*.py tools/check/live.py tools/check/each.py tools/check/report.py
+    commands/facl-plan commands/facl-apply commands/facl-report commands/tests/*.py tools/check/*.py \
+    tools/check/tests/*.py
+lint python3 -B tools/check/memory_faults.py
 exec python3 commands/tests/run.py "$lint_faults"

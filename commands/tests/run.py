@@ -1,5 +1,5 @@
 #!/usr/bin/env python3
-"""Runs all tests of the commands, by the program that $FACL names; the last line is `N passed, M failed`.
+"""Runs all tests of the commands, by the program that $FACL names, and those of tools/check; the last line is `N passed, M failed`.
 
 usage: run.py [FAULTS]      FAULTS: what was found before, counted with those that failed
 """
@@ -10,8 +10,10 @@ import unittest
 sys.dont_write_bytecode = True
 HERE = os.path.dirname(os.path.realpath(__file__))
 sys.path.insert(0, HERE)
+CHECKS = os.path.join(HERE, "..", "..", "tools", "check", "tests")
 
-result = unittest.TextTestRunner(verbosity=1).run(unittest.TestLoader().discover(HERE))
+suite = unittest.TestSuite(unittest.TestLoader().discover(folder) for folder in (HERE, CHECKS))
+result = unittest.TextTestRunner(verbosity=1).run(suite)
 wrong = len(result.failures) + len(result.errors) + len(result.unexpectedSuccesses)
 failed = wrong + int(sys.argv[1] if len(sys.argv) > 1 else 0)
 print("%d passed, %d failed" % (result.testsRun - wrong, failed))
