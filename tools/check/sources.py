@@ -9,7 +9,7 @@ import glob
 import os
 import re
 from dataclasses import dataclass, field
-from typing import Dict, Iterable, List, Optional, Set, Tuple
+from typing import Dict, FrozenSet, Iterable, List, Optional, Set, Tuple
 
 TOP = os.path.dirname(os.path.dirname(os.path.dirname(os.path.realpath(__file__))))
 
@@ -172,7 +172,7 @@ class Reader:
             return find(self.tokens, at, ";") + 1
         if word in TYPES and at + 1 < len(self.tokens):
             self.source.types.add(self.tokens[at + 1].text)
-            return at + 2
+            return self.fields(at + 1) if word == "struct" else at + 2
         return end_of_group(self.tokens, at) if word in OPENS else at + 1
 
     def block(self, at: int, word: str, scope: Scope) -> int:
@@ -188,6 +188,15 @@ class Reader:
             self.source.types.add(header[0].text)
         self.items(start + 1, end - 1, scope)
         return end
+
+    def fields(self, at: int) -> int:
+        """Reads the ghost fields of the struct whose name is at `at`. The place after its head."""
+        start = find(self.tokens, at, ("{", "(", ";"))
+        if start < len(self.tokens) and self.tokens[start].text == "{":
+            inner = self.tokens[start:end_of_group(self.tokens, start)]
+            self.source.members += [(Scope(self.tokens[at].text), after.text) for token, after in zip(inner, inner[1:])
+                                    if token.text == "ghost"]
+        return start
 
     def member(self, at: int, scope: Scope) -> int:
         name = self.tokens[at + 1].text
@@ -236,3 +245,67 @@ def sources_of(top: str, crate: str) -> Dict[str, Source]:
     paths = sorted(glob.glob(os.path.join(top, "crates", crate, "src", "*.rt")))
     names = [os.path.join("src", os.path.basename(path)) for path in paths]
     return {name: read_source(os.path.join("crates", crate, name), text_of(path)) for name, path in zip(names, paths)}
+
+
+@dataclass(frozen=True)
+class Carrier:
+    """What carries clauses: a function with those of its trait, or an `impl` with its ghost members.
+
+    It is single where it has one `ensures` without a name, and no other, or is of a trait of std, which has it.
+    """
+
+    label: str
+    names: FrozenSet[str]
+    is_single: bool
+    requires: bool
+
+
+class Crate:
+    """What a crate has, by its name."""
+
+    def __init__(self, top: str, name: str) -> None:
+        self.name = name
+        self.sources = sources_of(top, name)
+        self.functions = [function for source in self.sources.values() for function in source.functions]
+        self.types = {each for source in self.sources.values() for each in source.types}
+        lib = self.sources.get("src/lib.rt")
+        self.passed_on = {token.text for token in lib.tokens} if lib else set()
+        self.members: Dict[Scope, Set[str]] = {}
+        for source in self.sources.values():
+            for scope, member in source.members:
+                self.members.setdefault(scope, set()).add(member)
+
+
+class Library:
+    """All crates that are not of tests alone."""
+
+    def __init__(self, top: str) -> None:
+        self.top = top
+        self.crates = {name: Crate(top, name) for name in crates_of(top) if not is_of_tests(name)}
+        self.functions = [function for crate in self.crates.values() for function in crate.functions]
+        self.members = {scope: names for crate in self.crates.values() for scope, names in crate.members.items()}
+        self.traits = {(function.scope.trait, function.name): function.clauses for function in self.functions
+                       if function.scope.trait and function.scope.trait == function.scope.type}
+
+    def carrier(self, function: Function) -> Carrier:
+        """A function with its clauses, those of its trait, and the ghost members of its `impl` or trait."""
+        scope = function.scope
+        clauses = list(function.clauses)
+        if scope.trait and scope.trait != scope.type:
+            clauses += self.traits.get((scope.trait, function.name), [])
+        ensured = [clause.name for clause in clauses if clause.kind == "ensures"]
+        names = {clause.name for clause in clauses if clause.name} | self.members_of(scope)
+        is_of_std = scope.trait is not None and (scope.trait, function.name) not in self.traits and not clauses
+        return Carrier(function.label, frozenset(names), ensured == [None] or is_of_std, len(ensured) < len(clauses))
+
+    def members_of(self, scope: Scope) -> Set[str]:
+        return self.members.get(scope, set()) if scope.trait else set()
+
+    def impl(self, scope: Scope) -> Carrier:
+        """An `impl` of a trait with the clauses of all its methods and its ghost members."""
+        label = f"{scope.trait}<{scope.arguments}> for {scope.type}" if scope.arguments else f"{scope.trait} for {scope.type}"
+        names = set(self.members_of(scope))
+        for (trait, _), clauses in self.traits.items():
+            if trait == scope.trait:
+                names |= {clause.name for clause in clauses if clause.name}
+        return Carrier(label, frozenset(names), self.members_of(scope) == {"from_gives"}, False)
