@@ -4,8 +4,9 @@
 #
 # usage: tools/check_commands.sh [PROGRAM]      PROGRAM: one that is built; without it crates/facl_cli/out/facl_cli
 #
-# The linters shellcheck and mypy --strict are asked too where they are installed, and tools/check/memory_faults.py of the
-# sources. What needs a real file system and root is in tools/check/live.sh and tools/check_snapshot.sh.
+# The linters shellcheck and mypy --strict are asked too where they are installed. The documents are checked against the sources
+# (tools/check/documents.py), and the sources for where they say that memory ran out (tools/check/memory_faults.py); each of
+# these counts as a failed test where it finds something, and their own tests run with those of the commands. What needs a real file system and root is in tools/check/live.sh and tools/check_snapshot.sh.
 set -eu
 top=$(cd "$(dirname "$0")/.." && pwd)
 FACL=$(realpath "${1:-$top/crates/facl_cli/out/facl_cli}")
@@ -32,5 +33,6 @@ lint shellcheck commands/facl-snapshot tools/check_commands.sh tools/install.sh 
 lint mypy --strict --cache-dir=/dev/null --scripts-are-modules commands/facl_commands commands/facl-ask \
     commands/facl-plan commands/facl-apply commands/facl-report commands/tests/*.py tools/check/*.py \
     tools/check/tests/*.py
-lint python3 -B tools/check/memory_faults.py
+lint tools/check/documents.py
+lint tools/check/memory_faults.py
 exec python3 commands/tests/run.py "$lint_faults"

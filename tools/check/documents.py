@@ -4,7 +4,8 @@
 usage: tools/check/documents.py
 
 - docs/PROOFS.md: each function that a table of promises names is in the sources of the crate of its section, and has the
-  clauses named; each must-fail edit named is there, and each that is there is named once, in the section of its crate.
+  clauses named; so is each name where a wrong body is refused, and each call that takes no memory; each must-fail edit named is
+  there, and each that is there is named once, in the section of its crate.
 - docs/ARCHITECTURE.md: each file that a section of crates names is there, and each file of src/ and specs/ is named.
 - README.md, "What is proved": each function named is in the sources.
 - All documents: each link within the repository, and each path that starts with a folder of it, leads to something; each name
@@ -14,21 +15,22 @@ Prints `FILE:LINE: what is wrong`. The exit status is 1 where something is.
 """
 from __future__ import annotations
 
+import functools
 import glob
 import os
 import re
 import sys
-from typing import Dict, Iterator, List, Set, Tuple
+from typing import Dict, FrozenSet, Iterator, List, Set, Tuple
 
 sys.dont_write_bytecode = True
 
 import sources
-from markdown import Line, Row, anchors_of, codes_of, lines_of, links_of, rows_of
-from promises import Table, crates_in, partition_outside
+from markdown_text import Line, Row, all_lines_of, anchors_of, codes_of, lines_of, links_of, rows_of
+from promises import FunctionCell, Resolver, Table, crates_in
 from sources import Library, text_of
 
 PROOFS, ARCHITECTURE, README = "docs/PROOFS.md", "docs/ARCHITECTURE.md", "README.md"
-PROVED = "What is proved"
+PROVED, LEFT = "What is proved", "What an error leaves as it was"
 EDIT_HEADS = ("Edit", "Must-fail edit", "Refused by the edit", "Edit that the prover refuses")
 PATH = re.compile(r"(?<![\w/.-])((?:tools|commands|docs|demo|crates|\.ci)/[\w./-]*[\w/])")
 NAME = re.compile(r"(?:[A-Za-z]\w*::)*[A-Za-z]\w*")
@@ -64,7 +66,37 @@ class Promises:
 
     def faults(self, text: str) -> Iterator[Fault]:
         for row in rows_of(text):
-            yield from ((row.number, fault) for fault in self.row_faults(row))
+            yield from ((row.number, fault) for fault in (*self.row_faults(row), *self.refusal_faults(row)))
+        for line in lines_of(text):
+            if line.section == LEFT and line.text.startswith("- "):
+                yield from ((line.number, fault) for fault in self.call_faults(line))
+
+    def call_faults(self, line: Line) -> Iterator[str]:
+        """Names in the list of calls that take no memory."""
+        for part in line.text.split(";"):
+            for group in FunctionCell(Resolver(self.table.library, ""), part).groups:
+                yield from (f"no `{mention.text}` in the sources" for mention in group if not mention.meant)
+
+    def refusal_faults(self, row: Row) -> Iterator[str]:
+        """Names in the column of a table of wrong bodies that has where each is refused."""
+        if row.heads[0] != "Wrong body" or row.heads[1] in EDIT_HEADS:
+            return
+        resolver = Resolver(self.library, row.section)
+        crates = resolver.crates + crates_in(self.library, row.cells[1])
+        for code in codes_of(row.cells[1]):
+            if NAME.fullmatch(code) and not any(code.split("::")[-1] in self.words_of(crate) for crate in crates):
+                yield f"no `{code}` in {' or '.join(crates)}"
+            elif re.fullmatch(r"[A-Z]\w*::\w+", code) and not any(function.label == code for function in self.library.functions):
+                yield f"no `{code}` in the sources"
+
+    @functools.lru_cache(maxsize=None)
+    def words_of(self, crate: str) -> FrozenSet[str]:
+        """The words of a crate's code and definitions, and the names of its edits."""
+        there = glob.glob(os.path.join(self.library.top, "crates", crate, "specs", "*.antt"))
+        words = {word for path in there for word in re.findall(r"\w+", text_of(path))}
+        words |= {token.text for source in self.library.crates[crate].sources.values() for token in source.tokens}
+        edits = glob.glob(os.path.join(self.library.top, "crates", crate, "must-fail", "*.edit"))
+        return frozenset(words | {crate} | {os.path.basename(path)[:-len(".edit")] for path in edits})
 
     def row_faults(self, row: Row) -> Iterator[str]:
         heads = row.heads
@@ -209,9 +241,11 @@ def name_faults(words: Set[str], line: Line) -> Iterator[str]:
 
 
 def document_faults(top: str, document: str, words: Set[str]) -> Iterator[Fault]:
-    for line in lines_of(text_of(os.path.join(top, document))):
-        for faults in (link_faults(top, document, line), path_faults(top, line), name_faults(words, line)):
-            yield from ((line.number, fault) for fault in faults)
+    for line in all_lines_of(text_of(os.path.join(top, document))):
+        faults = [*path_faults(top, line)]
+        if not line.is_code:
+            faults += [*link_faults(top, document, line), *name_faults(words, line)]
+        yield from ((line.number, fault) for fault in faults)
 
 
 def check(top: str) -> List[str]:

@@ -11,7 +11,7 @@ import re
 from dataclasses import dataclass, field
 from typing import Iterator, List, Optional, Set, Tuple
 
-from markdown import Row, codes_of, pieces_of
+from markdown_text import Row, codes_of, pieces_of
 from sources import Carrier, Function, Library, Scope
 
 AS_ELSEWHERE = ("the trait's", "as there")
@@ -31,6 +31,7 @@ class Clauses:
     """What a group of a cell of clauses asks for."""
 
     names: List[str] = field(default_factory=list)
+    owners: List[str] = field(default_factory=list)
     only: bool = False
     requires: bool = False
 
@@ -126,6 +127,7 @@ class FunctionCell:
         self.resolver = resolver
         self.groups: List[List[Mention]] = [[]]
         self.definitions: List[str] = []
+        self.owners: List[Mention] = []
         self.depth = 0
         self.passed_over = ""
         for kind, text in pieces_of(cell):
@@ -146,27 +148,26 @@ class FunctionCell:
     def code(self, text: str) -> None:
         if text in self.resolver.library.crates:
             self.word(text)
-        elif self.passed_over not in ("derived", "clause", "clauses"):
+        elif self.passed_over != "derived":
             self.groups[-1].append(Mention(text, self.resolver.carriers(text)))
-        if self.passed_over == "derived":
-            self.passed_over = ""
+        self.passed_over = ""
 
     def word(self, text: str) -> None:
         last = self.groups[-1][-1] if self.groups[-1] else None
         if text in self.resolver.library.crates:
             self.resolver.crates, self.resolver.type = [text], None
-        elif text == "'s" and last:
-            self.groups[-1].pop()
+        elif text == "'s" and last and not self.passed_over:
+            self.owners.append(self.groups[-1].pop())
         elif text == "each" and last:
             last.is_each = True
         elif self.passed_over == "of" and last and "::" not in last.text:
             found = self.resolver.functions(f"{text}::{last.text}")
             last.meant = [self.resolver.library.carrier(function) for function in found] or last.meant
-        self.passed_over = text if self.passed_over != "clauses" else self.passed_over
+        self.passed_over = text
 
 
 def clause_groups(cell: str) -> List[Clauses]:
-    """The groups of a cell of clauses, without what is in parentheses, and without functions after `of`."""
+    """The groups of a cell of clauses, without what is in parentheses; functions after `of` are owners."""
     groups, depth, after_of = [Clauses()], 0, False
     for kind, text in pieces_of(cell):
         depth += (text == "(") - (text == ")")
@@ -175,8 +176,8 @@ def clause_groups(cell: str) -> List[Clauses]:
         if text == ";":
             groups.append(Clauses())
         after_of = text == "of" or (after_of and kind in ("code", "word"))
-        if kind == "code" and not after_of:
-            groups[-1].names.append(text)
+        if kind == "code":
+            (groups[-1].owners if after_of else groups[-1].names).append(text)
         groups[-1].only |= kind == "word" and text == "only"
         groups[-1].requires |= kind == "word" and text in ("require", "requires")
     return groups
@@ -234,7 +235,7 @@ class Table:
 
     def cell_faults(self, cell: FunctionCell, clauses: str) -> Iterator[str]:
         self.before = cell.groups
-        for mention in (mention for group in cell.groups for mention in group):
+        for mention in (mention for group in (*cell.groups, cell.owners) for mention in group):
             if not mention.meant:
                 yield f"no `{mention.text}` in the sources"
         for name in cell.definitions + codes_of(" ".join(re.findall(r"\(([^()]*)\)", clauses))):
@@ -246,11 +247,13 @@ class Table:
         if clauses in AS_ELSEWHERE:
             return
         asked = clause_groups(clauses)
+        texts = {mention.text for mentions in groups for mention in mentions}
+        yield from (f"`{owner}` is no function of the row" for group in asked for owner in group.owners if owner not in texts)
         if len(groups) == len(asked) and len(groups) > 1:
             for mentions, group in zip(groups, asked):
                 yield from faults_of_group(mentions, group)
             return
-        whole = Clauses([name for group in asked for name in group.names], any(group.only for group in asked),
+        whole = Clauses([name for group in asked for name in group.names], [], any(group.only for group in asked),
                         any(group.requires for group in asked))
         yield from faults_of_group([mention for group in groups for mention in group], whole)
 

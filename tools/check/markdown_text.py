@@ -11,11 +11,12 @@ LINK = re.compile(r"\[[^\]]*\]\(([^)\s]+)\)")
 
 @dataclass(frozen=True)
 class Line:
-    """A line of a document that is in no block of code, counted from 1, under the last heading of the second level."""
+    """A line of a document, counted from 1, under the last heading of the second level."""
 
     number: int
     section: str
     text: str
+    is_code: bool = False
 
 
 @dataclass(frozen=True)
@@ -28,16 +29,20 @@ class Row:
     cells: List[str]
 
 
-def lines_of(text: str) -> Iterator[Line]:
-    """All lines but those of blocks of code."""
+def all_lines_of(text: str) -> Iterator[Line]:
+    """All lines, those of blocks of code too."""
     section, in_code = "", False
     for number, line in enumerate(text.split("\n"), 1):
         if line.startswith("```"):
             in_code = not in_code
-        elif not in_code:
-            if line.startswith("## "):
-                section = line[3:]
-            yield Line(number, section, line)
+        else:
+            section = line[3:] if line.startswith("## ") and not in_code else section
+            yield Line(number, section, line, in_code)
+
+
+def lines_of(text: str) -> Iterator[Line]:
+    """All lines but those of blocks of code."""
+    return (line for line in all_lines_of(text) if not line.is_code)
 
 
 def cells_of(line: str) -> List[str]:

@@ -1,0 +1,180 @@
+"""Tests of tools/check/documents.py and promises.py, over a small repository of their own."""
+from __future__ import annotations
+
+import os
+import sys
+import tempfile
+import unittest
+from typing import Dict, Iterable, List, Tuple
+
+sys.path.insert(0, os.path.join(os.path.dirname(os.path.realpath(__file__)), ".."))
+
+import documents
+from markdown_text import Line, Row, anchors_of, cells_of, rows_of
+from sources import Library
+
+FILES = {
+    "crates/low/src/lib.rt": "pub use crate::a::Map;",
+    "crates/low/src/a.rt": """
+        pub struct Map { ghost sorted: { x } }
+        pub trait Judge { ghost local: { x }; fn ask(&self) ensures asked { x } ensures row { x }; }
+        impl Judge for Map { fn ask(&self) {} }
+        impl Map {
+            pub fn get(&self) -> u8 ensures { result ≡ look_up self } { 1 }
+            pub fn put(&mut self) requires room { x } ensures ok { x } ensures err { x } {}
+        }
+        impl From<clap::Error> for Map { ghost from_gives = { x }; fn from(e: clap::Error) -> Map { Map {} } }
+        pub fn read() -> u8 ensures { result ≡ 1 } { 1 }
+        pub fn both() ensures { x } ensures named { x } {}
+    """,
+    "crates/low/src/b.rt": "pub fn read() -> u8 ensures other { result ≡ 1 } { 1 }",
+    "crates/low/specs/Maps.antt": "abbrev pub look_up : Map → ℕ",
+    "crates/low/must-fail/loses_a_value.edit": "file: src/a.rt",
+    "crates/high/src/lib.rt": "pub use low::Map;",
+    "crates/high_tests/src/rows.rt": "",
+    "tools/check.sh": "",
+    "docs/OTHER.md": "# The crates\n\n## Its `parts`, in short\n",
+}
+LOW = "low: maps"
+
+
+class Case(unittest.TestCase):
+    @classmethod
+    def setUpClass(cls) -> None:
+        cls.folder = tempfile.TemporaryDirectory()
+        cls.addClassCleanup(cls.folder.cleanup)
+        cls.top = cls.folder.name
+        for name, text in FILES.items():
+            path = os.path.join(cls.top, name)
+            os.makedirs(os.path.dirname(path), exist_ok=True)
+            with open(path, "w", encoding="utf-8") as file:
+                file.write(text)
+        cls.library = Library(cls.top)
+        cls.words = documents.words_of(cls.top)
+
+    folder: "tempfile.TemporaryDirectory[str]"
+    top: str
+    library: Library
+    words: "set[str]"
+
+
+class Promises(Case):
+    def faults(self, functions: str, clauses: str, section: str = LOW) -> List[str]:
+        row = Row(1, section, ["Promise", "Function", "Clause"], ["It holds", functions, clauses])
+        return list(documents.Promises(self.library, self.words).row_faults(row))
+
+    def joined(self, cell: str) -> List[str]:
+        row = Row(1, LOW, ["Promise", "Function and clause", "Edit that the prover refuses"], ["It holds", cell, ""])
+        return list(documents.Promises(self.library, self.words).row_faults(row))
+
+    def test_what_is_there(self) -> None:
+        for functions, clauses in (
+                ("`Map::get`", "its only one"), ("`Map::put`", "`ok`, `err`"), ("`Map::put`, `get`", "`ok`; its only one"),
+                ("`Map::get`; `put`", "its only one; `room`"), ("`Map`'s `ask`, by the trait's clauses", "`asked`"),
+                ("`Judge`", "`local` (a law of every judge)"), ("`From<clap::Error>` for `Map`", "`from_gives`"),
+                ("`Map`", "`sorted`"), ("`Map::get` (`look_up`)", "its only one (`look_up`)"), ("`Map::put`", "`err` of `Map::put`"),
+                ("`read` of b", "`other`"), ("`Judge for Map`", "`row`"), ("`Map::get`", "as there")):
+            self.assertEqual(self.faults(functions, clauses), [], functions)
+        self.assertEqual(self.faults("`low::Map::get`, `put`", "", "The whole"), [])
+        self.assertEqual(self.faults("`high::Map::get`", "", "The whole"), [])
+        self.assertEqual(self.joined("inner `read`; `Map::put`: `ok` (`look_up`), `err`; `Map::put`: what it requires"), [])
+
+    def test_functions_that_are_not_there(self) -> None:
+        self.assertEqual(self.faults("`Map::take`", "`ok`"), ["no `Map::take` in the sources"])
+        self.assertEqual(self.faults("`Map::read`", "its only one"), ["no `Map::read` in the sources"])
+        self.assertEqual(self.faults("`From<Other>` for `Map`", "`from_gives`"), ["no `From<Other>` in the sources"])
+        self.assertEqual(self.faults("`Map::get` (`find`)", "its only one"), ["no `find` in the definitions and sources"])
+        self.assertEqual(self.faults("`read`", "its only one", "high"), ["no `read` in the sources"])
+        self.assertEqual(self.joined("`Map::take`: `ok`"), ["no `Map::take` in the sources"])
+
+    def test_clauses_that_are_not_there(self) -> None:
+        self.assertEqual(self.faults("`Map::put`", "`ok`, `full`"), ["no clause `full` in Map::put"])
+        self.assertEqual(self.faults("`Map::put`", "`ok` of `Map::get`"), ["`Map::get` is no function of the row"])
+        put = "Map::put has none of the clauses named; it has err, ok, room"
+        self.assertEqual(self.faults("`Map::put`", "its only one"), [put])
+        self.assertEqual(self.faults("`Map::get`, `put`", "their only one"), [put])
+        self.assertEqual(self.faults("`both`", "its only one"), ["both has none of the clauses named; it has named"])
+        self.assertEqual(self.faults("`Map::get`; `put`", "`ok`; its only one"), [
+            "no clause `ok` in Map::get", "Map::get has none of the clauses named; it has one alone, without a name", put])
+        self.assertEqual(self.joined("`Map::put`: `ok`; `read`: `ok`")[0], "no clause `ok` in read")
+
+    def test_where_bodies_are_refused(self) -> None:
+        promises = documents.Promises(self.library, self.words)
+        rows = [Row(1, LOW, ["Wrong body", "Refused at"], ["It is wrong", cell])
+                for cell in ("`Map::put`, `ok`", "`loses_a_value`", "`fill`", "`Map::take`")]
+        found = [list(promises.refusal_faults(row)) for row in rows]
+        self.assertEqual(found, [[], [], ["no `fill` in low"], ["no `Map::take` in low"]])
+
+    def test_readme(self) -> None:
+        text = "## What is proved\n\n1. It holds (`low::Map::put`, `get`, clause `ok`).\n2. Not this (`low::Map::take`).\n"
+        found = list(documents.Promises(self.library, self.words).readme_faults(text))
+        self.assertEqual(found, [(3, "Map::get has none of the clauses named; it has one alone, without a name"),
+                                 (4, "no `low::Map::take` in the sources")])
+
+
+class Edits(Case):
+    def faults(self, *cells: str) -> List[Tuple[int, str]]:
+        text = f"## {LOW}\n| Wrong body | Edit |\n|---|---|\n" + "".join(f"| It is wrong | {cell} |\n" for cell in cells)
+        return list(documents.Edits(self.top).faults(self.library, text))
+
+    def test_named_once(self) -> None:
+        self.assertEqual(self.faults("`loses_a_value`"), [])
+        self.assertEqual(self.faults("loses_a_value", "that of `low`: `loses_a_value`"), [])
+
+    def test_not_there_or_not_named(self) -> None:
+        counted = "crates/low/must-fail/loses_a_value.edit is named {} times in the tables of its crate"
+        self.assertEqual(self.faults("`loses_a_key`"), [(4, "no edit loses_a_key in crates/low/must-fail"), (1, counted.format(0))])
+        self.assertEqual(self.faults("`loses_a_value`", "`loses_a_value`"), [(1, counted.format(2))])
+
+
+class Files(Case):
+    def faults(self, *lines: str) -> List[Tuple[int, str]]:
+        return list(documents.Files(self.top).faults("\n".join(("## low", *lines))))
+
+    def test_all_named(self) -> None:
+        self.assertEqual(self.faults("| src/a.rt, b.rt, specs/Maps.antt | maps |"), [])
+        self.assertEqual(self.faults("**low**: `src/a.rt` has maps, `b.rt` reads. Definitions: `specs/Maps.antt`."), [])
+
+    def test_not_there_or_not_named(self) -> None:
+        self.assertEqual(self.faults("| src/a.rt, c.rt, specs/Maps.antt | maps |"), [
+            (2, "no crates/low/src/c.rt"), (1, "crates/low/src/b.rt is not named in the section of its crate")])
+
+    def test_sections_of_several_crates(self) -> None:
+        text = "## low and high_tests\n| low: src/a.rt, src/b.rt, Maps.antt | maps |\n| high_tests: src/rows.rt | rows |\n| src/a.rt | none |"
+        self.assertEqual(list(documents.Files(self.top).faults(text)), [(4, "no crates/high_tests/src/a.rt")])
+
+
+class Links(Case):
+    def faults(self, text: str) -> Iterable[str]:
+        line = Line(1, "", text)
+        yield from documents.link_faults(self.top, "docs/OTHER.md", line)
+        yield from documents.path_faults(self.top, line)
+        yield from documents.name_faults(self.words, line)
+
+    def test_what_is_there(self) -> None:
+        for text in ("[tools](../tools/check.sh) and tools/check.sh.", "[parts](#its-parts-in-short), [here](OTHER.md#the-crates)",
+                     "[far](https://example.org/a)", "crates/low/out/program", "`look_up`, `Map::get`, `anyhow::Error`, `X_tests`, `of_`",
+                     "`[a](b)` and `rt ci`"):
+            self.assertEqual(list(self.faults(text)), [], text)
+
+    def test_what_is_not_there(self) -> None:
+        found: Dict[str, str] = {
+            "[x](gone.md)": "no gone.md", "[x](OTHER.md#gone)": "no heading OTHER.md#gone", "tools/gone.sh": "no tools/gone.sh",
+            "`tools/gone.sh` is run": "no tools/gone.sh", "`found_up`": "no `found_up` in the sources",
+            "`Map::gone`": "no `Map::gone` in the sources"}
+        for text, fault in found.items():
+            self.assertEqual(list(self.faults(text)), [fault])
+
+
+class Markdown(unittest.TestCase):
+    def test_rows(self) -> None:
+        text = "## One\n| A | B |\n|---|---|\n| a \\| b | c |\n```\n| no | row |\n```\n## Two\n| C |\n|---|\n| d |\n"
+        self.assertEqual(list(rows_of(text)), [Row(4, "One", ["A", "B"], ["a \\| b", "c"]), Row(11, "Two", ["C"], ["d"])])
+
+    def test_parts(self) -> None:
+        self.assertEqual(cells_of("| a | | c |"), ["a", "", "c"])
+        self.assertEqual(anchors_of("# A `b`: c-d\n"), ["a-b-c-d"])
+
+
+if __name__ == "__main__":
+    unittest.main()
