@@ -4,9 +4,10 @@
 #
 # usage: tools/check_commands.sh [PROGRAM]      PROGRAM: one that is built; without it crates/facl_cli/out/facl_cli
 #
-# The linters shellcheck and mypy --strict are asked too where they are installed. The documents are checked against the sources
-# (tools/check/documents.py), and the sources for where they say that memory ran out (tools/check/memory_faults.py); each of
-# these counts as a failed test where it finds something, and their own tests run with those of the commands. What needs a real file system and root is in tools/check/live.sh and tools/check_snapshot.sh.
+# The linters shellcheck and mypy --strict are asked too where they are installed. The documents are checked against the
+# sources (tools/check/documents.py), and the sources for where they say that memory ran out (tools/check/memory_faults.py);
+# each of these four counts as a failed test where it finds something. What needs a real file system and root is in
+# tools/check/live.sh and tools/check_snapshot.sh.
 set -eu
 top=$(cd "$(dirname "$0")/.." && pwd)
 FACL=$(realpath "${1:-$top/crates/facl_cli/out/facl_cli}")

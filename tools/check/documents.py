@@ -6,8 +6,9 @@ usage: tools/check/documents.py
 - docs/PROOFS.md: each function that a table of promises names is in the sources of the crate of its section, and has the
   clauses named; so is each name where a wrong body is refused, and each call that takes no memory; each must-fail edit named is
   there, and each that is there is named once, in the section of its crate.
-- docs/ARCHITECTURE.md: each file that a section of crates names is there, and each file of src/ and specs/ is named.
-- README.md, "What is proved": each function named is in the sources.
+- docs/ARCHITECTURE.md: the map of the crates is that of crates.txt; each file that a section of crates names is there, and each
+  file of src/ and specs/ is named; so are the files of the commands.
+- README.md, "What is proved": each function and clause named is in the sources; the kit's crates are those of crates.txt.
 - All documents: each link within the repository, and each path that starts with a folder of it, leads to something; each name
   with `_` or `::` is a word of the sources.
 
@@ -25,7 +26,7 @@ from typing import Dict, FrozenSet, Iterator, List, Set, Tuple
 sys.dont_write_bytecode = True
 
 import sources
-from markdown_text import Line, Row, all_lines_of, anchors_of, codes_of, lines_of, links_of, rows_of
+from markdown_text import Line, Row, all_lines_of, anchors_of, codes_of, in_parentheses, lines_of, links_of, rows_of
 from promises import FunctionCell, Resolver, Table, crates_in
 from sources import Library, text_of
 
@@ -114,7 +115,7 @@ class Promises:
         """Names in parentheses, as README has those of functions."""
         for line in lines_of(text):
             if line.section == PROVED and line.text[:1].isdigit():
-                for part in re.findall(r"\(([^()]*`[^()]*)\)", line.text):
+                for part in (part for part in in_parentheses(line.text) if "`" in part):
                     functions, _, clauses = part.partition(", clause")
                     row = Row(line.number, "", [], [])
                     yield from ((line.number, fault) for fault in self.table.faults(row, functions, clauses))
@@ -205,13 +206,48 @@ class Files:
 
 
 def command_faults(top: str, text: str) -> Iterator[Fault]:
-    """Files of commands/ that no row of docs/ARCHITECTURE.md names."""
+    """Files of commands/ that no row of docs/ARCHITECTURE.md names, and files that it names and that are not there."""
     rows = " ".join(row.cells[0] for row in rows_of(text) if row.section == "The commands")
+    for row in rows_of(text):
+        for name in re.findall(r"\w+\.(?:py|css|js)\b", row.cells[0]) if row.section == "The commands" else ():
+            if not os.path.isfile(os.path.join(top, "commands", "facl_commands", name)):
+                yield row.number, f"no commands/facl_commands/{name}"
     for pattern in ("commands/facl-*", "commands/facl_commands/*"):
         for path in sorted(glob.glob(os.path.join(top, pattern))):
             name = os.path.basename(path)
             if os.path.isfile(path) and name != "__init__.py" and name not in re.findall(r"[\w.-]+", rows):
                 yield 1, f"{os.path.relpath(path, top)} is not named in the table of the commands"
+
+
+def rows_of_crates(top: str) -> Dict[str, Set[str]]:
+    """What crates.txt lists for each crate, those of the kit too."""
+    rows = (line.split("#")[0].partition(":") for line in text_of(os.path.join(top, "crates.txt")).split("\n"))
+    return {head.split()[0]: set(tail.split()) for head, _, tail in rows if head.strip()}
+
+
+def map_faults(top: str, text: str) -> Iterator[Fault]:
+    """Rows of the map of crates that differ from crates.txt, and crates of the program without one."""
+    listed = rows_of_crates(top)
+    there: Set[str] = set()
+    for row in rows_of(text):
+        if row.heads[0] == "Crate" and "Depends on" in row.heads:
+            crate = row.cells[0].strip("`")
+            there.add(crate)
+            used = set(re.findall(r"\w+", row.cells[row.heads.index("Depends on")].replace("std alone", "")))
+            if crate not in listed:
+                yield row.number, f"no crate {crate} in crates.txt"
+            elif used != listed[crate] and not sources.is_of_tests(crate):
+                yield row.number, f"{crate} depends on {' '.join(sorted(listed[crate]))} by crates.txt"
+    yield from ((1, f"{crate} is not in the map") for crate in sorted(set(listed) - there) if not sources.is_of_tests(crate))
+
+
+def trusted_faults(top: str, text: str) -> Iterator[Fault]:
+    """The crates of the kit that README trusts, beside those of crates.txt."""
+    listed = rows_of_crates(top)
+    kit = {name for names in listed.values() for name in names} - set(listed)
+    for line in lines_of(text):
+        if line.text.startswith("Trusted") and set(codes_of(line.text)) != kit:
+            yield line.number, f"the crates of the kit are {' '.join(sorted(kit))} by crates.txt"
 
 
 def link_faults(top: str, document: str, line: Line) -> Iterator[str]:
@@ -261,6 +297,8 @@ def check(top: str) -> List[str]:
     add(PROOFS, promises.faults(texts[PROOFS]))
     add(PROOFS, Edits(top).faults(library, texts[PROOFS]))
     add(README, promises.readme_faults(texts[README]))
+    add(README, trusted_faults(top, texts[README]))
+    add(ARCHITECTURE, map_faults(top, texts[ARCHITECTURE]))
     add(ARCHITECTURE, Files(top).faults(texts[ARCHITECTURE]))
     add(ARCHITECTURE, command_faults(top, texts[ARCHITECTURE]))
     for document in texts:

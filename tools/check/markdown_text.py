@@ -74,6 +74,18 @@ def codes_of(text: str) -> List[str]:
     return re.findall(r"`([^`]+)`", text)
 
 
+def in_parentheses(text: str) -> List[str]:
+    """What stands in parentheses, each with those inside it."""
+    found, depth = [], 0
+    for char in text:
+        if char == "(" and depth == 0:
+            found.append("")
+        elif depth:
+            found[-1] += char
+        depth = max(0, depth + (char == "(") - (char == ")"))
+    return [part[:-1] if part.endswith(")") else part for part in found]
+
+
 def anchors_of(text: str) -> List[str]:
     """The names by which links lead to headings."""
     heads = [line.text.lstrip("#").strip().lower() for line in lines_of(text) if line.text.startswith("#")]

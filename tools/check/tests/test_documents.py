@@ -32,6 +32,9 @@ FILES = {
     "crates/low/must-fail/loses_a_value.edit": "file: src/a.rt",
     "crates/high/src/lib.rt": "pub use low::Map;",
     "crates/high_tests/src/rows.rt": "",
+    "crates.txt": "# crates\nlow: clap\nhigh: low\nhigh_tests: high\n",
+    "commands/facl_commands/names.py": "",
+    "commands/facl-ask": "",
     "tools/check.sh": "",
     "docs/OTHER.md": "# The crates\n\n## Its `parts`, in short\n",
 }
@@ -106,7 +109,7 @@ class Promises(Case):
         self.assertEqual(found, [[], [], ["no `fill` in low"], ["no `Map::take` in low"]])
 
     def test_readme(self) -> None:
-        text = "## What is proved\n\n1. It holds (`low::Map::put`, `get`, clause `ok`).\n2. Not this (`low::Map::take`).\n"
+        text = "## What is proved\n\n1. It holds (`low::Map::put`, as in acl(5); `get`, clause `ok`).\n2. Not this (`low::Map::take`).\n"
         found = list(documents.Promises(self.library, self.words).readme_faults(text))
         self.assertEqual(found, [(3, "Map::get has none of the clauses named; it has one alone, without a name"),
                                  (4, "no `low::Map::take` in the sources")])
@@ -142,6 +145,24 @@ class Files(Case):
     def test_sections_of_several_crates(self) -> None:
         text = "## low and high_tests\n| low: src/a.rt, src/b.rt, Maps.antt | maps |\n| high_tests: src/rows.rt | rows |\n| src/a.rt | none |"
         self.assertEqual(list(documents.Files(self.top).faults(text)), [(4, "no crates/high_tests/src/a.rt")])
+
+
+    def test_commands(self) -> None:
+        text = "## The commands\n| File | What |\n|---|---|\n| commands/facl-ask | asks |\n| facl_commands/names.py | names |\n"
+        self.assertEqual(list(documents.command_faults(self.top, text)), [])
+        self.assertEqual(list(documents.command_faults(self.top, text.replace("names.py", "gone.py"))), [
+            (5, "no commands/facl_commands/gone.py"), (1, "commands/facl_commands/names.py is not named in the table of the commands")])
+
+    def test_map(self) -> None:
+        head = "| Crate | What it is for | Depends on |\n|---|---|---|\n"
+        self.assertEqual(list(documents.map_faults(self.top, head + "| `low` | maps | clap |\n| `high` | all | low |\n")), [])
+        self.assertEqual(list(documents.map_faults(self.top, head + "| `low` | maps | std alone |\n| `gone` | all | low |\n")), [
+            (3, "low depends on clap by crates.txt"), (4, "no crate gone in crates.txt"), (1, "high is not in the map")])
+
+    def test_trusted(self) -> None:
+        self.assertEqual(list(documents.trusted_faults(self.top, "Trusted are the crates `clap`.")), [])
+        self.assertEqual(list(documents.trusted_faults(self.top, "Trusted are the crates `hex`.")), [
+            (1, "the crates of the kit are clap by crates.txt")])
 
 
 class Links(Case):
