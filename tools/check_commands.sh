@@ -34,6 +34,7 @@ lint shellcheck commands/facl-snapshot tools/check_commands.sh tools/install.sh 
 lint mypy --strict --cache-dir=/dev/null --scripts-are-modules commands/facl_commands commands/facl-ask \
     commands/facl-plan commands/facl-apply commands/facl-report commands/tests/*.py tools/check/*.py \
     tools/check/tests/*.py
-lint tools/check/documents.py
-lint tools/check/memory_faults.py
+for check in tools/check/documents.py tools/check/memory_faults.py; do
+    "$check" >&2 || lint_faults=$((lint_faults + 1))
+done
 exec python3 commands/tests/run.py "$lint_faults"
