@@ -1,7 +1,7 @@
 #!/usr/bin/env python3
 """Checks what the documents say of the sources.
 
-usage: tools/check/documents.py
+usage: tools/check/documents.py [--write]
 
 - docs/PROOFS.md: each function that a table of promises names is in the sources of the crate of its section, and has the
   clauses named; so is each name where a wrong body is refused, and each call that takes no memory; each must-fail edit named is
@@ -9,6 +9,8 @@ usage: tools/check/documents.py
 - docs/ARCHITECTURE.md: the map of the crates is that of crates.txt; each file that a section of crates names is there, and each
   file of src/ and specs/ is named; so are the files of the commands.
 - README.md, "What is proved": each function and clause named is in the sources; the kit's crates are those of crates.txt.
+- The parts of docs/ARCHITECTURE.md that are made of the sources (generated.py) are as these have it; --write makes them so, and
+  does nothing else.
 - All documents: each link within the repository, and each path that starts with a folder of it, leads to something; each name
   with `_` or `::` is a word of the sources.
 
@@ -25,7 +27,9 @@ from typing import Dict, FrozenSet, Iterator, List, Set, Tuple
 
 sys.dont_write_bytecode = True
 
+import generated
 import sources
+from generated import rows_of_crates
 from markdown_text import Line, Row, all_lines_of, anchors_of, codes_of, in_parentheses, lines_of, links_of, rows_of
 from promises import FunctionCell, Resolver, Table, crates_in
 from sources import Library, text_of
@@ -219,12 +223,6 @@ def command_faults(top: str, text: str) -> Iterator[Fault]:
                 yield 1, f"{os.path.relpath(path, top)} is not named in the table of the commands"
 
 
-def rows_of_crates(top: str) -> Dict[str, Set[str]]:
-    """What crates.txt lists for each crate, those of the kit too."""
-    rows = (line.split("#")[0].partition(":") for line in text_of(os.path.join(top, "crates.txt")).split("\n"))
-    return {head.split()[0]: set(tail.split()) for head, _, tail in rows if head.strip()}
-
-
 def map_faults(top: str, text: str) -> Iterator[Fault]:
     """Rows of the map of crates that differ from crates.txt, and crates of the program without one."""
     listed = rows_of_crates(top)
@@ -298,6 +296,7 @@ def check(top: str) -> List[str]:
     add(PROOFS, Edits(top).faults(library, texts[PROOFS]))
     add(README, promises.readme_faults(texts[README]))
     add(README, trusted_faults(top, texts[README]))
+    add(ARCHITECTURE, generated.faults(top, texts[ARCHITECTURE]))
     add(ARCHITECTURE, map_faults(top, texts[ARCHITECTURE]))
     add(ARCHITECTURE, Files(top).faults(texts[ARCHITECTURE]))
     add(ARCHITECTURE, command_faults(top, texts[ARCHITECTURE]))
@@ -306,7 +305,26 @@ def check(top: str) -> List[str]:
     return [f"{document}:{number}: {fault}" for document, number, fault in sorted(set(found))]
 
 
+def write(top: str) -> None:
+    """Makes the parts of docs/ARCHITECTURE.md that are made of the sources."""
+    path = os.path.join(top, ARCHITECTURE)
+    text = text_of(path)
+    new = generated.written(top, text)
+    if new == text:
+        return
+    try:
+        with open(path + ".new", "w", encoding="utf-8") as file:
+            file.write(new)
+        os.replace(path + ".new", path)
+    finally:
+        if os.path.exists(path + ".new"):
+            os.remove(path + ".new")
+
+
 def main() -> int:
+    if sys.argv[1:] == ["--write"]:
+        write(sources.TOP)
+        return 0
     if len(sys.argv) > 1:
         sys.exit(__doc__)
     lines = check(sources.TOP)
