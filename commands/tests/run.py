@@ -1,5 +1,5 @@
 #!/usr/bin/env python3
-"""Runs all tests of the commands, by the program that $FACL names, and those of tools/check; the last line is `N passed, M failed`.
+"""Runs all tests of the commands, by the program that $FACL names; the last line is `N passed, M failed`.
 
 usage: run.py [FAULTS]      FAULTS: what was found before, counted with those that failed
 """
@@ -10,6 +10,7 @@ import unittest
 sys.dont_write_bytecode = True
 HERE = os.path.dirname(os.path.realpath(__file__))
 sys.path.insert(0, HERE)
+# those of the checks of sources and documents run with them
 CHECKS = os.path.join(HERE, "..", "..", "tools", "check", "tests")
 
 suite = unittest.TestSuite(unittest.TestLoader().discover(folder) for folder in (HERE, CHECKS))

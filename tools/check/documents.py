@@ -11,8 +11,8 @@ usage: tools/check/documents.py [--write]
 - README.md, "What is proved": each function and clause named is in the sources; the kit's crates are those of crates.txt.
 - The parts of docs/ARCHITECTURE.md that are made of the sources (generated.py) are as these have it; --write makes them so, and
   does nothing else.
-- All documents: each link within the repository, and each path that starts with a folder of it, leads to something; each name
-  with `_` or `::` is a word of the sources.
+- All documents: each link within the repository, and each path that starts with a folder of it or of a crate, leads to
+  something; each name with `_` or `::` is a word of the sources.
 
 Prints `FILE:LINE: what is wrong`. The exit status is 1 where something is.
 """
@@ -41,6 +41,7 @@ PATH = re.compile(r"(?<![\w/.-])((?:tools|commands|docs|demo|crates|\.ci)/[\w./-
 NAME = re.compile(r"(?:[A-Za-z]\w*::)*[A-Za-z]\w*")
 PLACEHOLDER = re.compile(r"X_\w+|\w+_")
 EDIT = re.compile(r"[a-z][a-z0-9]*(?:_[a-z0-9]+)+")
+IN_CRATE = re.compile(r"(?<![\w/])((?:\w+/)?(?:src|specs|proofs)/\w+\.(?:rt|antt))\b")
 FILE = re.compile(r"(?<![\w./])((?:(?:src|specs|proofs)/)?\w+\.(?:rt|antt))\b")
 Fault = Tuple[int, str]
 
@@ -260,7 +261,18 @@ def link_faults(top: str, document: str, line: Line) -> Iterator[str]:
             yield f"no heading {target}"
 
 
+@functools.lru_cache(maxsize=None)
+def files_of_crates(top: str) -> FrozenSet[str]:
+    """The sources, definitions and proofs of all crates, by their paths in crates/, and also without the crate."""
+    found = (path for ending in ("rt", "antt") for path in glob.glob(os.path.join(top, "crates", "*", "*", "*." + ending)))
+    names = [os.path.relpath(path, os.path.join(top, "crates")) for path in found]
+    return frozenset(names) | {name.split(os.sep, 1)[1] for name in names}
+
+
 def path_faults(top: str, line: Line) -> Iterator[str]:
+    for path in IN_CRATE.findall(line.text):
+        if path not in files_of_crates(top):
+            yield f"no {path} in crates/"
     for path in PATH.findall(line.text.replace("\\-", "-")):
         if not os.path.exists(os.path.join(top, path)) and "/out/" not in path and not path.endswith("/out"):
             yield f"no {path}"

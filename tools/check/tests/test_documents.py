@@ -175,13 +175,14 @@ class Links(Case):
     def test_what_is_there(self) -> None:
         for text in ("[tools](../tools/check.sh) and tools/check.sh.", "[parts](#its-parts-in-short), [here](OTHER.md#the-crates)",
                      "[far](https://example.org/a)", "crates/low/out/program", "`look_up`, `Map::get`, `anyhow::Error`, `X_tests`, `of_`",
-                     "`[a](b)` and `rt ci`"):
+                     "`[a](b)` and `rt ci`", "`low/src/a.rt`, `src/b.rt` and specs/Maps.antt"):
             self.assertEqual(list(self.faults(text)), [], text)
 
     def test_what_is_not_there(self) -> None:
         found: Dict[str, str] = {
             "[x](gone.md)": "no gone.md", "[x](OTHER.md#gone)": "no heading OTHER.md#gone", "tools/gone.sh": "no tools/gone.sh",
             "`tools/gone.sh` is run": "no tools/gone.sh", "`found_up`": "no `found_up` in the sources",
+            "`low/src/gone.rt`": "no low/src/gone.rt in crates/", "`specs/Gone.antt`": "no specs/Gone.antt in crates/",
             "`Map::gone`": "no `Map::gone` in the sources"}
         for text, fault in found.items():
             self.assertEqual(list(self.faults(text)), [fault])
