@@ -1,15 +1,20 @@
 #!/bin/sh
 # Tests of the commands in commands/: what needs only the program, over stored snapshots. It makes its files in a folder of
-# its own, takes a few seconds, and ends with the line `N passed, M failed`; the exit status is 0 where none failed.
+# its own, takes half a minute, and ends with the line `N passed, M failed`; the exit status is 0 where none failed.
 #
-# usage: tools/check_commands.sh [PROGRAM]      PROGRAM: one that is built; without it crates/facl_cli/out/facl_cli
+# usage: tools/check_commands.sh [--all] [PROGRAM]      PROGRAM: one that is built; without it crates/facl_cli/out/facl_cli
 #
+# With --all it also tests facl-ask at a terminal, and several snapshots by GNU parallel, which takes a minute more.
 # The linters shellcheck and mypy --strict are asked too where they are installed. The documents are checked against the
 # sources (tools/check/documents.py), and the sources for where they say that memory ran out (tools/check/memory_faults.py);
 # each of these four counts as a failed test where it finds something. What needs a real file system and root is in
 # tools/check/live.sh and tools/check_snapshot.sh.
 set -eu
 top=$(cd "$(dirname "$0")/.." && pwd)
+if [ "${1:-}" = --all ]; then
+    export ALL_TESTS=yes
+    shift
+fi
 FACL=$(realpath "${1:-$top/crates/facl_cli/out/facl_cli}")
 export FACL
 if [ ! -x "$FACL" ]; then

@@ -85,7 +85,7 @@ check_words() {
     for words in '' "$work/other" "--frob $work/other $work/closed" --program "--program x"; do
         # shellcheck disable=SC2086  # the words of a case
         take 2 $words
-        printf 'usage: facl-snapshot [--program FILE] DIR FOLDER..\n' | diff - "$work/message" >&2 || fault "usage: $words"
+        printf 'usage: facl-snapshot [--program FILE] [--split COUNT] DIR FOLDER..\n' | diff - "$work/message" >&2 || fault "usage: $words"
     done
     take 2 --program "$work/absent" "$work/other" "$work/closed"
     warned "facl-snapshot: $work/absent: no such program"

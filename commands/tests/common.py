@@ -15,6 +15,9 @@ from typing import Dict, List, NamedTuple, Optional
 HERE = os.path.dirname(os.path.realpath(__file__))
 COMMANDS = os.path.dirname(HERE)
 
+# A test of what takes time, or of when other processes of the system do something: tools/check_commands.sh --all has it too.
+outside_the_gate = unittest.skipUnless("ALL_TESTS" in os.environ, "only with --all")
+
 
 def restore_signals() -> None:
     """In a child: signals end it, also where the tests run in the background, with SIGINT ignored."""

@@ -13,7 +13,7 @@ import time
 import unittest
 from typing import Dict, List, Union
 
-from common import COMMANDS, HERE, Case, restore_signals, take_terminal
+from common import COMMANDS, HERE, Case, outside_the_gate, restore_signals, take_terminal
 
 sys.path.insert(0, COMMANDS)
 
@@ -321,6 +321,7 @@ class Prompt(unittest.TestCase):
         self.assertEqual(self.ask("? frob"), b"There is no tool and no section of this name: `help` lists them.\n\n")
 
 
+@outside_the_gate
 class Terminal(Case):
     """facl-ask at a pseudo-terminal."""
 

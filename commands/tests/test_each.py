@@ -11,7 +11,7 @@ import time
 import unittest
 from typing import Dict, List
 
-from common import COMMANDS, HERE, Case, Done, restore_signals
+from common import COMMANDS, HERE, Case, Done, outside_the_gate, restore_signals
 
 sys.path.insert(0, COMMANDS)
 
@@ -157,6 +157,7 @@ class Files(unittest.TestCase):
                          {b":": [b"a", b"./c:d"], b"host": [b"b", b"e"], b"me@host.x": [b"/b c"]})
 
 
+@outside_the_gate
 @unittest.skipUnless(shutil.which("parallel"), "GNU parallel is not installed")
 class Each(Case):
     """Answers of parts are those of one session over the whole."""
