@@ -55,7 +55,8 @@ def documents_of(top: str) -> List[str]:
 def words_of(top: str) -> Set[str]:
     """All words of the sources, definitions, scripts and commands, with the names of files."""
     words: Set[str] = set()
-    patterns = ("crates/*/src/*.rt", "crates/*/specs/*.antt", "tools/*.*", "tools/check/*.*", "commands/facl*", "commands/facl_commands/*.py")
+    patterns = ("crates/*/src/*.rt", "crates/*/specs/*.antt", "tools/*.*", "tools/check/*.*", "commands/facl*",
+                "commands/facl_commands/*.py")
     for path in (path for pattern in patterns for path in glob.glob(os.path.join(top, pattern))):
         if os.path.isfile(path):
             words |= set(re.findall(r"\w+", text_of(path)))
@@ -178,7 +179,7 @@ class Files:
         yield from ((1, f"crates/{path} is not named in the section of its crate") for path in self.missing())
 
     def crates_at(self, line: Line, before: List[str]) -> List[str]:
-        """The crates whose files a line names: the one that it starts with, in a table that of the row before, else the section's."""
+        """The crates whose files a line names: the one that it starts with, in a table as the row before, else the section's."""
         match = re.match(r"(?:\| |\*\*)(\w+)(?::|\*\*:)", line.text)
         if match and match.group(1) in self.crates:
             return [match.group(1)]

@@ -33,7 +33,7 @@ EXCEPTIONS: Dict[Tuple[str, str], str] = {
     ("crates/acl_rights/src/labels.rt", "MoreLabels::add"): COUNT,
     ("crates/acl_verdicts/src/numbered.rt", "counted"): COUNT,
     ("crates/acl_verdicts/src/steps.rt", "MoreSteps::number"): COUNT,
-    ("crates/acl_tree/src/chmod.rt", "prepare_chmod"): ALONE,
+    ("crates/acl_tree/src/chmod.rt", "prepare_chmod"): "the operands were looked up before, and a mode is put into each file that is found",
     ("crates/acl_tree/src/creat.rt", "node_of"): ALONE,
     ("crates/facl/src/session.rt", "Facl::accept"): ALONE,
     ("crates/facl/src/line.rt", "text_of_unit"): "TextFound::Lost: the room for the line's text was refused",
