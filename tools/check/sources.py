@@ -9,7 +9,7 @@ import glob
 import os
 import re
 from dataclasses import dataclass, field
-from typing import Dict, FrozenSet, Iterable, List, Optional, Set, Tuple
+from typing import Dict, FrozenSet, Iterable, List, NamedTuple, Optional, Set, Tuple
 
 TOP = os.path.dirname(os.path.dirname(os.path.dirname(os.path.realpath(__file__))))
 
@@ -27,8 +27,7 @@ CLOSES = set(OPENS.values())
 TYPES = {"struct", "enum", "union", "type", "const", "static"}
 
 
-@dataclass(frozen=True)
-class Token:
+class Token(NamedTuple):
     """A piece of a source, its kind as named in TOKEN, and its line counted from 1."""
 
     kind: str
@@ -90,7 +89,8 @@ def tokens_of(text: str) -> List[Token]:
             kind = "text"
         if kind != "skip":
             tokens.append(Token(kind, match.group(), line))
-        line += match.group().count("\n")
+        if kind in ("skip", "text"):
+            line += match.group().count("\n")
     return tokens
 
 
