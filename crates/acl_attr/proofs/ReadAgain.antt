@@ -104,7 +104,7 @@ above_all k [] e es h = less _ (and_parts _ _ h).0
 above_all k (d ∷ done) e es h = above_all k done e es (and_parts _ _ h).1
 
 -- the next key is new
-new_key : (done : List Entry) (e : Entry) (es : List Entry) → IsInOrder (done ++ e ∷ es) → maps.find key_cmp e.key (pairs done) ≡ None
+pub new_key : (done : List Entry) (e : Entry) (es : List Entry) → IsInOrder (done ++ e ∷ es) → maps.find key_cmp e.key (pairs done) ≡ None
 new_key [] e es h = refl
 new_key (d ∷ done) e es h =
     let lower = above d.key e.key (above_all d.key done e es (and_parts _ _ h).0) in
@@ -189,7 +189,7 @@ no_more n o e =
     ]
 
 -- a valid list has at most 4,096 entries
-few : (acl : KeyMap) → IsValid acl → length (entries acl) ≤ most_entries
+pub few : (acl : KeyMap) → IsValid acl → length (entries acl) ≤ most_entries
 few acl valid = omega (arith, no_more (length (keys (entries acl))) _ valid, length-map (entries acl) (λ e. e.key))
 
 -- the attribute of a list is read as that list

@@ -27,4 +27,4 @@ pub use laws::{
     records_are_read_again,
 };
 pub use record::{DumpRecord, DumpUse};
-pub use writing::append_list;
+pub use writing::{append_line, append_list};

@@ -80,8 +80,12 @@ fn push_shown<N: Names>(
     append_entry(text, entry, Form::Long, names)
 }
 
-/// Adds an entry's line.
-fn push_line<N: Names>(
+/// Adds an entry of one of a file's lists, whose mask is given, as [`append_list`] adds it.
+///
+/// # Errors
+///
+/// If memory runs out; then a part of it may be added.
+pub fn append_line<N: Names>(
     text: &mut Vec<u8>,
     how: Effective,
     which: Which,
@@ -113,7 +117,7 @@ fn push_list<N: Names>(
     ensures err { OnErr result (StartsWith text.new.items text.old.items) }
 {
     for entry in entries {
-        push_line(text, how, which, mask, entry, names)?;
+        append_line(text, how, which, mask, entry, names)?;
     }
     Ok(())
 }

@@ -1,142 +1,182 @@
--- The files that a path is below, one component after another.
-use Rattle.std.specs.Prelude.{unwrap_or}
-use Rattle.std.proofs.Common.{◌≡◌, ℕ, Vec, Global, IsTrue, rules, Bool, true, false, cond, ◌||◌, ◌&&◌, List, [], ◌∷◌, ◌++◌, filter, map, Bor, Option, Some, None, is_some, Ordering, Less, Equal, Greater, refl, sym, ap, subst, ◌∙◌, true≢false}
-use Rattle.std.specs.Option.{option_copied}
-use Rattle.std.specs.Ordering.{is_eq, is_gt, nat_cmp, eq_by_cmp}
-use Rattle.std.specs.Cmp.Lexicographic.{slice_cmp}
-use Rattle.std.specs.FinMap.{find}
-use Rattle.std.specs.List.{list_all}
+-- The paths of the files that a path is below: the nearest, and those above it.
+use Rattle.std.proofs.Common.{◌≡◌, ◌<◌, ◌≤◌, Bool, true, false, cond, List, [], ◌∷◌, ◌++◌, length, map, reverse, append-nil, append_assoc, Ordering, Less, Equal, Greater, IsTrue, refl, sym, ap, subst, ◌∙◌, arith}
+use Rattle.std.specs.List.{AllByRecursion, flat_map}
+use Rattle.std.specs.Ordering.{is_gt, is_lt}
+use Rattle.std.specs.FinMap.{is_sorted}
+use Rattle.std.specs.FinMap.Entries.{below_all}
 use Rattle.std.proofs.lemmas.Bool.{and_parts}
-use Rattle.std.proofs.lemmas.Cmp.{tied_itself, nat_list_cmp_total}
-use Rattle.std.proofs.lemmas.List.{map-append}
-use Rattle.acl_names.specs.Paths.{path_cmp, path_from}
-use Rattle.acl_names.proofs.PathOrder.{path_total, exact_paths}
-use Rattle.path_map.specs.Inner.{After}
-use Rattle.path_map.proofs.Convex.{not_before}
-use Rattle.path_map.proofs.Merges.{later_after}
-use Rattle.acl_files.specs.Files.{PathOf, Files, IsInOrder}
-use Rattle.acl_files.specs.Below.{is_below, is_within}
-use Rattle.acl_files.specs.Walks.{ancestors}
-use Rattle.acl_files.proofs.Follows.{below_within, below_less, within_below}
-use Rattle.acl_files.proofs.Selected.{filter_alike, filter_apart}
+use Rattle.std.proofs.lemmas.List.{map-append, reverse-append}
+use Rattle.acl_names.specs.Paths.{path_cmp}
+use Rattle.acl_names.proofs.PathOrder.{path_total}
+use Rattle.acl_edit.specs.declared.node.Node.{Node}
+use Rattle.path_map.specs.Entries.{PathOf, IsInOrder}
+use Rattle.path_map.proofs.Convex.{convex}
+use Rattle.acl_files.specs.Files.{Files}
+use Rattle.acl_files.specs.Below.{is_below}
+use Rattle.acl_files.specs.Walks.{ancestors, last_or, nearest_above}
+use Rattle.acl_files.proofs.Follows.{above, below_within, below_less, within_below, not_below_itself}
+use Rattle.acl_files.proofs.Selected.{within_trans}
+use Rattle.acl_files.proofs.Nearest.{clash, false_from, those}
 
--- ---- paths
+less : (o : Ordering) → is_lt o ≡ true → o ≡ Less
+less Less h = refl
+less Equal h = cc
+less Greater h = cc
 
-none_below : (x : PathOf) → is_below x [] ≡ false
-none_below [] = refl
-none_below (a ∷ x) = refl
+below_trans : (e r p : PathOf) → is_below e r ≡ true → is_below r p ≡ true → is_below e p ≡ true
+below_trans e r p h k = within_below e p (within_trans e r p (below_within e r h) (below_within r p k)) (path_total.trans e r p (below_less e r h) (below_less r p k))
 
-and_false : (b : Bool) → (b && false) ≡ false
-and_false true = refl
-and_false false = refl
+-- of two paths above a third one the first is above the second
+between : (e r p : PathOf) → path_cmp e r ≡ Less → is_below e p ≡ true → is_below r p ≡ true → is_below e r ≡ true
+between e r p lt h k = within_below e r (convex e r p (ap is_gt lt) (below_less r p k) (below_within e p h)) lt
 
--- what is above a path with one component more is the path or above it
-below_more : (x q : PathOf) (c : List ℕ) → is_below x (q ++ c ∷ []) ≡ is_within x q
-below_more [] [] c = refl
-below_more [] (y ∷ q) c = refl
-below_more (a ∷ x) [] c = ap (λ b. eq_by_cmp (slice_cmp nat_cmp) a c && b) (none_below x) ∙ and_false (eq_by_cmp (slice_cmp nat_cmp) a c)
-below_more (a ∷ x) (y ∷ q) c = ap (λ b. eq_by_cmp (slice_cmp nat_cmp) a y && b) (below_more x q c)
+-- ---- the last of some
 
-equal : (o : Ordering) → is_eq o ≡ true → o ≡ Equal
-equal Less h = absurd (true≢false (sym h))
-equal Equal h = refl
-equal Greater h = absurd (true≢false (sym h))
+last_holds : {A : Type 0} (P : A → Type 0) (found xs : List A) → AllByRecursion P found → AllByRecursion P xs → AllByRecursion P (last_or found xs)
+last_holds P found [] f h = f
+last_holds P found (x ∷ xs) f h = last_holds P (x ∷ []) xs (h.0, tt) h.1
 
-pub within_itself : (p : PathOf) → is_within p p ≡ true
-within_itself [] = refl
-within_itself (x ∷ p) = ap (λ b. b && is_within p p) (ap is_eq (tied_itself nat_list_cmp_total x)) ∙ within_itself p
+last_some : {A : Type 0} (x : A) (xs : List A) → last_or (x ∷ []) xs ≡ [] → ⊥
+last_some x [] h = cc
+last_some x (y ∷ xs) h = last_some y xs h
 
--- a path is within another as that path itself or below it
-below_or_same : (x q : PathOf) → is_within x q ≡ (is_below x q || is_eq (path_cmp q x))
-below_or_same x q = by (is_below x q) refl (is_eq (path_cmp q x)) refl (is_within x q) refl
+last_none : {A : Type 0} (xs : List A) → last_or [] xs ≡ [] → xs ≡ []
+last_none [] h = refl
+last_none (x ∷ xs) h = absurd (last_some x xs h)
+
+last_alone : {A : Type 0} (found xs : List A) → length found ≤ 1 → length (last_or found xs) ≤ 1
+last_alone found [] h = h
+last_alone found (x ∷ xs) h = last_alone (x ∷ []) xs (omega arith)
+
+pub nearest_alone : {A : Type 0} (p : PathOf) (es : List (PathOf × A)) → length (nearest_above p es) ≤ 1
+nearest_alone p es = last_alone [] (those p es) (omega arith)
+
+-- ---- the entries above a path
+
+module _ {A : Type 0} where
+  pub all_above : (p : PathOf) (es : List (PathOf × A)) → AllByRecursion (λ (e : PathOf × A). is_below e.0 p ≡ true) (those p es)
+  all_above p [] = tt
+  all_above p (e ∷ es) = by (is_below e.0 p) refl (all_above p es)
+    where
+      by : (b : Bool) → is_below e.0 p ≡ b → AllByRecursion (λ (e : PathOf × A). is_below e.0 p ≡ true) (those p es) → AllByRecursion (λ (e : PathOf × A). is_below e.0 p ≡ true) (cond b (e ∷ those p es) (those p es))
+      by true is more = (is, more)
+      by false is more = more
+
+  -- the nearest is above the path
+  pub nearest_is_above : (p : PathOf) (es : List (PathOf × A)) → AllByRecursion (λ (e : PathOf × A). is_below e.0 p ≡ true) (nearest_above p es)
+  nearest_is_above p es = last_holds (λ (e : PathOf × A). is_below e.0 p ≡ true) [] (those p es) tt (all_above p es)
+
+  one_above : (p : PathOf) (es : List (PathOf × A)) (r : PathOf × A) → nearest_above p es ≡ r ∷ [] → is_below r.0 p ≡ true
+  one_above p es r is = (subst (AllByRecursion (λ (e : PathOf × A). is_below e.0 p ≡ true)) is (nearest_is_above p es)).0
+
+  later : (x p : PathOf) (es : List (PathOf × A)) → IsTrue (below_all path_cmp x es) → AllByRecursion (λ (e : PathOf × A). path_cmp x e.0 ≡ Less) (those p es)
+  later x p [] h = tt
+  later x p (e ∷ es) h =
+      let parts = and_parts (is_lt (path_cmp x e.0)) (below_all path_cmp x es) h in
+      by (is_below e.0 p) (less (path_cmp x e.0) parts.0) (later x p es parts.1)
+    where
+      by : (b : Bool) → path_cmp x e.0 ≡ Less → AllByRecursion (λ (e : PathOf × A). path_cmp x e.0 ≡ Less) (those p es) → AllByRecursion (λ (e : PathOf × A). path_cmp x e.0 ≡ Less) (cond b (e ∷ those p es) (those p es))
+      by true here more = (here, more)
+      by false here more = more
+
+  one_later : (x p : PathOf) (es : List (PathOf × A)) (r : PathOf × A) → IsTrue (below_all path_cmp x es) → nearest_above p es ≡ r ∷ [] → path_cmp x r.0 ≡ Less
+  one_later x p es r h is = (subst (AllByRecursion (λ (e : PathOf × A). path_cmp x e.0 ≡ Less)) is (last_holds (λ (e : PathOf × A). path_cmp x e.0 ≡ Less) [] (those p es) tt (later x p es h))).0
+
+  -- no entry after a path is above it
+  none_later : (q : PathOf) (es : List (PathOf × A)) → IsTrue (below_all path_cmp q es) → those q es ≡ []
+  none_later q [] h = refl
+  none_later q (e ∷ es) h =
+      let parts = and_parts (is_lt (path_cmp q e.0)) (below_all path_cmp q es) h in
+      let out : is_below e.0 q ≡ false = false_from (is_below e.0 q) (λ k. apart (sym (above q e.0 (less (path_cmp q e.0) parts.0)) ∙ below_less e.0 q k)) in
+      ap (λ b. cond b (e ∷ those q es) (those q es)) out ∙ none_later q es parts.1
+    where
+      apart : Greater ≡ Less → ⊥
+      apart e = cc
+
+  none_over : (e : PathOf × A) (es : List (PathOf × A)) → IsTrue (below_all path_cmp e.0 es) → those e.0 (e ∷ es) ≡ []
+  none_over e es h = ap (λ b. cond b (e ∷ those e.0 es) (those e.0 es)) (not_below_itself e.0) ∙ none_later e.0 es h
+
+  -- what is above a path is the nearest there, and before it what is above that
+  nearest_last : (p : PathOf) (es : List (PathOf × A)) (r : PathOf × A) → IsInOrder es → nearest_above p es ≡ r ∷ [] → those p es ≡ those r.0 es ++ r ∷ []
+  nearest_last p [] r order is = cc
+  nearest_last p (e ∷ es) r order is =
+      let parts = and_parts (below_all path_cmp e.0 es) (is_sorted path_cmp es) order in
+      by (is_below e.0 p) refl (those p es) refl is parts.0 (nearest_last p es r parts.1)
+    where
+      by : (b : Bool) → is_below e.0 p ≡ b → (l : List (PathOf × A)) → those p es ≡ l → last_or [] (cond b (e ∷ l) l) ≡ r ∷ [] → IsTrue (below_all path_cmp e.0 es)
+          → (nearest_above p es ≡ r ∷ [] → those p es ≡ those r.0 es ++ r ∷ [])
+          → cond b (e ∷ those p es) (those p es) ≡ those r.0 (e ∷ es) ++ r ∷ []
+      by false out l tail last after rest =
+          let found : nearest_above p es ≡ r ∷ [] = ap (last_or []) tail ∙ last in
+          let apart : is_below e.0 r.0 ≡ false = false_from (is_below e.0 r.0) (λ k. clash (is_below e.0 p) (below_trans e.0 r.0 p k (one_above p es r found)) out) in
+          rest found ∙ sym (ap (λ b. cond b (e ∷ those r.0 es) (those r.0 es) ++ r ∷ []) apart)
+      by true over [] tail last after rest =
+          let same : e ≡ r = cc in
+          ap (λ l. e ∷ l) tail ∙ ap (λ (x : PathOf × A). x ∷ []) same
+          ∙ ap (λ l. l ++ r ∷ []) (sym (none_over e es after) ∙ ap (λ (x : PathOf × A). those x.0 (e ∷ es)) same)
+      by true over (y ∷ l) tail last after rest =
+          let found : nearest_above p es ≡ r ∷ [] = ap (last_or []) tail ∙ last in
+          let inside : is_below e.0 r.0 ≡ true = between e.0 r.0 p (one_later e.0 p es r after found) over (one_above p es r found) in
+          ap (λ l. e ∷ l) (rest found) ∙ sym (ap (λ b. cond b (e ∷ those r.0 es) (those r.0 es) ++ r ∷ []) inside)
+
+-- ---- files, from the nearest one on
+
+-- the paths that are still to come: that of a file that is found, after those of the files above it
+abbrev pub to_come : Files → Files → List PathOf
+to_come found t = flat_map (λ (e : PathOf × Node). ancestors e.0 t ++ e.0 ∷ []) found
+
+-- those of the nearest file above a path are all above the path
+pub nearest_leads : (p : PathOf) (t : Files) → IsInOrder t → to_come (nearest_above p t) t ≡ ancestors p t
+nearest_leads p t order = by (nearest_above p t) refl (nearest_alone p t)
   where
-    greater_not : Greater ≡ path_cmp x q → is_within x q ≡ true → ⊥
-    greater_not is w = true≢false (ap is_gt is ∙ not_before x q w)
+    by : (l : Files) → nearest_above p t ≡ l → length (nearest_above p t) ≤ 1 → to_come (nearest_above p t) t ≡ ancestors p t
+    by [] is few = ap (λ l. to_come l t) is ∙ sym (ap (map (λ (e : PathOf × Node). e.0)) (last_none (those p t) is))
+    by (r ∷ []) is few =
+        ap (λ l. to_come l t) is
+        ∙ append-nil (ancestors r.0 t ++ r.0 ∷ [])
+        ∙ sym (ap (map (λ (e : PathOf × Node). e.0)) (nearest_last p t r order is) ∙ map-append (λ (e : PathOf × Node). e.0) (those r.0 t) (r ∷ []))
+    by (r ∷ s ∷ l) is few = let many : length (r ∷ s ∷ l) ≤ 1 = subst (λ (l : Files). length l ≤ 1) is few in absurd (omega (arith, many))
 
-    itself : path_cmp q x ≡ Equal → is_within x q ≡ true
-    itself is = subst (λ z. is_within x z ≡ true) (sym (exact_paths q x is)) (within_itself x)
+-- some paths are found, from the nearest on, and the next file
+pub record IsClimbed (path : PathOf) (t : Files) (found : Files) (paths : List PathOf) : Type 0 where
+  pub all : to_come found t ++ reverse paths ≡ ancestors path t
+  pub alone : length found ≤ 1
 
-    same : is_within x q ≡ true → is_below x q ≡ false → (o : Ordering) → path_cmp x q ≡ o → is_eq (path_cmp q x) ≡ true
-    same w out Less is = absurd (true≢false (sym (within_below x q w is) ∙ out))
-    same w out Equal is = ap (λ z. is_eq (path_cmp z x)) (sym (exact_paths x q is)) ∙ ap is_eq (tied_itself path_total x)
-    same w out Greater is = absurd (greater_not (sym is) w)
+pub climb_begins : (path : PathOf) (t found : Files) (paths : List PathOf) → IsInOrder t → found ≡ nearest_above path t → paths ≡ [] → IsClimbed path t found paths
+climb_begins path t found paths order is none = record {
+  all = ap (λ l. to_come found t ++ reverse l) none ∙ append-nil (to_come found t) ∙ ap (λ l. to_come l t) is ∙ nearest_leads path t order;
+  alone = subst (λ (l : Files). length l ≤ 1) (sym is) (nearest_alone path t);
+}
 
-    by : (b : Bool) → is_below x q ≡ b → (c : Bool) → is_eq (path_cmp q x) ≡ c → (w : Bool) → is_within x q ≡ w → w ≡ (b || c)
-    by true is c eq w ww = sym ww ∙ below_within x q is
-    by false is true eq w ww = sym ww ∙ itself (equal (path_cmp q x) eq)
-    by false is false eq false ww = refl
-    by false is false eq true ww = sym (same ww is (path_cmp x q) refl) ∙ eq
+-- the file found, where there is one, is alone
+one_found : (found rest : Files) (e : PathOf × Node) → found ≡ rest ++ e ∷ [] → length found ≤ 1 → found ≡ e ∷ []
+one_found found [] e is few = is
+one_found found (x ∷ []) e is few = let many : length (x ∷ e ∷ []) ≤ 1 = subst (λ (l : Files). length l ≤ 1) is few in absurd (omega (arith, many))
+one_found found (x ∷ y ∷ rest) e is few = let many : length (x ∷ y ∷ (rest ++ e ∷ [])) ≤ 1 = subst (λ (l : Files). length l ≤ 1) is few in absurd (omega (arith, many))
 
--- ---- files
+module _ (path : PathOf) (t found rest next : Files) (e : PathOf × Node) (order : IsInOrder t) (is : found ≡ rest ++ e ∷ []) (leads : next ≡ nearest_above e.0 t) (paths : List PathOf) (climbed : IsClimbed path t found paths) where
+  here : to_come found t ≡ to_come next t ++ e.0 ∷ []
+  here =
+      ap (λ l. to_come l t) (one_found found rest e is climbed.alone)
+      ∙ append-nil (ancestors e.0 t ++ e.0 ∷ [])
+      ∙ ap (λ l. l ++ e.0 ∷ []) (sym (ap (λ l. to_come l t) leads ∙ nearest_leads e.0 t order))
 
-pub is_copied : {A : Type 0} (o : Option (Bor A)) → is_some (option_copied o) ≡ is_some o
-is_copied None = refl
-is_copied (Some a) = refl
+  pub climb_more : (more : List PathOf) → more ≡ paths ++ e.0 ∷ [] → IsClimbed path t next more
+  climb_more more pushed = record {
+    all = ap (λ l. to_come next t ++ reverse l) pushed
+        ∙ ap (λ l. to_come next t ++ l) (reverse-append paths (e.0 ∷ []))
+        ∙ sym (append_assoc (to_come next t) (e.0 ∷ []) (reverse paths))
+        ∙ ap (λ l. l ++ reverse paths) (sym here)
+        ∙ climbed.all;
+    alone = subst (λ (l : Files). length l ≤ 1) (sym leads) (nearest_alone e.0 t);
+  }
 
-none_same : (q : PathOf) (t : Files) → After q t → filter (λ e. is_eq (path_cmp q e.0)) t ≡ []
-none_same q [] h = refl
-none_same q (e ∷ t) h = ap (λ o. cond (is_eq o) (e ∷ filter (λ e. is_eq (path_cmp q e.0)) t) (filter (λ e. is_eq (path_cmp q e.0)) t)) h.0 ∙ none_same q t h.1
+  pub climb_less : length (to_come next t) < length (to_come found t)
+  climb_less = subst (λ (l : List PathOf). length (to_come next t) < length l) (sym here) (one_less (to_come next t))
+    where
+      one_less : (l : List PathOf) → length l < length (l ++ e.0 ∷ [])
+      one_less [] = omega arith
+      one_less (x ∷ l) = let lt = one_less l in omega (arith, lt)
 
--- the file at a path, if it is recorded, is one
-only_one : (q : PathOf) (t : Files) → IsInOrder t → map (λ e. e.0) (filter (λ e. is_eq (path_cmp q e.0)) t) ≡ cond (is_some (find path_cmp q t)) (q ∷ []) []
-only_one q [] order = refl
-only_one q (e ∷ t) order = by (path_cmp q e.0) refl (only_one q t (and_parts _ _ order).1)
-  where
-    same : Files
-    same = filter (λ e. is_eq (path_cmp q e.0)) t
-
-    by : (o : Ordering) → path_cmp q e.0 ≡ o → map (λ e. e.0) same ≡ cond (is_some (find path_cmp q t)) (q ∷ []) []
-        → map (λ e. e.0) (cond (is_eq o) (e ∷ same) same) ≡ cond (is_some (cond (is_eq o) (Some e.1) (find path_cmp q t))) (q ∷ []) []
-    by Equal is rest =
-        let here : q ≡ e.0 = exact_paths q e.0 is in
-        ap (λ (l : Files). e.0 ∷ map (λ e. e.0) l) (none_same q t (subst (λ p. After p t) (sym here) (later_after e t order))) ∙ ap (λ (p : PathOf). p ∷ []) (sym here)
-    by Less is rest = rest
-    by Greater is rest = rest
-
--- one component more: the path so far, if it is recorded
-more : (q : PathOf) (c : List ℕ) (t : Files) → IsInOrder t → ancestors (q ++ c ∷ []) t ≡ ancestors q t ++ cond (is_some (find path_cmp q t)) (q ∷ []) []
-more q c t order =
-    ap (λ (l : Files). map (λ e. e.0) l)
-    (filter_alike (λ x. is_below x (q ++ c ∷ [])) (λ x. is_below x q || is_eq (path_cmp q x)) (λ x. below_more x q c ∙ below_or_same x q) t
-    ∙ filter_apart (λ x. is_below x q) (λ x. is_eq (path_cmp q x)) apart t order)
-    ∙ map-append (λ (e : PathOf × _). e.0) (filter (λ e. is_below e.0 q) t) (filter (λ e. is_eq (path_cmp q e.0)) t)
-    ∙ ap (λ l. ancestors q t ++ l) (only_one q t order)
-  where
-    apart : (x y : PathOf) → is_below x q ≡ true → is_eq (path_cmp q y) ≡ true → path_cmp x y ≡ Less
-    apart x y below same = subst (λ z. path_cmp x z ≡ Less) (exact_paths q y (equal (path_cmp q y) same)) (below_less x q below)
-
-pub no_ancestors : (t : Files) → ancestors [] t ≡ []
-no_ancestors [] = refl
-no_ancestors (e ∷ t) = ap (λ b. map (λ e. e.0) (cond b (e ∷ filter (λ e. is_below e.0 []) t) (filter (λ e. is_below e.0 []) t))) (none_below e.0) ∙ no_ancestors t
-
--- the path of one component more has the path so far above it, if that is recorded
-pub ancestors_more : (q : PathOf) (c : List ℕ) (t : Files) → IsInOrder t → (b : Bool) → is_some (find path_cmp q t) ≡ b
-    → ancestors (q ++ c ∷ []) t ≡ ancestors q t ++ cond b (q ∷ []) []
-ancestors_more q c t order b is = more q c t order ∙ ap (λ b. ancestors q t ++ cond b (q ∷ []) []) is
-
--- ---- components
-
-true_of : (b : Bool) → IsTrue b → b ≡ true
-true_of true h = refl
-true_of false h = absurd (search rules)
-
-to_true : (b : Bool) → b ≡ true → IsTrue b
-to_true b h = subst IsTrue (sym h) refl
-
--- what is true of all is true of a first part
-valid_start : {A : Type 0} (f : A → Bool) (x : List A) (c : A) (y : List A) → list_all f (x ++ c ∷ y) ≡ true → list_all f (x ++ c ∷ []) ≡ true
-valid_start f [] c y h = ap (λ b. b && true) (and_parts (f c) (list_all f y) h).0
-valid_start f (a ∷ x) c y h =
-    let both = and_parts (f a) (list_all f (x ++ c ∷ y)) h in
-    ap (λ b. b && list_all f (x ++ c ∷ [])) both.0 ∙ valid_start f x c y both.1
-
-pub append_next : {A : Type 0} (x : List A) (c : A) (y : List A) → (x ++ c ∷ []) ++ y ≡ x ++ c ∷ y
-append_next [] c y = refl
-append_next (a ∷ x) c y = ap (λ l. a ∷ l) (append_next x c y)
-
--- no components are the root
-pub root_is : (parts : List (Vec ℕ Global)) (p : PathOf) → parts ≡ [] → path_from (map (λ v. v.items) parts) ≡ Some p → p ≡ []
-root_is parts p none is = ap (λ (o : Option PathOf). unwrap_or o []) (sym is ∙ ap (λ (l : List (Vec ℕ Global)). path_from (map (λ v. v.items) l)) none)
-
-pub valid_next : {A : Type 0} (f : A → Bool) (x : List A) (c : A) (y all : List A) → x ++ c ∷ y ≡ all → IsTrue (list_all f all) → IsTrue (list_all f (x ++ c ∷ []))
-valid_next f x c y all e h = to_true _ (valid_start f x c y (ap (list_all f) e ∙ true_of _ h))
+pub climb_ends : (path : PathOf) (t found : Files) (paths : List PathOf) → IsClimbed path t found paths → found ≡ [] → reverse paths ≡ ancestors path t
+climb_ends path t found paths climbed none = ap (λ l. to_come l t ++ reverse paths) (sym none) ∙ climbed.all

@@ -5,6 +5,7 @@ pub mod Selected
 pub mod Edits
 pub mod Placed
 pub mod Restored
+pub mod Nearest
 pub mod Ancestors
 pub mod Shared
 pub mod Follows

@@ -2,6 +2,7 @@
 //! or restored, all or none; the recorded paths around a path.
 #![tactic(auto)]
 
+mod above;
 mod below;
 mod edit;
 mod fault;
@@ -15,10 +16,11 @@ mod selection;
 mod sorting;
 mod walks;
 
+pub use above::nearest_above;
 pub use acl_dump::{
     DumpRecord, DumpUse, Effective, FaultKind, Form, Names, NoNames, PasswdRow, Sep, Spec,
-    TextFault, Want, Which, append_entry, append_header, append_id, append_list, append_short,
-    read_dump, read_entries, read_id, read_perms, records_are_read_again, trim,
+    TextFault, Want, Which, append_entry, append_header, append_id, append_line, append_list,
+    append_short, read_dump, read_entries, read_id, read_perms, records_are_read_again, trim,
 };
 pub use acl_edit::{Edit, EditFault, Kind, Node, Specs, apply, chmod, create};
 pub use acl_entry::{

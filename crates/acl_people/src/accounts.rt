@@ -1,10 +1,10 @@
 //! Users that come and go: useradd(8) and userdel(8).
 
-ghost use Rattle.std.specs.Prelude.{◌≡◌, ◌<◌, nat_le, true, false, length, IfOk, OnOk};
+ghost use Rattle.std.specs.Prelude.{◌≡◌, ◌<◌, nat_le, true, false, length, position, IfOk, OnOk};
 ghost use Rattle.std.specs.List.{list_all};
 ghost use Rattle.acl_names.specs.Pieces.{is_byte};
 ghost use Rattle.acl_syntax.specs.Rows.{most_rows};
-ghost use Rattle.acl_people.specs.Rolls.{has_name, has_id};
+ghost use Rattle.acl_people.specs.Rolls.{is_name, has_name, has_id};
 ghost use Rattle.acl_people.specs.Registers.{users_of, persons};
 ghost use Rattle.acl_people.specs.Changes.{gid_of, with_user, without_user};
 ghost use Rattle.acl_people.specs.Moves.{JoinsUser, LeavesUser};
@@ -30,11 +30,18 @@ fn new_row(alloc: Global, name: &[u8], uid: Id, gid: Id) -> Result<PasswdRow, Al
 }
 
 impl People {
+    /// The place of the user of this name, which may be digits alone. Allocates nothing.
+    pub fn user_named(&self, name: &[u8]) -> Option<usize>
+        ensures { result ≡ position (is_name name.now) (users_of self.now) }
+    {
+        self.user_rows().roll().place_of_name(name)
+    }
+
     /// Whether a user has this name.
     pub fn has_user_named(&self, name: &[u8]) -> bool
         ensures { result ≡ has_name name.now (users_of self.now) }
     {
-        self.user_rows().roll().place_of_name(name).is_some()
+        self.user_named(name).is_some()
     }
 
     /// Whether a user has this id.

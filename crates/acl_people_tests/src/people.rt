@@ -54,6 +54,22 @@ fn words_name_users(rt: HostRuntime) {
     assert!(rt; people.name(4).is_none());
 }
 
+/// A name, and the place of the first user of it: digits too are a name.
+static NAMES: [(&[u8], Option<usize>); 4] = [
+    (b"joe", Some(1)),
+    (b"1001", Some(2)),
+    (b"twin", Some(3)),
+    (b"1000", None),
+];
+
+#[test]
+fn users_have_names(rt: HostRuntime) {
+    let people = known(&rt, rt.alloc());
+    for (name, want) in &NAMES {
+        assert!(rt; people.user_named(name) == *want);
+    }
+}
+
 #[test]
 fn ids_print_as_names(rt: HostRuntime) {
     let people = known(&rt, rt.alloc());

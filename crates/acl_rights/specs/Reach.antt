@@ -29,6 +29,10 @@ passes V fs u p = list_all (λ e. not (is_below e.0 p) || has (V u e.1.label) ex
 abbrev pub reach : Verdict → Files → Person → PathOf × Node → ℕ
 reach V fs u e = if passes V fs u e.0 then V u e.1.label else 0
 
+-- the rows, or what is left of them where search on the directories above is asked too
+abbrev pub rows_along : Bool → Rows → Rows
+rows_along along rows = if along then reached_rows rows else rows
+
 abbrev pub reach_at : Verdict → State → ℕ → PathOf → Option ℕ
 reach_at V s user p = option_and_then (λ n. option_map (λ u. reach V s.tree.files u (p, n)) (slice_get (persons s.people) user)) (find path_cmp p s.tree.files)
 

@@ -7,6 +7,7 @@ ghost use Rattle.acl_tree.specs.acl_entry.Person.{Person};
 ghost use Rattle.acl_tree.specs.acl_names.Paths.{path_cmp};
 ghost use Rattle.acl_tree.specs.Step as step;
 
+use crate::file_rows::FileRows;
 use crate::grants::Grants;
 use crate::label_rows::LabelRows;
 use crate::lists::{GroupLists, records};
@@ -105,7 +106,7 @@ impl Rows {
 impl<J: Judge> Index<J> {
     ghost use Rattle.acl_rights.specs.Tables.{IsWhole, cell_at, verdict_at, row_at, who_in, may_in, users_granted, files_granted};
     ghost use Rattle.acl_rights.specs.Stages.{CanStage, most_asked, most_looked, moves_groups};
-    ghost use Rattle.acl_rights.specs.Reach.{most_refreshed, unlike, reached_rows, reached_at, reach_at, users_reaching, files_reached};
+    ghost use Rattle.acl_rights.specs.Reach.{most_refreshed, unlike, rows_along, reached_rows, reached_at, reach_at, users_reaching, files_reached};
 
     /// The table of a state: a verdict is asked for on every user and every file. Fails only if memory runs out.
     pub fn build(
@@ -179,16 +180,26 @@ impl<J: Judge> Index<J> {
         })
     }
 
-    /// Puts a staged table in place of this one. Allocates nothing.
-    pub fn commit(&mut self, staged: Rows)
-        ensures { self.new ≡ staged.table }
+    /// A staged table. Allocates nothing.
+    pub fn of(staged: Rows) -> Index<J>
+        ensures { result ≡ staged.table }
     {
         let Rows {
             table,
             looked: _looked,
             refreshed: _refreshed,
         } = staged;
-        self.table = table;
+        Index {
+            table,
+            judge: PhantomData,
+        }
+    }
+
+    /// Puts a staged table in place of this one. Allocates nothing.
+    pub fn commit(&mut self, staged: Rows)
+        ensures { self.new ≡ staged.table }
+    {
+        *self = Index::of(staged);
     }
 
     fn cell(&self, user: usize, path: &Path) -> Option<Requests>
@@ -364,5 +375,37 @@ impl<J: Judge> Index<J> {
         ensures verdicts { (s : step.State) → IsWhole J.verdict_of s self.now → option_copied result ≡ row_at J.verdict_of s path.now }
     {
         self.cells(path)
+    }
+
+    fn rows_alone(&self) -> FileRows<'_>
+        ensures { result ≡ self.now.rows }
+    {
+        let now = &self.table;
+        FileRows {
+            numbers: now.grants.rows.numbers.iter(),
+            cells: &now.grants.rows.cells,
+        }
+    }
+
+    fn rows_reached(&self) -> FileRows<'_>
+        ensures { result ≡ reached_rows self.now.rows }
+    {
+        let now = &self.table;
+        FileRows {
+            numbers: now.grants.ways.places().iter(),
+            cells: &now.grants.reaches,
+        }
+    }
+
+    /// Each file with what each user may do with it, in path order; with `along` only where the user can search each
+    /// recorded directory above the file. Allocates nothing.
+    pub fn file_rows(&self, along: bool) -> FileRows<'_>
+        ensures { result ≡ rows_along along self.now.rows }
+    {
+        if along {
+            self.rows_reached()
+        } else {
+            self.rows_alone()
+        }
     }
 }

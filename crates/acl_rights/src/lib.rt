@@ -2,6 +2,7 @@
 //! group the files whose labels mention it, by which a change of memberships finds them.
 #![tactic(auto)]
 
+mod file_rows;
 mod grants;
 mod index;
 mod label_rows;
@@ -17,9 +18,10 @@ pub use acl_tree::{
     FilesIter, Form, Found, Id, Key, Kind, Label, Membership, Name, Names, NewFile, NewUser,
     NoMemory, NoNames, Node, Path, Paths, People, Perm, Record, Requests, Sep, Spec, Specs, Staged,
     State, Subject, Table, TextFault, Tree, TreeFault, UserName, Want, Which, append_entry,
-    append_header, append_list, append_name, append_path, append_short, each_file_is_edited,
-    is_below, read_dump, read_entries, read_id, read_name, read_path, read_perms,
-    records_are_read_again, restore_of_what_is_changes_nothing, trim, write_name,
+    append_header, append_line, append_list, append_name, append_path, append_short,
+    each_file_is_edited, is_below, read_dump, read_entries, read_id, read_name, read_path,
+    read_perms, records_are_read_again, restore_of_what_is_changes_nothing, trim, write_name,
 };
 pub use acl_verdicts::{Judge, Posix, Subjects};
+pub use file_rows::{FileRow, FileRows};
 pub use index::{Index, Rows};

@@ -1,7 +1,12 @@
 //! What lines cost.
+ghost use Rattle.acl_rights.specs.acl_entry.Check.{rights};
+ghost use Rattle.acl_rights.specs.Tables.{IsWhole};
+
 use crate::lines::Line;
-use crate::world::{Row, Verdict, asked_by_build, first_wrong, nothing};
+use crate::world::{Row, Verdict, World, asked_by_build, first_wrong, nothing};
 use acl_rights::Table;
+use std::alloc::Global;
+use std::process::Abort;
 
 const PASSWD: &[u8] = b"lisa:x:1001:50:Lisa:/home/lisa:/bin/sh\n\
 joe:x:1000:100:Joe:/home/joe:/bin/sh\nann:x:1002:100:Ann:/home/ann:/bin/sh\n";
@@ -337,69 +342,37 @@ static SEARCH: [Row; 1] = [Row {
     ],
 }];
 
+/// Plays rows after the setup, and compares what each costs and leaves.
+pub fn after(rt: &impl Abort, alloc: Global, rows: &[Row]) -> World
+    ensures { IsWhole rights result.state result.index }
+{
+    let mut world = nothing(alloc).expect(rt, "memory");
+    assert_eq!(rt; first_wrong(alloc, &mut world, &SETUP), None, "the setup");
+    assert_eq!(rt; first_wrong(alloc, &mut world, rows), None, "the rows");
+    world
+}
+
 #[test]
-fn lines_cost_what_they_change(rt: HostRuntime) {
-    let alloc = rt.alloc();
-    let mut first = nothing(alloc).expect(&rt, "memory");
-    assert_eq!(rt; first_wrong(alloc, &mut first, &SETUP), None);
-    assert_eq!(rt;
-        first_wrong(alloc, &mut first, &MEMBERSHIPS),
-        None,
-        "memberships"
-    );
-    let mut second = nothing(alloc).expect(&rt, "memory");
-    assert_eq!(rt; first_wrong(alloc, &mut second, &SETUP), None);
-    assert_eq!(rt;
-        first_wrong(alloc, &mut second, &PRIMARY),
-        None,
-        "a primary group"
-    );
-    let mut third = nothing(alloc).expect(&rt, "memory");
-    assert_eq!(rt; first_wrong(alloc, &mut third, &SETUP), None);
-    assert_eq!(rt;
-        first_wrong(alloc, &mut third, &NAMED),
-        None,
-        "a named group"
-    );
-    assert_eq!(rt; first_wrong(alloc, &mut third, &FILES_ALONE), None, "files");
+fn lines_on_files_cost_what_they_change(rt: HostRuntime) {
+    after(&rt, rt.alloc(), &FILES_ALONE);
+    after(&rt, rt.alloc(), &FOUR_LABELS);
+    after(&rt, rt.alloc(), &SEARCH);
+}
+
+#[test]
+fn lines_on_people_cost_what_they_change(rt: HostRuntime) {
+    after(&rt, rt.alloc(), &MEMBERSHIPS);
+    after(&rt, rt.alloc(), &PRIMARY);
+    after(&rt, rt.alloc(), &NAMED);
+    after(&rt, rt.alloc(), &COMES_AND_GOES);
+    after(&rt, rt.alloc(), &COMES_BACK);
 }
 
 #[test]
 fn a_build_asks_for_each_user_on_each_file(rt: HostRuntime) {
     let alloc = rt.alloc();
-    let mut world = nothing(alloc).expect(&rt, "memory");
-    assert_eq!(rt; asked_by_build(alloc, &world.state), Some(0), "no files");
-    assert_eq!(rt; first_wrong(alloc, &mut world, &SETUP), None);
-    assert_eq!(rt; asked_by_build(alloc, &world.state), Some(15));
-}
-
-#[test]
-fn a_label_is_judged_once(rt: HostRuntime) {
-    let alloc = rt.alloc();
-    let mut world = nothing(alloc).expect(&rt, "memory");
-    assert_eq!(rt; first_wrong(alloc, &mut world, &SETUP), None);
-    assert_eq!(rt; first_wrong(alloc, &mut world, &FOUR_LABELS), None);
-}
-
-#[test]
-fn users_come_and_go_and_search(rt: HostRuntime) {
-    let alloc = rt.alloc();
-    let mut first = nothing(alloc).expect(&rt, "memory");
-    assert_eq!(rt; first_wrong(alloc, &mut first, &SETUP), None);
-    assert_eq!(rt;
-        first_wrong(alloc, &mut first, &COMES_AND_GOES),
-        None,
-        "users"
-    );
-    let mut second = nothing(alloc).expect(&rt, "memory");
-    assert_eq!(rt; first_wrong(alloc, &mut second, &SETUP), None);
-    assert_eq!(rt; first_wrong(alloc, &mut second, &SEARCH), None, "search");
-}
-
-#[test]
-fn a_label_comes_back(rt: HostRuntime) {
-    let alloc = rt.alloc();
-    let mut world = nothing(alloc).expect(&rt, "memory");
-    assert_eq!(rt; first_wrong(alloc, &mut world, &SETUP), None);
-    assert_eq!(rt; first_wrong(alloc, &mut world, &COMES_BACK), None);
+    let empty = nothing(alloc).expect(&rt, "memory");
+    assert!(rt; asked_by_build(alloc, &empty.state) == Some(0));
+    let world = after(&rt, alloc, &[]);
+    assert!(rt; asked_by_build(alloc, &world.state) == Some(15));
 }

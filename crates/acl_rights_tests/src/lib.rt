@@ -7,6 +7,8 @@
 mod costs;
 mod lines;
 #[cfg(test)]
+mod rows;
+#[cfg(test)]
 mod subjects;
 mod world;
 

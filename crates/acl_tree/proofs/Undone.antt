@@ -19,7 +19,7 @@ use Rattle.acl_tree.specs.Creat.{row_of, exists, creat}
 use Rattle.acl_files.specs.Operands.{is_file}
 use Rattle.acl_tree.specs.Rm.{refusal, first_refused, without_files, or_refused}
 use Rattle.acl_tree.specs.Step.{State, step, with_tree}
-use Rattle.acl_files.proofs.Ancestors.{within_itself}
+use Rattle.acl_files.proofs.Nearest.{within_itself}
 use Rattle.acl_files.proofs.Selected.{same_path}
 use Rattle.acl_tree.proofs.Unnamed.{only_tree, puts_by}
 

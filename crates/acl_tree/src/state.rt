@@ -42,6 +42,14 @@ impl State {
         })
     }
 
+    /// The prepared state. Allocates nothing.
+    pub fn of(staged: Staged) -> State
+        ensures { result ≡ staged.state }
+    {
+        let (tree, people) = staged.into_parts();
+        State { tree, people }
+    }
+
     /// The recorded files.
     pub fn tree(&self) -> &Tree
         ensures { result.now ≡ self.now.tree }

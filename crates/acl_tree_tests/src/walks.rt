@@ -33,6 +33,8 @@ fn recorded_files_around_a_path(rt: HostRuntime) {
     let tree = state.tree();
     expect_above(&rt, alloc, tree, b"d/e", ". d ");
     expect_above(&rt, alloc, tree, b"d/x/y", ". d ");
+    expect_above(&rt, alloc, tree, b"d/e/z", ". d d/e ");
+    expect_above(&rt, alloc, tree, b"e/f", ". ");
     expect_above(&rt, alloc, tree, b".", "");
     expect_within(&rt, alloc, tree, b"d", "d d/e ");
     expect_within(&rt, alloc, tree, b"x", "");

@@ -1,16 +1,18 @@
 -- A walk over the entries at a path and below it: where it begins.
-use Rattle.std.proofs.Common.{◌≡◌, ℕ, suc, ◌-◌, Bool, true, false, cond, ◌&&◌, List, [], ◌∷◌, length, map, take, Option, Some, None, Ordering, Less, Equal, Greater, ◌++◌, IsTrue, refl, sym, ap, subst, ◌∙◌, arith}
-use Rattle.std.specs.Prelude.{if◌then◌else◌, ◌==◌}
+use Rattle.std.proofs.Common.{◌≡◌, Bool, true, false, cond, List, [], ◌∷◌, map, Option, Some, None, Ordering, Less, Equal, Greater, ◌++◌, IsTrue, refl, sym, ap, subst, ◌∙◌}
+use Rattle.std.specs.Prelude.{if◌then◌else◌}
 use Rattle.std.specs.List.{AllByRecursion}
-use Rattle.std.specs.Ordering.{is_gt, is_eq, is_lt, nat_cmp}
-use Rattle.std.specs.Cmp.Lexicographic.{slice_cmp}
+use Rattle.std.specs.Ordering.{is_gt, is_eq, is_lt}
 use Rattle.std.specs.FinMap.{is_sorted}
 use Rattle.std.specs.FinMap.Entries.{below_all}
-use Rattle.std.proofs.lemmas.Bool.{and_parts, eqb-true}
+use Rattle.std.proofs.lemmas.Bool.{and_parts}
 use Rattle.std.proofs.lemmas.Cmp.{tied_itself, nat_list_cmp_total}
 use Rattle.acl_files.specs.acl_names.Paths.{path_cmp}
 use Rattle.acl_files.proofs.of_acl_names.PathOrder.{path_total, exact_paths}
 use Rattle.acl_files.specs.Below.{is_within, is_below}
+use Rattle.acl_files.specs.Walks.{last_or, nearest_above}
+use Rattle.acl_files.proofs.Ancestors.{nearest_is_above}
+use Rattle.acl_files.proofs.Nearest.{those}
 use Rattle.path_map.specs.Entries.{PathOf, IsInOrder}
 use Rattle.path_map.specs.Below.{within}
 use Rattle.path_map.proofs.Places.{above, below}
@@ -142,65 +144,33 @@ within_values g top (e ∷ es) = by (is_within top e.0) (within_values g top es)
     by true more = ap (λ l. (e.0, g e) ∷ l) more
     by false more = more
 
--- nothing is above the root
-pub root_near : {A : Type 0} (rows : List (PathOf × A)) → IsNearest [] rows []
-root_near {A = A} rows = record { below = tt; last = sym (none None rows) }
-  where
-    nothing : (p : PathOf) → is_below p [] ≡ false
-    nothing [] = refl
-    nothing (x ∷ p) = refl
-
-    none : (o : Option A) (es : List (PathOf × A)) → nearest_from o [] es ≡ o
-    none o [] = refl
-    none o (e ∷ es) = ap (λ b. nearest_from (if b then Some e.1 else o) [] es) (nothing e.0) ∙ none o es
-
 -- all is below the root
 pub within_root : {A : Type 0} (rows : List (PathOf × A)) → within [] rows ≡ rows
 within_root [] = refl
 within_root (r ∷ rows) = ap (λ l. r ∷ l) (within_root rows)
 
--- ---- the nearest row above, by the parent
-
-abbrev pub parent : PathOf → PathOf
-parent p = take (length p - 1) p
-
-abbrev init : PathOf → PathOf
-init [] = []
-init (x ∷ []) = []
-init (x ∷ y ∷ p) = x ∷ init (y ∷ p)
-
-parent_is : (x : List ℕ) (p : PathOf) → parent (x ∷ p) ≡ init (x ∷ p)
-parent_is x [] = let e : length (x ∷ []) - 1 ≡ 0 = omega arith in ap (λ n. take n (x ∷ [])) e
-parent_is x (y ∷ p) =
-    let e : length (x ∷ y ∷ p) - 1 ≡ suc (length (y ∷ p) - 1) = omega arith in
-    ap (λ n. take n (x ∷ y ∷ p)) e ∙ ap (λ l. x ∷ l) (parent_is y p)
+-- ---- the nearest row above a path
 
 pub nothing_below : (e : PathOf) → is_below e [] ≡ false
 nothing_below [] = refl
 nothing_below (x ∷ e) = refl
 
-and_false : (b : Bool) → (b && false) ≡ false
-and_false true = refl
-and_false false = refl
+-- the last value of the last of some is theirs
+last_of_last : {A : Type 0} (o : Option A) (found es : List (PathOf × A)) → last_from o (last_or found es) ≡ last_from (last_from o found) es
+last_of_last o found [] = refl
+last_of_last o found (e ∷ es) = last_of_last o (e ∷ []) es
 
-below_init : (e : PathOf) (x : List ℕ) (p : PathOf) → is_below e (x ∷ p) ≡ is_within e (init (x ∷ p))
-below_init [] x p = refl
-below_init (a ∷ e) x [] = ap (λ b. is_eq (slice_cmp nat_cmp a x) && b) (nothing_below e) ∙ and_false (is_eq (slice_cmp nat_cmp a x))
-below_init (a ∷ e) x (y ∷ p) = ap (λ b. is_eq (slice_cmp nat_cmp a x) && b) (below_init e y p)
-
-pub below_parent : (e p : PathOf) → (p ≡ [] → ⊥) → is_below e p ≡ is_within e (parent p)
-below_parent e [] some = absurd (some refl)
-below_parent e (x ∷ p) some = below_init e x p ∙ ap (is_within e) (sym (parent_is x p))
-
-pub full_path : (p parts : PathOf) (b : Bool) → b ≡ (length parts == 0) → parts ≡ p → b ≡ false → p ≡ [] → ⊥
-full_path p parts b is same some root = clash b (is ∙ ap (λ (l : PathOf). length l == 0) (same ∙ root)) some
-
-pub empty_path : (p parts : PathOf) (b : Bool) → b ≡ (length parts == 0) → parts ≡ p → b ≡ true → p ≡ []
-empty_path p parts b is same none = nothing p (eqb-true (length p) 0 (sym (is ∙ ap (λ (l : PathOf). length l == 0) same) ∙ none))
+nearest_is_last : {A : Type 0} (o : Option A) (p : PathOf) (es : List (PathOf × A)) → nearest_from o p es ≡ last_from o (those p es)
+nearest_is_last o p [] = refl
+nearest_is_last {A = A} o p (e ∷ es) = by (is_below e.0 p) (λ v. nearest_is_last v p es)
   where
-    nothing : (q : PathOf) → length q ≡ 0 → q ≡ []
-    nothing [] h = refl
-    nothing (x ∷ q) h = absurd (omega (arith, h))
+    by : (b : Bool) → ((v : Option A) → nearest_from v p es ≡ last_from v (those p es)) → nearest_from (if b then Some e.1 else o) p es ≡ last_from o (cond b (e ∷ those p es) (those p es))
+    by true more = more (Some e.1)
+    by false more = more o
 
-pub root_is_near : {A : Type 0} (rows above : List (PathOf × A)) (root : PathOf) → root ≡ [] → above ≡ [] → IsNearest root rows above
-root_is_near rows above root is none = let p = sym is in let l = sym none in subst (λ q. IsNearest q rows above) p (subst (IsNearest [] rows) l (root_near rows))
+-- what the search finds is the nearest row
+pub found_is_nearest : {A : Type 0} (p : PathOf) (rows found : List (PathOf × A)) → found ≡ nearest_above p rows → IsNearest p rows found
+found_is_nearest p rows found is = subst (IsNearest p rows) (sym is) (record {
+  below = nearest_is_above p rows;
+  last = last_of_last None [] (those p rows) ∙ sym (nearest_is_last None p rows);
+})

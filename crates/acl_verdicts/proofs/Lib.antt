@@ -5,7 +5,6 @@ pub mod Alike
 pub mod Orders
 pub mod Walks
 mod Begins
-mod Nearest
 pub mod Changes
 pub mod Tops
 mod Along

@@ -1,7 +1,5 @@
 -- The rows at and below some paths, walked again.
-use Rattle.std.specs.Prelude.{◌≡◌, Bool, true, false, List, [], ◌∷◌, ◌++◌, filter, Option, None, Some, if◌then◌else◌}
-use Rattle.std.specs.Ordering.{nat_cmp, eq_by_cmp}
-use Rattle.std.specs.Cmp.Lexicographic.{slice_cmp}
+use Rattle.std.specs.Prelude.{◌≡◌, Bool, true, false, List, ◌++◌, filter, Option, None, Some}
 use Rattle.std.specs.List.{list_any, AllByRecursion}
 use Rattle.acl_files.specs.Below.{is_within, is_below}
 use Rattle.path_map.specs.Entries.{PathOf}
@@ -30,12 +28,6 @@ covers None p = false
 covers (Some top) p = is_within top p
 
 -- ---- for inner functions
-
--- the path that two paths begin with, as long as it can be
-abbrev pub common : PathOf → PathOf → PathOf
-common [] q = []
-common (x ∷ p) [] = []
-common (x ∷ p) (y ∷ q) = if eq_by_cmp (slice_cmp nat_cmp) x y then x ∷ common p q else []
 
 -- what is to be made at some tops and below them is made, and the rest of the tops is still to come
 pub record AreWalked {A R : Type 0} (tops : List (PathOf × A)) (all : List (PathOf × R)) (rest : List (PathOf × A)) (puts : List (PathOf × R)) (last : Option PathOf) : Type 0 where

@@ -2,7 +2,6 @@
 //! where each directory on the way has to grant search.
 #![tactic(auto)]
 
-mod above;
 mod answers;
 mod cells;
 mod cut;

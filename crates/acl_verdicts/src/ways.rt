@@ -8,11 +8,10 @@ ghost use Rattle.path_map.specs.Merged.{merged};
 ghost use Rattle.acl_verdicts.specs.Subtrees.{lies_in, covers, IsApart};
 ghost use Rattle.acl_verdicts.specs.Ways.{ways, wayed, known, AreBack, AreSteps, IsLonger, AreAbove, HaveRows, AreNumbers};
 
-use crate::above::nearest_above;
 use crate::numbered::Numbered;
 use crate::steps::{MoreSteps, Step, Steps};
 use crate::walk::{Places, add_steps, all_steps};
-use acl_files::Path;
+use acl_files::{Path, nearest_above};
 use path_map::{Entry, PathMap, is_within};
 use std::alloc::{AllocError, Global};
 use std::rc::Rc;

@@ -5,6 +5,8 @@ use Rattle.path_map.specs.Entries.{PathOf, IsInOrder}
 use Rattle.path_map.specs.Below.{within}
 use Rattle.acl_verdicts.specs.Subtrees.{covers, IsNearest, AreWalked}
 use Rattle.acl_verdicts.specs.Ways.{Numbers, way_in, ways, wayed, known, IsAbove}
+use Rattle.acl_files.specs.Walks.{nearest_above}
+use Rattle.acl_verdicts.proofs.Begins.{found_is_nearest}
 use Rattle.acl_verdicts.proofs.Orders.{in_order-values}
 use Rattle.acl_verdicts.proofs.Along.{leads_kept, longer_itself, longer_on}
 use Rattle.acl_verdicts.proofs.Tops.{tops_begin, tops_skip, tops_walk, tops_end, top_outermost, top_there}
@@ -61,7 +63,7 @@ add_steps-requires-clause-above c =
     let first = c.path-in-Some.ensures ∙ ap (λ (e : PathOf × ℕ). e.0) c.deref-in-Some.ensures in
     let second = c.path-in-Some-2.ensures ∙ ap (λ (e : PathOf × ℕ). e.0) c.deref-in-Some-2.ensures in
     let out : covers last t.0 ≡ false = ap (covers last) (sym same) ∙ sym c.is_covered.ensures ∙ c.if-is_covered.false in
-    let near : IsNearest t.0 c.args.old.now above = subst (λ p. IsNearest p c.args.old.now above) first c.in_ok-above.ensures in
+    let near : IsNearest t.0 c.args.old.now above = found_is_nearest t.0 c.args.old.now above (c.in_ok-above.ensures ∙ ap (λ (p : PathOf). nearest_above p c.args.old.now) first) in
     let begun = c.requires.above t.0 (top_there tops c.requires.order (ways ns) order t rest more w.0 last is w.1.0) (top_outermost tops c.requires.order (ways ns) order t rest more w.0 last is w.1.0 out) above near in
     let now : IsAbove t.0 ns c.loop-top.steps above = record { below = begun.below; leads = leads_kept _ _ _ _ c.loop-top.invariant.kept begun.leads } in
     subst (λ p. IsAbove p ns c.loop-top.steps above) (sym second) now

@@ -1,45 +1,42 @@
-use Rattle.std.proofs.Common.{◌≡◌, ◌++◌, ◌∷◌, [], true, false, Bool, append-nil, sym, ap, subst, ◌∙◌, is_some, IsTrue}
-use Rattle.std.specs.FinMap.{find}
-use Rattle.std.specs.List.{list_all}
-use Rattle.acl_names.specs.Paths.{path_cmp, is_component}
-use Rattle.acl_files.specs.Files.{PathOf}
-use Rattle.acl_files.specs.Walks.{ancestors}
-use Rattle.acl_files.proofs.Ancestors.{no_ancestors, ancestors_more, is_copied, valid_next, append_next, root_is}
-use Rattle.acl_files.proofs.files.Files.ancestors.Goals.{then-is_some+in_ok-push, else-is_some+in-Parts-1, else-is_some+in-Packed-1}
+use Rattle.std.proofs.Common.{◌≡◌, [], ◌∷◌, ◌++◌, map, ap, ◌∙◌, arith}
+use Rattle.std.proofs.lemmas.Grind.{common_steps}
+use Rattle.std.proofs.lemmas.List.{map-append}
+use Rattle.acl_files.specs.Files.{PathOf, Files}
+use Rattle.acl_files.specs.Walks.{nearest_above}
+use Rattle.acl_files.proofs.Ancestors.{climb_begins, climb_more, climb_less, climb_ends}
 use Rattle.acl_files.proofs.files.Files.ancestors.Goals as goal
 
-pub loop-component-init : goal.loop-component-init
-loop-component-init c =
-    let root = root_is c.new.result.items c.unwrap-above.result c.new.ensures.items (sym c.new-2.ensures ∙ c.unwrap-above.ensures) in
-    record {
-      found = c.new-paths.ensures.items ∙ sym (no_ancestors c.args.self.now.files) ∙ ap (λ p. ancestors p c.args.self.now.files) (sym root);
-      split = ap (λ (p : PathOf). p ++ c.components-rest.result) root ∙ c.components-rest.ensures.all;
-    }
+pub loop-file-init : goal.loop-file-init
+loop-file-init c =
+    let found : Files = map (λ e. e.value) c.in_ok-above.above.items in
+    let is : found ≡ nearest_above c.args.path.now c.args.self.now.files = c.in_ok-above.ensures ∙ ap (nearest_above c.args.path.now) c.files_by_path.ensures.all in
+    climb_begins c.args.path.now c.args.self.now.files found c.new-paths.result.items c.is_sound.ensures.order is c.new-paths.ensures.items
 
-pub child_of-requires : goal.child_of-requires
-child_of-requires c =
-    let split = ap (λ (p : PathOf). c.loop-component.above ++ p) (sym c.in-Some.ensures.steps) ∙ c.loop-component.invariant.split ∙ sym c.components-rest.ensures.all in
-    valid_next is_component c.loop-component.above c.in-Some.component.now c.next.new.self c.components-rest.result split (subst (λ p. IsTrue (list_all is_component p)) (sym c.components-rest.ensures.all) c.components-rest.ensures.valid)
+pub loop-file-preserved : goal.loop-file-preserved
+loop-file-preserved c =
+    let t : Files = c.args.self.now.files in
+    let e = c.in-Some.file.value in
+    let found : Files = map (λ e. e.value) c.loop-file.above.items in
+    let rest : Files = map (λ e. e.value) c.pop.new.self.items in
+    let next : Files = map (λ e. e.value) c.in_ok-above-2.above.items in
+    let is : found ≡ rest ++ e ∷ [] = ap (λ l. map (λ e. e.value) l) c.in-Some.ensures.items ∙ map-append (λ e. e.value) c.pop.new.self.items (c.in-Some.file ∷ []) in
+    let leads : next ≡ nearest_above e.0 t = c.in_ok-above-2.ensures ∙ ap (nearest_above c.path.result.now) c.files_by_path-in-Some.ensures.all ∙ ap (λ (p : PathOf). nearest_above p t) (c.path.ensures ∙ ap (λ e. e.0) c.deref.ensures) in
+    let same : c.in_ok-try_clone.field-0 ≡ e.0 = c.in_ok-try_clone.ensures ∙ c.path-in-Some.ensures ∙ ap (λ e. e.0) c.deref-in-Some.ensures in
+    climb_more c.args.path.now t found rest next e c.is_sound.ensures.order is leads c.loop-file.paths.items c.loop-file.invariant c.push.new.self.items
+    (c.in_ok-push.ensures.items ∙ ap (λ (p : PathOf). c.loop-file.paths.items ++ p ∷ []) same)
 
-pub loop-component-preserved : goal.loop-component-preserved
-loop-component-preserved c =
-    let above : PathOf = c.loop-component.above in
-    let t = c.args.self.now.files in
-    let recorded : is_some (find path_cmp above t) ≡ c.is_some.result =
-    ap is_some (sym c.get.ensures) ∙ is_copied c.get.result ∙ sym c.is_some.ensures
-    in
-    let next = c.in_ok-next.ensures in
-    let more = λ (b : Bool) (is : c.is_some.result ≡ b). ancestors_more above c.in-Some.component.now t c.is_sound.ensures.order b (recorded ∙ is) in
-    let split = ap (λ (p : PathOf). p ++ c.next.new.self) next ∙ append_next above c.in-Some.component.now c.next.new.self
-    ∙ ap (λ (p : PathOf). above ++ p) (sym c.in-Some.ensures.steps) ∙ c.loop-component.invariant.split in
-    let none = λ (is : c.is_some.result ≡ false). c.loop-component.invariant.found ∙ sym (append-nil (ancestors above t)) ∙ sym (more false is) ∙ ap (λ p. ancestors p t) (sym next) in
-    elim c.if-is_some.branch [
-      | then-is_some+in_ok-push w ↦ record {
-        found = ap (λ v. v.items) w.paths-is ∙ w.in_ok-push.ensures.items
-            ∙ ap (λ l. l ++ above ∷ []) c.loop-component.invariant.found
-            ∙ sym (more true w.if-is_some.true) ∙ ap (λ p. ancestors p t) (sym next);
-        split = split;
-      }
-      | else-is_some+in-Parts-1 w ↦ record { found = ap (λ v. v.items) w.paths-is ∙ none w.if-is_some.false; split = split }
-      | else-is_some+in-Packed-1 w ↦ record { found = ap (λ v. v.items) w.paths-is ∙ none w.if-is_some.false; split = split }
-    ]
+pub loop-file-smaller : goal.loop-file-smaller
+loop-file-smaller c =
+    let t : Files = c.args.self.now.files in
+    let e = c.in-Some.file.value in
+    let found : Files = map (λ e. e.value) c.loop-file.above.items in
+    let rest : Files = map (λ e. e.value) c.pop.new.self.items in
+    let next : Files = map (λ e. e.value) c.in_ok-above-2.above.items in
+    let is : found ≡ rest ++ e ∷ [] = ap (λ l. map (λ e. e.value) l) c.in-Some.ensures.items ∙ map-append (λ e. e.value) c.pop.new.self.items (c.in-Some.file ∷ []) in
+    let leads : next ≡ nearest_above e.0 t = c.in_ok-above-2.ensures ∙ ap (nearest_above c.path.result.now) c.files_by_path-in-Some.ensures.all ∙ ap (λ (p : PathOf). nearest_above p t) (c.path.ensures ∙ ap (λ e. e.0) c.deref.ensures) in
+    climb_less c.args.path.now t found rest next e c.is_sound.ensures.order is leads c.loop-file.paths.items c.loop-file.invariant
+
+pub returns : goal.returns
+returns c =
+    let none : c.loop-file.above.items ≡ [] = grind (arith, common_steps) in
+    c.reverse.ensures.items ∙ climb_ends c.args.path.now c.args.self.now.files (map (λ e. e.value) c.loop-file.above.items) c.loop-file.paths.items c.loop-file.invariant (ap (λ l. map (λ e. e.value) l) none)

@@ -1,15 +1,9 @@
-use Rattle.std.proofs.Common.{◌≡◌, ◌++◌, List, length}
-use Rattle.acl_files.specs.Files.{PathOf, Files}
-use Rattle.acl_files.specs.Walks.{ancestors}
+use Rattle.std.proofs.Common.{map, length}
+use Rattle.acl_files.proofs.Ancestors.{IsClimbed, to_come}
 use Rattle.acl_files.proofs.files.Files.ancestors.Given as goal
 
--- the files above the components so far are found, and these are the path's first ones
-pub record IsFollowed (paths : List PathOf) (above rest path : PathOf) (t : Files) : Type 0 where
-  pub found : paths ≡ ancestors above t
-  pub split : above ++ rest ≡ path
+abbrev pub invariant-loop-file : goal.invariant-loop-file
+invariant-loop-file l = IsClimbed l.path l.self.files (map (λ e. e.value) l.above.items) l.paths.items
 
-abbrev pub invariant-loop-component : goal.invariant-loop-component
-invariant-loop-component l = IsFollowed l.paths.items l.above l.rest l.path l.self.files
-
-abbrev pub decreases-loop-component : goal.decreases-loop-component
-decreases-loop-component l = length l.rest
+abbrev pub decreases-loop-file : goal.decreases-loop-file
+decreases-loop-file l = length (to_come (map (λ e. e.value) l.above.items) l.self.files)

@@ -1,6 +1,6 @@
 use Rattle.std.proofs.Common.{◌≡◌, ◌++◌, map, length}
-use Rattle.acl_verdicts.specs.Subtrees.{common}
-use Rattle.acl_verdicts.proofs.above.shared_top.Given as goal
+use Rattle.acl_files.specs.Below.{common}
+use Rattle.acl_files.proofs.above.shared_top.Given as goal
 
 abbrev pub invariant-loop-name : goal.invariant-loop-name
 invariant-loop-name l = record {

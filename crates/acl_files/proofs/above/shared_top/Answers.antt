@@ -1,7 +1,7 @@
 use Rattle.std.proofs.Common.{cond, map, Some, None, refl, sym, ap, subst, ◌∙◌}
 use Rattle.std.specs.Option.{IsSome}
-use Rattle.acl_verdicts.proofs.Nearest.{front_valid}
-use Rattle.acl_verdicts.proofs.above.shared_top.Goals as goal
+use Rattle.acl_files.proofs.Nearest.{front_valid}
+use Rattle.acl_files.proofs.above.shared_top.Goals as goal
 
 pub unwrap-requires : goal.unwrap-requires
 unwrap-requires c =

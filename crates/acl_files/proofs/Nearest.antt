@@ -1,30 +1,105 @@
 -- The nearest entry above a path, by search.
-use Rattle.std.proofs.Common.{◌≡◌, ◌<◌, Bool, true, false, cond, ◌&&◌, List, [], ◌∷◌, ◌++◌, length, Option, Some, None, Ordering, Less, Equal, Greater, IsTrue, refl, sym, ap, subst, ◌∙◌, arith}
-use Rattle.std.specs.Prelude.{if◌then◌else◌}
+use Rattle.std.proofs.Common.{◌≡◌, ℕ, suc, ◌-◌, ◌<◌, Bool, true, false, cond, ◌&&◌, List, [], ◌∷◌, ◌++◌, length, take, filter, Option, Some, None, Ordering, Less, Equal, Greater, IsTrue, refl, sym, ap, subst, ◌∙◌, arith}
+use Rattle.std.specs.Prelude.{◌==◌}
 use Rattle.std.specs.Option.{option_or}
 use Rattle.std.specs.List.{AllByRecursion, list_all}
 use Rattle.std.specs.Ordering.{is_gt, is_eq, is_lt, nat_cmp}
 use Rattle.std.specs.Cmp.Lexicographic.{slice_cmp}
-use Rattle.std.specs.FinMap.{is_sorted}
+use Rattle.std.specs.FinMap.{is_sorted, slice_cmp-IsAntisymmetric, nat_cmp-IsAntisymmetric}
 use Rattle.std.specs.FinMap.Entries.{below_all}
-use Rattle.std.proofs.lemmas.Bool.{and_parts}
+use Rattle.std.proofs.lemmas.Bool.{and_parts, eqb-true}
 use Rattle.std.proofs.lemmas.Cmp.{tied_itself, nat_list_cmp_total}
-use Rattle.acl_files.specs.acl_names.Paths.{path_cmp, is_component}
-use Rattle.acl_files.proofs.of_acl_names.PathOrder.{path_total, exact_paths}
-use Rattle.acl_files.specs.Below.{is_within, is_below}
+use Rattle.acl_names.specs.Paths.{path_cmp, is_component}
+use Rattle.acl_names.proofs.PathOrder.{path_total, exact_paths}
 use Rattle.path_map.specs.Entries.{PathOf, IsInOrder}
 use Rattle.path_map.specs.Below.{up_to}
 use Rattle.path_map.proofs.Places.{above, below}
 use Rattle.path_map.proofs.Convex.{convex, not_before}
-use Rattle.acl_verdicts.specs.Walks.{nearest_from}
-use Rattle.acl_verdicts.specs.Subtrees.{IsNearest, common}
-use Rattle.acl_verdicts.proofs.Walks.{both, all-append, exact_names, below_less, below_within, within_below, within_trans, false_from}
-use Rattle.acl_verdicts.proofs.Begins.{clash, from_less, within_itself, early_not_within, parent, below_parent}
+use Rattle.acl_files.specs.Below.{is_within, is_below, common}
+use Rattle.acl_files.specs.Walks.{last_or, nearest_above}
+use Rattle.acl_files.proofs.Selected.{within_trans}
 
 less : (o : Ordering) → is_lt o ≡ true → o ≡ Less
 less Less h = refl
 less Equal h = cc
 less Greater h = cc
+
+equal : (o : Ordering) → is_eq o ≡ true → o ≡ Equal
+equal Less h = cc
+equal Equal h = refl
+equal Greater h = cc
+
+pub clash : (b : Bool) → b ≡ true → b ≡ false → ⊥
+clash b h k = cc
+
+pub false_from : (b : Bool) → (b ≡ true → ⊥) → b ≡ false
+false_from true h = absurd (h refl)
+false_from false h = refl
+
+both : (a b : Bool) → a ≡ true → b ≡ true → (a && b) ≡ true
+both a b p q = cc
+
+and_false : (b : Bool) → (b && false) ≡ false
+and_false true = refl
+and_false false = refl
+
+pub within_itself : (p : PathOf) → is_within p p ≡ true
+within_itself [] = refl
+within_itself (x ∷ p) = both _ _ (ap is_eq (tied_itself nat_list_cmp_total x)) (within_itself p)
+
+early_not_within : (top p : PathOf) → is_gt (path_cmp top p) ≡ true → is_within top p ≡ false
+early_not_within top p gt = false_from (is_within top p) (λ w. clash (is_gt (path_cmp top p)) gt (not_before top p w))
+
+-- ---- a path without its last component
+
+abbrev parent : PathOf → PathOf
+parent p = take (length p - 1) p
+
+abbrev init : PathOf → PathOf
+init [] = []
+init (x ∷ []) = []
+init (x ∷ y ∷ p) = x ∷ init (y ∷ p)
+
+parent_is : (x : List ℕ) (p : PathOf) → parent (x ∷ p) ≡ init (x ∷ p)
+parent_is x [] = let e : length (x ∷ []) - 1 ≡ 0 = omega arith in ap (λ n. take n (x ∷ [])) e
+parent_is x (y ∷ p) =
+    let e : length (x ∷ y ∷ p) - 1 ≡ suc (length (y ∷ p) - 1) = omega arith in
+    ap (λ n. take n (x ∷ y ∷ p)) e ∙ ap (λ l. x ∷ l) (parent_is y p)
+
+nothing_above : (e : PathOf) → is_below e [] ≡ false
+nothing_above [] = refl
+nothing_above (x ∷ e) = refl
+
+below_init : (e : PathOf) (x : List ℕ) (p : PathOf) → is_below e (x ∷ p) ≡ is_within e (init (x ∷ p))
+below_init [] x p = refl
+below_init (a ∷ e) x [] = ap (λ b. is_eq (slice_cmp nat_cmp a x) && b) (nothing_above e) ∙ and_false (is_eq (slice_cmp nat_cmp a x))
+below_init (a ∷ e) x (y ∷ p) = ap (λ b. is_eq (slice_cmp nat_cmp a x) && b) (below_init e y p)
+
+below_parent : (e p : PathOf) → (p ≡ [] → ⊥) → is_below e p ≡ is_within e (parent p)
+below_parent e [] some = absurd (some refl)
+below_parent e (x ∷ p) some = below_init e x p ∙ ap (is_within e) (sym (parent_is x p))
+
+pub full_path : (p parts : PathOf) (b : Bool) → b ≡ (length parts == 0) → parts ≡ p → b ≡ false → p ≡ [] → ⊥
+full_path p parts b is same some root = clash b (is ∙ ap (λ (l : PathOf). length l == 0) (same ∙ root)) some
+
+pub empty_path : (p parts : PathOf) (b : Bool) → b ≡ (length parts == 0) → parts ≡ p → b ≡ true → p ≡ []
+empty_path p parts b is same none = nothing p (eqb-true (length p) 0 (sym (is ∙ ap (λ (l : PathOf). length l == 0) same) ∙ none))
+  where
+    nothing : (q : PathOf) → length q ≡ 0 → q ≡ []
+    nothing [] h = refl
+    nothing (x ∷ q) h = absurd (omega (arith, h))
+
+all-append : {A : Type 0} (f : A → Bool) (es fs : List A) → list_all f (es ++ fs) ≡ (list_all f es && list_all f fs)
+all-append f [] fs = refl
+all-append f (e ∷ es) fs = ap (λ b. f e && b) (all-append f es fs) ∙ assoc (f e) (list_all f es) (list_all f fs)
+  where
+    assoc : (a b c : Bool) → (a && (b && c)) ≡ ((a && b) && c)
+    assoc true b c = refl
+    assoc false b c = refl
+
+-- the first names of a path are components
+pub front_valid : (names more path : PathOf) → names ++ more ≡ path → IsTrue (list_all is_component path) → list_all is_component names ≡ true
+front_valid names more path is h = (and_parts (list_all is_component names) (list_all is_component more) (sym (all-append is_component names more) ∙ ap (list_all is_component) is ∙ h)).0
 
 -- ---- what two paths have in common
 
@@ -38,7 +113,7 @@ common_within (x ∷ p) (y ∷ q) = by (is_eq (slice_cmp nat_cmp x y)) (common_w
     by true more = both _ _ (ap is_eq (tied_itself nat_list_cmp_total x)) more
     by false more = refl
 
-pub common_shorter : (p q : PathOf) → is_within p q ≡ false → length (common p q) < length p
+common_shorter : (p q : PathOf) → is_within p q ≡ false → length (common p q) < length p
 common_shorter [] q h = cc
 common_shorter (x ∷ p) [] h = omega arith
 common_shorter (x ∷ p) (y ∷ q) h = by (is_eq (slice_cmp nat_cmp x y)) h (common_shorter p q)
@@ -55,16 +130,11 @@ common_above (a ∷ e) (x ∷ p) [] h k = cc
 common_above (a ∷ e) (x ∷ p) (y ∷ q) h k =
     let in_p = and_parts (is_eq (slice_cmp nat_cmp a x)) (is_within e p) h in
     let in_q = and_parts (is_eq (slice_cmp nat_cmp a y)) (is_within e q) k in
-    let first : a ≡ x = exact_names a x (equal _ in_p.0) in
+    let first : a ≡ x = slice_cmp-IsAntisymmetric nat_cmp-IsAntisymmetric a x (equal _ in_p.0) in
     let same : is_eq (slice_cmp nat_cmp x y) ≡ true = ap (λ z. is_eq (slice_cmp nat_cmp z y)) (sym first) ∙ in_q.0 in
     ap (λ b. is_within (a ∷ e) (cond b (x ∷ common p q) [])) same ∙ both _ _ in_p.0 (common_above e p q in_p.1 in_q.1)
-  where
-    equal : (o : Ordering) → is_eq o ≡ true → o ≡ Equal
-    equal Less h = cc
-    equal Equal h = refl
-    equal Greater h = cc
 
--- ---- the last row that is not after a path
+-- ---- the last entry that is not after a path
 
 after_out : (t e : PathOf) → is_lt (path_cmp t e) ≡ true → is_within e t ≡ false
 after_out t e lt = early_not_within e t (ap is_gt (above t e (less (path_cmp t e) lt)))
@@ -82,6 +152,10 @@ abbrev Bounded : {A : Type 0} → PathOf → PathOf → List (PathOf × A) → T
 Bounded t r es = AllByRecursion (λ e. is_lt (path_cmp t e.0) ≡ false → is_gt (path_cmp e.0 r) ≡ false) es
 
 module _ {A : Type 0} where
+  -- the entries that a path is below
+  abbrev pub those : PathOf → List (PathOf × A) → List (PathOf × A)
+  those p es = filter (λ e. is_below e.0 p) es
+
   none_above : (t : PathOf) (es : List (PathOf × A)) → up_to t es ≡ None → AllAfter t es
   none_above t [] h = tt
   none_above t (e ∷ es) h = by (up_to t es) refl (is_lt (path_cmp t e.0)) refl h (none_above t es)
@@ -91,24 +165,31 @@ module _ {A : Type 0} where
       by None is false lt k more = cc
       by (Some r) is b lt k more = cc
 
-  skip_after : (o : Option A) (p t : PathOf) (es : List (PathOf × A)) → Alike p t es → AllAfter t es → nearest_from o p es ≡ o
-  skip_after o p t [] a h = refl
-  skip_after o p t (e ∷ es) a h = ap (λ b. nearest_from (if b then Some e.1 else o) p es) (a.0 ∙ after_out t e.0 h.0) ∙ skip_after o p t es a.1 h.1
+  -- one entry more
+  step : (b : Bool) (found : List (PathOf × A)) (e : PathOf × A) (es : List (PathOf × A)) → last_or found (cond b (e ∷ es) es) ≡ last_or (cond b (e ∷ []) found) es
+  step true found e es = refl
+  step false found e es = refl
 
-  found_last : (o : Option A) (p t : PathOf) (es : List (PathOf × A)) (r : PathOf × A) → Alike p t es → up_to t es ≡ Some r → is_within r.0 t ≡ true → nearest_from o p es ≡ Some r.1
-  found_last o p t [] r a h w = cc
-  found_last o p t (e ∷ es) r a h w = by (up_to t es) refl (is_lt (path_cmp t e.0)) h (λ k. found_last (if is_below e.0 p then Some e.1 else o) p t es r a.1 k w)
+  skip_after : (found : List (PathOf × A)) (p t : PathOf) (es : List (PathOf × A)) → Alike p t es → AllAfter t es → last_or found (those p es) ≡ found
+  skip_after found p t [] a h = refl
+  skip_after found p t (e ∷ es) a h = ap (λ b. last_or found (cond b (e ∷ those p es) (those p es))) (a.0 ∙ after_out t e.0 h.0) ∙ skip_after found p t es a.1 h.1
+
+  found_last : (found : List (PathOf × A)) (p t : PathOf) (es : List (PathOf × A)) (r : PathOf × A) → Alike p t es → up_to t es ≡ Some r → is_within r.0 t ≡ true → last_or found (those p es) ≡ r ∷ []
+  found_last found p t [] r a h w = cc
+  found_last found p t (e ∷ es) r a h w =
+      by (up_to t es) refl (is_lt (path_cmp t e.0)) h (λ k. step (is_below e.0 p) found e (those p es) ∙ found_last (cond (is_below e.0 p) (e ∷ []) found) p t es r a.1 k w)
     where
       by : (u : Option (PathOf × A)) → up_to t es ≡ u → (b : Bool) → option_or u (cond b None (Some e)) ≡ Some r
-          → (up_to t es ≡ Some r → nearest_from (if is_below e.0 p then Some e.1 else o) p es ≡ Some r.1)
-          → nearest_from (if is_below e.0 p then Some e.1 else o) p es ≡ Some r.1
+          → (up_to t es ≡ Some r → last_or found (those p (e ∷ es)) ≡ r ∷ [])
+          → last_or found (those p (e ∷ es)) ≡ r ∷ []
       by (Some s) is b k more = more (is ∙ k)
       by None is true k more = cc
       by None is false k more =
           let same : e ≡ r = cc in
-          ap (λ b. nearest_from (if b then Some e.1 else o) p es) (a.0 ∙ ap (λ x. is_within x.0 t) same ∙ w)
-          ∙ skip_after (Some e.1) p t es a.1 (none_above t es is)
-          ∙ ap (λ x. Some x.1) same
+          step (is_below e.0 p) found e (those p es)
+          ∙ ap (λ b. last_or (cond b (e ∷ []) found) (those p es)) (a.0 ∙ ap (λ (x : PathOf × A). is_within x.0 t) same ∙ w)
+          ∙ skip_after (e ∷ []) p t es a.1 (none_above t es is)
+          ∙ ap (λ (x : PathOf × A). x ∷ []) same
 
   last_early : (t : PathOf) (es : List (PathOf × A)) (r : PathOf × A) → up_to t es ≡ Some r → is_lt (path_cmp t r.0) ≡ false
   last_early t [] r h = cc
@@ -153,9 +234,6 @@ module _ {A : Type 0} where
 
 -- ---- the search
 
-within_then_below : (p s t : PathOf) → is_within p s ≡ true → is_below s t ≡ true → is_below p t ≡ true
-within_then_below p s t w b = within_below p t (within_trans p s t w (below_within s t b)) (from_less p s t (not_before p s w) (below_less s t b))
-
 order_cases : (t r : PathOf) → is_lt (path_cmp t r) ≡ false → is_within r t ≡ false → path_cmp r t ≡ Less
 order_cases t r early out = by (path_cmp t r) refl
   where
@@ -164,39 +242,37 @@ order_cases t r early out = by (path_cmp t r) refl
     by Equal is = absurd (clash (is_within r t) (ap (is_within r) (exact_paths t r is) ∙ within_itself r) out)
     by Greater is = below t r is
 
--- the entries above a path are those at or above another path, which is above it
-pub record IsAhead {A : Type 0} (p : PathOf) (rows : List (PathOf × A)) (t : PathOf) : Type 0 where
-  pub inside : is_below t p ≡ true
-  pub alike : Alike p t rows
+-- nothing is above the root
+pub root_alone : {A : Type 0} (p : PathOf) (es : List (PathOf × A)) → p ≡ [] → nearest_above p es ≡ []
+root_alone {A = A} p es root = ap (λ q. nearest_above q es) root ∙ none es
+  where
+    none : (es : List (PathOf × A)) → nearest_above [] es ≡ []
+    none [] = refl
+    none (e ∷ es) = ap (λ b. last_or [] (cond b (e ∷ those [] es) (those [] es))) (nothing_above e.0) ∙ none es
 
-pub ahead_begins : {A : Type 0} (p : PathOf) (rows : List (PathOf × A)) (t : PathOf) → (p ≡ [] → ⊥) → t ≡ parent p → IsAhead p rows t
-ahead_begins {A = A} p rows t some is = subst (IsAhead p rows) (sym is) (record {
-  inside = below_parent (parent p) p some ∙ within_itself (parent p);
-  alike = all rows;
-})
+-- the entries above a path are those at or above its parent
+pub alike_begins : {A : Type 0} (p : PathOf) (es : List (PathOf × A)) (t : PathOf) → (p ≡ [] → ⊥) → t ≡ take (length p - 1) p → Alike p t es
+alike_begins {A = A} p es t some is = subst (λ q. Alike p q es) (sym is) (all es)
   where
     all : (es : List (PathOf × A)) → Alike p (parent p) es
     all [] = tt
     all (e ∷ es) = (below_parent e.0 p some, all es)
 
-pub ahead_found : {A : Type 0} (p : PathOf) (rows : List (PathOf × A)) (t : PathOf) (r : PathOf × A) → IsAhead p rows t → up_to t rows ≡ Some r → is_within r.0 t ≡ true → IsNearest p rows (r ∷ [])
-ahead_found p rows t r w is inside = record {
-  below = (within_then_below r.0 t p inside w.inside, tt);
-  last = sym (found_last None p t rows r w.alike is inside);
-}
+pub alike_found : {A : Type 0} (p : PathOf) (es : List (PathOf × A)) (t : PathOf) (r : PathOf × A) → Alike p t es → up_to t es ≡ Some r → is_within r.0 t ≡ true → nearest_above p es ≡ r ∷ []
+alike_found p es t r alike is inside = found_last [] p t es r alike is inside
 
-pub ahead_ends : {A : Type 0} (p : PathOf) (rows : List (PathOf × A)) (t : PathOf) → IsAhead p rows t → up_to t rows ≡ None → IsNearest p rows []
-ahead_ends p rows t w is = record { below = tt; last = sym (skip_after None p t rows w.alike (none_above t rows is)) }
+pub alike_ends : {A : Type 0} (p : PathOf) (es : List (PathOf × A)) (t : PathOf) → Alike p t es → up_to t es ≡ None → nearest_above p es ≡ []
+alike_ends p es t alike is = skip_after [] p t es alike (none_above t es is)
 
-module _ {A : Type 0} (p : PathOf) (rows : List (PathOf × A)) (t : PathOf) (r : PathOf × A) (order : IsInOrder rows) (is : up_to t rows ≡ Some r) (out : is_within r.0 t ≡ false) where
+module _ {A : Type 0} (es : List (PathOf × A)) (t : PathOf) (r : PathOf × A) (order : IsInOrder es) (is : up_to t es ≡ Some r) (out : is_within r.0 t ≡ false) where
   early : is_lt (path_cmp t r.0) ≡ false
-  early = last_early t rows r is
+  early = last_early t es r is
 
   before : path_cmp r.0 t ≡ Less
   before = order_cases t r.0 early out
 
-  pub ahead_shorter : length (common t r.0) < length t
-  ahead_shorter = common_shorter t r.0 (early_not_within t r.0 (ap is_gt (above r.0 t before)))
+  pub alike_shorter : length (common t r.0) < length t
+  alike_shorter = common_shorter t r.0 (early_not_within t r.0 (ap is_gt (above r.0 t before)))
 
   cut_alike : (e : PathOf) → (is_lt (path_cmp t e) ≡ false → is_gt (path_cmp e r.0) ≡ false) → is_within e t ≡ is_within e (common t r.0)
   cut_alike e bound = by (is_within e t) refl
@@ -208,16 +284,9 @@ module _ {A : Type 0} (p : PathOf) (rows : List (PathOf × A)) (t : PathOf) (r :
           not_after w = false_from (is_lt (path_cmp t e)) (λ lt. clash (is_within e t) w (after_out t e lt))
       by false w = sym (false_from (is_within e (common t r.0)) (λ k. clash (is_within e t) (within_trans e (common t r.0) t k (common_within t r.0)) w))
 
-  pub ahead_on : (next : PathOf) → next ≡ common t r.0 → IsAhead p rows t → IsAhead p rows next
-  ahead_on next same w = subst (IsAhead p rows) (sym same) (record {
-    inside = within_then_below (common t r.0) t p (common_within t r.0) w.inside;
-    alike = all rows w.alike (last_bound t rows r order is);
-  })
+  pub alike_on : (p : PathOf) → Alike p t es → Alike p (common t r.0) es
+  alike_on p alike = all es alike (last_bound t es r order is)
     where
-      all : (es : List (PathOf × A)) → Alike p t es → Bounded t r.0 es → Alike p (common t r.0) es
+      all : (fs : List (PathOf × A)) → Alike p t fs → Bounded t r.0 fs → Alike p (common t r.0) fs
       all [] a b = tt
-      all (e ∷ es) a b = (a.0 ∙ cut_alike e.0 b.0, all es a.1 b.1)
-
--- the first names of a path are components
-pub front_valid : (names more path : PathOf) → names ++ more ≡ path → IsTrue (list_all is_component path) → list_all is_component names ≡ true
-front_valid names more path is h = (and_parts (list_all is_component names) (list_all is_component more) (sym (all-append is_component names more) ∙ ap (list_all is_component) is ∙ h)).0
+      all (e ∷ fs) a b = (a.0 ∙ cut_alike e.0 b.0, all fs a.1 b.1)

@@ -1,9 +1,10 @@
-//! The nearest path above a path that has a row.
+//! The nearest path above a path that has an entry.
 
 ghost use Rattle.std.specs.Prelude.{◌≡◌, ◌-◌, length, take, map, IfOk};
-ghost use Rattle.acl_verdicts.specs.Subtrees.{IsNearest, common};
+ghost use Rattle.acl_files.specs.Below.{common};
+ghost use Rattle.acl_files.specs.Walks.{nearest_above};
 
-use acl_files::Path;
+use acl_names::Path;
 use path_map::{Entry, PathMap, is_within};
 use std::alloc::{AllocError, Global};
 use std::cmp::Ordering;
@@ -40,27 +41,27 @@ fn shared_top(alloc: Global, path: &Path, other: &Path) -> Result<Path, AllocErr
     Ok(Path::new(shared).unwrap())
 }
 
-/// The nearest row above a path, if there is one: the last row up to its parent, or else one above what they
-/// have in common. That is a search for each row in the way. Fails only if memory runs out.
-pub(crate) fn nearest_above<V: Drop>(
+/// The nearest entry above a path, if there is one: the last entry up to its parent, or else one above what they
+/// have in common. That is a search for each entry in the way. Fails only if memory runs out.
+pub fn nearest_above<V: Drop>(
     alloc: Global,
-    rows: &PathMap<V>,
+    entries: &PathMap<V>,
     path: &Path,
 ) -> Result<Vec<Rc<Entry<V>>>, AllocError>
-    ensures { IfOk result (λ above. IsNearest path.now rows.now (map (λ e. e.value) above.items)) }
+    ensures { IfOk result (λ above. map (λ e. e.value) above.items ≡ nearest_above path.now entries.now) }
 {
-    rows.is_in_order();
+    entries.is_in_order();
     let mut above = Vec::new(alloc);
     if path.components().is_empty() {
         return Ok(above);
     }
     let mut top = parent_of(alloc, path)?;
-    while let Some(row) = rows.up_to(&top) {
-        if is_within(row.path(), &top) {
-            above.push(row.clone()?)?;
+    while let Some(entry) = entries.up_to(&top) {
+        if is_within(entry.path(), &top) {
+            above.push(entry.clone()?)?;
             return Ok(above);
         }
-        top = shared_top(alloc, &top, row.path())?;
+        top = shared_top(alloc, &top, entry.path())?;
     }
     Ok(above)
 }
