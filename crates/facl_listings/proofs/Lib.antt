@@ -8,5 +8,17 @@ pub mod UserLines
 pub mod FileLines
 pub mod IndexLines
 pub mod Walk
+pub mod Deciding
+pub mod AskedFiles
+pub mod DecidedAlong
+pub mod SideBySide
+pub mod Gained
+pub mod ChangeLines
+pub mod Unchanged
+pub mod NextFile
+pub mod AttributesAgain
+pub mod ListsAgain
+pub mod ListsSet
+pub mod ListsPut
 pub use Rattle.acl_rights.proofs.of_acl_entry
 pub use Rattle.acl_rights.proofs.of_acl_names

@@ -32,7 +32,7 @@ pub not_empty : (qs : List Perms) (q : Perms) → is_empty (qs ++ q ∷ []) ≡ 
 not_empty [] q = refl
 not_empty (p ∷ qs) q = refl
 
-among-more : (granted : ℕ) (numbers : List ℕ) (i : ℕ) → i < length numbers → among granted (take (i + 1) numbers) ≡ among granted (take i numbers) ++ filter (has granted) (numbered (get_or numbers i 0) ∷ [])
+pub among-more : (granted : ℕ) (numbers : List ℕ) (i : ℕ) → i < length numbers → among granted (take (i + 1) numbers) ≡ among granted (take i numbers) ++ filter (has granted) (numbered (get_or numbers i 0) ∷ [])
 among-more granted numbers i h =
     ap (among granted) (take_more numbers i 0 h)
     ∙ (ap (filter (has granted)) (map-append numbered (take i numbers) (get_or numbers i 0 ∷ []))

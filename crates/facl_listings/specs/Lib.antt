@@ -5,6 +5,8 @@ pub mod Again
 pub mod ChaclListings
 pub mod AttrListings
 pub mod Answers
+pub mod Why
+pub mod Changes
 pub mod Inner
 pub use Rattle.acl_attr.specs as acl_attr
 pub use Rattle.acl_rights.specs.acl_dump

@@ -1,5 +1,4 @@
-//! What is known of the files of a tree and of those who are known: that files are read again as they are
-//! written.
+//! Files are read again as they are written, for the people who are known.
 
 ghost use Rattle.std.specs.Prelude.{◌≡◌, length};
 ghost use Rattle.std.specs.List.{AllByRecursion};
@@ -9,12 +8,14 @@ ghost use Rattle.facl_listings.specs.Again.{user_id, group_id, user_name, group_
 
 use acl_rights::{Acl, Id, Key, People, Record, Tree};
 
+/// Proof only: a file has three flags.
 fn flags_are_three(flags: [bool; 3])
     ensures { length flags ≡ 3 }
 {
     let _flags = flags;
 }
 
+/// Proof only: an id is found again by what is printed for it as a user.
 fn user_is_found(people: &People, id: Id)
     ensures { IsFound (user_id people.now) (user_name people.now) id }
 {
@@ -22,6 +23,7 @@ fn user_is_found(people: &People, id: Id)
     let _number = id.number();
 }
 
+/// Proof only: an id is found again by what is printed for it as a group.
 fn group_is_found(people: &People, id: Id)
     ensures { IsFound (group_id people.now) (group_name people.now) id }
 {
@@ -29,6 +31,7 @@ fn group_is_found(people: &People, id: Id)
     let _number = id.number();
 }
 
+/// Proof only: whom an entry is for is found again by what is printed for it.
 fn key_is_found(people: &People, key: &Key)
     ensures { IsKeyNamed (user_id people.now) (group_id people.now) (user_name people.now) (group_name people.now) key.now }
 {
@@ -39,6 +42,7 @@ fn key_is_found(people: &People, key: &Key)
     }
 }
 
+/// Proof only: a list is read again as it is written.
 fn list_is_read_again(people: &People, acl: &Acl)
     ensures { IsListAgain people.now acl.now }
 {
@@ -47,6 +51,7 @@ fn list_is_read_again(people: &People, acl: &Acl)
     }
 }
 
+/// Proof only: a file is read again as it is written.
 fn file_is_read_again(people: &People, file: &Record)
     ensures { IsReadAgain people.now file.now }
 {
@@ -61,7 +66,7 @@ fn file_is_read_again(people: &People, file: &Record)
     }
 }
 
-/// Nothing is done: each file is read again as it is written.
+/// Proof only: each file is read again as it is written.
 pub(crate) fn files_are_read_again(people: &People, tree: &Tree)
     ensures { AllByRecursion (IsReadAgain people.now) tree.now.files }
 {

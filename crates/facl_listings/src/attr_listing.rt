@@ -48,7 +48,8 @@ fn push_attributes(alloc: Global, text: &mut Vec<u8>, node: &Node) -> Result<(),
     Ok(())
 }
 
-fn push_path(text: &mut Vec<u8>, file: &Found) -> Result<(), AllocError>
+/// Adds the line of a file's path.
+pub(crate) fn push_path(text: &mut Vec<u8>, file: &Found) -> Result<(), AllocError>
     ensures { OnOk result (text.new.items ≡ text.old.items ++ file_text file.now.path (has_slash file.now)) }
 {
     let slash = has_slash(file);

@@ -1,12 +1,23 @@
 //! A walk over all files of a tree.
 
-ghost use Rattle.std.specs.Prelude.{◌≡◌, IfOk};
+ghost use Rattle.std.specs.Prelude.{◌≡◌, IfOk, option_map};
 ghost use Rattle.acl_rights.specs.acl_tree.Found.{found_file};
 ghost use Rattle.acl_rights.specs.acl_files.Inner.{next_file_below};
+ghost use Rattle.facl_listings.specs.Inner.{has_next_below};
 
 use acl_rights::{FilesIter, Found, Path, Record, is_below};
 use std::alloc::AllocError;
 use std::rc::Rc;
+
+/// Whether a file, if there is one, is below a path.
+pub(crate) fn is_above(path: &Path, next: Option<&Rc<Record>>) -> bool
+    ensures { result ≡ has_next_below path.now (option_map (λ next. next.now.value) next.entry) }
+{
+    match next {
+        Some(next) => is_below(path, next.path()),
+        None => false,
+    }
+}
 
 /// Whether the next file is below a path.
 fn is_next_below(path: &Path, rest: &FilesIter<'_>) -> bool

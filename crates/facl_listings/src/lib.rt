@@ -5,16 +5,21 @@
 mod again;
 mod attr_listing;
 mod chacl_listing;
+mod change_lines;
+mod changes;
 mod files;
 mod granted;
 mod laws;
 mod listing;
 mod may;
 mod options;
+mod placed_users;
 mod requests;
+mod row_walk;
 mod table;
 mod test_listing;
 mod who;
+mod why;
 
 pub use acl_attr::decode_attr;
 pub use acl_rights::{
@@ -26,8 +31,13 @@ pub use acl_rights::{
 };
 pub use attr_listing::write_attributes;
 pub use chacl_listing::write_chacl_listing;
+pub use changes::write_changes;
 pub use granted::can_requests;
-pub use laws::{listing_is_loaded_again, listing_is_restored_as_it_is};
+pub use laws::{
+    attributes_are_read_again, changes_print_all_that_differs, deciding_entries_are_the_check,
+    deciding_entries_are_the_reach, listing_is_loaded_again, listing_is_restored_as_it_is,
+    lists_are_read_again,
+};
 pub use listing::{append_listing, push_path_shown};
 pub use may::write_may;
 pub use options::Options;
@@ -35,3 +45,4 @@ pub use requests::append_requests;
 pub use table::write_index;
 pub use test_listing::append_test_listing;
 pub use who::write_who;
+pub use why::{files_asked, write_why};

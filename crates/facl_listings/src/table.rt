@@ -63,7 +63,7 @@ fn push_row(
 }
 
 /// The path of a file as it is printed.
-fn shown(alloc: Global, file: &Found) -> Result<Vec<u8>, AllocError>
+pub(crate) fn shown(alloc: Global, file: &Found) -> Result<Vec<u8>, AllocError>
     ensures { IfOk result (λ path. path.items ≡ path_shown file.now) }
 {
     let mut path = Vec::new(alloc);

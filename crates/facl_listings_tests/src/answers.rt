@@ -1,6 +1,6 @@
 //! What the tools answer on one state, line after line.
 
-use crate::asked::{after, can, index, may, who};
+use crate::asked::{after, can, index, may, who, why};
 use acl_rights_tests::{Line, nothing};
 use facl_listings::Table;
 
@@ -77,4 +77,20 @@ fn names_are_of_the_rows(rt: HostRuntime) {
     assert!(rt; after(alloc, &mut world, &[Line::Useradd(b"al #1", 7, b"staff")]));
     let readers = who(alloc, &world, READ, b"f", false).expect(&rt, "f");
     assert_eq!(rt; readers.as_slice(), b"lisa\nal\\040\\0431\n".as_slice());
+}
+
+#[test]
+fn entries_that_decide(rt: HostRuntime) {
+    let alloc = rt.alloc();
+    let mut world = nothing(alloc).expect(&rt, "memory");
+    assert!(rt; after(alloc, &mut world, &SETUP));
+    let owner = why(alloc, &world, b"ann", b"pub", false).expect(&rt, "pub");
+    assert_eq!(rt; owner.as_slice(), b"# file: pub/\nuser::rwx\n\n".as_slice());
+    assert!(rt; after(alloc, &mut world, &[Line::Chmod(0o705, b"pub")]));
+    let group = why(alloc, &world, b"joe", b"pub", true).expect(&rt, "pub");
+    assert_eq!(rt;
+        group.as_slice(),
+        b"# file: .\nother::r-x\n\n# file: pub/\ngroup::r-x\t\t\t#effective:---\n\n".as_slice()
+    );
+    assert!(rt; why(alloc, &world, b"joe", b"gone", true).is_none());
 }

@@ -1,4 +1,4 @@
-//! Worked listings and worked answers of `can`, `who`, `may` and `index`, and each public call of `facl_listings` once.
+//! Worked listings and worked answers of `can`, `who`, `may`, `why`, `index` and `changes`, and each public call of `facl_listings` once.
 //!
 //! They are in a crate of their own, since a crate with tests is proved twice.
 #![tactic(auto)]
@@ -7,10 +7,12 @@
 mod answers;
 mod asked;
 #[cfg(test)]
+mod changed;
+#[cfg(test)]
 mod listings;
 #[cfg(test)]
 mod made;
 #[cfg(test)]
 mod requests;
 
-pub use asked::{after, can, index, may, who};
+pub use asked::{after, can, changes, index, may, who, why};

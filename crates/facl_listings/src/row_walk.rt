@@ -1,0 +1,82 @@
+//! A walk over all files of a state, each with its row of verdicts.
+
+ghost use Rattle.std.specs.Prelude.{◌≡◌, IfOk, drop, option_map};
+ghost use Rattle.acl_rights.specs.acl_files.path_map.Entries.{first};
+ghost use Rattle.acl_rights.specs.acl_tree.Found.{found_file};
+ghost use Rattle.facl_listings.specs.Inner.{has_next_below, walked, step_of};
+
+use crate::files::is_above;
+use acl_rights::{FileRows, FilesIter, Found, Path, Record, Requests, Tree};
+use std::alloc::AllocError;
+use std::marker::Model;
+use std::rc::Rc;
+
+/// A file, the next one after it, and what each user may do with it.
+#[derive(Clone, Copy)]
+pub(crate) struct Step<'a> {
+    pub file: &'a Rc<Record>,
+    pub next: Option<&'a Rc<Record>>,
+    pub requests: &'a [Requests],
+}
+
+impl<'a> Step<'a> {
+    /// The file, with whether another one is below it. Fails only if memory runs out.
+    pub fn found(&self) -> Result<Found, AllocError>
+        ensures { IfOk result (λ found. found ≡ found_file (has_next_below self.now.file.now.value.0 (option_map (λ next. next.now.value) self.now.next)) self.now.file.now.value) }
+    {
+        let has_below = is_above(self.file.path(), self.next);
+        Ok(Found::new(self.file.clone()?, has_below))
+    }
+}
+
+/// The files that are still to come, in path order, each with its row.
+#[derive(Drop)]
+pub(crate) struct Walk<'a> {
+    files: FilesIter<'a>,
+    rows: FileRows<'a>,
+}
+
+impl<'a> Model for Walk<'a> {
+    ghost use Rattle.facl_listings.specs.Inner.{Walked, walked};
+
+    ghost Value = { Walked };
+
+    ghost view = { λ w. walked w.files w.rows };
+}
+
+impl<'a> Walk<'a> {
+    /// All files of a tree, with their rows.
+    pub fn of(tree: &'a Tree, rows: FileRows<'a>) -> Walk<'a>
+        ensures { result ≡ walked tree.now.files rows.entry }
+    {
+        Walk {
+            files: tree.iter(),
+            rows,
+        }
+    }
+
+    /// The path of the next file.
+    pub fn path(&self) -> Option<&'a Path>
+        ensures { option_map (λ path. path.now) result ≡ option_map (λ file. file.0) (first self.now) }
+    {
+        let path = self.rows.path()?;
+        match self.files.peek() {
+            Some(_) => Some(path),
+            None => None,
+        }
+    }
+
+    /// The next file.
+    pub fn next(&mut self) -> Option<Step<'a>>
+        ensures first { option_map step_of result ≡ option_map (λ file. file.1) (first self.old) }
+        ensures rest { self.new ≡ drop 1 self.old }
+    {
+        let row = self.rows.next()?;
+        let file = self.files.next()?;
+        Some(Step {
+            file,
+            next: self.files.peek(),
+            requests: row.requests,
+        })
+    }
+}

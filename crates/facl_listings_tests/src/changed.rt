@@ -1,0 +1,84 @@
+//! What `changes` prints between two states.
+
+use crate::asked::{after, changes};
+use acl_rights_tests::{Line, nothing};
+use facl_listings::Table;
+
+const PASSWD: &[u8] = b"lisa:x:1001:50:Lisa:/home/lisa:/bin/sh\n\
+joe:x:1000:100:Joe:/home/joe:/bin/sh\nann:x:1002:100:Ann:/home/ann:/bin/sh\n";
+
+const GROUP: &[u8] = b"staff:x:50:\nusers:x:100:\ncool:x:60:lisa\nadm:x:70:\n";
+
+const FILES: &[u8] =
+    b"# file: .\n# owner: lisa\n# group: staff\nuser::rwx\ngroup::r-x\nother::r-x\n\n\
+# file: f\n# owner: lisa\n# group: staff\nuser::rw-\ngroup::r--\nother::---\n\n\
+# file: pub/\n# owner: ann\n# group: users\nuser::rwx\ngroup::r-x\nother::r-x\n\n\
+# file: run\n# owner: lisa\n# group: staff\nuser::rwx\ngroup::r-x\nother::r-x\n\n";
+
+static SETUP: [Line; 3] = [
+    Line::Load(Table::Passwd, PASSWD),
+    Line::Load(Table::Group, GROUP),
+    Line::Load(Table::Dump, FILES),
+];
+
+const OPENED: &[u8] = b"lisa loses -w-,rw- f\njoe gains r-- f\nann gains r-- f\n";
+
+const CLOSED: &[u8] = b"joe loses --x,r-x .\nann loses --x,r-x .\n";
+
+const CLOSED_BELOW: &[u8] = b"joe loses --x,r-x .\nann loses --x,r-x .\n\
+joe loses --x,r--,r-x pub/\nann loses --x,-w-,-wx,r--,r-x,rw-,rwx pub/\n\
+joe loses --x,r--,r-x run\nann loses --x,r--,r-x run\n";
+
+const CAME_AND_WENT: &[u8] = b"al\\040\\0431 gains --x,r--,r-x .\njoe loses --x,r--,r-x .\n\
+al\\040\\0431 gains r-- f\n\
+al\\040\\0431 gains --x,r--,r-x pub/\njoe loses --x,r--,r-x pub/\n\
+lisa loses --x,-w-,-wx,r--,r-x,rw-,rwx run\nann loses --x,r--,r-x run\njoe loses --x,r--,r-x run\n";
+
+static MOVES: [Line; 3] = [
+    Line::Userdel(b"joe"),
+    Line::Useradd(b"al #1", 7, b"staff"),
+    Line::Rm(b"run"),
+];
+
+#[test]
+fn of_a_list_and_back(rt: HostRuntime) {
+    let alloc = rt.alloc();
+    let mut loaded = nothing(alloc).expect(&rt, "memory");
+    assert!(rt; after(alloc, &mut loaded, &SETUP));
+    let mut world = nothing(alloc).expect(&rt, "memory");
+    assert!(rt; after(alloc, &mut world, &SETUP));
+    let same = changes(alloc, &loaded, &world, true).expect(&rt, "memory");
+    assert_eq!(rt; same.as_slice(), b"".as_slice());
+    assert!(rt; after(alloc, &mut world, &[Line::Chmod(0o404, b"f")]));
+    let opened = changes(alloc, &loaded, &world, false).expect(&rt, "memory");
+    assert_eq!(rt; opened.as_slice(), OPENED);
+    assert!(rt; after(alloc, &mut world, &[Line::Chmod(0o640, b"f")]));
+    let back = changes(alloc, &loaded, &world, false).expect(&rt, "memory");
+    assert_eq!(rt; back.as_slice(), b"".as_slice());
+}
+
+#[test]
+fn along_paths(rt: HostRuntime) {
+    let alloc = rt.alloc();
+    let mut loaded = nothing(alloc).expect(&rt, "memory");
+    assert!(rt; after(alloc, &mut loaded, &SETUP));
+    let mut world = nothing(alloc).expect(&rt, "memory");
+    assert!(rt; after(alloc, &mut world, &SETUP));
+    assert!(rt; after(alloc, &mut world, &[Line::Chmod(0o754, b".")]));
+    let alone = changes(alloc, &loaded, &world, false).expect(&rt, "memory");
+    assert_eq!(rt; alone.as_slice(), CLOSED);
+    let reached = changes(alloc, &loaded, &world, true).expect(&rt, "memory");
+    assert_eq!(rt; reached.as_slice(), CLOSED_BELOW);
+}
+
+#[test]
+fn of_users_and_files_that_came_and_went(rt: HostRuntime) {
+    let alloc = rt.alloc();
+    let mut loaded = nothing(alloc).expect(&rt, "memory");
+    assert!(rt; after(alloc, &mut loaded, &SETUP));
+    let mut world = nothing(alloc).expect(&rt, "memory");
+    assert!(rt; after(alloc, &mut world, &SETUP));
+    assert!(rt; after(alloc, &mut world, &MOVES));
+    let moved = changes(alloc, &loaded, &world, false).expect(&rt, "memory");
+    assert_eq!(rt; moved.as_slice(), CAME_AND_WENT);
+}
