@@ -2,3 +2,12 @@ pub mod StillThere
 pub mod SameEntries
 pub mod Listed
 pub mod Modes
+pub mod Outcomes
+pub mod Firsts
+pub mod NoPaths
+pub mod Unrecorded
+pub mod Parts
+pub mod PartsOfLines
+pub mod PartsOfQuestions
+pub mod FirstFaults
+pub mod RoundTrips

@@ -17,7 +17,7 @@ use Rattle.facl_tools.specs.declared.attr.AttrLine.{AttrLine}
 abbrev pub row : Line
 row = record { flags = []; options = []; operands = one (codes "file") ∷ [] }
 
--- what words ask for, where they are no usage
+-- the line that words give, unless they are usage
 abbrev pub read : Words → Option AttrLine
 read w = and_then (files_of (operands_from row w (codes "file"))) (λ files. Some (record { files = files }))
 

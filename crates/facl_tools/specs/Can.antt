@@ -20,7 +20,7 @@ use Rattle.facl_tools.specs.declared.can.CanLine.{CanLine}
 abbrev pub row : Line
 row = record { flags = by_name (codes "reach") ∷ []; options = []; operands = one (codes "user") ∷ one (codes "file") ∷ [] }
 
--- what words ask for, where they are no usage
+-- the line that words give, unless they are usage
 abbrev pub read : Words → Option CanLine
 read w =
     and_then (file_of (operand row w (codes "file")))

@@ -77,7 +77,7 @@ line_of w recursive operands =
     else if has row w (codes "l") then line_with tasks.List recursive operands
     else read_access recursive operands
 
--- what words ask for, where they are no usage: at most one thing is done, and a file is given after the lists
+-- the line that words give, unless they are usage: at most one thing is done, and a file is given after the lists
 abbrev pub read : Words → Option ChaclLine
 read w =
     if nat_le (tasks_given w) 1 then line_of w (has row w (codes "r")) (operands_from row w (codes "word")) else None

@@ -16,7 +16,7 @@ use Rattle.facl_tools.specs.declared.chmod.ChmodLine.{ChmodLine}
 abbrev pub row : Line
 row = record { flags = by_letter (codes "R") ∷ []; options = []; operands = one (codes "mode") ∷ some (codes "file") ∷ [] }
 
--- what words ask for, where they are no usage
+-- the line that words give, unless they are usage
 abbrev pub read : Words → Option ChmodLine
 read w =
     and_then (mode_of (operand row w (codes "mode")))

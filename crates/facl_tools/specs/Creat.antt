@@ -32,7 +32,7 @@ mode_given w name = and_then (value row w name) permission_mode_of
 abbrev pub kind_of : Bool → Kind
 kind_of is_directory = if is_directory then Directory else Plain
 
--- what words ask for, where they are no usage
+-- the line that words give, unless they are usage
 abbrev pub read : Words → Option CreatLine
 read w =
     and_then (value row w (codes "user"))

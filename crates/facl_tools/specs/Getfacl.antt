@@ -48,7 +48,7 @@ options_of w effective = record {
   numeric = has row w (codes "numeric");
 }
 
--- what words ask for, where they are no usage
+-- the line that words give, unless they are usage
 abbrev pub read : Words → Option GetfaclLine
 read w =
     and_then (effective_for (has row w (codes "all-effective")) (has row w (codes "no-effective")))

@@ -22,7 +22,7 @@ line_of None (Some user) group = Some (record { change = Remove; user = user; gr
 line_of (Some user) (Some other) group = None
 line_of None None group = None
 
--- what words ask for, where they are no usage
+-- the line that words give, unless they are usage
 abbrev pub read : Words → Option GpasswdLine
 read w = line_of (value row w (codes "a")) (value row w (codes "d")) (operand row w (codes "group"))
 

@@ -1,9 +1,12 @@
 pub mod Attr
 pub mod Can
 pub mod Chacl
+pub mod Changes
 pub mod Chmod
 pub mod Creat
 pub mod Edits
+pub mod FirstFaults
+pub mod Firsts
 pub mod Getfacl
 pub mod Gpasswd
 pub mod Index
@@ -16,6 +19,7 @@ pub mod Readers
 pub mod RemovedKeys
 pub mod Replies
 pub mod Rm
+pub mod RoundTrips
 pub mod Setattr
 pub mod Setfacl
 pub mod SetfaclLine
@@ -24,6 +28,7 @@ pub mod Useradd
 pub mod Userdel
 pub mod Usermod
 pub mod Who
+pub mod Why
 pub use Rattle.facl_listings.specs.acl_entry
 pub use Rattle.facl_listings.specs.acl_files
 pub use Rattle.facl_listings.specs.acl_rights

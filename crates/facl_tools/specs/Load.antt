@@ -25,7 +25,7 @@ table_named name =
     else if bytes_eq name (codes "dump") then Some Dump
     else None
 
--- what words ask for, where they are no usage
+-- the line that words give, unless they are usage
 abbrev pub read : Words → Option LoadLine
 read w = and_then (table_named (operand row w (codes "table"))) (λ table. Some (record { table = table }))
 

@@ -21,7 +21,7 @@ use Rattle.facl_tools.specs.declared.may.MayLine.{MayLine}
 abbrev pub row : Line
 row = record { flags = by_name (codes "reach") ∷ []; options = []; operands = one (codes "user") ∷ one (codes "perms") ∷ [] }
 
--- what words ask for, where they are no usage
+-- the line that words give, unless they are usage
 abbrev pub read : Words → Option MayLine
 read w =
     and_then (permissions_of (operand row w (codes "perms")))

@@ -15,7 +15,7 @@ use Rattle.facl_tools.specs.declared.rm.RmLine.{RmLine}
 abbrev pub row : Line
 row = record { flags = by_letter (codes "r") ∷ []; options = []; operands = some (codes "file") ∷ [] }
 
--- what words ask for, where they are no usage
+-- the line that words give, unless they are usage
 abbrev pub read : Words → Option RmLine
 read w =
     and_then (files_of (operands_from row w (codes "file"))) (λ files. Some (record { recursive = has row w (codes "r"); files = files }))

@@ -45,7 +45,7 @@ attribute_of word =
     option_or (option_map (attribute_with Access) (digits_of (codes "system.posix_acl_access=0x") (codes "system.posix_acl_access=0X") word))
     (option_map (attribute_with Default) (digits_of (codes "system.posix_acl_default=0x") (codes "system.posix_acl_default=0X") word))
 
--- what words ask for, where they are no usage
+-- the line that words give, unless they are usage
 abbrev pub read : Words → Option SetattrLine
 read w =
     and_then (attribute_of (operand row w (codes "attribute")))

@@ -1,4 +1,4 @@
--- The words of setfacl(1), and what they ask for.
+-- The words of setfacl(1), and the line that they give.
 use Rattle.std.specs.Prelude.{List, [], ◌∷◌, ◌&&◌, ◌||◌, Bool, not, codes, if◌then◌else◌, Option, None, Some}
 use Rattle.std.specs.Bool.{beq}
 use Rattle.facl_messages.specs.facl_words.Forms.{Text, files_of, is_empty}
@@ -86,6 +86,6 @@ read_change w =
     if contradicts_itself w || beq (changes_entries w) (replaces_lists w)
     then None else and_then (files_of (operands_from row w (codes "file"))) (λ files. Some (Change (change_of w files)))
 
--- what words ask for, where they are no usage
+-- the line that words give, unless they are usage
 abbrev pub read : Words → Option SetfaclLine
 read w = if gives row w (codes "restore") then read_restore w else read_change w

@@ -1,4 +1,4 @@
--- The tools: their names, the words that each takes, what these ask for as a value of the tool's type, and what that does.
+-- The tools: their names, the words that each takes, the line that these give as a value of the tool's type, and what it does.
 use Rattle.std.specs.Prelude.{ℕ, List, [], ◌∷◌, Option, Some, option_map, codes, Result, Ok}
 use Rattle.std.specs.List.{find}
 use Rattle.std.specs.Str.{bytes_eq}
@@ -14,6 +14,7 @@ use Rattle.facl_tools.specs.Replies.{Reply, after, or_fault}
 use Rattle.facl_tools.specs.Attr as attr
 use Rattle.facl_tools.specs.Can as can
 use Rattle.facl_tools.specs.Chacl as chacl
+use Rattle.facl_tools.specs.Changes as changes
 use Rattle.facl_tools.specs.Chmod as chmod
 use Rattle.facl_tools.specs.Creat as creat
 use Rattle.facl_tools.specs.Getfacl as getfacl
@@ -29,6 +30,7 @@ use Rattle.facl_tools.specs.Useradd as useradd
 use Rattle.facl_tools.specs.Userdel as userdel
 use Rattle.facl_tools.specs.Usermod as usermod
 use Rattle.facl_tools.specs.Who as who
+use Rattle.facl_tools.specs.Why as why
 use Rattle.facl_tools.specs.declared.tools.Tool.{Tool}
 use Rattle.facl_tools.specs.declared.tools.Tool.TheVariants as tools
 use Rattle.facl_tools.specs.declared.tools.ToolLine.{ToolLine}
@@ -49,13 +51,15 @@ name_of tools.Setattr = codes "setattr"
 name_of tools.Can = codes "can"
 name_of tools.Who = codes "who"
 name_of tools.May = codes "may"
+name_of tools.Why = codes "why"
 name_of tools.Index = codes "index"
+name_of tools.Changes = codes "changes"
 name_of tools.Useradd = codes "useradd"
 name_of tools.Userdel = codes "userdel"
 
 abbrev pub all_tools : List Tool
 all_tools = tools.Load ∷ tools.Getfacl ∷ tools.Setfacl ∷ tools.Chacl ∷ tools.Chmod ∷ tools.Creat ∷ tools.Rm ∷ tools.Gpasswd
-    ∷ tools.Usermod ∷ tools.Attr ∷ tools.Setattr ∷ tools.Can ∷ tools.Who ∷ tools.May ∷ tools.Index ∷ tools.Useradd ∷ tools.Userdel ∷ []
+    ∷ tools.Usermod ∷ tools.Attr ∷ tools.Setattr ∷ tools.Can ∷ tools.Who ∷ tools.May ∷ tools.Why ∷ tools.Index ∷ tools.Changes ∷ tools.Useradd ∷ tools.Userdel ∷ []
 
 -- the tool of this name
 abbrev pub tool_named : Text → Option Tool
@@ -77,11 +81,13 @@ row_of tools.Setattr = setattr.row
 row_of tools.Can = can.row
 row_of tools.Who = who.row
 row_of tools.May = may.row
+row_of tools.Why = why.row
 row_of tools.Index = index.row
+row_of tools.Changes = changes.row
 row_of tools.Useradd = useradd.row
 row_of tools.Userdel = userdel.row
 
--- what words ask their tool for, where they are no usage
+-- the line of a tool that words give, unless they are usage
 abbrev pub read_line : Tool → Words → Option ToolLine
 read_line tools.Load w = option_map (λ line. lines.Load line) (load.read w)
 read_line tools.Getfacl w = option_map (λ line. lines.Getfacl line) (getfacl.read w)
@@ -97,7 +103,9 @@ read_line tools.Setattr w = option_map (λ line. lines.Setattr line) (setattr.re
 read_line tools.Can w = option_map (λ line. lines.Can line) (can.read w)
 read_line tools.Who w = option_map (λ line. lines.Who line) (who.read w)
 read_line tools.May w = option_map (λ line. lines.May line) (may.read w)
+read_line tools.Why w = option_map (λ line. lines.Why line) (why.read w)
 read_line tools.Index w = Some lines.Index
+read_line tools.Changes w = Some (lines.Changes (changes.read w))
 read_line tools.Useradd w = option_map (λ line. lines.Useradd line) (useradd.read w)
 read_line tools.Userdel w = Some (lines.Userdel (userdel.read w))
 
@@ -113,27 +121,29 @@ words_of tool words = or_fault Usage (words_by (row_of tool) words)
 abbrev pub words_or_fault : Tool → List Text → Result Words LineFault
 words_or_fault tool words = after (words_of tool words) (λ w. after (line_or_fault tool w) (λ line. Ok w))
 
--- what a line does at a state
-unfoldable pub answered : Verdict → State → ToolLine → List ℕ → Result Reply LineFault
-answered verdict s (lines.Load line) text = load.answered s line text
-answered verdict s (lines.Getfacl line) text = getfacl.answered s line
-answered verdict s (lines.Setfacl line) text = setfacl.answered s line text
-answered verdict s (lines.Chacl line) text = chacl.answered s line
-answered verdict s (lines.Chmod line) text = chmod.answered s line
-answered verdict s (lines.Creat line) text = creat.answered s line
-answered verdict s (lines.Rm line) text = rm.answered s line
-answered verdict s (lines.Gpasswd line) text = gpasswd.answered s line
-answered verdict s (lines.Usermod line) text = usermod.answered s line
-answered verdict s (lines.Attr line) text = attr.answered s line
-answered verdict s (lines.Setattr line) text = setattr.answered s line
-answered verdict s (lines.Can line) text = can.answered verdict s line
-answered verdict s (lines.Who line) text = who.answered verdict s line
-answered verdict s (lines.May line) text = may.answered verdict s line
-answered verdict s lines.Index text = index.answered verdict s
-answered verdict s (lines.Useradd line) text = useradd.answered s line
-answered verdict s (lines.Userdel line) text = userdel.answered s line
+-- what a line does at a state; `changes` alone looks at the state after the texts were loaded
+unfoldable pub answered : Verdict → (loaded now : State) → ToolLine → List ℕ → Result Reply LineFault
+answered verdict loaded s (lines.Load line) text = load.answered s line text
+answered verdict loaded s (lines.Getfacl line) text = getfacl.answered s line
+answered verdict loaded s (lines.Setfacl line) text = setfacl.answered s line text
+answered verdict loaded s (lines.Chacl line) text = chacl.answered s line
+answered verdict loaded s (lines.Chmod line) text = chmod.answered s line
+answered verdict loaded s (lines.Creat line) text = creat.answered s line
+answered verdict loaded s (lines.Rm line) text = rm.answered s line
+answered verdict loaded s (lines.Gpasswd line) text = gpasswd.answered s line
+answered verdict loaded s (lines.Usermod line) text = usermod.answered s line
+answered verdict loaded s (lines.Attr line) text = attr.answered s line
+answered verdict loaded s (lines.Setattr line) text = setattr.answered s line
+answered verdict loaded s (lines.Can line) text = can.answered verdict s line
+answered verdict loaded s (lines.Who line) text = who.answered verdict s line
+answered verdict loaded s (lines.May line) text = may.answered verdict s line
+answered verdict loaded s (lines.Why line) text = why.answered s line
+answered verdict loaded s lines.Index text = index.answered verdict s
+answered verdict loaded s (lines.Changes line) text = changes.answered verdict loaded s line
+answered verdict loaded s (lines.Useradd line) text = useradd.answered s line
+answered verdict loaded s (lines.Userdel line) text = userdel.answered s line
 
 -- what a tool does at a state with the words after its name and the text after the line, or usage
-abbrev pub tool_line : Verdict → State → Tool → List Text → List ℕ → Result Reply LineFault
-tool_line verdict s tool words text =
-    after (words_of tool words) (λ w. after (line_or_fault tool w) (λ line. answered verdict s line text))
+abbrev pub tool_line : Verdict → (loaded now : State) → Tool → List Text → List ℕ → Result Reply LineFault
+tool_line verdict loaded s tool words text =
+    after (words_of tool words) (λ w. after (line_or_fault tool w) (λ line. answered verdict loaded s line text))

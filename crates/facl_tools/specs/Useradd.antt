@@ -37,7 +37,7 @@ line_with w name =
     (λ uid. and_then (value row w (codes "g"))
     (λ group. Some (record { name = name; uid = uid; group = group })))
 
--- what words ask for, where they are no usage
+-- the line that words give, unless they are usage
 abbrev pub read : Words → Option UseraddLine
 read w = and_then (name_of w) (line_with w)
 

@@ -1,4 +1,4 @@
--- userdel(8): a user goes.
+-- userdel(8): a user is removed.
 use Rattle.std.specs.Prelude.{[], ◌∷◌, codes, Result}
 use Rattle.facl_listings.specs.acl_tree.declared.command.Command.TheVariants as commands
 use Rattle.facl_listings.specs.acl_tree.Step.{State}
@@ -13,7 +13,7 @@ use Rattle.facl_tools.specs.declared.userdel.UserdelLine.{UserdelLine}
 abbrev pub row : Line
 row = record { flags = []; options = []; operands = one (codes "user") ∷ [] }
 
--- what words ask for
+-- the line that words give
 abbrev pub read : Words → UserdelLine
 read w = record { user = operand row w (codes "user") }
 

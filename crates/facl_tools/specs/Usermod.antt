@@ -14,7 +14,7 @@ use Rattle.facl_tools.specs.declared.usermod.UsermodLine.{UsermodLine}
 abbrev pub row : Line
 row = record { flags = []; options = by_letter (codes "g") ∷ []; operands = one (codes "user") ∷ [] }
 
--- what words ask for, where they are no usage
+-- the line that words give, unless they are usage
 abbrev pub read : Words → Option UsermodLine
 read w = and_then (value row w (codes "g")) (λ group. Some (record { user = operand row w (codes "user"); group = group }))
 

@@ -20,7 +20,7 @@ use Rattle.facl_tools.specs.declared.who.WhoLine.{WhoLine}
 abbrev pub row : Line
 row = record { flags = by_name (codes "reach") ∷ []; options = []; operands = one (codes "perms") ∷ one (codes "file") ∷ [] }
 
--- what words ask for, where they are no usage
+-- the line that words give, unless they are usage
 abbrev pub read : Words → Option WhoLine
 read w =
     and_then (permissions_of (operand row w (codes "perms")))

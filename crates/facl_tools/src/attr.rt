@@ -25,7 +25,7 @@ pub struct AttrLine<'a> {
     pub files: LineFiles<'a>,
 }
 
-/// What words ask for. `None` where they are usage.
+/// The line that words give. `None` where they are usage.
 pub(crate) fn read(words: &Words) -> Option<AttrLine<'_>>
     ensures { result ≡ read words.now }
 {

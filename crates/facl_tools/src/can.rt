@@ -23,13 +23,13 @@ pub(crate) static ROW: LineRows = LineRows {
 /// A line of `can`.
 #[derive(Debug, Drop)]
 pub struct CanLine<'a> {
-    /// `--reach`: search on the directories above is asked too.
+    /// `--reach`: search on the directories above is required too.
     pub reach: bool,
     pub user: LineWord<'a>,
     pub file: LineWord<'a>,
 }
 
-/// What words ask for. `None` where they are usage.
+/// The line that words give. `None` where they are usage.
 pub(crate) fn read(words: &Words) -> Option<CanLine<'_>>
     ensures { result ≡ read words.now }
 {

@@ -15,7 +15,7 @@ use facl_messages::{
 };
 use std::alloc::Global;
 
-/// The words of the tool: lists, where the flags ask for them, and then files.
+/// The words of the tool: lists, where the flags require them, and then files.
 pub(crate) static ROW: LineRows = LineRows {
     flags: &[
         by_letter!('b', "b"),
@@ -139,7 +139,7 @@ fn line_of<'a>(words: &Words, recursive: bool, operands: &'a [Word]) -> Option<C
     }
 }
 
-/// What words ask for. `None` where they are usage: two tasks, or too few words.
+/// The line that words give. `None` where they are usage: two tasks, or too few words.
 pub(crate) fn read(words: &Words) -> Option<ChaclLine<'_>>
     ensures { result ≡ read words.now }
 {

@@ -30,7 +30,7 @@ pub struct ChmodLine<'a> {
     pub files: LineFiles<'a>,
 }
 
-/// What words ask for. `None` where they are usage.
+/// The line that words give. `None` where they are usage.
 pub(crate) fn read(words: &Words) -> Option<ChmodLine<'_>>
     ensures { result ≡ read words.now }
 {

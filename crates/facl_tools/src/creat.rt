@@ -31,7 +31,7 @@ pub struct CreatLine<'a> {
     pub kind: Kind,
     /// `--user`: the owner.
     pub user: LineWord<'a>,
-    /// `--mode`: the permissions that are asked for.
+    /// `--mode`: the requested permissions.
     pub mode: u16,
     /// `--umask`: the permissions that are withheld, 022 where it is absent.
     pub umask: u16,
@@ -55,7 +55,7 @@ fn kind_of(is_directory: bool) -> Kind
     }
 }
 
-/// What words ask for. `None` where they are usage.
+/// The line that words give. `None` where they are usage.
 pub(crate) fn read(words: &Words) -> Option<CreatLine<'_>>
     ensures { result ≡ read words.now }
 {

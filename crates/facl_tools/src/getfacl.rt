@@ -47,7 +47,7 @@ fn effective_for(always: bool, never: bool) -> Option<Effective>
     }
 }
 
-/// What words ask for. `None` where they are usage.
+/// The line that words give. `None` where they are usage.
 pub(crate) fn read(words: &Words) -> Option<GetfaclLine<'_>>
     ensures { result ≡ read words.now }
 {

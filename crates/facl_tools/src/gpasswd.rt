@@ -51,7 +51,7 @@ fn line_of<'a>(
     }
 }
 
-/// What words ask for. `None` where they are usage.
+/// The line that words give. `None` where they are usage.
 pub(crate) fn read(words: &Words) -> Option<GpasswdLine<'_>>
     ensures { result ≡ read words.now }
 {

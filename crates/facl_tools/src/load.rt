@@ -39,7 +39,7 @@ fn table_named(name: &[u8]) -> Option<Table>
     }
 }
 
-/// What words ask for. `None` where they are usage.
+/// The line that words give. `None` where they are usage.
 pub(crate) fn read(words: &Words) -> Option<LoadLine>
     ensures { result ≡ read words.now }
 {

@@ -22,14 +22,14 @@ pub(crate) static ROW: LineRows = LineRows {
 /// A line of `may`.
 #[derive(Debug, Drop)]
 pub struct MayLine<'a> {
-    /// `--reach`: search on the directories above is asked too.
+    /// `--reach`: search on the directories above is required too.
     pub reach: bool,
     pub user: LineWord<'a>,
-    /// The permissions that are asked about.
+    /// The permissions in question.
     pub request: Perm,
 }
 
-/// What words ask for. `None` where they are usage.
+/// The line that words give. `None` where they are usage.
 pub(crate) fn read(words: &Words) -> Option<MayLine<'_>>
     ensures { result ≡ read words.now }
 {

@@ -27,7 +27,7 @@ pub struct RmLine<'a> {
     pub files: LineFiles<'a>,
 }
 
-/// What words ask for. `None` where they are usage.
+/// The line that words give. `None` where they are usage.
 pub(crate) fn read(words: &Words) -> Option<RmLine<'_>>
     ensures { result ≡ read words.now }
 {

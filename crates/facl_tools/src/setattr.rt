@@ -81,7 +81,7 @@ fn attribute_of(word: &[u8]) -> Option<Attribute<'_>>
     })
 }
 
-/// What words ask for. `None` where they are usage.
+/// The line that words give. `None` where they are usage.
 pub(crate) fn read(words: &Words) -> Option<SetattrLine<'_>>
     ensures { result ≡ read words.now }
 {

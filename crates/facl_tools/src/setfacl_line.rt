@@ -1,4 +1,4 @@
-//! The words of the tool setfacl(1), and what they ask for.
+//! The words of the tool setfacl(1), and the line that they give.
 
 ghost use Rattle.std.specs.Prelude.{◌≡◌};
 ghost use Rattle.facl_tools.specs.SetfaclLine.{change_of, changes_entries, contradicts_itself, entries_from, has_edit_flag, read, read_change, read_restore, replaces_lists};
@@ -41,9 +41,9 @@ pub enum Entries<'a> {
 /// A line of setfacl(1) that changes lists.
 #[derive(Debug, Drop)]
 pub struct ChangeLine<'a> {
-    /// `-b`: the access list keeps its base entries, and the default list goes.
+    /// `-b`: the access list keeps its base entries, and the default list is removed.
     pub strip: bool,
-    /// `-k`: the default list goes.
+    /// `-k`: the default list is removed.
     pub drop_default: bool,
     /// `-d`: plain entries are entries of the default list.
     pub as_default: bool,
@@ -177,7 +177,7 @@ fn read_change(words: &Words) -> Option<SetfaclLine<'_>>
     }
 }
 
-/// What words ask for. `None` where they are usage.
+/// The line that words give. `None` where they are usage.
 pub(crate) fn read(words: &Words) -> Option<SetfaclLine<'_>>
     ensures { result ≡ read words.now }
 {

@@ -1,4 +1,4 @@
-//! The tools of a script: their names, the words that each takes, what these ask for, and what that does.
+//! The tools of a script: their names, the words that each takes, the line that these give, and what it does.
 
 ghost use Rattle.std.specs.Prelude.{◌≡◌, IfOk, is_some, map, string_bytes};
 ghost use Rattle.facl_listings.specs.acl_rights.Tables.{IsWhole};
@@ -9,6 +9,7 @@ ghost use Rattle.facl_tools.specs.Tools.{answered, line_or_fault, name_of, read_
 use crate::attr::{self, AttrLine};
 use crate::can::{self, CanLine};
 use crate::chacl::{self, ChaclLine};
+use crate::changes::{self, ChangesLine, Loaded};
 use crate::chmod::{self, ChmodLine};
 use crate::creat::{self, CreatLine};
 use crate::effect::Effect;
@@ -23,6 +24,7 @@ use crate::useradd::{self, UseraddLine};
 use crate::userdel::{self, UserdelLine};
 use crate::usermod::{self, UsermodLine};
 use crate::who::{self, WhoLine};
+use crate::why::{self, WhyLine};
 use crate::{index as index_tool, setfacl};
 use facl_listings::{Index, Judge, State};
 use facl_messages::{LineFault, LineRows, Words, read_by};
@@ -59,15 +61,19 @@ pub enum Tool {
     Who,
     /// With which files a user may do something.
     May,
+    /// Which entries decide on a user.
+    Why,
     /// What each user may do with each file.
     Index,
+    /// What the script has changed so far in who may do what.
+    Changes,
     /// useradd(8).
     Useradd,
     /// userdel(8).
     Userdel,
 }
 
-static TOOLS: [Tool; 17] = [
+static TOOLS: [Tool; 19] = [
     Tool::Load,
     Tool::Getfacl,
     Tool::Setfacl,
@@ -82,7 +88,9 @@ static TOOLS: [Tool; 17] = [
     Tool::Can,
     Tool::Who,
     Tool::May,
+    Tool::Why,
     Tool::Index,
+    Tool::Changes,
     Tool::Useradd,
     Tool::Userdel,
 ];
@@ -107,7 +115,9 @@ impl Tool {
             Tool::Can => "can",
             Tool::Who => "who",
             Tool::May => "may",
+            Tool::Why => "why",
             Tool::Index => "index",
+            Tool::Changes => "changes",
             Tool::Useradd => "useradd",
             Tool::Userdel => "userdel",
         }
@@ -138,7 +148,9 @@ pub enum ToolLine<'a> {
     Can(CanLine<'a>),
     Who(WhoLine<'a>),
     May(MayLine<'a>),
+    Why(WhyLine<'a>),
     Index,
+    Changes(ChangesLine),
     Useradd(UseraddLine<'a>),
     Userdel(UserdelLine<'a>),
 }
@@ -162,7 +174,9 @@ pub fn rows_for(tool: Tool) -> &'static LineRows
         Tool::Can => &can::ROW,
         Tool::Who => &who::ROW,
         Tool::May => &may::ROW,
+        Tool::Why => &why::ROW,
         Tool::Index => &index_tool::ROW,
+        Tool::Changes => &changes::ROW,
         Tool::Useradd => &useradd::ROW,
         Tool::Userdel => &userdel::ROW,
     }
@@ -176,7 +190,7 @@ fn load_line(words: &Words) -> Option<ToolLine<'_>>
     Some(ToolLine::Load(line))
 }
 
-/// What words ask their tool for. `None` where they are usage. Fails only if memory runs out.
+/// The line of a tool that words give. `None` where they are usage. Fails only if memory runs out.
 fn read_line(alloc: Global, tool: Tool, words: &Words) -> Result<Option<ToolLine<'_>>, AllocError>
     ensures { IfOk result (λ line. line ≡ read_line tool words.now) }
 {
@@ -195,13 +209,15 @@ fn read_line(alloc: Global, tool: Tool, words: &Words) -> Result<Option<ToolLine
         Tool::Can => Ok(can::read(words).map(ToolLine::Can)),
         Tool::Who => Ok(who::read(words).map(ToolLine::Who)),
         Tool::May => Ok(may::read(words).map(ToolLine::May)),
+        Tool::Why => Ok(why::read(words).map(ToolLine::Why)),
         Tool::Index => Ok(Some(ToolLine::Index)),
+        Tool::Changes => Ok(Some(ToolLine::Changes(changes::read(words)))),
         Tool::Useradd => Ok(useradd::read(alloc, words)?.map(ToolLine::Useradd)),
         Tool::Userdel => Ok(Some(ToolLine::Userdel(userdel::read(words)))),
     }
 }
 
-/// What words ask their tool for, or usage.
+/// The line of a tool that words give, or usage.
 #[tactic(auto, unfolding(crate::specs::Tools::line_or_fault))]
 fn line_of(alloc: Global, tool: Tool, words: &Words) -> Result<ToolLine<'_>, LineFault>
     ensures { Gives (λ line. line) result (line_or_fault tool words.now) }
@@ -248,13 +264,15 @@ pub fn read_words(alloc: Global, tool: Tool, words: &[String]) -> Result<Words, 
 #[tactic(auto, unfolding(crate::specs::Tools::answered))]
 fn answer<J: Judge>(
     alloc: Global,
+    loaded: &Loaded<'_, J>,
     state: &State,
     index: &Index<J>,
     line: ToolLine<'_>,
     text: &[u8],
 ) -> Result<Effect, LineFault>
-    requires { IsWhole J.verdict_of state.now index.now }
-    ensures { Replies state.now result (answered J.verdict_of state.now line.entry text.now) }
+    requires loaded { IsWhole J.verdict_of loaded.now.state.now loaded.now.index.now }
+    requires whole { IsWhole J.verdict_of state.now index.now }
+    ensures { Replies state.now result (answered J.verdict_of loaded.now.state.now state.now line.entry text.now) }
 {
     match line {
         ToolLine::Load(line) => load::answer(alloc, state, line, text),
@@ -271,25 +289,30 @@ fn answer<J: Judge>(
         ToolLine::Can(line) => can::answer(alloc, state, index, line),
         ToolLine::Who(line) => who::answer(alloc, state, index, line),
         ToolLine::May(line) => may::answer(alloc, state, index, line),
+        ToolLine::Why(line) => why::answer(alloc, state, line),
         ToolLine::Index => index_tool::answer(alloc, state, index),
+        ToolLine::Changes(line) => changes::answer(alloc, loaded, state, index, line),
         ToolLine::Useradd(line) => useradd::answer(alloc, state, line),
         ToolLine::Userdel(line) => userdel::answer(alloc, state, line),
     }
 }
 
-/// What a tool does at a state, by the words after its name and the text after the line.
+/// What a tool does at a state, by the words after its name and the text after the line. `changes` alone looks at the
+/// state after the texts were loaded.
 pub fn tool_line<J: Judge>(
     alloc: Global,
+    loaded: &Loaded<'_, J>,
     state: &State,
     index: &Index<J>,
     tool: Tool,
     words: &[String],
     text: &[u8],
 ) -> Result<Effect, LineFault>
-    requires { IsWhole J.verdict_of state.now index.now }
-    ensures { Replies state.now result (tool_line J.verdict_of state.now tool (map string_bytes words.now) text.now) }
+    requires loaded { IsWhole J.verdict_of loaded.now.state.now loaded.now.index.now }
+    requires whole { IsWhole J.verdict_of state.now index.now }
+    ensures { Replies state.now result (tool_line J.verdict_of loaded.now.state.now state.now tool (map string_bytes words.now) text.now) }
 {
     let words = words_of(alloc, tool, words)?;
     let line = line_of(alloc, tool, &words)?;
-    answer(alloc, state, index, line, text)
+    answer(alloc, loaded, state, index, line, text)
 }

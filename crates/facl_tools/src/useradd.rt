@@ -54,7 +54,7 @@ fn line_with(words: &Words, name: UserName) -> Option<UseraddLine<'_>>
     Some(UseraddLine { name, uid, group })
 }
 
-/// What words ask for. `None` where they are usage. Fails only if memory runs out.
+/// The line that words give. `None` where they are usage. Fails only if memory runs out.
 pub(crate) fn read(alloc: Global, words: &Words) -> Result<Option<UseraddLine<'_>>, AllocError>
     ensures { IfOk result (λ line. line ≡ read words.now) }
 {

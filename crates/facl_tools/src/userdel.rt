@@ -1,4 +1,4 @@
-//! The tool userdel(8): a user goes.
+//! The tool userdel(8): a user is removed.
 
 ghost use Rattle.std.specs.Prelude.{◌≡◌};
 ghost use Rattle.facl_tools.specs.Replies.{Replies};
@@ -25,7 +25,7 @@ pub struct UserdelLine<'a> {
     pub user: LineWord<'a>,
 }
 
-/// What words ask for.
+/// The line that words give.
 pub(crate) fn read(words: &Words) -> UserdelLine<'_>
     ensures { result ≡ read words.now }
 {

@@ -27,7 +27,7 @@ pub struct UsermodLine<'a> {
     pub group: LineWord<'a>,
 }
 
-/// What words ask for. `None` where they are usage.
+/// The line that words give. `None` where they are usage.
 pub(crate) fn read(words: &Words) -> Option<UsermodLine<'_>>
     ensures { result ≡ read words.now }
 {

@@ -22,14 +22,14 @@ pub(crate) static ROW: LineRows = LineRows {
 /// A line of `who`.
 #[derive(Debug, Drop)]
 pub struct WhoLine<'a> {
-    /// `--reach`: search on the directories above is asked too.
+    /// `--reach`: search on the directories above is required too.
     pub reach: bool,
-    /// The permissions that are asked about.
+    /// The permissions in question.
     pub request: Perm,
     pub file: LineWord<'a>,
 }
 
-/// What words ask for. `None` where they are usage.
+/// The line that words give. `None` where they are usage.
 pub(crate) fn read(words: &Words) -> Option<WhoLine<'_>>
     ensures { result ≡ read words.now }
 {

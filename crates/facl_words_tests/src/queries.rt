@@ -1,7 +1,7 @@
-//! The lines of `attr`, `setattr`, `can`, `who`, `may` and `index`.
+//! The lines of `attr`, `setattr`, `can`, `who`, `may`, `why` and `index`.
 use crate::expected::expect_lines;
 
-static LINES: [(&str, &str); 69] = [
+static LINES: [(&str, &str); 81] = [
     ("attr f", ": f"),
     ("attr", "usage"),
     ("attr f g", "usage"),
@@ -81,6 +81,18 @@ static LINES: [(&str, &str); 69] = [
     ("may joe 10", "usage"),
     ("may joe -", "usage"),
     ("may '' r", ": '' r"),
+    ("why joe f", ": joe f"),
+    ("why joe f g f", ": joe f g f"),
+    ("why '' f", ": '' f"),
+    ("why -- -joe f", ": -joe f"),
+    ("why joe ./-", ": joe ./-"),
+    ("why", "usage"),
+    ("why joe", "usage"),
+    ("why - f", "usage"),
+    ("why joe -", "usage"),
+    ("why joe f -", "usage"),
+    ("why joe -- -", "usage"),
+    ("why -R joe f", "usage"),
     ("index", ":"),
     ("index --", ":"),
     ("index f", "usage"),
@@ -90,8 +102,8 @@ static LINES: [(&str, &str); 69] = [
     ("index -", "usage"),
 ];
 
-/// `--reach` of `can`, `who` and `may`, which has no letter.
-static REACH_LINES: [(&str, &str); 45] = [
+/// `--reach` of `can`, `who`, `may` and `why`, which has no letter.
+static REACH_LINES: [(&str, &str); 54] = [
     ("can --reach joe f", "--reach : joe f"),
     ("can joe --reach f", "--reach : joe f"),
     ("can joe f --reach", "--reach : joe f"),
@@ -135,6 +147,15 @@ static REACH_LINES: [(&str, &str); 45] = [
     ("may --reach joe", "usage"),
     ("may -r joe rx", "usage"),
     ("may joe rx --reach=1", "usage"),
+    ("why --reach joe f", "--reach : joe f"),
+    ("why joe --reach f", "--reach : joe f"),
+    ("why joe f --reach", "--reach : joe f"),
+    ("why joe f --reach g", "--reach : joe f g"),
+    ("why -- joe --reach", ": joe --reach"),
+    ("why --reach joe", "usage"),
+    ("why --reach --reach joe f", "usage"),
+    ("why --reach=1 joe f", "usage"),
+    ("why -r joe f", "usage"),
     // No other tool has it.
     ("index --reach", "usage"),
     ("getfacl --reach f", "usage"),
