@@ -10,21 +10,24 @@ use Rattle.facl_tools.specs.facl_messages.Faults.{run_fault_of_script}
 use Rattle.facl_tools.specs.facl_messages.declared.fault.RunFault.{RunFault}
 use Rattle.facl_tools.specs.Tools.{Verdict}
 use Rattle.facl.specs.Costs.{all_pairs}
-use Rattle.facl.specs.Units.{answered}
+use Rattle.facl.specs.declared.states.States.{States}
+use Rattle.facl.specs.Units.{answered, from_start}
 use Rattle.facl.specs.Runs.{EndsBy}
 
-end_of_run : (fault : ScriptFault) (verdict : Verdict) (initial_state : Result State RunFault) (start state : State) (asked : ℕ) (remaining remaining' out out' err err' : Option (List ℕ))
-    → initial_state ≡ Ok start → IfSome remaining (λ script. StopsWith line_asks fault (answered verdict) start script state (all_pairs start) asked remaining' out out' err err')
+end_of_run : (fault : ScriptFault) (verdict : Verdict) (initial_state : Result State RunFault) (start : State) (states : States) (asked : ℕ) (remaining remaining' out out' err err' : Option (List ℕ))
+    → initial_state ≡ Ok start → IfSome remaining (λ script. StopsWith line_asks fault (answered verdict) (from_start start) script states (all_pairs start) asked remaining' out out' err err')
     → EndsBy (run_fault_of_script fault) verdict initial_state asked remaining remaining' out out' err err'
-end_of_run Read verdict initial_state start state asked remaining remaining' out out' err err' e h = record { start = start; starts = e; state = state; stops = h }
-end_of_run Write verdict initial_state start state asked remaining remaining' out out' err err' e h = record { start = start; starts = e; state = state; stops = h }
-end_of_run TooLong verdict initial_state start state asked remaining remaining' out out' err err' e h = record { start = start; starts = e; state = state; stops = h }
-end_of_run NoMemory verdict initial_state start state asked remaining remaining' out out' err err' e h = inr (record { start = start; starts = e; state = state; stops = h })
+end_of_run Read verdict initial_state start states asked remaining remaining' out out' err err' e h = record { start = start; starts = e; states = states; stops = h }
+end_of_run Write verdict initial_state start states asked remaining remaining' out out' err err' e h = record { start = start; starts = e; states = states; stops = h }
+end_of_run TooLong verdict initial_state start states asked remaining remaining' out out' err err' e h = record { start = start; starts = e; states = states; stops = h }
+end_of_run NoMemory verdict initial_state start states asked remaining remaining' out out' err err' e h = inr (record { start = start; starts = e; states = states; stops = h })
 
 -- a script that stopped, of which all pairs were asked for by its start
-pub ends_by : (fault : ScriptFault) (verdict : Verdict) (initial_state : Result State RunFault) (start state : State) (asked asked' : ℕ) (remaining remaining' out out' err err' : Option (List ℕ))
-    → initial_state ≡ Ok start → asked ≡ all_pairs start → IfSome remaining (λ script. StopsWith line_asks fault (answered verdict) start script state asked asked' remaining' out out' err err')
+pub ends_by : (fault : ScriptFault) (verdict : Verdict) (initial_state : Result State RunFault) (start : State) (first states : States) (asked asked' : ℕ) (remaining remaining' out out' err err' : Option (List ℕ))
+    → initial_state ≡ Ok start → first ≡ from_start start → asked ≡ all_pairs start
+    → IfSome remaining (λ script. StopsWith line_asks fault (answered verdict) first script states asked asked' remaining' out out' err err')
     → EndsBy (run_fault_of_script fault) verdict initial_state asked' remaining remaining' out out' err err'
-ends_by fault verdict initial_state start state asked asked' remaining remaining' out out' err err' e pairs h =
-    end_of_run fault verdict initial_state start state asked' remaining remaining' out out' err err' e
-    (subst (λ n. IfSome remaining (λ script. StopsWith line_asks fault (answered verdict) start script state n asked' remaining' out out' err err')) pairs h)
+ends_by fault verdict initial_state start first states asked asked' remaining remaining' out out' err err' e starts pairs h =
+    end_of_run fault verdict initial_state start states asked' remaining remaining' out out' err err' e
+    (subst (λ w. IfSome remaining (λ script. StopsWith line_asks fault (answered verdict) w script states (all_pairs start) asked' remaining' out out' err err')) starts
+    (subst (λ n. IfSome remaining (λ script. StopsWith line_asks fault (answered verdict) first script states n asked' remaining' out out' err err')) pairs h))

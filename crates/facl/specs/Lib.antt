@@ -1,5 +1,6 @@
 pub mod Costs
 pub mod Units
+pub mod FirstFault
 pub mod Sessions
 pub mod Setups
 pub mod Runs

@@ -14,7 +14,8 @@ use Rattle.facl.specs.declared.status.Status.{Status}
 use Rattle.facl.specs.declared.status.Status.TheVariants.{Accepted, Refused}
 use Rattle.facl_tools.specs.Tools.{Verdict}
 use Rattle.facl.specs.Costs.{all_pairs}
-use Rattle.facl.specs.Units.{answered}
+use Rattle.facl.specs.declared.states.States.{States}
+use Rattle.facl.specs.Units.{answered, from_start}
 
 -- a line was refused
 abbrev pub has_refused : Status → Bool
@@ -26,9 +27,9 @@ has_refused Refused = true
 pub record Answers (verdict : Verdict) (start : State) (script : List ℕ) (status : Status) (asked : ℕ) (out out' err err' : Option (List ℕ)) : Type 0 where
   pub m : ℕ → Bool
   pub within : length script ≤ script_limit
-  pub writes : Writes out out' err err' (session line_asks (answered verdict) m script start).out (session line_asks (answered verdict) m script start).err
-  pub status_is : has_refused status ≡ (session line_asks (answered verdict) m script start).refused
-  pub asks : asked ≤ all_pairs start + (session line_asks (answered verdict) m script start).cost
+  pub writes : Writes out out' err err' (session line_asks (answered verdict) m script (from_start start)).out (session line_asks (answered verdict) m script (from_start start)).err
+  pub status_is : has_refused status ≡ (session line_asks (answered verdict) m script (from_start start)).refused
+  pub asks : asked ≤ all_pairs start + (session line_asks (answered verdict) m script (from_start start)).cost
 
 -- The run started at this state, and answered the whole script.
 pub record RunsTo (verdict : Verdict) (initial_state : Result State RunFault) (script : List ℕ) (status : Status) (asked : ℕ) (out out' err err' : Option (List ℕ)) : Type 0 where
@@ -47,8 +48,8 @@ pub record IsUntouched (remaining remaining' out out' err err' : Option (List �
 pub record Stops (fault : ScriptFault) (verdict : Verdict) (initial_state : Result State RunFault) (asked : ℕ) (remaining remaining' out out' err err' : Option (List ℕ)) : Type 0 where
   pub start : State
   pub starts : initial_state ≡ Ok start
-  pub state : State
-  pub stops : IfSome remaining (λ script. StopsWith line_asks fault (answered verdict) start script state (all_pairs start) asked remaining' out out' err err')
+  pub states : States
+  pub stops : IfSome remaining (λ script. StopsWith line_asks fault (answered verdict) (from_start start) script states (all_pairs start) asked remaining' out out' err err')
 
 -- the most verdicts that are asked for before the script is read: on every user and every file of the state that the
 -- setup gives, and none where it gives none

@@ -1,12 +1,28 @@
--- What a contract sees of a session: its state, its index, and the output and the message of the last line.
+-- What a contract sees of a session: its states with their indexes, and the output and the message of the last line.
 use Rattle.std.specs.Prelude.{◌≡◌, ℕ, Bool, false, if◌then◌else◌, List, []}
+use Rattle.std.specs.Option.{option_map_or}
 use Rattle.facl_tools.specs.acl_tree.Step.{State}
 use Rattle.facl_tools.specs.acl_rights.Tables.{Table}
 use Rattle.facl_tools.specs.facl_script.Play.{Answer}
 use Rattle.facl.specs.declared.session.Facl.{Facl}
+use Rattle.facl.specs.declared.states.States.{States}
+use Rattle.facl.specs.declared.world.World.{World}
 
-abbrev pub state_of : {J : Type 0} → Facl J → State
-state_of f = f.world.state
+-- the state after the texts were loaded, with its index: the present one, where no line has changed the state since
+abbrev pub loaded_state : {J : Type 0} → World J → State
+loaded_state w = option_map_or (λ loaded. loaded.state) w.loaded w.state
+
+abbrev pub loaded_index : {J : Type 0} → World J → Table
+loaded_index w = option_map_or (λ loaded. loaded.index) w.loaded w.index
+
+abbrev pub states_in : {J : Type 0} → World J → States
+states_in w = record { loaded = loaded_state w; now = w.state }
+
+abbrev pub states_of : {J : Type 0} → Facl J → States
+states_of f = states_in f.world
+
+abbrev pub loaded_index_of : {J : Type 0} → Facl J → Table
+loaded_index_of f = loaded_index f.world
 
 abbrev pub index_of : {J : Type 0} → Facl J → Table
 index_of f = f.world.index
@@ -27,10 +43,10 @@ pub record IsQuiet {J : Type 0} (f : Facl J) : Type 0 where
   pub err : f.err.items ≡ []
   pub memory : f.lacks_memory ≡ false
 
--- the session is at the state of the answer, with its output and its message; and the line is refused where the answer
+-- the session is at the states of the answer, with its output and its message; and the line is refused where the answer
 -- is
-pub record IsAtAnswer {J : Type 0} (a : Answer State) (f : Facl J) (is_refused : Bool) : Type 0 where
-  pub state : state_of f ≡ a.state
+pub record IsAtAnswer {J : Type 0} (a : Answer States) (f : Facl J) (is_refused : Bool) : Type 0 where
+  pub state : states_of f ≡ a.state
   pub out : out_of f ≡ a.out
   pub err : err_of f ≡ a.err
   pub refused : is_refused ≡ a.refused

@@ -1,5 +1,7 @@
 -- What a unit of a script does: a line, with its text if it takes one.
 use Rattle.std.specs.Prelude.{ℕ, Bool, true, false, if◌then◌else◌, List, [], ◌∷◌, Option, None, Some, Result, Ok, Err}
+use Rattle.std.specs.Prelude.{codes}
+use Rattle.std.specs.Str.{bytes_eq}
 use Rattle.facl_tools.specs.facl_script.Play.{Answer, quiet}
 use Rattle.facl_tools.specs.facl_script.Units.{ScriptUnit, UnitText, none, whole, too_long, unended}
 use Rattle.facl_tools.specs.facl_script.Words.{has_no_words, line_words}
@@ -14,7 +16,22 @@ use Rattle.facl_tools.specs.facl_messages.declared.fault.LineFault.TheVariants.{
 use Rattle.facl_tools.specs.Replies.{Reply, after, or_fault, printed}
 use Rattle.facl_tools.specs.Tools.{Verdict, tool_line, tool_named}
 use Rattle.facl_tools.specs.declared.tools.Tool.{Tool}
+use Rattle.facl.specs.declared.states.States.{States}
 use Rattle.facl.specs.Costs.{most_between}
+
+-- ---- the states that lines see: the one after the texts were loaded, and the present one
+
+-- both, before the first line
+abbrev pub from_start : State → States
+from_start s = record { loaded = s; now = s }
+
+-- the tool `load`, by its name
+abbrev pub is_load : Text → Bool
+is_load tool = bytes_eq tool (codes "load")
+
+-- both after an accepted line: a load begins again
+abbrev pub states_after : (loads : Bool) → States → (new : State) → States
+states_after loads w new = record { loaded = if loads then new else w.loaded; now = new }
 
 -- a line that is blank or a comment, as far as it is within the limit
 abbrev pub is_silent : Option (List ℕ) → Bool
@@ -48,50 +65,51 @@ args_or_fault words = or_fault Usage (files_for words)
 
 -- ---- what is answered
 
--- what a tool does at a state with the text and the words after its name
-abbrev pub tool_reply : Verdict → State → UnitText → List Text → Tool → Result Reply LineFault
-tool_reply verdict s text words tool =
-    after (text_or_fault text) (λ content. tool_line verdict s tool words content)
+-- what a tool does with the text and the words after its name
+abbrev pub tool_reply : Verdict → States → UnitText → List Text → Tool → Result Reply LineFault
+tool_reply verdict w text words tool =
+    after (text_or_fault text) (λ content. tool_line verdict w.loaded w.now tool words content)
 
--- what the words of a line do at a state: its reply, or its first fault
-abbrev pub reply : Verdict → State → UnitText → List Text → Result Reply LineFault
-reply verdict s text [] = Ok (printed s [])
-reply verdict s text (name ∷ words) = after (tool_or_fault name) (tool_reply verdict s text words)
+-- what the words of a line do: its reply, or its first fault
+abbrev pub reply : Verdict → States → UnitText → List Text → Result Reply LineFault
+reply verdict w text [] = Ok (printed w.now [])
+reply verdict w text (name ∷ words) = after (tool_or_fault name) (tool_reply verdict w text words)
 
--- a refused line leaves the state and costs nothing, and its message names its number, its tool and the fault
-abbrev pub refused : ℕ → Text → LineFault → State → Answer State
-refused number tool fault s = record { out = []; err = message number tool fault; state = s; refused = true; cost = 0 }
+-- a refused line leaves the states and costs nothing, and its message names its number, its tool and the fault
+abbrev pub refused : ℕ → Text → LineFault → States → Answer States
+refused number tool fault w = record { out = []; err = message number tool fault; state = w; refused = true; cost = 0 }
 
 -- an accepted line may warn of default entries that were dropped
 abbrev pub warning_if : Bool → ℕ → List ℕ
 warning_if warns number = if warns then warning number else []
 
 -- an accepted line costs the verdicts that its change can have changed
-abbrev pub accepted : ℕ → State → Reply → Answer State
-accepted number s r = record { out = r.out; err = warning_if r.warns number; state = r.state; refused = false; cost = most_between s r.state r.user_change }
+abbrev pub accepted : ℕ → Text → States → Reply → Answer States
+accepted number tool w r =
+    record { out = r.out; err = warning_if r.warns number; state = states_after (is_load tool) w r.state; refused = false; cost = most_between w.now r.state r.user_change }
 
-abbrev pub answer_of : ℕ → Text → State → Result Reply LineFault → Answer State
-answer_of number tool s (Ok r) = accepted number s r
-answer_of number tool s (Err fault) = refused number tool fault s
+abbrev pub answer_of : ℕ → Text → States → Result Reply LineFault → Answer States
+answer_of number tool w (Ok r) = accepted number tool w r
+answer_of number tool w (Err fault) = refused number tool fault w
 
 -- the first word, which names the tool
 abbrev pub tool_word : List Text → Text
 tool_word [] = []
 tool_word (name ∷ words) = name
 
-abbrev pub answer_of_words : Verdict → ScriptUnit → State → Result (List Text) LineFault → Answer State
-answer_of_words verdict u s (Ok words) = answer_of u.number (tool_word words) s (reply verdict s u.text words)
-answer_of_words verdict u s (Err fault) = refused u.number [] fault s
+abbrev pub answer_of_words : Verdict → ScriptUnit → States → Result (List Text) LineFault → Answer States
+answer_of_words verdict u w (Ok words) = answer_of u.number (tool_word words) w (reply verdict w u.text words)
+answer_of_words verdict u w (Err fault) = refused u.number [] fault w
 
 -- a line that runs out of memory is refused with that message; the verdicts for its change may have been asked for by
 -- then
-abbrev pub unless_out_of_memory : Bool → ℕ → State → Answer State → Answer State
-unless_out_of_memory ran_out number s a = if ran_out then record (refused number [] NoMemory s) { cost = a.cost } else a
+abbrev pub unless_out_of_memory : Bool → ℕ → States → Answer States → Answer States
+unless_out_of_memory ran_out number w a = if ran_out then record (refused number [] NoMemory w) { cost = a.cost } else a
 
 -- a line that is neither blank nor a comment is refused with its first fault, or does what it asks for
-abbrev pub answered_line : Verdict → Bool → ScriptUnit → State → Answer State
-answered_line verdict ran_out u s = unless_out_of_memory ran_out u.number s (answer_of_words verdict u s (words_of_line u.line))
+abbrev pub answered_line : Verdict → Bool → ScriptUnit → States → Answer States
+answered_line verdict ran_out u w = unless_out_of_memory ran_out u.number w (answer_of_words verdict u w (words_of_line u.line))
 
--- what a unit does at a state: nothing where its line is blank or a comment
-abbrev pub answered : Verdict → Bool → ScriptUnit → State → Answer State
-answered verdict ran_out u s = if is_silent u.line then quiet s else answered_line verdict ran_out u s
+-- what a unit does: nothing where its line is blank or a comment
+abbrev pub answered : Verdict → Bool → ScriptUnit → States → Answer States
+answered verdict ran_out u w = if is_silent u.line then quiet w else answered_line verdict ran_out u w

@@ -4,11 +4,12 @@ ghost use Rattle.std.specs.Prelude.{◌≡◌};
 ghost use Rattle.facl_tools.specs.facl_words.TextWords.{line_asks};
 ghost use Rattle.facl.specs.Costs.{IsReady};
 ghost use Rattle.facl.specs.Units.{answered};
-ghost use Rattle.facl.specs.Sessions.{state_of, index_of, out_of, err_of};
+ghost use Rattle.facl.specs.Sessions.{states_of, loaded_index_of, index_of, out_of, err_of};
 
 use crate::line::is_silent;
 use crate::session::Facl;
-use facl_tools::{Judge, Session, State, UnitFound, asks_for_text};
+use crate::states::States;
+use facl_tools::{Judge, Session, UnitFound, asks_for_text};
 
 /// A session with the judge that it asks, who is borrowed for the whole script. The session is a type parameter so that
 /// the owner of the borrowed judge learns what became of it.
@@ -29,9 +30,9 @@ impl<'a, J, S: Drop> Drop for Judged<'a, J, S> {
 }
 
 impl<'a, J: Judge> Session for Judged<'a, J, Facl<J>> {
-    type State = State;
+    type State = States;
 
-    ghost state = { λ f. state_of f.session };
+    ghost state = { λ f. states_of f.session };
 
     ghost asks = { line_asks };
 
@@ -39,7 +40,7 @@ impl<'a, J: Judge> Session for Judged<'a, J, Facl<J>> {
 
     ghost spent = { λ f. J.asked_of f.judge.now };
 
-    ghost is_ready = { λ n f. IsReady J.verdict_of (J.asked_of f.judge.now) n (state_of f.session) (index_of f.session) };
+    ghost is_ready = { λ n f. IsReady J.verdict_of (J.asked_of f.judge.now) n (states_of f.session) (loaded_index_of f.session) (index_of f.session) };
 
     ghost held = { λ f. f.judge.ghost_name };
 

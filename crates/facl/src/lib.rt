@@ -6,10 +6,12 @@
 #![tactic(auto)]
 
 mod answer;
+mod laws;
 mod line;
 mod program;
 mod session;
 mod setup;
+mod states;
 mod status;
 mod words;
 mod world;
@@ -19,6 +21,7 @@ pub use facl_tools::{
     Posix, Requests, RunFault, ScriptFault, Sink, Source, StdFeed, StdSink, Subject, SwitchRow,
     Tool, Values, Word, Words, append_message, append_run_fault, read_words, rows_for, write_whole,
 };
+pub use laws::lines_are_refused_for_their_first_fault;
 pub use program::{run, run_judged};
 pub use setup::Setup;
 pub use status::Status;

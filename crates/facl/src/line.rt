@@ -6,7 +6,9 @@ ghost use Rattle.facl_tools.specs.facl_script.ReadText.{IsTextFound};
 ghost use Rattle.facl_tools.specs.facl_script.ReadUnit.{IsLineFound};
 ghost use Rattle.facl_tools.specs.acl_rights.Tables.{IsWhole};
 ghost use Rattle.facl_tools.specs.Replies.{Gives, IsPrepared, Replies};
-ghost use Rattle.facl.specs.Units.{is_silent, words_of_line, tool_or_fault, text_or_fault, tool_reply, reply, tool_word};
+ghost use Rattle.facl_tools.specs.Tools.{tool_line};
+ghost use Rattle.facl.specs.Sessions.{loaded_state, loaded_index, states_in};
+ghost use Rattle.facl.specs.Units.{is_silent, is_load, words_of_line, tool_or_fault, text_or_fault, tool_reply, reply, tool_word};
 
 use crate::world::World;
 use facl_tools::{Effect, Judge, LineFault, TextFound, Tool, has_no_words, split_words, tool_line};
@@ -66,7 +68,38 @@ pub(crate) fn tool_word(words: &[String]) -> &[u8]
     }
 }
 
-/// What a tool does at a state with the text of a line and the words after its name.
+/// Whether a tool is `load`, by its name.
+pub(crate) fn is_load(tool: &[u8]) -> bool
+    ensures { result ≡ is_load tool.now }
+{
+    tool == b"load".as_slice()
+}
+
+/// What a tool does with the words after its name and a text. `changes` looks at the state after the texts were loaded.
+fn tool_effect<J: Judge>(
+    alloc: Global,
+    world: &World<J>,
+    tool: Tool,
+    words: &[String],
+    text: &[u8],
+) -> Result<Effect, LineFault>
+    requires loaded { IsWhole J.verdict_of (loaded_state world.now) (loaded_index world.now) }
+    requires whole { IsWhole J.verdict_of world.now.state world.now.index }
+    ensures { Replies world.now.state result (tool_line J.verdict_of (loaded_state world.now) world.now.state tool (map string_bytes words.now) text.now) }
+{
+    let loaded = world.loaded();
+    tool_line(
+        alloc,
+        &loaded,
+        &world.state,
+        &world.index,
+        tool,
+        words,
+        text,
+    )
+}
+
+/// What a tool does with the text of a line and the words after its name.
 fn tool_reply<J: Judge>(
     alloc: Global,
     world: &World<J>,
@@ -75,16 +108,17 @@ fn tool_reply<J: Judge>(
     words: &[String],
     tool: Tool,
 ) -> Result<Effect, LineFault>
-    requires { IsWhole J.verdict_of world.now.state world.now.index }
+    requires loaded { IsWhole J.verdict_of (loaded_state world.now) (loaded_index world.now) }
+    requires whole { IsWhole J.verdict_of world.now.state world.now.index }
     ensures replies { (content : UnitText) → IsTextFound found text.now content
-        → Replies world.now.state result (tool_reply J.verdict_of world.now.state content (map string_bytes words.now) tool) }
+        → Replies world.now.state result (tool_reply J.verdict_of (states_in world.now) content (map string_bytes words.now) tool) }
     ensures prepared { IfOk result (λ effect. IsPrepared world.now.state effect.staged) }
 {
     let text = text_of_unit(found, text)?;
-    tool_line(alloc, &world.state, &world.index, tool, words, text)
+    tool_effect(alloc, world, tool, words, text)
 }
 
-/// What the words of a line do at a state.
+/// What the words of a line do.
 pub(crate) fn reply<J: Judge>(
     alloc: Global,
     world: &World<J>,
@@ -92,9 +126,10 @@ pub(crate) fn reply<J: Judge>(
     text: &[u8],
     words: &[String],
 ) -> Result<Effect, LineFault>
-    requires { IsWhole J.verdict_of world.now.state world.now.index }
+    requires loaded { IsWhole J.verdict_of (loaded_state world.now) (loaded_index world.now) }
+    requires whole { IsWhole J.verdict_of world.now.state world.now.index }
     ensures replies { (content : UnitText) → IsTextFound found text.now content
-        → Replies world.now.state result (reply J.verdict_of world.now.state content (map string_bytes words.now)) }
+        → Replies world.now.state result (reply J.verdict_of (states_in world.now) content (map string_bytes words.now)) }
     ensures prepared { IfOk result (λ effect. IsPrepared world.now.state effect.staged) }
 {
     let [name, words @ ..] = words else {

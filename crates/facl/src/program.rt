@@ -57,12 +57,13 @@ pub fn run_judged<J: Judge, R: Feed, O: Sink, E: Sink>(
 }
 
 /// Loads the setup's texts, then answers a script: reads it line by line, and writes what each line prints to `out`,
-/// and the message of each refused line to `err`, before the next line is read.
+/// and the message of each refused line to `err`, before the next line is looked at.
 ///
 /// What is written are the bytes of the session made from scratch: the definition of each accepted line replayed on the
-/// loaded texts, every question judged by acl(5)'s check. A refused line changes nothing, and its message names its
-/// first fault. This is proved for a reader and writers whose bytes contracts can name, as of those over memory; of the
-/// streams of a system no contract can state what they give or take.
+/// loaded texts, every question judged by acl(5)'s check, and `changes` comparing with the state after the setup or
+/// after the last accepted load. A refused line changes nothing, and its message names its first fault. This is proved
+/// for a reader and writers whose bytes contracts can name, as of those over memory; of the streams of a system no
+/// contract can state what they give or take.
 ///
 /// # Errors
 ///

@@ -1,19 +1,12 @@
 //! What lines answer under judges whose verdicts are not those of acl(5)'s check.
 
-use crate::judges::{OwnerAlone, WholeClass};
-use crate::played::{Played, play};
+use crate::judges::{OwnerAlone, OwnerAtOnce, WholeClass};
+use crate::played::play;
+use crate::rows::{Row, expect};
 use crate::texts::WHOLE;
-use facl::Status;
-use std::process::Abort;
+use std::alloc::Global;
 
-/// A script, and what it prints under a judge.
-struct Row {
-    name: &'static str,
-    script: &'static [u8],
-    out: &'static [u8],
-}
-
-static OWNERS: [Row; 4] = [
+static OWNERS: [Row; 5] = [
     Row {
         name: "the owner alone",
         script: b"index\n\
@@ -123,9 +116,26 @@ run\n\
 .\n\
 run\n",
     },
+    // Along the paths neither Joe nor Ann is granted search on the root. What `why` prints is the same whoever judges.
+    Row {
+        name: "the owner alone, and what changed",
+        script: b"chmod 400 f\n\
+creat --user=joe --mode=200 new\n\
+userdel ann\n\
+changes\n\
+changes --reach\n\
+why joe f\n",
+        out: b"lisa loses -w-,rw- f\n\
+joe gains -w- new\n\
+ann loses --x,-w-,-wx,r--,r-x,rw-,rwx pub/\n\
+lisa loses -w-,rw- f\n\
+# file: f\n\
+other::---\n\
+\n",
+    },
 ];
 
-static CLASSES: [Row; 4] = [
+static CLASSES: [Row; 5] = [
     Row {
         name: "one request each",
         script: b"index\n\
@@ -217,6 +227,18 @@ r-x\n\
 r-x\n\
 --x\n",
     },
+    // One request in place of another is a gain and a loss. Search alone is granted nobody on the root.
+    Row {
+        name: "one request each, and what changed",
+        script: b"chmod 644 f\n\
+chmod 751 pub\n\
+changes\n\
+changes --reach\n",
+        out: b"joe gains r-- f\n\
+ann gains r-- f\n\
+lisa gains --x pub/\n\
+lisa loses r-x pub/\n",
+    },
     Row {
         name: "one request each, and users who come and go",
         script: b"useradd -u 1003 -g adm bob\n\
@@ -241,14 +263,11 @@ bob\n",
     },
 ];
 
-/// Compares what a script of accepted lines printed.
-fn expect(rt: &impl Abort, row: &Row, played: &Played) {
-    assert!(rt;
-        (played.status, played.out.as_slice(), played.err.as_slice())
-            == (Some(Status::Accepted), row.out, b"".as_slice()),
-        "{}",
-        row.name
-    );
+/// How many verdicts a script asks for under the judge that has no quicker way.
+fn asked_one_by_one(alloc: Global, row: &Row) -> u64 {
+    let mut judge = OwnerAlone::new();
+    let played = play(alloc, &mut judge, &WHOLE, row.script);
+    played.asked
 }
 
 #[test]
@@ -257,6 +276,20 @@ fn owners_alone(rt: HostRuntime) {
         let mut judge = OwnerAlone::new();
         let played = play(rt.alloc(), &mut judge, &WHOLE, row.script);
         expect(&rt, row, &played);
+    }
+}
+
+#[test]
+fn owners_at_once(rt: HostRuntime) {
+    for row in &OWNERS {
+        let mut judge = OwnerAtOnce::new();
+        let played = play(rt.alloc(), &mut judge, &WHOLE, row.script);
+        expect(&rt, row, &played);
+        assert!(rt;
+            played.asked == asked_one_by_one(rt.alloc(), row),
+            "{}",
+            row.name
+        );
     }
 }
 

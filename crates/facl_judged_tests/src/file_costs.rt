@@ -32,7 +32,7 @@ static DEFAULTS: [Cost; 6] = [
 ];
 
 /// A file that changes is judged for each user, once.
-static ONE_FILE: [Cost; 9] = [
+static ONE_FILE: [Cost; 12] = [
     Cost {
         line: b"setfacl -m u:joe:r f\n",
         asked: (0, 3),
@@ -75,10 +75,22 @@ other::---\n\
         line: b"creat -d --user=ann --mode=700 pub/s\n",
         asked: (0, 3),
     },
+    Cost {
+        line: b"changes\n",
+        asked: (0, 0),
+    },
+    Cost {
+        line: b"changes --reach\n",
+        asked: (0, 0),
+    },
+    Cost {
+        line: b"why --reach joe f new pub/s\n",
+        asked: (0, 0),
+    },
 ];
 
-/// Flags, removals, listings, tests, questions, and lines that are refused.
-static NOTHING_CHANGES: [Cost; 26] = [
+/// Flags, removals, listings, tests, questions, what changed, and lines that are refused.
+static NOTHING_CHANGES: [Cost; 31] = [
     Cost {
         line: b"chmod 4640 f\n",
         asked: (0, 0),
@@ -122,6 +134,18 @@ other::rwx\n\
         asked: (0, 0),
     },
     Cost {
+        line: b"why joe f\n",
+        asked: (0, 0),
+    },
+    Cost {
+        line: b"why --reach ann pub run\n",
+        asked: (0, 0),
+    },
+    Cost {
+        line: b"changes\n",
+        asked: (0, 0),
+    },
+    Cost {
         line: b"index\n",
         asked: (0, 0),
     },
@@ -151,6 +175,10 @@ other::rwx\n\
     },
     Cost {
         line: b"can nosuch f\n",
+        asked: (0, 0),
+    },
+    Cost {
+        line: b"why joe nosuch\n",
         asked: (0, 0),
     },
     Cost {
@@ -190,10 +218,14 @@ other::rwx\n\
         line: b"rm -r pub\n",
         asked: (0, 0),
     },
+    Cost {
+        line: b"changes --reach\n",
+        asked: (0, 0),
+    },
 ];
 
 /// A directory that changes is judged, and no file below it.
-static SEARCH: [Cost; 8] = [
+static SEARCH: [Cost; 9] = [
     Cost {
         line: b"may --reach joe rx\n",
         asked: (0, 0),
@@ -226,6 +258,10 @@ static SEARCH: [Cost; 8] = [
         line: b"setfacl -m u:joe:x .\n",
         asked: (0, 3),
     },
+    Cost {
+        line: b"changes --reach\n",
+        asked: (0, 0),
+    },
 ];
 
 /// Each file that changes is judged for each user; files that then have one label are judged once, as the root and run
@@ -254,7 +290,7 @@ static WHOLE_TREE: [Cost; 5] = [
 ];
 
 /// Files that a line loads are judged as those of the setup.
-static LOADED: [Cost; 4] = [
+static LOADED: [Cost; 5] = [
     Cost {
         line: b"index\n",
         asked: (0, 0),
@@ -276,6 +312,10 @@ group::r--\n\
 other::---\n\
 .\n",
         asked: (6, 6),
+    },
+    Cost {
+        line: b"changes\n",
+        asked: (0, 0),
     },
     Cost {
         line: b"load dump\n\

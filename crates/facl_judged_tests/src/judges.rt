@@ -1,16 +1,28 @@
 //! Judges whose verdicts are not those of acl(5)'s check.
 
-ghost use Rattle.std.specs.Prelude.{◌≡◌, ◌^◌};
+ghost use Rattle.std.specs.Prelude.{◌≡◌, ◌^◌, length, map};
 ghost use Rattle.facl.specs.acl_entry.Lists.{perm_at};
 ghost use Rattle.facl.specs.acl_entry.Perms.{number};
 ghost use Rattle.facl_judged_tests.specs.Verdicts.{class_set, owner_alone, owner_alone_local, whole_class, whole_class_local};
 
+use acl_rights::Subjects;
 use facl::{Judge, Key, Label, Perm, Requests, Subject};
 
 fn set_of(label: &Label, key: Key) -> Perm
     ensures { result ≡ perm_at label.now.acl key }
 {
     label.acl.get(key).unwrap_or(Perm::none())
+}
+
+/// What the owner's entry grants, to the owner alone.
+fn owner_alone(subject: &Subject, label: &Label) -> Requests
+    ensures { result ≡ owner_alone subject.now label.now }
+{
+    if subject.uid() == label.owner {
+        Requests::within(set_of(label, Key::Owner))
+    } else {
+        Requests::none()
+    }
 }
 
 /// Grants the owner what the owner's entry contains, and nobody else anything.
@@ -35,11 +47,54 @@ impl Judge for OwnerAlone {
 
     fn verdict(&mut self, subject: &Subject, label: &Label) -> Requests {
         self.asked += 1;
-        if subject.uid() == label.owner {
-            Requests::within(set_of(label, Key::Owner))
-        } else {
-            Requests::none()
-        }
+        owner_alone(subject, label)
+    }
+
+    fn asked(&self) -> u64 {
+        self.asked
+    }
+
+    ghost local = { owner_alone_local };
+}
+
+/// What the owner's entry grants each user.
+fn owners_at_once(users: &Subjects, label: &Label, row: &mut [Requests])
+    requires { length row.old ≡ length users.now }
+    ensures { row.new ≡ map (λ u. owner_alone u label.now) users.now }
+{
+    for (at, user) in users.as_slice().iter().enumerate() {
+        row[at] = owner_alone(user, label);
+    }
+}
+
+/// Grants as [`OwnerAlone`] does, and looks at each user once for all files of a label.
+#[derive(Drop)]
+pub struct OwnerAtOnce {
+    asked: u64,
+}
+
+impl OwnerAtOnce {
+    /// No verdict was asked for yet.
+    pub fn new() -> OwnerAtOnce
+        ensures { result.asked ≡ 0 }
+    {
+        OwnerAtOnce { asked: 0 }
+    }
+}
+
+impl Judge for OwnerAtOnce {
+    ghost verdict_of = { owner_alone };
+
+    ghost asked_of = { λ judge. judge.asked };
+
+    fn verdict(&mut self, subject: &Subject, label: &Label) -> Requests {
+        self.asked += 1;
+        owner_alone(subject, label)
+    }
+
+    fn verdicts(&mut self, users: &Subjects, label: &Label, files: u64, row: &mut [Requests]) {
+        self.asked += files * users.len() as u64;
+        owners_at_once(users, label, row);
     }
 
     fn asked(&self) -> u64 {

@@ -10,14 +10,17 @@ mod answers;
 mod costs;
 #[cfg(test)]
 mod file_costs;
+#[cfg(test)]
 mod judges;
 #[cfg(test)]
 mod member_costs;
+#[cfg(test)]
 mod played;
+#[cfg(test)]
+mod rows;
 #[cfg(test)]
 mod texts;
 #[cfg(test)]
+mod twins;
+#[cfg(test)]
 mod user_costs;
-
-pub use judges::{OwnerAlone, WholeClass};
-pub use played::{Played, play};

@@ -60,3 +60,10 @@ pub const PEOPLE: Setup<'static> = Setup {
     group: Some(GROUP),
     dump: None,
 };
+
+/// A script loads its own texts.
+pub const NOTHING: Setup<'static> = Setup {
+    passwd: None,
+    group: None,
+    dump: None,
+};

@@ -7,6 +7,8 @@
 #[cfg(test)]
 mod attributes;
 #[cfg(test)]
+mod changes;
+#[cfg(test)]
 mod creations;
 #[cfg(test)]
 mod devices;
@@ -34,6 +36,8 @@ mod modes;
 mod options;
 #[cfg(test)]
 mod questions;
+#[cfg(test)]
+mod reasons;
 #[cfg(test)]
 mod restores;
 #[cfg(test)]

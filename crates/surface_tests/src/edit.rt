@@ -42,23 +42,34 @@ fn modifying(rt: &impl Abort, alloc: Global, text: &[u8]) -> Edit {
     }
 }
 
+/// A file after an edit that is accepted.
+fn edited(rt: &impl Abort, alloc: Global, node: &Node, edit: &Edit) -> Node {
+    let edited: Result<Node, EditFault> = apply(alloc, node, edit, false);
+    edited.expect(rt, "an edit")
+}
+
 #[test]
 fn a_line(rt: HostRuntime) {
     let node: Node = file(&rt, rt.alloc(), Kind::Plain, 0o640);
     let edit: Edit = modifying(&rt, rt.alloc(), b"u:1000:rwx");
-    let edited: Result<Node, EditFault> = apply(rt.alloc(), &node, &edit, false);
-    assert!(rt; edited.expect(&rt, "an edit").label.acl.mode() == 0o670);
+    assert!(rt; edited(&rt, rt.alloc(), &node, &edit).label.acl.mode() == 0o670);
+}
+
+/// The number of the fault of an edit; 0 where it is accepted.
+fn refused(alloc: Global, node: &Node, edit: &Edit, skip: bool) -> u8 {
+    let fault: Option<EditFault> = apply(alloc, node, edit, skip).err();
+    match fault {
+        Some(fault) => number(fault),
+        None => 0,
+    }
 }
 
 #[test]
 fn the_faults_of_edits(rt: HostRuntime) {
     let node: Node = file(&rt, rt.alloc(), Kind::Plain, 0o640);
     let edit: Edit = modifying(&rt, rt.alloc(), b"d:u:1000:rwx");
-    let refused = apply(rt.alloc(), &node, &edit, false).err();
-    let fault: EditFault = refused.expect(&rt, "a fault");
-    assert!(rt; number(fault) == 1);
-    let skipped: Result<Node, EditFault> = apply(rt.alloc(), &node, &edit, true);
-    assert!(rt; skipped.is_ok());
+    assert!(rt; refused(rt.alloc(), &node, &edit, false) == 1);
+    assert!(rt; refused(rt.alloc(), &node, &edit, true) == 0);
 }
 
 /// The number of a fault among the faults of an edit.
@@ -81,44 +92,71 @@ fn look(node: &Node) -> (u16, u32, u32, bool) {
     )
 }
 
+/// `--set` with two lists.
+fn put(rt: &impl Abort, alloc: Global) -> Edit {
+    Edit::Put {
+        access: Some(Acl::minimal(alloc, 0o700).expect(rt, "memory")),
+        dacl: Some(Acl::minimal(alloc, 0o500).expect(rt, "memory")),
+    }
+}
+
+/// A directory with both lists.
+fn with_lists(rt: &impl Abort, alloc: Global) -> Node {
+    let node: Node = file(rt, alloc, Kind::Directory, 0o750);
+    edited(rt, alloc, &node, &put(rt, alloc))
+}
+
 #[test]
 fn whole_lists(rt: HostRuntime) {
-    let node: Node = file(&rt, rt.alloc(), Kind::Directory, 0o750);
-    let put = Edit::Put {
-        access: Some(Acl::minimal(rt.alloc(), 0o700).expect(&rt, "memory")),
-        dacl: Some(Acl::minimal(rt.alloc(), 0o500).expect(&rt, "memory")),
-    };
-    let with_lists: Node = apply(rt.alloc(), &node, &put, false).expect(&rt, "an edit");
-    assert!(rt; look(&with_lists) == (0o700, 1001, 50, false));
-    assert!(rt; with_lists.dacl.is_some());
+    let node: Node = with_lists(&rt, rt.alloc());
+    assert!(rt; look(&node) == (0o700, 1001, 50, false));
+    assert!(rt; node.dacl.is_some());
+}
+
+#[test]
+fn a_flat_file(rt: HostRuntime) {
     let flatten = Edit::Flatten {
         access: true,
         dacl: true,
     };
-    let flat: Node = apply(rt.alloc(), &with_lists, &flatten, false).expect(&rt, "an edit");
-    assert!(rt; flat.dacl.is_none());
+    let node: Node = with_lists(&rt, rt.alloc());
+    assert!(rt; edited(&rt, rt.alloc(), &node, &flatten).dacl.is_none());
+}
+
+/// A restore of a list, an owner and flags.
+fn restore(rt: &impl Abort, alloc: Global) -> Edit {
+    Edit::Restore {
+        access: Acl::minimal(alloc, 0o755).expect(rt, "memory"),
+        dacl: None,
+        owner: Id::new(1000),
+        group: None,
+        flags: Some([false, true, false]),
+    }
 }
 
 #[test]
 fn a_restore(rt: HostRuntime) {
     let node: Node = file(&rt, rt.alloc(), Kind::Directory, 0o750);
-    let restore = Edit::Restore {
-        access: Acl::minimal(rt.alloc(), 0o755).expect(&rt, "memory"),
-        dacl: None,
-        owner: Id::new(1000),
-        group: None,
-        flags: Some([false, true, false]),
-    };
-    let restored: Node = apply(rt.alloc(), &node, &restore, false).expect(&rt, "an edit");
+    let restored: Node = edited(&rt, rt.alloc(), &node, &restore(&rt, rt.alloc()));
     assert!(rt; look(&restored) == (0o755, 1000, 50, true));
 }
 
-#[test]
-fn modes_and_new_files(rt: HostRuntime) {
-    let mut parent: Node = file(&rt, rt.alloc(), Kind::Directory, 0o755);
+/// A directory whose mode was set.
+fn parent_directory(rt: &impl Abort, alloc: Global) -> Node {
+    let mut parent: Node = file(rt, alloc, Kind::Directory, 0o755);
     chmod(&mut parent, 0o2750);
-    assert!(rt; look(&parent) == (0o750, 1001, 50, true));
+    parent
+}
+
+#[test]
+fn modes(rt: HostRuntime) {
+    assert!(rt; look(&parent_directory(&rt, rt.alloc())) == (0o750, 1001, 50, true));
+}
+
+#[test]
+fn new_files(rt: HostRuntime) {
     let joe: Id = Id::new(1000).expect(&rt, "an id");
+    let parent: Node = parent_directory(&rt, rt.alloc());
     let created: Result<Node, EditFault> = create(
         rt.alloc(),
         &parent,
@@ -128,6 +166,5 @@ fn modes_and_new_files(rt: HostRuntime) {
         joe,
         joe,
     );
-    let made: Node = created.expect(&rt, "memory");
-    assert!(rt; look(&made) == (0o755, 1000, 50, true));
+    assert!(rt; look(&created.expect(&rt, "memory")) == (0o755, 1000, 50, true));
 }

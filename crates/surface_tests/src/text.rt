@@ -6,62 +6,95 @@ use acl_text::{
     TextFault, Want, Which, decode_attr, encode_attr, read_dump, read_entries, read_group,
     read_name, read_passwd, read_path, write_long, write_name, write_path, write_short,
 };
+use std::alloc::Global;
 use std::process::Abort;
 
-#[test]
-fn entries(rt: HostRuntime) {
+/// The first entry of a text of one entry.
+fn entry(rt: &impl Abort, alloc: Global, text: &[u8]) -> Spec {
     let read: Result<Vec<Spec>, TextFault> = read_entries(
-        rt.alloc(),
-        b"d:g:70:rX",
+        alloc,
+        text,
         Sep::Comma,
         Want::WithPerms,
         &Nobody,
     );
-    let specs: Vec<Spec> = read.expect(&rt, "entries");
-    assert!(rt; specs.len() == 1);
+    let mut specs: Vec<Spec> = read.expect(rt, "entries");
+    specs.pop().expect(rt, "an entry")
+}
+
+#[test]
+fn an_entry(rt: HostRuntime) {
     let Spec {
         at,
         dflt,
         key,
         perm,
-    } = &specs[0];
-    assert!(rt; *at == 1 && *dflt && matches!(key, Key::Group(_)));
-    let given: &Option<PermSpec> = perm;
+    } = entry(&rt, rt.alloc(), b"d:g:70:rX");
+    assert!(rt; at == 1 && dflt && matches!(key, Key::Group(_)));
+    let given: Option<PermSpec> = perm;
     assert!(rt; matches!(given, Some(PermSpec { fixed, cond_x: true }) if fixed.number() == 4));
-    let lines = read_entries(rt.alloc(), b"u:5\n", Sep::Line, Want::WithoutPerms, &Nobody);
-    let plain = read_entries(rt.alloc(), b"d:u::r", Sep::Comma, Want::Plain, &Nobody);
-    assert!(rt; lines.is_ok() && plain.is_err());
 }
 
 #[test]
-fn lists_and_attributes(rt: HostRuntime) {
+fn other_entries(rt: HostRuntime) {
+    let lines = read_entries(rt.alloc(), b"u:5\n", Sep::Line, Want::WithoutPerms, &Nobody);
+    assert!(rt; lines.is_ok());
+    let plain = read_entries(rt.alloc(), b"d:u::r", Sep::Comma, Want::Plain, &Nobody);
+    assert!(rt; plain.is_err());
+}
+
+#[test]
+fn lists(rt: HostRuntime) {
     let acl: Acl = Acl::minimal(rt.alloc(), 0o640).expect(&rt, "memory");
     let long: Result<Vec<u8>, NoMemory> = write_long(rt.alloc(), &acl, &Nobody);
     assert!(rt;
         long.expect(&rt, "memory").as_slice() == b"user::rw-\ngroup::r--\nother::---\n".as_slice()
     );
+}
+
+#[test]
+fn short_lists(rt: HostRuntime) {
+    let acl: Acl = Acl::minimal(rt.alloc(), 0o640).expect(&rt, "memory");
     let short: Result<Vec<u8>, NoMemory> = write_short(rt.alloc(), &acl, &Nobody);
     assert!(rt; short.expect(&rt, "memory").as_slice() == b"u::rw-,g::r--,o::---".as_slice());
+}
+
+#[test]
+fn attributes(rt: HostRuntime) {
+    let acl: Acl = Acl::minimal(rt.alloc(), 0o640).expect(&rt, "memory");
     let bytes: Result<Vec<u8>, NoMemory> = encode_attr(rt.alloc(), &acl);
     let again: Result<Acl, TextFault> = decode_attr(rt.alloc(), &bytes.expect(&rt, "memory"));
     assert!(rt; again.expect(&rt, "a list").mode() == 0o640);
 }
 
 #[test]
-fn names_and_paths(rt: HostRuntime) {
+fn names(rt: HostRuntime) {
     let name: Result<Name, NoMemory> = read_name(rt.alloc(), b"al\\040b");
     let name: Name = name.expect(&rt, "memory");
     assert!(rt; name.as_bytes() == b"al b".as_slice());
     let written: Result<Vec<u8>, NoMemory> = write_name(rt.alloc(), name.as_bytes());
     assert!(rt; written.expect(&rt, "memory").as_slice() == b"al\\040b".as_slice());
-    let path: Result<Option<Path>, NoMemory> = read_path(rt.alloc(), b"srv/project");
-    let path: Path = path.expect(&rt, "memory").expect(&rt, "a path");
+}
+
+/// A path of two components.
+fn project(rt: &impl Abort, alloc: Global) -> Path {
+    let path: Result<Option<Path>, NoMemory> = read_path(alloc, b"srv/project");
+    path.expect(rt, "memory").expect(rt, "a path")
+}
+
+#[test]
+fn paths(rt: HostRuntime) {
+    let path: Path = project(&rt, rt.alloc());
     let mut last: &[u8] = b"".as_slice();
     for component in path.components() {
         last = component;
     }
     assert!(rt; last == b"project".as_slice());
-    let text: Result<Vec<u8>, NoMemory> = write_path(rt.alloc(), &path);
+}
+
+#[test]
+fn written_paths(rt: HostRuntime) {
+    let text: Result<Vec<u8>, NoMemory> = write_path(rt.alloc(), &project(&rt, rt.alloc()));
     assert!(rt; text.expect(&rt, "memory").as_slice() == b"srv/project".as_slice());
 }
 
@@ -77,7 +110,7 @@ fn a_path_of_components(rt: HostRuntime) {
 }
 
 #[test]
-fn rows(rt: HostRuntime) {
+fn users(rt: HostRuntime) {
     let users: Result<Vec<PasswdRow>, TextFault> = read_passwd(
         rt.alloc(),
         b"lisa:x:1001:50:Lisa:/home/lisa:/bin/sh\n",
@@ -87,6 +120,10 @@ fn rows(rt: HostRuntime) {
     assert!(rt;
         name.as_bytes() == b"lisa".as_slice() && uid.number() == 1001 && gid.number() == 50
     );
+}
+
+#[test]
+fn groups(rt: HostRuntime) {
     let groups: Result<Vec<GroupRow>, TextFault> = read_group(rt.alloc(), b"cool:x:60:lisa\n");
     let groups: Vec<GroupRow> = groups.expect(&rt, "rows");
     let GroupRow { name, gid, names } = &groups[0];
@@ -99,7 +136,7 @@ fn rows(rt: HostRuntime) {
 const RECORD: &[u8] = b"# file: d/\n# flags: --t\nuser::rwx\ngroup::r-x\nother::---\n";
 
 #[test]
-fn dumps(rt: HostRuntime) {
+fn a_dump(rt: HostRuntime) {
     let restored: Result<Vec<DumpRecord>, TextFault> = read_dump(
         rt.alloc(),
         RECORD,
@@ -119,6 +156,10 @@ fn dumps(rt: HostRuntime) {
     } = &records[0];
     assert!(rt; *at == 1 && *slash && owner.is_none() && group.is_none() && dacl.is_none());
     assert!(rt; *flags == Some([false, false, true]) && access.mode() == 0o750);
+}
+
+#[test]
+fn a_fault_of_a_dump(rt: HostRuntime) {
     let loaded = read_dump(rt.alloc(), RECORD, DumpUse::Load, &Nobody);
     let TextFault { kind, at } = loaded.err().expect(&rt, "a fault");
     assert!(rt; number(kind) == 9 && at == 1);

@@ -31,30 +31,51 @@ fn people(rt: HostRuntime) {
     assert!(rt; count == 3 && joe == Some(1));
     let shown: Option<&[u8]> = people.name(1);
     assert!(rt; shown == Some(b"joe".as_slice()) && people.name(3).is_none());
+}
+
+#[test]
+fn a_subject(rt: HostRuntime) {
+    let (_tree, people) = load(&rt, rt.alloc());
     let subject: Result<Option<Subject>, NoMemory> = people.subject(rt.alloc(), 1);
     let subject: Subject = subject.expect(&rt, "memory").expect(&rt, "a user");
     assert!(rt; subject.uid().number() == 1000 && subject.groups().len() == 1);
+}
+
+#[test]
+fn names(rt: HostRuntime) {
+    let (_tree, people) = load(&rt, rt.alloc());
     let id: Option<Id> = people.user_id(b"ann");
     assert!(rt; people.user_name(id.expect(&rt, "ann")) == Some(b"ann".as_slice()));
     let group: Option<Id> = people.group_id(b"adm");
     assert!(rt; people.group_name(group.expect(&rt, "adm")) == Some(b"adm".as_slice()));
 }
 
-#[test]
-fn files(rt: HostRuntime) {
-    let (tree, _people) = load(&rt, rt.alloc());
-    let log: Path = path(&rt, rt.alloc(), b"log");
-    let node: Option<&Node> = tree.get(&log);
-    assert!(rt; node.expect(&rt, "a file").label.group.number() == 70);
+/// The kind of the last file.
+fn last_kind(tree: &Tree) -> Option<Kind> {
     let mut last: Option<Kind> = None;
     for file in tree.iter() {
         last = Some(file.value().kind);
     }
-    assert!(rt; last == Some(Kind::Plain));
-    let above: Result<Vec<Path>, NoMemory> = tree.ancestors(rt.alloc(), &log);
+    last
+}
+
+#[test]
+fn files(rt: HostRuntime) {
+    let (tree, _people) = load(&rt, rt.alloc());
+    let node: Option<&Node> = tree.get(&path(&rt, rt.alloc(), b"log"));
+    assert!(rt; node.expect(&rt, "a file").label.group.number() == 70);
+    assert!(rt; last_kind(&tree) == Some(Kind::Plain));
+}
+
+#[test]
+fn files_above_and_below(rt: HostRuntime) {
+    let (tree, _people) = load(&rt, rt.alloc());
+    let above: Result<Vec<Path>, NoMemory> = tree.ancestors(
+        rt.alloc(),
+        &path(&rt, rt.alloc(), b"log"),
+    );
     assert!(rt; above.expect(&rt, "memory").len() == 1);
-    let root: Path = path(&rt, rt.alloc(), b".");
-    let within: Result<Vec<Path>, NoMemory> = tree.within(rt.alloc(), &root);
+    let within: Result<Vec<Path>, NoMemory> = tree.within(rt.alloc(), &path(&rt, rt.alloc(), b"."));
     assert!(rt; within.expect(&rt, "memory").len() == 5);
 }
 
@@ -68,96 +89,160 @@ type Counts = (
     Option<usize>,
 );
 
-fn counts(rt: &impl Abort, alloc: Global, command: &Command<'_>) -> Counts {
-    let (tree, people) = load(rt, alloc);
-    let prepared: Result<Staged, TreeFault> = tree.prepare(alloc, &people, command);
-    let staged: Staged = prepared.expect(rt, "a command");
-    let after: (&Tree, &People) = (staged.tree(), staged.people());
-    assert!(rt; after.0.get(&path(rt, alloc, b".")).is_some() && after.1.users() > 1);
+fn counts_of(staged: &Staged) -> Counts {
     let moved: Option<(usize, &[Id])> = staged.moved();
     let joined: Option<usize> = staged.joined();
     let left: Option<usize> = staged.left();
-    let counts = (
+    (
         staged.changed().len(),
         staged.gone().len(),
         moved.map(|(user, groups)| (user, groups.len())),
         joined,
         left,
-    );
+    )
+}
+
+/// Prepares a command, and compares what it stages.
+fn expect(rt: &impl Abort, alloc: Global, command: Command<'_>, wanted: Counts) {
+    let (tree, people) = load(rt, alloc);
+    let prepared: Result<Staged, TreeFault> = tree.prepare(alloc, &people, &command);
+    let staged: Staged = prepared.expect(rt, "a command");
+    assert!(rt; counts_of(&staged) == wanted);
     staged.give_up();
-    counts
 }
 
 #[test]
-fn commands_on_files(rt: HostRuntime) {
-    let alloc = rt.alloc();
+fn a_prepared_state(rt: HostRuntime) {
+    let (tree, people) = load(&rt, rt.alloc());
+    let prepared: Result<Staged, TreeFault> = tree.prepare(
+        rt.alloc(),
+        &people,
+        &gpasswd(&rt, rt.alloc(), Membership::Add),
+    );
+    let staged: Staged = prepared.expect(&rt, "a command");
+    let after: (&Tree, &People) = (staged.tree(), staged.people());
+    assert!(rt; after.0.get(&path(&rt, rt.alloc(), b".")).is_some() && after.1.users() == 3);
+    staged.give_up();
+}
+
+#[test]
+fn a_chmod(rt: HostRuntime) {
     let chmod = Command::Chmod {
-        paths: operand(&rt, alloc, b"pub"),
+        paths: operand(&rt, rt.alloc(), b"pub"),
         mode: 0o770,
         recursive: true,
     };
-    assert!(rt; counts(&rt, alloc, &chmod) == (1, 0, None, None, None));
+    expect(&rt, rt.alloc(), chmod, (1, 0, None, None, None));
+}
+
+#[test]
+fn an_edit(rt: HostRuntime) {
     let flatten = Command::Edit {
-        paths: operand(&rt, alloc, b"pub"),
+        paths: operand(&rt, rt.alloc(), b"pub"),
         edit: Edit::Flatten {
             access: true,
             dacl: true,
         },
         recursive: false,
     };
-    assert!(rt; counts(&rt, alloc, &flatten) == (1, 0, None, None, None));
+    expect(&rt, rt.alloc(), flatten, (1, 0, None, None, None));
+}
+
+#[test]
+fn a_new_file(rt: HostRuntime) {
     let creat = Command::Creat(NewFile {
-        path: path(&rt, alloc, b"pub/n"),
+        path: path(&rt, rt.alloc(), b"pub/n"),
         kind: Kind::Plain,
-        user: name(&rt, alloc, b"ann"),
+        user: name(&rt, rt.alloc(), b"ann"),
         mode: 0o640,
         umask: 0o22,
     });
-    assert!(rt; counts(&rt, alloc, &creat) == (1, 0, None, None, None));
-    let rm = Command::Rm {
-        paths: operand(&rt, alloc, b"f"),
+    expect(&rt, rt.alloc(), creat, (1, 0, None, None, None));
+}
+
+/// `rm` of a file.
+fn rm(rt: &impl Abort, alloc: Global) -> Command<'static> {
+    Command::Rm {
+        paths: operand(rt, alloc, b"f"),
         recursive: false,
-    };
-    assert!(rt; counts(&rt, alloc, &rm) == (0, 1, None, None, None));
+    }
+}
+
+#[test]
+fn a_removal(rt: HostRuntime) {
+    expect(
+        &rt,
+        rt.alloc(),
+        rm(&rt, rt.alloc()),
+        (0, 1, None, None, None),
+    );
+}
+
+/// The records of a text.
+fn records(rt: &impl Abort, alloc: Global, text: &[u8]) -> DumpRecords {
+    let records: Vec<DumpRecord> = read_dump(alloc, text, DumpUse::Restore, &Nobody).expect(
+        rt, "records",
+    );
+    DumpRecords::new(records)
 }
 
 #[test]
 fn a_restore(rt: HostRuntime) {
-    let text = b"# file: f\nuser::rwx\ngroup::r-x\nother::---\n";
-    let records: Vec<DumpRecord> = read_dump(rt.alloc(), text, DumpUse::Restore, &Nobody).expect(
-        &rt, "records",
-    );
     let restore = Command::Restore {
-        records: DumpRecords::new(records),
+        records: records(
+            &rt,
+            rt.alloc(),
+            b"# file: f\nuser::rwx\ngroup::r-x\nother::---\n",
+        ),
     };
-    assert!(rt; counts(&rt, rt.alloc(), &restore) == (1, 0, None, None, None));
+    expect(&rt, rt.alloc(), restore, (1, 0, None, None, None));
+}
+
+/// `gpasswd` of joe and adm.
+fn gpasswd(rt: &impl Abort, alloc: Global, change: Membership) -> Command<'static> {
+    Command::Gpasswd {
+        user: name(rt, alloc, b"joe"),
+        group: name(rt, alloc, b"adm"),
+        change,
+    }
 }
 
 #[test]
-fn commands_on_people(rt: HostRuntime) {
-    let alloc = rt.alloc();
-    let gpasswd = Command::Gpasswd {
-        user: name(&rt, alloc, b"joe"),
-        group: name(&rt, alloc, b"adm"),
-        change: Membership::Add,
-    };
-    assert!(rt; counts(&rt, alloc, &gpasswd) == (0, 0, Some((1, 1)), None, None));
+fn a_membership(rt: HostRuntime) {
+    expect(
+        &rt,
+        rt.alloc(),
+        gpasswd(&rt, rt.alloc(), Membership::Add),
+        (0, 0, Some((1, 1)), None, None),
+    );
+}
+
+#[test]
+fn a_primary_group(rt: HostRuntime) {
     let usermod = Command::Usermod {
-        user: name(&rt, alloc, b"joe"),
-        group: name(&rt, alloc, b"staff"),
+        user: name(&rt, rt.alloc(), b"joe"),
+        group: name(&rt, rt.alloc(), b"staff"),
     };
-    assert!(rt; counts(&rt, alloc, &usermod) == (0, 0, Some((1, 2)), None, None));
-    let bob: Option<UserName> = UserName::new(name(&rt, alloc, b"bob"));
+    expect(&rt, rt.alloc(), usermod, (0, 0, Some((1, 2)), None, None));
+}
+
+#[test]
+fn a_new_user(rt: HostRuntime) {
+    let bob: Option<UserName> = UserName::new(name(&rt, rt.alloc(), b"bob"));
     let useradd = Command::Useradd(NewUser {
         name: bob.expect(&rt, "a name"),
         uid: Id::new(1003).expect(&rt, "an id"),
-        group: name(&rt, alloc, b"staff"),
+        group: name(&rt, rt.alloc(), b"staff"),
     });
-    assert!(rt; counts(&rt, alloc, &useradd) == (0, 0, None, Some(3), None));
+    expect(&rt, rt.alloc(), useradd, (0, 0, None, Some(3), None));
+}
+
+#[test]
+fn a_user_who_goes(rt: HostRuntime) {
     let userdel = Command::Userdel {
-        user: name(&rt, alloc, b"joe"),
+        user: name(&rt, rt.alloc(), b"joe"),
     };
-    assert!(rt; counts(&rt, alloc, &userdel) == (0, 0, None, None, Some(1)));
+    expect(&rt, rt.alloc(), userdel, (0, 0, None, None, Some(1)));
 }
 
 /// The number of a fault among the faults of a command.
@@ -185,13 +270,7 @@ fn number(fault: TreeFault) -> u8 {
 }
 
 /// The number of the fault of a command.
-fn refused(
-    rt: &impl Abort,
-    alloc: Global,
-    tree: &Tree,
-    people: &People,
-    command: &Command<'_>,
-) -> u8 {
+fn refused(alloc: Global, tree: &Tree, people: &People, command: &Command<'_>) -> u8 {
     match tree.prepare(alloc, people, command) {
         Ok(staged) => {
             staged.give_up();
@@ -202,18 +281,21 @@ fn refused(
 }
 
 #[test]
-fn a_refused_and_an_accepted_command(rt: HostRuntime) {
+fn a_refused_command(rt: HostRuntime) {
+    let (tree, people) = load(&rt, rt.alloc());
+    let leave: Command<'_> = gpasswd(&rt, rt.alloc(), Membership::Remove);
+    assert!(rt; refused(rt.alloc(), &tree, &people, &leave) == 7);
+}
+
+#[test]
+fn an_accepted_command(rt: HostRuntime) {
     let (mut tree, mut people) = load(&rt, rt.alloc());
-    let leave = Command::Gpasswd {
-        user: name(&rt, rt.alloc(), b"joe"),
-        group: name(&rt, rt.alloc(), b"adm"),
-        change: Membership::Remove,
-    };
-    assert!(rt; refused(&rt, rt.alloc(), &tree, &people, &leave) == 7);
-    let rm = Command::Rm {
-        paths: operand(&rt, rt.alloc(), b"f"),
-        recursive: false,
-    };
-    accept(&rt, rt.alloc(), &mut tree, &mut people, &rm);
+    accept(
+        &rt,
+        rt.alloc(),
+        &mut tree,
+        &mut people,
+        &rm(&rt, rt.alloc()),
+    );
     assert!(rt; tree.get(&path(&rt, rt.alloc(), b"f")).is_none());
 }

@@ -1,5 +1,5 @@
 use Rattle.std.proofs.Common.{◌∙◌, ◌+◌, ◌≤◌, sym, subst, ap}
-use Rattle.facl.specs.Sessions.{state_of, ran_out_of_memory, IsAtAnswer}
+use Rattle.facl.specs.Sessions.{states_in, states_of, ran_out_of_memory, IsAtAnswer}
 use Rattle.facl.specs.Units.{answered_line}
 use Rattle.facl.proofs.Refusing.{is_answer, not_silent}
 use Rattle.facl.proofs.answer.JudgedFaclSession.answer.Goals as goal
@@ -11,7 +11,7 @@ returns-clause-answers g c = λ u found.
     let ran_out = ran_out_of_memory new in
     let asked = g.J.Judge.asked_of c.args.self.now.judge.now in
     let silent = sym (c.is_silent.ensures u.line found.line_is) ∙ c.if-is_silent.false in
-    let answer = ap (λ w. answered_line V ran_out u w.state) c.fall_silent.ensures.world ∙ sym (not_silent V u ran_out (state_of c.args.self.now.session) silent) in
+    let answer = ap (λ w. answered_line V ran_out u (states_in w)) c.fall_silent.ensures.world ∙ sym (not_silent V u ran_out (states_of c.args.self.now.session) silent) in
     let asked' = g.J.Judge.asked_of c.answer_line.new.judge in (
       ran_out,
       is_answer _ new asked asked' c.answer_line.result (subst (λ a. IsAtAnswer a new c.answer_line.result) answer (c.answer_line.ensures.answer u found))
