@@ -137,12 +137,16 @@ def asks_other_letters(line: Line) -> bool:
 
 
 def lacks_a_word(line: Line) -> bool:
-    wanted = {b"can": 2, b"who": 2, b"may": 2, b"getfacl": 1, b"chmod": 2, b"rm": 1, b"attr": 1, b"userdel": 1, b"setattr": 2}
+    wanted = {b"can": 2, b"who": 2, b"may": 2, b"why": 2, b"getfacl": 1, b"chmod": 2, b"rm": 1, b"attr": 1, b"userdel": 1, b"setattr": 2}
     return len(line.operands()) < wanted.get(line.tool(), 0)
 
 
 def has_many_files(line: Line) -> bool:
-    return line.tool() in (b"can", b"who", b"may", b"creat", b"attr", b"index") and len(line.operands()) > 2
+    return line.tool() in (b"can", b"who", b"may", b"creat", b"attr") and len(line.operands()) > 2
+
+
+def starts_with_a_path(line: Line) -> bool:
+    return any(b"/" in word for word in line.operands()[:1])
 
 
 TABLE: List[Cause] = [
@@ -193,8 +197,8 @@ TABLE: List[Cause] = [
     Cause("force", USAGE, has_option(b"rm", b"-f", b"--force"),
           "There is no -f: each FILE has to be there.",
           b"rm -rf srv/share/drafts", b"rm -r srv/share/drafts"),
-    Cause("a question with -R", USAGE, lambda line: line.tool() in (b"can", b"who", b"may") and b"-R" in line.options,
-          "A question has no -R. can and who take one FILE; may USER PERMS prints all files, and index all files with all users.",
+    Cause("a question with -R", USAGE, lambda line: line.tool() in (b"can", b"who", b"may", b"why") and b"-R" in line.options,
+          "A question has no -R. can, who and why ask of the files they name; may USER PERMS asks of all files, and index of all users too.",
           b"who -R r srv/share", b"index"),
     Cause("other letters", USAGE, asks_other_letters,
           "PERMS are letters of rwx, or one digit 0 to 7.",
@@ -211,6 +215,9 @@ TABLE: List[Cause] = [
     Cause("several files", USAGE, has_many_files,
           "This takes one FILE. A name with a blank is written in single quotes.",
           b"can ines srv/share/plan 2", b"can ines 'srv/share/plan 2 '"),
+    Cause("a word where none is taken", USAGE, lambda line: line.tool() in (b"index", b"changes") and line.operands() != [],
+          "index and changes take no FILE and no USER: they go over all of them.",
+          b"changes srv/share/one", b"changes"),
     Cause("a word is missing", USAGE, lacks_a_word,
           "A word is missing.",
           b"can ines", b"can ines srv/share/one"),
@@ -226,8 +233,11 @@ TABLE: List[Cause] = [
     Cause("sudo", rb"facl: unknown tool", is_tool(b"sudo", b"doas"),
           "Commands act as the administrator already. Leave the word out.",
           b"sudo chmod 600 srv/share/one", b"chmod 600 srv/share/one"),
-    Cause("a group in place of a user", rb"(can|may): .*: no such user", lambda line: True,
-          "can and may take a user. What a group gives is shown by a new user who has that group alone: help recipes",
+    Cause("a file before the user", rb"(can|may|why): .*: no such user", starts_with_a_path,
+          "USER comes first, and FILE after it.",
+          b"why srv/share/one ines", b"why ines srv/share/one"),
+    Cause("a group in place of a user", rb"(can|may|why): .*: no such user", lambda line: True,
+          "can, may and why ask of users. What a group gives is asked of a user who has that group alone: help recipes",
           b"may audit r", b"useradd -u 60001 -g audit probe"),
     Cause("names are not expanded", NO_FILE, has(rb"[*?~]"),
           "Names are not expanded: no *, ? or ~. With -R a line goes to all files below a directory; may and index print all files.",

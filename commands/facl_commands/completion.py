@@ -14,9 +14,10 @@ CANDIDATES = 200  # The most that one word is offered.
 FILE, USER, GROUP, ENTRIES, OTHER = "file", "user", "group", "entries", "other"
 # What operands are, the last for all that follow; and what options have as values.
 OPERANDS: Dict[str, List[str]] = {
-    "can": [USER, FILE], "who": [OTHER, FILE], "may": [USER, OTHER], "getfacl": [FILE], "setfacl": [FILE], "chacl": [ENTRIES, FILE],
-    "chmod": [OTHER, FILE], "creat": [FILE], "rm": [FILE], "attr": [FILE], "setattr": [OTHER, FILE], "gpasswd": [GROUP],
-    "usermod": [USER], "useradd": [OTHER], "userdel": [USER], "index": [OTHER], "load": [OTHER],
+    "can": [USER, FILE], "who": [OTHER, FILE], "may": [USER, OTHER], "why": [USER, FILE], "changes": [OTHER], "index": [OTHER],
+    "getfacl": [FILE], "setfacl": [FILE], "chacl": [ENTRIES, FILE], "chmod": [OTHER, FILE], "creat": [FILE], "rm": [FILE],
+    "attr": [FILE], "setattr": [OTHER, FILE], "gpasswd": [GROUP], "usermod": [USER], "useradd": [OTHER], "userdel": [USER],
+    "load": [OTHER],
 }
 VALUES: Dict[str, Dict[str, str]] = {
     "setfacl": {"-m": ENTRIES, "-x": ENTRIES, "--modify": ENTRIES, "--remove": ENTRIES, "--set": ENTRIES, "-M": OTHER, "-X": OTHER,

@@ -15,8 +15,8 @@ from .scripts import LINE_LIMIT, Unit, is_empty, read_script, takes_text, words_
 Read = Callable[[str], str]  # Reads a line, after a prompt; raises EOFError and KeyboardInterrupt.
 HELP_WORDS, END_WORDS = (b"help", b"?"), (b"quit", b"exit")
 WORDS_OF_PROMPT = ["help", "quit"]
-EMPTY_ANSWERS = {b"who": b"(nobody)\n", b"may": b"(nothing)\n", b"index": b"(nothing)\n", b"getfacl": b"(nothing)\n"}
-QUESTIONS = (*EMPTY_ANSWERS, b"can", b"attr")
+EMPTY_ANSWERS = {b"who": b"(nobody)\n", **dict.fromkeys((b"may", b"index", b"changes", b"getfacl"), b"(nothing)\n")}
+QUESTIONS = (*EMPTY_ANSWERS, b"can", b"why", b"attr")
 CONTROLS = {code: "\\%03o" % code for code in [*range(32), 127] if chr(code) not in "\t\n"}
 CONTROLS.update({code: "".join("\\%03o" % byte for byte in chr(code).encode()) for code in range(128, 160)})
 KEYS = """\

@@ -163,11 +163,13 @@ def items_of(unit: Unit, place: int, region: Region) -> Optional[Iterator[Item]]
         return line_items(place, region, lambda line: line)
     if unit.is_of(b"index"):
         return line_items(place, region, lambda line: line.split(b" ", 2)[2])
+    if unit.is_of(b"changes"):
+        return line_items(place, region, lambda line: line.split(b" ", 3)[3])
     if unit.is_of(b"chacl"):
         return line_items(place, region, lambda line: line.rpartition(b" [")[0])
     if unit.is_of(b"setfacl"):
         return line_items(place, region, lambda line: line.rpartition(b": ")[0])
-    if unit.is_of(b"getfacl", b"attr"):
+    if unit.is_of(b"getfacl", b"attr", b"why"):
         start = region._replace(end=min(region.end, region.start + 8)).read()
         return record_items(place, region) if start in (b"", b"# file: ") else None
     return None

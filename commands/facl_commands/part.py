@@ -16,7 +16,7 @@ from .program import Session
 from .scripts import Unit, read_script
 
 EDITS = ("setfacl", "chacl", "chmod", "creat", "rm", "setattr")
-OF_FILES = (*EDITS, "getfacl", "attr")  # Tools that take several FILEs, or edit one.
+OF_FILES = (*EDITS, "getfacl", "attr", "why")  # Tools that take several FILEs, or edit one.
 RECORD = re.compile(rb"^[ \t]*#[ \t]*file:[ ]?(.*)$", re.MULTILINE)
 
 

@@ -35,6 +35,16 @@ def uid_of_row(passwd: bytes, name: bytes) -> bytes:
     return next((fields[2] for fields in rows_of(passwd) if fields[0] == name), name)
 
 
+def user_word(passwd: bytes, name: bytes) -> Optional[bytes]:
+    """What names a user in a line: the name, or in the place of digits alone the id, which means the first user who has it;
+    None where that is another one."""
+    if not name.isdigit():
+        return name
+    uid = int(uid_of_row(passwd, name))
+    first = next(fields[0] for fields in rows_of(passwd) if int(fields[2]) == uid)
+    return b"%d" % uid if first == name else None
+
+
 def options_of(words: List[bytes]) -> Tuple[Dict[bytes, bytes], List[bytes]]:
     """The values of options of one letter, and the operands, of the words after a tool."""
     given: Dict[bytes, bytes] = {}

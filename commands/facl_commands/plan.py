@@ -18,7 +18,7 @@ from .snapshot import Snapshot, read_snapshot
 
 SOMETHING, REFUSED, NOTHING = 0, 1, 3
 WARNING = b"setfacl: warning: default entries dropped"
-QUESTIONS_WITH_EMPTY_ANSWERS = (b"who", b"may", b"index")
+QUESTIONS_WITH_EMPTY_ANSWERS = (b"who", b"may", b"index", b"changes")
 HELP = """\
 Answers the lines of each SCRIPT over a snapshot, as facl does, and prints what would change in who may do what: one
 line for each user and kind of change, with the number of files and the first of them. It reads the snapshot alone, and

@@ -26,11 +26,14 @@ function colour(right) {
   return write && read ? "rw" : write ? "w" : read ? "r" : right.includes("x") ? "x" : "none";
 }
 
-// What the user of a place may do on a file, in the present state or the one before the script.
+// What the user of a place may do on a file alone, as a byte of `index`, in the present state or the one before the script;
+// 0 where the file or the user is not there.
+function byteOf(node, place, isOld) {
+  return parseInt(data.rows[isOld ? node.q ?? node.r : node.r].substr(2 * place, 2) || "0", 16);
+}
+
 function rightOf(node, place, isOld) {
-  const digits = data.rows[isOld ? node.q ?? node.r : node.r];
-  if (!digits) return "absent";
-  const byte = parseInt(digits.substr(2 * place, 2), 16);
+  const byte = byteOf(node, place, isOld);
   if (alongPaths && data.reaches[isOld ? node.aboveOld : node.above][place] !== "1") return byte ? "none" : "absent";
   return GRANTED[byte];
 }
@@ -158,7 +161,30 @@ function drawFound(out) {
 
 function whoText([kind, name]) { return kind === "user" ? name : kind === "group" ? "group " + name : "everybody else"; }
 
-// Who may do what with the chosen file. The entry that decides is not named yet: the list is shown in its place.
+// The entries of a file by which a user is judged.
+function entriesOf(node, place, isOld) {
+  const list = isOld ? node.m ?? node.l : node.l;
+  const decision = (isOld && data.before[list]) || data.decisions[list];
+  return decision ? data.entries[decision[1][place] ?? decision[0]].replaceAll("\n", ", ") : "";
+}
+
+// By which entries a user has a right: those of the file, or along its path those of the first directory that the user may
+// not search.
+function reasonOf(node, place, isOld) {
+  let closed = null;
+  for (let it = alongPaths ? node.parent : null; it; it = it.parent) {
+    const byte = byteOf(it, place, isOld);
+    if (byte && !(byte >> 1 & 1)) closed = it;
+  }
+  if (!byteOf(node, place, isOld)) return "";
+  const entries = entriesOf(closed ?? node, place, isOld);
+  return closed && entries ? entries + " of " + pathOf(closed) : entries;
+}
+
+// What was and what is, where the two differ.
+function bothOf(before, now) { return before === now || !before ? now : now ? before + " \u2192 " + now : before; }
+
+// Who may do what with the chosen file, and by which entries.
 function drawSide() {
   const box = element("div");
   if (!chosen) box.append(element("p", {textContent: "Choose a file to see its list, and who may do what with it."}));
@@ -168,18 +194,21 @@ function drawSide() {
       box.append(element("h3", {textContent: "Before"}), element("pre", {textContent: data.lists[chosen.m]}), element("h3", {textContent: "After"}));
     if (chosen.l >= 0) box.append(element("pre", {textContent: data.lists[chosen.l]}));
     for (const kind of ["user", "group", "everybody"]) {
-      const byRight = new Map();
+      const alike = new Map();
       data.whos.forEach((it, place) => {
         if (it[0] !== kind) return;
-        const now = rightOf(chosen, place, false), before = rightOf(chosen, place, true);
-        const right = before === now ? now : before + " \u2192 " + now;
-        byRight.set(right, [...(byRight.get(right) ?? []), it[1]]);
+        const right = bothOf(rightOf(chosen, place, true), rightOf(chosen, place, false));
+        const reason = bothOf(reasonOf(chosen, place, true), reasonOf(chosen, place, false));
+        const key = right + "\n" + reason;
+        if (!alike.has(key)) alike.set(key, {right, reason, names: []});
+        alike.get(key).names.push(it[1]);
       });
-      if (!byRight.size) continue;
+      if (!alike.size) continue;
       box.append(element("h3", {textContent: {user: "Users", group: "A user who has the group alone", everybody: "A user without any of these groups"}[kind]}));
-      for (const [right, names] of byRight)
+      for (const {right, reason, names} of alike.values())
         box.append(element("p", {}, element("span", {className: "right " + colour(right.split("\u2192").pop()), textContent: right}), " ",
-          element("span", {className: "name", textContent: kind === "everybody" ? "" : names.join(", ")})));
+          element("span", {className: "name", textContent: kind === "everybody" ? "" : names.join(", ")}), " ",
+          element("span", {className: "reason", textContent: reason && "by " + reason})));
     }
   }
   document.getElementById("side").replaceChildren(box);

@@ -13,9 +13,10 @@ import mmap
 import os
 import re
 import secrets
+from collections import Counter
 from typing import Dict, Iterator, List, NamedTuple, Tuple
 
-from . import plan, rights
+from . import plan, reasons, rights
 from .desk import CONTROLS
 from .messages import Command, counted
 from .names import json_text, path_order, read_path
@@ -31,8 +32,8 @@ ABSENT = b"00"  # In the place of a byte of `index`, which always grants the req
 GREATEST_ID = 4_294_967_294
 HELP = """\
 Writes one page of HTML to standard output: a tree of the files of a snapshot, in which the rights of a user or a group are
-shown by colour, on each file or along its path; the list of a file, and who may do what with it; with SCRIPTs, what their
-edits change. The page needs no network. The SCRIPT - is standard input.
+shown by colour, on each file or along its path; the list of a file, and who may do what with it, by which entries; with
+SCRIPTs, what their edits change. The page needs no network. The SCRIPT - is standard input.
 """
 STATUS = """\
 The exit status is 0 where the page is written; 1 where lines were refused: then none is; 2 where the words, the snapshot
@@ -64,6 +65,7 @@ class State(NamedTuple):
     files: Files
     whos: List[bytes]
     vectors: Dict[bytes, bytes]  # By path: two hex digits for each of whos.
+    reasons: reasons.Reasons
 
 
 class Who(NamedTuple):
@@ -137,13 +139,13 @@ def vectors_of(region: Region, users: List[bytes], files: Files) -> Dict[bytes, 
     return found
 
 
-def state_of(session: Session) -> State:
-    """The files, and who may do what with them."""
+def state_of(session: Session, passwd: bytes) -> State:
+    """The files, and who may do what with them, by which entries."""
     answer = session.ask(b"getfacl -R -E .\n")
     files = {} if answer.messages else read_listing(answer.output.read())
     table = session.ask_surely(b"index")
     users = rights.users_of(table)
-    return State(files, users, vectors_of(table, users, files) if users else {})
+    return State(files, users, vectors_of(table, users, files) if users else {}, reasons.ask_reasons(session, passwd, users, files))
 
 
 class Table:
@@ -164,9 +166,10 @@ class Builder:
 
     def __init__(self, old: State, new: State, whos: List[Who]) -> None:
         self.old, self.new, self.whos = old, new, whos
-        self.rows, self.lists, self.reaches = Table(), Table(), Table()
+        self.rows, self.lists, self.reaches, self.entries = Table(), Table(), Table(), Table()
         self.known_digits: Dict[Tuple[int, bytes], str] = {}
         self.known_lists: Dict[bytes, int] = {}
+        self.known_entries: Dict[bytes, int] = {}
         self.places = [self.picker(state) for state in (old, new)]
         paths = sorted({*old.files, *new.files}, key=path_order)
         self.children: Dict[bytes, List[bytes]] = {}
@@ -204,6 +207,28 @@ class Builder:
             self.known_lists[file.body] = self.lists.number("\n".join(map(shown, lines)))
         return self.known_lists[file.body]
 
+    def entries_number(self, text: bytes) -> int:
+        if text not in self.known_entries:
+            self.known_entries[text] = self.entries.number(shown(text))
+        return self.known_entries[text]
+
+    def decisions(self, which: int, body: bytes) -> List[object]:
+        """By which entries of a list the shown users are judged: those that judge the most of them, and the others' by their
+        places."""
+        answers = (self.old, self.new)[which].reasons[body]
+        numbers = {place: self.entries_number(answers[it]) for place, it in enumerate(self.places[which]) if it >= 0}
+        most = Counter(numbers.values()).most_common(1)[0][0] if numbers else 0
+        return [most, {place: number for place, number in numbers.items() if number != most}]
+
+    def all_decisions(self) -> Tuple[List[object], Dict[int, object]]:
+        """The decisions of each list, as they are now; and by its number of each that had others before, or is no more there."""
+        now, before = (
+            {number: self.decisions(which, body) for body, number in self.known_lists.items() if body in state.reasons}
+            for which, state in ((1, self.new), (0, self.old))
+        )
+        lists = [now.get(number) for number in range(len(self.lists.values()))]
+        return list(lists), {number: it for number, it in before.items() if it != lists[number]}
+
     def node(self, path: bytes, above: Tuple[str, str]) -> Dict[str, object]:
         """A file with all below it. Its keys: name, directory, row, list, the reach of what is in it, children; and, where
         the script changes them, the old row, list and reach."""
@@ -225,9 +250,11 @@ class Builder:
         everybody = "1" * len(self.whos)
         start = self.reaches.number(everybody)
         tops = [self.node(path, (everybody, everybody)) for path in ([b""] if b"" in self.old.files or b"" in self.new.files else [])]
+        decisions, before = self.all_decisions()
         return {
             "title": title, "script": has_script, "whos": [[who.kind, shown(who.name)] for who in self.whos], "tree": tops, "start": start,
             "rows": self.rows.values(), "lists": self.lists.values(), "reaches": self.reaches.values(),
+            "entries": self.entries.values(), "decisions": decisions, "before": before,
         }
 
 
@@ -280,13 +307,13 @@ def body(command: Command, words: List[str]) -> int:
     snapshot = read_snapshot(os.fsencode(given.snapshot))
     with Session(find_program(given.program), snapshot.folder) as session:
         probes = add_probes(session, snapshot, plan.all_files(session))
-        old = new = state_of(session)
+        old = new = state_of(session, snapshot.passwd)
         if given.scripts:
             refusals = answer_scripts(command, session, snapshot, given.scripts)
             if refusals:
                 command.say(counted(refusals, "line was", "lines were") + b" refused, so no page is written")
                 return REFUSED
-            new = state_of(session)
+            new = state_of(session, snapshot.passwd)
         builder = Builder(old, new, users_shown(old, new, probes))
         command.write(page_of(builder.data(shown(snapshot.folder), bool(given.scripts))))
     return WRITTEN

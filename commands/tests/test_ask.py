@@ -135,7 +135,7 @@ class Causes(unittest.TestCase):
     def test_the_advice_names_what_is_there(self) -> None:
         self.assertEqual(causes.advice(b"mkdir x", b"facl: unknown tool"), "Here it is creat -d --user=USER --mode=MODE FILE")
         self.assertIsNone(causes.advice(b"frob", b"facl: unknown tool"))
-        self.assertIsNone(causes.advice(b"index x", b"index: usage"))
+        self.assertIsNone(causes.advice(b"load x", b"load: usage"))
 
 
 class Manual(unittest.TestCase):
@@ -167,7 +167,11 @@ class Completion(unittest.TestCase):
         self.assertEqual([line[:start] + word for word in found], list(words))
 
     def test_words(self) -> None:
-        self.expect("wh", "who ")
+        self.expect("wh", "who ", "why ")
+        self.expect("ch", "changes ", "chacl ", "chmod ")
+        self.expect("changes --", "changes --reach")
+        self.expect("why m", "why mara ")
+        self.expect("why mara srv/share/one srv/share/tw", "why mara srv/share/one srv/share/two ")
         self.expect("set", "setfacl ", "setattr ")
         self.expect("q", "quit ")
         self.expect("can i", "can ines ")
@@ -270,6 +274,14 @@ class Prompt(unittest.TestCase):
                                   "getfacl -s srv/share/one", "chmod 600 srv/share/one", "can ben srv/share/one", "quit"),
                          b"-w- r-- rw-\nines\n(nobody)\n(nothing)\n(nothing)\nnone\n")
         self.assertEqual(self.prompts, ["%d> " % number for number in range(1, 11)])
+
+    def test_what_changed_and_why(self) -> None:
+        notes = "srv/share/notes"
+        self.assertEqual(self.ask("changes", "why mara " + notes, "setfacl -m u:guest:r " + notes, "changes", "why mara " + notes,
+                                  "changes --reach", "setfacl -x u:guest " + notes, "setfacl -m m:r " + notes, "changes"),
+                         b"(nothing)\n# file: srv/share/notes\nuser:mara:rw-\t\t\t#effective:r--\n\n"
+                         b"mara gains -w-,rw- srv/share/notes\nguest gains r-- srv/share/notes\n"
+                         b"# file: srv/share/notes\nuser:mara:rw-\n\n(nothing)\n(nothing)\n\n")
 
     def test_refused_lines(self) -> None:
         self.assertEqual(self.ask('who r "srv/share/plan 2 "', "who r share/one", "", "frob", "chmod u+w srv/share/one"), (

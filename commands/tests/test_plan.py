@@ -5,17 +5,28 @@ import json
 import os
 import signal
 import subprocess
+import sys
 import time
 import unittest
-from typing import List
+from typing import List, Set
 
 from common import COMMANDS, Case, restore_signals
 
+sys.path.insert(0, COMMANDS)
+
+from facl_commands.program import Session, find_program  # noqa: E402
+
 WRITTEN = b"before.plan: is written; next: facl-apply before.plan\n"
+REQUESTS = [b"--x", b"-w-", b"-wx", b"r--", b"r-x", b"rw-", b"rwx"]
 ONE_FILE = b"1 file changes owner, group, flags or lists"
 NOTES = b"# file: /srv/share/notes\n# owner: 1001\n# group: 100\nuser::rw-\nuser:1003:rw-\n"
 OLD_NOTES = NOTES + b"group::r--\nmask::r--\nother::---\n\n"
 NEW_NOTES = NOTES + b"user:1009:r--\ngroup::r--\nmask::rw-\nother::---\n\n"
+
+
+def requests_of(right: bytes) -> Set[bytes]:
+    """The requests that are granted where these are the greatest."""
+    return {it for it in REQUESTS for one in right.split() if len(one) == 3 and all(letter in b"-" + one[k : k + 1] for k, letter in enumerate(it))}
 
 
 class Reports(Case):
@@ -56,6 +67,24 @@ class Reports(Case):
         self.expect(done, 0, b"guest  none -> --x    1 file    first: srv/share\n"
                              b"guest  none -> r--    1 file    first: srv/share/notes\n"
                              b"2 files change owner, group, flags or lists\n" + WRITTEN)
+
+    def test_full_is_what_changes_prints(self) -> None:
+        for script in (b"setfacl -m u:guest:r srv/share/notes\nsetfacl -m u:guest:x srv/share\n",
+                       b"chmod -R 755 srv/share\ngpasswd -a guest design\nuserdel ben\nrm srv/share/-x\n",
+                       b"useradd -u 2000 -g design nell\ncreat --user=mara --mode=0664 srv/share/drafts/new\nusermod -g staff guest\n"
+                       b"chmod 070 srv/share/drafts\n"):
+            for option in ("", "--reach"):
+                done = self.plan(script, "--full", *option.split())
+                rows = [line.split(b"\t") for line in done.out.splitlines() if b"\t->\t" in line]
+                with Session(find_program(None), os.fsencode(self.path("before"))) as session:
+                    session.ask(script)
+                    printed = list(session.ask_surely(b"changes " + option.encode()).lines())
+                found = [b" ".join([user, word, b",".join(it for it in REQUESTS if it in more - less), file])
+                         for user, old, _, new, file in rows
+                         for word, more, less in ((b"gains", requests_of(new), requests_of(old)), (b"loses", requests_of(old), requests_of(new)))
+                         if more - less]
+                self.assertEqual(sorted(found), sorted(printed))
+                self.assertGreater(len(found), 1)
 
     def test_two_requests_that_are_not_granted_together(self) -> None:
         done = self.plan(b"chmod 660 srv/share/one\nsetfacl -m g::r,g:audit:w srv/share/one\n", "--full")
