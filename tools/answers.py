@@ -1,4 +1,4 @@
-"""Answers of can, who, may and index by acl(5)'s check, from a listing of all files and the users (random_sessions.py).
+"""Answers of can, who, may, why, index and changes by acl(5)'s check, from a listing of all files and the users (random_sessions.py).
 
 It is written from acl(5), getfacl(1), passwd(5) and group(5), and shares nothing with the program.
 """
@@ -74,6 +74,18 @@ class People:
         """The groups as a text of group(5)."""
         return b"".join(b"%s:x:%d:%s\n" % (it.name, it.gid, b",".join(it.names)) for it in self.rows)
 
+    @staticmethod
+    def shown(things, number, wanted):
+        """An id as a listing prints it: by its first name that is not digits alone."""
+        names = (it.name for it in things if number(it) == wanted and not it.name.isdigit())
+        return next((shown_name(name) for name in names), b"%d" % wanted)
+
+    def shown_user(self, uid):
+        return self.shown(self.users, lambda it: it.uid, uid)
+
+    def shown_group(self, gid):
+        return self.shown(self.rows, lambda it: it.gid, gid)
+
     def groups_of(self, user):
         return {user.gid} | {row.gid for row in self.rows if user.name in row.names}
 
@@ -120,17 +132,36 @@ class File:
                 tag, qualifier, perms = line.split(b"\t")[0].split(b":")
                 self.entries[tag, int(qualifier) if qualifier else None] = TEXTS.index(perms)
 
+    def deciding(self, uid, groups):
+        """The keys of the entries that acl(5)'s check looks at: those of its first case that applies."""
+        if uid == self.owner:
+            return [(b"user", None)]
+        if (b"user", uid) in self.entries:
+            return [(b"user", uid)]
+        matching = [(tag, it) for tag, it in self.entries if tag == b"group" and (self.group if it is None else it) in groups]
+        return matching or [(b"other", None)]
+
+    def effective(self, key):
+        """The permissions of an entry under the mask, from which the owner and others are free."""
+        free = key in [(b"user", None), (b"other", None)]
+        return self.entries[key] & (7 if free else self.entries.get((b"mask", None), 7))
+
     def requests(self, uid, groups):
         """The requests that acl(5)'s check grants."""
-        mask = self.entries.get((b"mask", None), 7)
-        if uid == self.owner:
-            sets = [self.entries[b"user", None]]
-        elif (b"user", uid) in self.entries:
-            sets = [self.entries[b"user", uid] & mask]
-        else:
-            named = [(it if it is not None else self.group, perms) for (tag, it), perms in self.entries.items() if tag == b"group"]
-            sets = [perms & mask for gid, perms in named if gid in groups] or [self.entries[b"other", None]]
+        sets = [self.effective(key) for key in self.deciding(uid, groups)]
         return {request for request in range(8) if any(perms & request == request for perms in sets)}
+
+    def why(self, people, uid, groups):
+        """The record of the entries that decide on a user."""
+        lines = [b"# file: " + self.shown]
+        for key in self.deciding(uid, groups):
+            tag, it = key
+            name = b"" if it is None else people.shown_user(it) if tag == b"user" else people.shown_group(it)
+            line = b"%s:%s:%s" % (tag, name, TEXTS[self.entries[key]])
+            if self.effective(key) != self.entries[key]:
+                line += b"\t" * max(1, 4 - len(line) // 8) + b"#effective:" + TEXTS[self.effective(key)]
+            lines.append(line)
+        return b"\n".join(lines) + b"\n\n"
 
 
 class Table:
@@ -163,12 +194,38 @@ class Table:
         paths = [path for path in self.order if self.is_granted(user, path, request, reach)]
         return b"".join(self.files[path].shown + b"\n" for path in paths)
 
+    def why(self, user, paths, reach):
+        asked = {path[:k] for path in paths for k in range(len(path))} | set(paths) if reach else set(paths)
+        groups = self.people.groups_of(user)
+        return b"".join(self.files[path].why(self.people, user.uid, groups) for path in self.order if path in asked)
+
     def index(self):
         lines = []
         for path in self.order:
             for user in self.people.users:
                 byte = sum(1 << request for request in self.granted[user.name][path])
                 lines.append(b"%02x %s %s\n" % (byte, shown_name(user.name), self.files[path].shown))
+        return b"".join(lines)
+
+    def requests(self, name, path, reach):
+        """The requests of a user on a file; none where one of them is not there."""
+        if name not in self.granted or path not in self.files:
+            return set()
+        return {request for request in range(1, 8) if self.is_granted(User(name, 0, 0), path, request, reach)}
+
+    def changes(self, before, reach):
+        """What differs from an earlier table."""
+        names = [it.name for it in self.people.users]
+        names += [name for name in before.granted if name not in self.granted]
+        lines = []
+        for path in sorted({*self.files, *before.files}):
+            shown = self.files.get(path, before.files.get(path)).shown
+            for name in names:
+                had, has = before.requests(name, path, reach), self.requests(name, path, reach)
+                for word, requests in (b"gains", has - had), (b"loses", had - has):
+                    if requests:
+                        texts = b",".join(TEXTS[request] for request in sorted(requests))
+                        lines.append(b"%s %s %s %s\n" % (shown_name(name), word, texts, shown))
         return b"".join(lines)
 
     def question(self, random):
@@ -182,9 +239,13 @@ class Table:
         file = b"'" + self.files[path].shown + b"'"
         request = random.randrange(8)
         perms = random.choice([b"%d" % request, TEXTS[request].replace(b"-", b"") or b"''"])
-        kind = random.choice(["can", "can", "who", "who", "may"])
+        kind = random.choice(["can", "can", "who", "who", "may", "why"])
         if kind == "can":
             return b"can %s%s %s" % (option, word, file), self.can(user, path, reach)
         if kind == "who":
             return b"who %s%s %s" % (option, perms, file), self.who(request, path, reach)
-        return b"may %s%s %s" % (option, word, perms), self.may(user, request, reach)
+        if kind == "may":
+            return b"may %s%s %s" % (option, word, perms), self.may(user, request, reach)
+        paths = [path] + random.choices(self.order, k=random.randrange(3))
+        files = b" ".join(b"'" + self.files[it].shown + b"'" for it in paths)
+        return b"why %s%s %s" % (option, word, files), self.why(user, paths, reach)

@@ -269,7 +269,7 @@ def few_users(folder):
         Lines("faults of entries", faults_of_entries()),
         Lines("faults of commands", faults_of_commands()),
         Lines("tools again", edits(FILES - 100)),
-        Lines("after them", [(b"may --reach %s r" % user(1), None), (b"index", None)]),
+        Lines("after them", [(b"may --reach %s r" % user(1), None), (b"index", None), (b"changes", None), (b"changes --reach", None)]),
     ]
 
 
@@ -287,6 +287,7 @@ def few_files(folder):
     people += [(b"useradd -u %d -g %s %s" % (k, group(k), escaped(name(b"new", k))), None) for k in range(5)]
     people += [(b"userdel " + user(7 * k + 100), None) for k in range(5)]
     questions = [(b"who --reach r " + path(k), None) for k in range(50)] + [(b"can --reach %s %s" % (user(k), path(k)), None) for k in range(50)]
+    questions += [(b"why --reach %s %s" % (user(k), path(k)), None) for k in range(50)] + [(b"changes", None), (b"changes --reach", None)]
     return [Lines("people", people), Lines("questions", questions), Lines("faults of commands", faults_of_commands())]
 
 

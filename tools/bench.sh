@@ -1,6 +1,6 @@
 #!/bin/bash
-# Measures the program as the kit's LLVM builds it, on trees of several sizes, beside getfacl(1) and setfacl(1) where
-# those are installed and the temporary folder takes lists.
+# Measures the program as the kit's LLVM builds it, on trees of several sizes, with few and with different labels, and at
+# all limits at once; beside getfacl(1) and setfacl(1) where those are installed and the temporary folder takes lists.
 #
 # usage: tools/bench.sh [--program FILE] [--runs N] [--users N] [--real FOLDER] [FILES..]
 #
@@ -30,8 +30,10 @@ fi
 program=$(realpath "$program")
 python3 "$here/measure.py" "$program" "$runs" "$users" "${sizes[@]}"
 
-# The same work by the real tools, at real files.
-files=10000
+# The index, on as many files as the last tree has.
+echo
+python3 "$here/index_bench.py" "$program" --files "${sizes[-1]}" --users "$users" --runs "$runs"
+
 if ! command -v getfacl >/dev/null || ! command -v setfacl >/dev/null; then
     echo && echo "getfacl(1) and setfacl(1) are not installed here: nothing is compared." && exit 0
 fi
@@ -43,42 +45,9 @@ trap 'rm -rf "$folder"' EXIT
 if ! setfacl -m u:1001:r "$folder" 2>/dev/null; then
     echo && echo "The temporary folder takes no lists: nothing is compared." && exit 0
 fi
-python3 "$here/make_tree.py" "$folder" $files 100
-mkdir "$folder/tree" && cd "$folder/tree"
-# Ids in place of names, since the system does not know these users; no owners, which only root may set.
-sed -E 's/(user|group):[ug]([0-9]+):/\1:10\2:/; /^# (owner|group):/d' ../dump >../restored
-sed -n 's/^# file: \(.*\)\/$/\1/p' ../dump | xargs mkdir -p
-sed -n 's/^# file: \(.*[^/.]\)$/\1/p' ../dump | xargs touch
-# What a command takes, a file; a command that fails is reported and not measured.
-seconds() {
-    local started=$EPOCHREALTIME ended status=0
-    "$@" >/dev/null 2>&1 || status=$?
-    ended=$EPOCHREALTIME
-    [ $status -eq 0 ] || { echo "failed with status $status" && return; }
-    echo "$ended $started" | awk -v n=$files '{ printf "%.2f us", ($1 - $2) / n * 1e6 }'
-}
+# The same work by the real tools, at real files.
 echo
-echo "| Real tools, $files files | a file |"
-echo "|---|---|"
-echo "| \`setfacl --restore\` | $(seconds setfacl --restore=../restored) |"
-echo "| \`getfacl -R .\` | $(seconds getfacl -R .) |"
-echo "| \`getfacl -R -n .\`, which looks up no names | $(seconds getfacl -R -n .) |"
-echo "| \`chmod -R 750 .\` | $(seconds chmod -R 750 .) |"
-echo "| \`setfacl -R -m u:1001:rX .\` | $(seconds setfacl -R -m u:1001:rX .) |"
-# One file a call, with the start of the program.
-each_file() {
-    find . -type f | head -n "$files" | xargs -n 1 setfacl -m u:1001:rwx
-}
-new_files() {
-    seq -f "new%g" "$files" | xargs -n 1 touch
-}
-gone_files() {
-    seq -f "new%g" "$files" | xargs -n 1 rm
-}
-files=1000
-echo "| \`setfacl -m\` of one file a call, $files calls | $(seconds each_file) |"
-echo "| \`touch\` of a new file a call, $files calls | $(seconds new_files) |"
-echo "| \`rm\` of one file a call, $files calls | $(seconds gone_files) |"
+python3 "$here/beside_real.py" "$program" --runs "$runs" --folder "$folder"
 # Who may read a file: asked of the kernel as each user of the system, and of the program in one line.
 if [ "$(id -u)" = 0 ] && command -v setpriv >/dev/null; then
     echo asked >"$folder/asked" && chmod 755 "$folder" && chmod 640 "$folder/asked" && setfacl -m u:1:r,g:8:r "$folder/asked"

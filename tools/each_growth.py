@@ -148,6 +148,8 @@ CHANGES = [
     ["userdel ann"],
     ["getfacl -R ."],
     ["index"],
+    ["changes"],
+    ["changes --reach"],
 ]
 # The tools that these leave out.
 ATTRIBUTES = [
@@ -206,12 +208,18 @@ EVERY = [
     ["who --reach 0 run"],
     ["may joe rx"],
     ["may --reach ann 0"],
+    ["why joe pub run"],
+    ["why --reach joe pub run"],
     ["chmod 700 ."],
     ["may --reach lisa x"],
     ["who --reach r run"],
     ["who w nosuch"],
     ["may nosuch w"],
+    ["why nosuch f"],
+    ["why --reach joe f nosuch"],
     ["index"],
+    ["changes"],
+    ["changes --reach"],
 ]
 LOADS = [
     ["load passwd"] + PASSWD.splitlines() + ["."],

@@ -107,8 +107,10 @@ def asked(paths, users=FEW_USERS, tables=True):
     """Questions of some files, and of all."""
     lines = [b"can %su%d %s" % (b"--reach " * (k % 2), k % users, path) for k, path in enumerate(paths)]
     lines += [b"who %s%d %s" % (b"--reach " * (k % 2), k % 8, path) for k, path in enumerate(paths)]
+    lines += [b"why %su%d %s" % (b"--reach " * (k % 2), k % users, path) for k, path in enumerate(paths)]
     all_files = [b"may u1 r", b"may --reach u2 w", b"may u3 0", b"may --reach u1 x", b"index"]
-    return [step("can, who", lines), *[step("may, index", all_files)] * tables]
+    tables_asked = [step("may, index", all_files), step("changes", [b"changes", b"changes --reach"] * 2)]
+    return [step("can, who, why", lines), *tables_asked * tables]
 
 
 def walked():
@@ -183,6 +185,7 @@ def deep_path(folder, names):
     new = [b"creat --user=u1 --mode=640 %s/f" % deep, b"rm %s/f" % deep] * 10
     return [
         step("getfacl, can, who", [line % deep for line in (b"getfacl %s", b"can --reach u2 %s", b"who --reach r %s")] * 30),
+        step("why --reach", [b"why --reach u2 " + deep] * 30),
         step("chmod", [b"chmod 700 " + deep]),
         step("creat, rm", new),
         step("chmod .", [b"chmod 700 .", b"chmod 755 ."]),
@@ -322,7 +325,7 @@ def word_of(k):
 
 def operand_lines(operands, flag=b""):
     """Lines of each kind with these operands, perhaps with a flag."""
-    lines = (b"getfacl", b"chmod 750", b"chmod 640", b"setfacl --test -m u:u1:7")
+    lines = (b"getfacl", b"chmod 750", b"chmod 640", b"setfacl --test -m u:u1:7", *[b"why u1"] * (not flag))
     return [step(line.decode(), [b"%s %s %s" % (line, flag, b" ".join(operands))] * 40) for line in lines]
 
 

@@ -223,6 +223,9 @@ def files_of_the_tree(checks):
     names = [b".", *sorted(b"%x" % k for k in range(FILES - 1))]
     checks.expect("what is granted on so many files", b"may joe 0\nmay --reach joe r\nwho x .\ncan joe ffffe\n",
         lines([*names, b".", b"lisa", b"joe", b"none"]), files=full)
+    changed = [user + b" gains --x,-w-,-wx,r--,r-x,rw-,rwx ffffe" for user in (b"lisa", b"joe")]
+    checks.expect("what changed on so many files", b"changes\nchmod 777 ffffe\nchanges\nwhy joe ffffe\n",
+        lines([*changed, b"# file: ffffe", b"other::rwx", b""]), files=full)
     index = (b"%s %s %s" % (b"33" if path == b"." else b"01", user, path) for path in names for user in (b"lisa", b"joe"))
     checks.expect("their index", b"index\n", lines(index), files=full)
     checks.expect("the files of a text", b"load dump\n" + most + b".\nchacl -l ffffe\n", line(b"ffffe"), files=people)
@@ -269,6 +272,9 @@ def rows_of_people(checks):
     last = names[-1]
     checks.expect("questions with so many users", b"who r f\nwho w f\nwho --reach 0 f\ncan %s f\nmay %s r\n" % (last, last),
         lines([*names, b"u1", *names, b"r--", b".", b"f"]), files=files)
+    lost = [name + b" loses r-- f" for name in names if name != b"u1"]
+    checks.expect("what changed for so many users", b"chmod 600 f\nchanges\nwhy %s f\n" % last,
+        lines([*lost, b"# file: f", b"group::---", b""]), files=files)
     rights = lambda name, path: b"%s %s %s" % (b"ff" if name == b"u1" and path == b"." else b"55" if name == b"u1" else USUAL[path], name, path)
     checks.expect("their index", b"index\n", lines(rights(name, path) for path in (b".", b"f") for name in names), files=files)
 

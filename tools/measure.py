@@ -50,13 +50,21 @@ class Session:
         except OSError:
             return time.perf_counter() - self.started
 
-    def greatest_memory(self):
-        """The most bytes that the program had at once; 0 where the system does not tell."""
+    def memory_of(self, field):
+        """A count of bytes that the system has of the program; 0 where it does not tell."""
         try:
             with open(f"/proc/{self.program.pid}/status") as file:
-                return next(int(line.split()[1]) * 1024 for line in file if line.startswith("VmHWM:"))
+                return next(int(line.split()[1]) * 1024 for line in file if line.startswith(field))
         except OSError:
             return 0
+
+    def greatest_memory(self):
+        """The most bytes that the program had at once."""
+        return self.memory_of("VmHWM:")
+
+    def present_memory(self):
+        """The bytes that the program has now."""
+        return self.memory_of("VmRSS:")
 
     def answer(self, lines):
         """The seconds that the lines take."""

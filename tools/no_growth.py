@@ -7,8 +7,9 @@ Two things are looked at:
 
 - the calls that are documented as taking no memory (docs/PROOFS.md), or functions in which they are done, as far as
   the program has them as functions of their own: no call from one of them leads to the system's allocator, on any way;
-- the answer of a line after the state before it is replaced (`State::commit`): on no way from there to its end is the
-  allocator called, so neither the index nor the output is put in place with memory.
+- the answer of a line from where the prepared state is taken out to be put in place (`Staged::into_parts`): on no way
+  from there to its end is the allocator called, so neither the state and its index, nor what `changes` compares with,
+  nor the output is put in place with memory.
 
 A call through a pointer counts as a growth. It needs objdump of binutils. The exit status is 1 where a growth is found,
 or where the program has none of these functions.
@@ -31,11 +32,12 @@ CALLS = [
     "acl_tree::staged::Staged::give_up",
     "acl_tree::state::State::commit",
     "acl_verdicts::posix::PosixJudge::verdict",
+    "facl::world::World::begin_again",
     "facl_words::text_words::is_text_word",
     "path_map::below::is_within",
     "path_map::map::PathMap::from",
 ]
-ANSWER, COMMIT = "facl::session::Facl::", "acl_tree::state::State::commit"
+ANSWER, COMMIT = "facl::session::Facl::", "acl_tree::staged::Staged::into_parts"
 GROWTHS = {"malloc", "realloc", "calloc", "aligned_alloc", "posix_memalign"}
 HEAD = re.compile(r"([0-9a-f]+) <(.*)>:")
 CODE = re.compile(r"\s*([0-9a-f]+):\t(\S+)\s*(.*)")
@@ -96,21 +98,26 @@ def called_after(name, code, at):
     return called - {None}
 
 
+def plain(name):
+    """A function's name without the types that it is for."""
+    return name.split("::<")[0]
+
+
 def answers(functions):
-    """Each answer of a line with what it calls after the state is replaced."""
+    """Each answer of a line with what it calls from where its state is taken out to be put in place."""
     for name, code in functions.items():
         if name.startswith(ANSWER):
             for place, (_, operation, operand) in enumerate(code):
-                if leaves_to(name, operation, operand) == COMMIT:
-                    yield f"{name} after {COMMIT}", called_after(name, code, place + 1)
+                if plain(leaves_to(name, operation, operand) or "") == COMMIT:
+                    yield f"{name} from {COMMIT}", called_after(name, code, place)
 
 
 def main():
     if len(sys.argv) != 2:
         sys.exit(__doc__)
     functions = read_code(sys.argv[1])
-    there = {name: name.split("::<")[0] for name in functions}
-    calls = [(name, [name]) for name, plain in there.items() if plain in CALLS]
+    there = {name: plain(name) for name in functions}
+    calls = [(name, [name]) for name, known in there.items() if known in CALLS]
     after = list(answers(functions))
     found = [(name, growths_from(functions, start)) for name, start in calls + after]
     for name, growths in found:

@@ -33,7 +33,7 @@ sys.dont_write_bytecode = True
 from crates import TOP, Crates, folder_of
 
 GIGABYTES_A_CRATE = 4
-BEHIND = 5
+BEHIND = 15
 
 
 def say(text):
@@ -99,6 +99,12 @@ def end_session(session):
         time.sleep(0.05)
 
 
+def put_behind(session, nice):
+    """Has this session go behind others: a kernel that shares processors between sessions counts nice within each alone."""
+    with contextlib.suppress(OSError), open(f"/proc/{session}/autogroup", "w", encoding="ascii") as group:
+        group.write(str(nice))
+
+
 class How(NamedTuple):
     """How many checks of a crate run side by side, and how far they go behind others (nice)."""
 
@@ -136,7 +142,7 @@ class Lane:
         folder = os.path.join(self.top, "crates", self.crate)
         is_program = os.path.exists(os.path.join(folder, "src", "main.rt"))
         with open(log, "wb") as out:
-            return subprocess.Popen(
+            run = subprocess.Popen(
                 ["nice", "-n", str(how.nice), "rt", "run" if is_program else "lib", "--jobs", str(how.checks)],
                 cwd=folder,
                 stdin=subprocess.DEVNULL,
@@ -144,6 +150,8 @@ class Lane:
                 stderr=subprocess.STDOUT,
                 start_new_session=True,
             )
+        put_behind(run.pid, how.nice)
+        return run
 
     def end(self):
         """Ends the check if it runs, moves the kept work back, and removes the lane."""

@@ -9,7 +9,7 @@ NOBODY = ["nosuch", "7", "4294967295", "99999999999999999999", "''", "LISA", "\\
 FILES = ["", "/a", "/a/b", "/a/b/c", "/f", "/g", "/d", "/d/e", "/d/e/f", "/x y"]
 TOOLS = [
     "load", "getfacl", "setfacl", "chacl", "chmod", "creat", "rm", "gpasswd", "usermod", "useradd", "userdel",
-    "attr", "setattr", "can", "who", "may", "index",
+    "attr", "setattr", "can", "who", "may", "why", "index", "changes",
 ]  # fmt: skip
 TEXT_WORDS = {"-", "-M-", "-X-", "--modify-file=-", "--remove-file=-", "--set-file=-", "--restore=-"}
 Unit = collections.namedtuple("Unit", "line text")
@@ -122,8 +122,14 @@ class Grammar:
     def may(self, top):
         return self.reaching([self.user(), self.asked_perms()]), []
 
+    def why(self, top):
+        return self.reaching([self.user(), *self.paths(top)]), []
+
     def index(self, top):
         return [], []
+
+    def changes(self, top):
+        return self.reaching([]), []
 
     def attr(self, top):
         return [self.path(top)], []
@@ -214,7 +220,7 @@ class Grammar:
         tool = self.random.choice(TOOLS if self.chance(0.1) else self.served)
         if tool == "load" and self.chance(0.8):
             tool = "getfacl"
-        if tool in ("index", "may") and self.chance(0.9):
+        if tool in ("index", "may", "changes") and self.chance(0.9):
             tool = "can"  # Those print something for each file of all sessions.
         words, text = getattr(self, tool)(top)
         words = [tool] + words

@@ -14,8 +14,8 @@ their lines in turn. Of each batch, with no second implementation but of the che
   nothing;
 - `index`, which the lines kept current, is the same where it is built afresh, of that listing and of texts of the users
   and groups after the lines (not where a user was added whose name starts with `#`, as no row of a text does);
-- `index` and random questions of can, who and may, half of them with `--reach`, are answered as acl(5)'s check has it,
-  rebuilt from that listing and the users (answers.py).
+- `index` and random questions of can, who, may and why, half of them with `--reach`, are answered as acl(5)'s check has
+  it, rebuilt from that listing and the users (answers.py).
 
 A batch that breaks one is cut down to as few lines as break it, which are printed. The exit status is then 1. The same
 seed gives the same sessions.
@@ -164,9 +164,23 @@ def afresh_fault(program, kept, after, dump, printed, listing):
     return None
 
 
+def changes_fault(program, kept, table, dump, printed):
+    """What is wrong with what `changes` prints after the accepted lines, beside the state after the setup; a `load` among
+    the lines is refused, or begins again."""
+    if b"changes" not in program.tools or any(unit.line.split(maxsplit=1)[:1] == [b"load"] for unit in kept):
+        return None
+    before = Table(People(PASSWD, GROUP), program.run([NUMBERS], dump).out)
+    for reach, line in (False, b"changes"), (True, b"changes --reach"):
+        out = program.run(kept + [Unit(line, None)], dump).out[len(printed) :]
+        answer = table.changes(before, reach)
+        if out != answer:
+            return f"{line!r} is not answered {answer[:300]!r} but {out[:300]!r}"
+    return None
+
+
 def answers_fault(program, kept, after, dump, printed):
     """What is wrong with the answers to random questions after the accepted lines."""
-    if not {b"who", b"may", b"index"} <= set(program.tools):
+    if not {b"who", b"may", b"why", b"index"} <= set(program.tools):
         return None
     listed = program.run(kept + [NUMBERS], dump).out
     table = Table(after, listed[len(printed) :])
@@ -180,7 +194,7 @@ def answers_fault(program, kept, after, dump, printed):
         at += len(answer)
     if run.out[at:] or run.err.count(b"\n") != program.run(kept + [NUMBERS], dump).err.count(b"\n"):
         return f"the questions print more than their answers: {run.out[at:][:300]!r} {run.err[-300:]!r}"
-    return None
+    return changes_fault(program, kept, table, dump, printed)
 
 
 def reload_fault(program, people, listing):

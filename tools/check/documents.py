@@ -1,16 +1,17 @@
 #!/usr/bin/env python3
 """Checks what the documents say of the sources.
 
-usage: tools/check/documents.py [--write]
+usage: tools/check/documents.py [--write | --files [CRATE]..]
 
 - docs/PROOFS.md: each function that a table of promises names is in the sources of the crate of its section, and has the
-  clauses named; so is each name where a wrong body is refused, and each call that takes no memory; each must-fail edit named is
-  there, and each that is there is named once, in the section of its crate.
-- docs/ARCHITECTURE.md: the map of the crates is that of crates.txt; each file that a section of crates names is there, and each
-  file of src/ and specs/ is named; so are the files of the commands.
+  clauses named; so is each name where a wrong body is refused, and each call that takes no memory.
+- docs/ARCHITECTURE.md: its map has each crate of the program. Its table of limits: each constant has the value of its row.
 - README.md, "What is proved": each function and clause named is in the sources; the kit's crates are those of crates.txt.
-- The parts of docs/ARCHITECTURE.md that are made of the sources (generated.py) are as these have it; --write makes them so, and
-  does nothing else.
+- docs/READING.md: each line of its examples is one of the sources or definitions.
+- CONTRIBUTING.md: the table of tests has each crate, and crates of tests that stand above it. tools/README.md names each script.
+- The parts that are made of the sources (generated.py) are as these have it; --write makes them so, and does nothing else.
+- Each file of src/ and specs/ of a crate of the program, and each script of commands/ and tools/, has a sentence at its head;
+  --files prints these sentences, of all crates and the commands or of some, and does nothing else.
 - All documents: each link within the repository, and each path that starts with a folder of it or of a crate, leads to
   something; each name with `_` or `::` is a word of the sources.
 
@@ -18,12 +19,13 @@ Prints `FILE:LINE: what is wrong`. The exit status is 1 where something is.
 """
 from __future__ import annotations
 
+import ast
 import functools
 import glob
 import os
 import re
 import sys
-from typing import Dict, FrozenSet, Iterator, List, Set, Tuple
+from typing import FrozenSet, Iterator, List, Set, Tuple
 
 sys.dont_write_bytecode = True
 
@@ -35,27 +37,26 @@ from promises import FunctionCell, Resolver, Table, crates_in
 from sources import Library, text_of
 
 PROOFS, ARCHITECTURE, README = "docs/PROOFS.md", "docs/ARCHITECTURE.md", "README.md"
+CONTRIBUTING, READING, TOOLS = "CONTRIBUTING.md", "docs/READING.md", "tools/README.md"
 PROVED, LEFT = "What is proved", "What an error leaves as it was"
-EDIT_HEADS = ("Edit", "Must-fail edit", "Refused by the edit", "Edit that the prover refuses")
 PATH = re.compile(r"(?<![\w/.-])((?:tools|commands|docs|demo|crates|\.ci)/[\w./-]*[\w/])")
 NAME = re.compile(r"(?:[A-Za-z]\w*::)*[A-Za-z]\w*")
 PLACEHOLDER = re.compile(r"X_\w+|\w+_")
-EDIT = re.compile(r"[a-z][a-z0-9]*(?:_[a-z0-9]+)+")
 IN_CRATE = re.compile(r"(?<![\w/])((?:\w+/)?(?:src|specs|proofs)/\w+\.(?:rt|antt))\b")
-FILE = re.compile(r"(?<![\w./])((?:(?:src|specs|proofs)/)?\w+\.(?:rt|antt))\b")
+NUMBER = re.compile(r"\d[\d,]*\d|\d")
 Fault = Tuple[int, str]
 
 
 def documents_of(top: str) -> List[str]:
     """The documents, by their paths in the repository."""
-    found = [path for pattern in ("*.md", "docs/*.md", "docs/*.1", "demo/*.md") for path in glob.glob(os.path.join(top, pattern))]
+    found = [path for pattern in ("*.md", "docs/*.md", "docs/*.1", "demo/*.md", "tools/*.md") for path in glob.glob(os.path.join(top, pattern))]
     return sorted(os.path.relpath(path, top) for path in found)
 
 
 def words_of(top: str) -> Set[str]:
     """All words of the sources, definitions, scripts and commands, with the names of files."""
     words: Set[str] = set()
-    patterns = ("crates/*/src/*.rt", "crates/*/specs/*.antt", "tools/*.*", "tools/check/*.*", "commands/facl*",
+    patterns = ("crates/*/src/*.rt", "crates/*/specs/*.antt", "tools/*.*", "tools/*/*.*", "commands/facl*",
                 "commands/facl_commands/*.py")
     for path in (path for pattern in patterns for path in glob.glob(os.path.join(top, pattern))):
         if os.path.isfile(path):
@@ -86,7 +87,7 @@ class Promises:
 
     def refusal_faults(self, row: Row) -> Iterator[str]:
         """Names in the column of a table of wrong bodies that has where each is refused."""
-        if row.heads[0] != "Wrong body" or row.heads[1] in EDIT_HEADS:
+        if row.heads[0] != "Wrong body":
             return
         resolver = Resolver(self.library, row.section)
         crates = resolver.crates + crates_in(self.library, row.cells[1])
@@ -127,117 +128,97 @@ class Promises:
                     yield from ((line.number, fault) for fault in self.table.faults(row, functions, clauses))
 
 
-class Edits:
-    """Must-fail edits: those that are there, and those that docs/PROOFS.md names."""
-
-    def __init__(self, top: str) -> None:
-        self.there: Dict[Tuple[str, str], int] = {}
-        for path in glob.glob(os.path.join(top, "crates", "*", "must-fail", "*.edit")):
-            crate = path.split(os.sep)[-3]
-            self.there[crate, os.path.basename(path)[:-len(".edit")]] = 0
-
-    def faults(self, library: Library, text: str) -> Iterator[Fault]:
-        for row in rows_of(text):
-            if row.heads[-1] in EDIT_HEADS:
-                yield from ((row.number, fault) for fault in self.cell_faults(library, row))
-        for (crate, edit), count in sorted(self.there.items()):
-            if count != 1:
-                yield 1, f"crates/{crate}/must-fail/{edit}.edit is named {count} times in the tables of its crate"
-
-    def cell_faults(self, library: Library, row: Row) -> Iterator[str]:
-        cell = row.cells[-1]
-        elsewhere = crates_in(library, cell)
-        for edit in EDIT.findall(cell):
-            crates = elsewhere or crates_in(library, row.section)
-            found = [crate for crate in crates if (crate, edit) in self.there]
-            if edit in library.crates:
-                continue
-            if not found:
-                yield f"no edit {edit} in crates/{' or '.join(crates)}/must-fail"
-            elif not elsewhere:
-                self.there[found[0], edit] += 1
+def heads_of_crates(top: str, crates: List[str]) -> Iterator[Tuple[str, str]]:
+    """The files of some crates, each with the sentence at its head."""
+    for crate in crates:
+        for folder in ("src", "specs"):
+            yield from generated.heads(top, f"{crate}/{folder}")
 
 
-class Files:
-    """docs/ARCHITECTURE.md: the files that it names in the section of a crate."""
-
-    def __init__(self, top: str) -> None:
-        self.top = top
-        self.crates = sources.crates_of(top)
-        self.named: Set[str] = set()
-        self.sections: Set[str] = set()
-
-    def faults(self, text: str) -> Iterator[Fault]:
-        crates: List[str] = []
-        section = ""
-        for line in lines_of(text):
-            if line.section != section:
-                section, crates = line.section, []
-                self.sections |= {word for word in re.findall(r"\w+", section) if word in self.crates}
-            crates = self.crates_at(line, crates)
-            yield from ((line.number, fault) for fault in self.line_faults(line, crates))
-        yield from ((1, f"crates/{path} is not named in the section of its crate") for path in self.missing())
-
-    def crates_at(self, line: Line, before: List[str]) -> List[str]:
-        """The crates whose files a line names: the one that it starts with, in a table as the row before, else the section's."""
-        match = re.match(r"(?:\| |\*\*)(\w+)(?::|\*\*:)", line.text)
-        if match and match.group(1) in self.crates:
-            return [match.group(1)]
-        section = [word for word in re.findall(r"\w+", line.section) if word in self.crates]
-        return before if before and line.text.startswith("|") else section
-
-    def line_faults(self, line: Line, crates: List[str]) -> Iterator[str]:
-        if not crates:
-            return
-        folder = ""
-        for name in FILE.findall(line.text):
-            folder, name = os.path.split(name) if "/" in name else (folder, name)
-            folder = folder or ("src" if name.endswith(".rt") else "specs")
-            folder = "src" if name.endswith(".rt") else "specs" if folder == "src" else folder
-            paths = [f"{crate}/{folder}/{name}" for crate in crates]
-            there = [path for path in paths if os.path.isfile(os.path.join(self.top, "crates", path))]
-            if not there and not re.search(rf"`\w+/{folder}/{name}`", line.text):
-                yield f"no crates/{paths[0]}"
-            self.named |= set(there)
-
-    def missing(self) -> Iterator[str]:
-        """Files of crates with a section, or of the program, that are not named."""
-        for crate in self.crates:
-            if crate in self.sections or not sources.is_of_tests(crate):
-                for folder, ending in (("src", ".rt"), ("specs", ".antt")):
-                    for path in sorted(glob.glob(os.path.join(self.top, "crates", crate, folder, "*" + ending))):
-                        name = os.path.relpath(path, os.path.join(self.top, "crates"))
-                        if os.path.basename(path) not in ("lib.rt", "Lib.antt") and name not in self.named:
-                            yield name
+def head_of_script(path: str) -> str:
+    """The sentence at the head of a script: the first of its docstring, or of the comment after its first line."""
+    text = text_of(path)
+    if path.endswith(".py") or "python" in text.partition("\n")[0]:
+        return " ".join((ast.get_docstring(ast.parse(text)) or "").partition("\n\n")[0].split())
+    words = [re.sub(r"^\W+", "", line) for line in text.split("\n") if re.match(r"(?:#(?!!)|/\*|//) ?\w", line)]
+    return words[0] if words else ""
 
 
-def command_faults(top: str, text: str) -> Iterator[Fault]:
-    """Files of commands/ that no row of docs/ARCHITECTURE.md names, and files that it names and that are not there."""
-    rows = " ".join(row.cells[0] for row in rows_of(text) if row.section == "The commands")
-    for row in rows_of(text):
-        for name in re.findall(r"\w+\.(?:py|css|js)\b", row.cells[0]) if row.section == "The commands" else ():
-            if not os.path.isfile(os.path.join(top, "commands", "facl_commands", name)):
-                yield row.number, f"no commands/facl_commands/{name}"
-    for pattern in ("commands/facl-*", "commands/facl_commands/*"):
+def scripts_of(top: str) -> Iterator[str]:
+    """The commands and their parts, and all scripts of tools/."""
+    for pattern in ("commands/facl-*", "commands/facl_commands/*.py", "tools/*.*", "tools/*/*.py", "tools/*/*.sh", "tools/*/*.c"):
         for path in sorted(glob.glob(os.path.join(top, pattern))):
-            name = os.path.basename(path)
-            if os.path.isfile(path) and name != "__init__.py" and name not in re.findall(r"[\w.-]+", rows):
-                yield 1, f"{os.path.relpath(path, top)} is not named in the table of the commands"
+            if os.path.isfile(path) and not path.endswith((".md", ".txt", "__init__.py")):
+                yield os.path.relpath(path, top)
+
+
+def head_faults(top: str) -> Iterator[Tuple[str, int, str]]:
+    """Files of the crates of the program, and scripts, without a sentence at their heads."""
+    program = [crate for crate in sources.crates_of(top) if not sources.is_of_tests(crate)]
+    named = [(f"crates/{file}", head) for file, head in heads_of_crates(top, program)]
+    named += [(script, head_of_script(os.path.join(top, script))) for script in scripts_of(top)]
+    yield from ((file, 1, "has no sentence at its head") for file, head in named if not head)
+
+
+def tool_faults(top: str, text: str) -> Iterator[Fault]:
+    """Scripts of tools/ that tools/README.md does not name, and scripts that it names and that are not there."""
+    there = {os.path.basename(path) for path in scripts_of(top) if path.startswith("tools/")}
+    named: Set[str] = set()
+    for line in lines_of(text):
+        found = set(re.findall(r"\b\w+\.(?:py|sh|c)\b", line.text))
+        yield from ((line.number, f"no {name} in tools/") for name in sorted(found - there))
+        named |= found
+    yield from ((1, f"{name} is not named") for name in sorted(there - named))
+
+
+def limit_faults(library: Library, text: str) -> Iterator[Fault]:
+    """Rows of limits whose constants are not there, or have another value."""
+    for row in rows_of(text):
+        if row.heads[:3] == ["Limit", "Value", "Constant"]:
+            values = {number.replace(",", "") for number in NUMBER.findall(row.cells[1])}
+            crate, name = re.findall(r"\w+", row.cells[2])[:2]
+            found = [value for source in library.crates[crate].sources.values() for value in constants_of(source.text, name)]
+            if not found or not set(found) & values:
+                yield row.number, f"{name} of {crate} is {' '.join(found) or 'not there'}"
+
+
+def example_faults(top: str, text: str) -> Iterator[Fault]:
+    """Lines of examples that are in no source and no definition."""
+    paths = (path for pattern in ("src/*.rt", "specs/*.antt") for path in glob.glob(os.path.join(top, "crates", "*", pattern)))
+    there = {line.strip() for path in paths for line in text_of(path).split("\n")}
+    examples = (line for line in all_lines_of(text) if line.is_code and line.text.strip())
+    yield from ((line.number, "is in no source") for line in examples if line.text.strip() not in there)
+
+
+def constants_of(text: str, name: str) -> List[str]:
+    """The values of the constants of a name, as numbers without `_`."""
+    return [value.replace("_", "") for value in re.findall(rf"\bconst {name}: \w+ = ([\d_]+);", text)]
+
+
+def tests_faults(top: str, text: str) -> Iterator[Fault]:
+    """Rows of the table of tests that crates.txt does not bear out, and crates without one."""
+    listed = rows_of_crates(top)
+    named: Set[str] = set()
+    for row in rows_of(text):
+        if row.heads[:2] == ["Crates", "Tests"]:
+            crates, tests = (set(re.findall(r"\w+", cell)) & set(listed) for cell in row.cells[:2])
+            named |= crates | tests
+            for test in sorted(tests):
+                missing = sorted(crates - generated.below(listed, test) - {test})
+                yield from ((row.number, f"{test} does not stand on {crate} by crates.txt") for crate in missing)
+    yield from ((1, f"{crate} is not in the table of tests") for crate in sorted(set(listed) - named))
 
 
 def map_faults(top: str, text: str) -> Iterator[Fault]:
-    """Rows of the map of crates that differ from crates.txt, and crates of the program without one."""
+    """Rows of the map of crates that are not in crates.txt, and crates without one."""
     listed = rows_of_crates(top)
     there: Set[str] = set()
     for row in rows_of(text):
-        if row.heads[0] == "Crate" and "Depends on" in row.heads:
+        if row.heads[0] == "Crate" and row.section == "The map":
             crate = row.cells[0].strip("`")
             there.add(crate)
-            used = set(re.findall(r"\w+", row.cells[row.heads.index("Depends on")].replace("std alone", "")))
             if crate not in listed:
                 yield row.number, f"no crate {crate} in crates.txt"
-            elif used != listed[crate] and not sources.is_of_tests(crate):
-                yield row.number, f"{crate} depends on {' '.join(sorted(listed[crate]))} by crates.txt"
     yield from ((1, f"{crate} is not in the map") for crate in sorted(set(listed) - there) if not sources.is_of_tests(crate))
 
 
@@ -306,21 +287,24 @@ def check(top: str) -> List[str]:
         found.extend((document, number, fault) for number, fault in faults)
 
     add(PROOFS, promises.faults(texts[PROOFS]))
-    add(PROOFS, Edits(top).faults(library, texts[PROOFS]))
     add(README, promises.readme_faults(texts[README]))
     add(README, trusted_faults(top, texts[README]))
-    add(ARCHITECTURE, generated.faults(top, texts[ARCHITECTURE]))
+    for document in (PROOFS, ARCHITECTURE):
+        add(document, generated.faults(top, texts[document]))
     add(ARCHITECTURE, map_faults(top, texts[ARCHITECTURE]))
-    add(ARCHITECTURE, Files(top).faults(texts[ARCHITECTURE]))
-    add(ARCHITECTURE, command_faults(top, texts[ARCHITECTURE]))
+    add(ARCHITECTURE, limit_faults(library, texts[ARCHITECTURE]))
+    add(READING, example_faults(top, texts[READING]))
+    add(CONTRIBUTING, tests_faults(top, texts[CONTRIBUTING]))
+    add(TOOLS, tool_faults(top, texts[TOOLS]))
+    found.extend(head_faults(top))
     for document in texts:
         add(document, document_faults(top, document, words))
     return [f"{document}:{number}: {fault}" for document, number, fault in sorted(set(found))]
 
 
-def write(top: str) -> None:
-    """Makes the parts of docs/ARCHITECTURE.md that are made of the sources."""
-    path = os.path.join(top, ARCHITECTURE)
+def write(top: str, document: str) -> None:
+    """Makes the parts of a document that are made of the sources."""
+    path = os.path.join(top, document)
     text = text_of(path)
     new = generated.written(top, text)
     if new == text:
@@ -334,9 +318,24 @@ def write(top: str) -> None:
             os.remove(path + ".new")
 
 
+def show_files(top: str, crates: List[str]) -> None:
+    """Prints the sentence at the head of each file of some crates, or of all and of the commands."""
+    unknown = sorted(set(crates) - set(sources.crates_of(top)))
+    if unknown:
+        sys.exit(f"tools/check/documents.py: no crate {' '.join(unknown)}")
+    for file, head in heads_of_crates(top, crates or sources.crates_of(top)):
+        print(f"{file}: {head}")
+    for script in () if crates else scripts_of(top):
+        print(f"{script}: {head_of_script(os.path.join(top, script))}")
+
+
 def main() -> int:
     if sys.argv[1:] == ["--write"]:
-        write(sources.TOP)
+        for document in (PROOFS, ARCHITECTURE):
+            write(sources.TOP, document)
+        return 0
+    if sys.argv[1:2] == ["--files"]:
+        show_files(sources.TOP, sys.argv[2:])
         return 0
     if len(sys.argv) > 1:
         sys.exit(__doc__)

@@ -24,7 +24,8 @@ ASK = os.path.join(HERE, "..", "..", "commands", "facl-ask")
 MAKE = os.path.join(HERE, "..", "make_tree.py")
 SESSION_FILES = 1_048_576
 QUESTIONS = (b"may u3 w\n", b"may --reach u5 r\n", b"who r d00001/f001\n", b"can u1 d00000/f000\n", b"getfacl -R d00002\n",
-             b"setfacl -m u:u7:rwx d00003/f001\nwho w d00003/f001\n", b"gpasswd -a u9 g0\nmay u9 r\n")
+             b"why --reach u1 d00000/f000\n", b"setfacl -m u:u7:rwx d00003/f001\nwho w d00003/f001\nchanges\n",
+             b"gpasswd -a u9 g0\nmay u9 r\nchanges --reach\n")
 
 
 def records(dump: IO[bytes]) -> Iterator[bytes]:

@@ -127,6 +127,11 @@ def check_share(driver: Any, program: str, work: str, pictures: Optional[str]) -
     expect(page.row("notes")[1] == "none>r--", "notes along paths: %r" % page.row("notes"))
     page.click("notes")
     expect("user:guest:r--" in page.side() and "guest" in page.side() and "/srv/share/notes" in page.side(), "the side: %s" % page.side())
+    expect("by other::---" in page.side() and "of /srv/share" in page.side(), "the side, along paths: %s" % page.side())
+    page.click("along paths")
+    for text in ("by other::--- \u2192 user:guest:r--", "by user:mara:rw-  #effective:r-- \u2192 user:mara:rw-"):
+        expect(text in page.run("return document.getElementById('side').textContent"), "the side lacks %r: %s" % (text, page.side()))
+    page.click("along paths")
     page.click("changes alone")
     expect("two" not in [row[0] for row in page.rows()] and page.row("notes")[2] == "changed", "changes alone")
     page.click("changes alone")

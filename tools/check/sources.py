@@ -54,12 +54,19 @@ class Scope:
 
 @dataclass
 class Function:
-    """A function or method, with its own clauses, and the tokens of its body (none in a trait without a default)."""
+    """A function or method, with its own clauses, and the tokens of its body (none in a trait without a default).
+
+    `line` and `end` are its first and its last line, `is_public` whether it is `pub`, or a method of a trait's own, `comment`
+    the first line of the `///` above it.
+    """
 
     name: str
     scope: Scope
     file: str
     line: int
+    end: int = 0
+    is_public: bool = False
+    comment: str = ""
     clauses: List[Clause] = field(default_factory=list)
     body: List[Token] = field(default_factory=list)
 
@@ -73,6 +80,7 @@ class Source:
     """What a file has: functions, ghost members with their scopes, names of types and constants, and all tokens."""
 
     file: str
+    text: str = ""
     tokens: List[Token] = field(default_factory=list)
     functions: List[Function] = field(default_factory=list)
     members: List[Tuple[Scope, str]] = field(default_factory=list)
@@ -149,7 +157,8 @@ class Reader:
     """Reads the items of a file into a Source."""
 
     def __init__(self, file: str, text: str) -> None:
-        self.source = Source(file, tokens_of(text))
+        self.source = Source(file, text, tokens_of(text))
+        self.lines = text.split("\n")
         self.tokens = self.source.tokens
         self.items(0, len(self.tokens), Scope())
 
@@ -206,7 +215,24 @@ class Reader:
 
     def function(self, at: int, scope: Scope) -> int:
         function = Function(self.tokens[at + 1].text, scope, self.source.file, self.tokens[at].line)
+        function.is_public = self.tokens[at - 1].text == "pub" if at else False
+        function.is_public |= scope.type is not None and scope.type == scope.trait
+        function.comment = self.comment_above(function.line)
         self.source.functions.append(function)
+        at = self.after_function(at, function)
+        function.end = self.tokens[at - 1].line
+        return at
+
+    def comment_above(self, line: int) -> str:
+        """The first line of the `///` above a line, with attributes between them or none."""
+        above = line - 1
+        while above and self.lines[above - 1].lstrip().startswith(("///", "#[")):
+            above -= 1
+        comments = [text.strip()[3:].strip() for text in self.lines[above:line - 1] if text.strip().startswith("///")]
+        return comments[0] if comments else ""
+
+    def after_function(self, at: int, function: Function) -> int:
+        """Reads the clauses and the body of a function. The place after it."""
         stops = ("{", ";", "requires", "ensures")
         at = find(self.tokens, at, stops)
         while at < len(self.tokens) and self.tokens[at].text in ("requires", "ensures"):
@@ -258,6 +284,7 @@ class Carrier:
     names: FrozenSet[str]
     is_single: bool
     requires: bool
+    clauses: Tuple[Clause, ...] = ()
 
 
 class Crate:
@@ -296,7 +323,7 @@ class Library:
         ensured = [clause.name for clause in clauses if clause.kind == "ensures"]
         names = {clause.name for clause in clauses if clause.name} | self.members_of(scope)
         is_of_std = scope.trait is not None and (scope.trait, function.name) not in self.traits and not clauses
-        return Carrier(function.label, frozenset(names), ensured == [None] or is_of_std, len(ensured) < len(clauses))
+        return Carrier(function.label, frozenset(names), ensured == [None] or is_of_std, len(ensured) < len(clauses), tuple(clauses))
 
     def members_of(self, scope: Scope) -> Set[str]:
         return self.members.get(scope, set()) if scope.trait else set()

@@ -5,7 +5,7 @@ import os
 import sys
 import tempfile
 import unittest
-from typing import Dict, Iterable, List, Tuple
+from typing import Dict, Iterable, List
 
 sys.path.insert(0, os.path.join(os.path.dirname(os.path.realpath(__file__)), ".."))
 
@@ -15,7 +15,9 @@ from sources import Library
 
 FILES = {
     "crates/low/src/lib.rt": "pub use crate::a::Map;",
-    "crates/low/src/a.rt": """
+    "crates/low/src/a.rt": """//! Maps of bytes.
+
+        pub const MOST: usize = 4_096;
         pub struct Map { ghost sorted: { x } }
         pub trait Judge { ghost local: { x }; fn ask(&self) ensures asked { x } ensures row { x }; }
         impl Judge for Map { fn ask(&self) {} }
@@ -28,14 +30,14 @@ FILES = {
         pub fn both() ensures { x } ensures named { x } {}
     """,
     "crates/low/src/b.rt": "pub fn read() -> u8 ensures other { result ≡ 1 } { 1 }",
-    "crates/low/specs/Maps.antt": "abbrev pub look_up : Map → ℕ",
+    "crates/low/specs/Maps.antt": "-- What a map is.\nabbrev pub look_up : Map → ℕ",
     "crates/low/must-fail/loses_a_value.edit": "file: src/a.rt",
     "crates/high/src/lib.rt": "pub use low::Map;",
     "crates/high_tests/src/rows.rt": "",
     "crates.txt": "# crates\nlow: clap\nhigh: low\nhigh_tests: high\n",
-    "commands/facl_commands/names.py": "",
-    "commands/facl-ask": "",
-    "tools/check.sh": "",
+    "commands/facl_commands/names.py": '"""Names: their escapes.\n\nMore.\n"""\n',
+    "commands/facl-ask": "#!/bin/sh\nexit\n",
+    "tools/check.sh": "#!/bin/sh\n# Checks all.\n",
     "docs/OTHER.md": "# The crates\n\n## Its `parts`, in short\n",
 }
 LOW = "low: maps"
@@ -115,49 +117,50 @@ class Promises(Case):
                                  (4, "no `low::Map::take` in the sources")])
 
 
-class Edits(Case):
-    def faults(self, *cells: str) -> List[Tuple[int, str]]:
-        text = f"## {LOW}\n| Wrong body | Edit |\n|---|---|\n" + "".join(f"| It is wrong | {cell} |\n" for cell in cells)
-        return list(documents.Edits(self.top).faults(self.library, text))
+class Heads(Case):
+    def test_heads(self) -> None:
+        self.assertEqual(list(documents.heads_of_crates(self.top, ["low"])), [
+            ("low/src/a.rt", "Maps of bytes"), ("low/src/b.rt", ""), ("low/specs/Maps.antt", "What a map is")])
+        self.assertEqual([fault for _, _, fault in documents.head_faults(self.top)], ["has no sentence at its head"] * 2)
+        self.assertEqual([file for file, _, _ in documents.head_faults(self.top)], ["crates/low/src/b.rt", "commands/facl-ask"])
 
-    def test_named_once(self) -> None:
-        self.assertEqual(self.faults("`loses_a_value`"), [])
-        self.assertEqual(self.faults("loses_a_value", "that of `low`: `loses_a_value`"), [])
+    def test_heads_of_scripts(self) -> None:
+        for file, head in (("commands/facl_commands/names.py", "Names: their escapes."), ("tools/check.sh", "Checks all."),
+                           ("commands/facl-ask", "")):
+            self.assertEqual(documents.head_of_script(os.path.join(self.top, file)), head)
 
-    def test_not_there_or_not_named(self) -> None:
-        counted = "crates/low/must-fail/loses_a_value.edit is named {} times in the tables of its crate"
-        self.assertEqual(self.faults("`loses_a_key`"), [(4, "no edit loses_a_key in crates/low/must-fail"), (1, counted.format(0))])
-        self.assertEqual(self.faults("`loses_a_value`", "`loses_a_value`"), [(1, counted.format(2))])
-
-
-class Files(Case):
-    def faults(self, *lines: str) -> List[Tuple[int, str]]:
-        return list(documents.Files(self.top).faults("\n".join(("## low", *lines))))
-
-    def test_all_named(self) -> None:
-        self.assertEqual(self.faults("| src/a.rt, b.rt, specs/Maps.antt | maps |"), [])
-        self.assertEqual(self.faults("**low**: `src/a.rt` has maps, `b.rt` reads. Definitions: `specs/Maps.antt`."), [])
-
-    def test_not_there_or_not_named(self) -> None:
-        self.assertEqual(self.faults("| src/a.rt, c.rt, specs/Maps.antt | maps |"), [
-            (2, "no crates/low/src/c.rt"), (1, "crates/low/src/b.rt is not named in the section of its crate")])
-
-    def test_sections_of_several_crates(self) -> None:
-        text = "## low and high_tests\n| low: src/a.rt, src/b.rt, Maps.antt | maps |\n| high_tests: src/rows.rt | rows |\n| src/a.rt | none |"
-        self.assertEqual(list(documents.Files(self.top).faults(text)), [(4, "no crates/high_tests/src/a.rt")])
+    def test_tools(self) -> None:
+        self.assertEqual(list(documents.tool_faults(self.top, "check.sh is there, and facl_words.md is no script.")), [])
+        self.assertEqual(list(documents.tool_faults(self.top, "gone.py is not.")), [(1, "no gone.py in tools/"), (1, "check.sh is not named")])
 
 
-    def test_commands(self) -> None:
-        text = "## The commands\n| File | What |\n|---|---|\n| commands/facl-ask | asks |\n| facl_commands/names.py | names |\n"
-        self.assertEqual(list(documents.command_faults(self.top, text)), [])
-        self.assertEqual(list(documents.command_faults(self.top, text.replace("names.py", "gone.py"))), [
-            (5, "no commands/facl_commands/gone.py"), (1, "commands/facl_commands/names.py is not named in the table of the commands")])
+class Tables(Case):
+    def limits(self, value: str, constant: str) -> List[str]:
+        text = f"| Limit | Value | Constant | Message |\n|---|---|---|---|\n| maps | {value} | {constant} | none |\n"
+        return [fault for _, fault in documents.limit_faults(self.library, text)]
+
+    def test_limits(self) -> None:
+        self.assertEqual(self.limits("below 4,096", "low `MOST`"), [])
+        self.assertEqual(self.limits("4,097", "low `MOST`"), ["MOST of low is 4096"])
+        self.assertEqual(self.limits("4,096", "low `LEAST`"), ["LEAST of low is not there"])
+
+    def test_examples(self) -> None:
+        text = "```\nabbrev pub look_up : Map → ℕ\n\n  pub const MOST: usize = 4_096;\n{}```\nOther text.\n"
+        self.assertEqual(list(documents.example_faults(self.top, text.format(""))), [])
+        self.assertEqual(list(documents.example_faults(self.top, text.format("fn gone() {}\n"))), [(5, "is in no source")])
+
+    def test_tests(self) -> None:
+        head = "| Crates | Tests | What |\n|---|---|---|\n"
+        rows = "| low, high | high_tests | all |\n"
+        self.assertEqual(list(documents.tests_faults(self.top, head + rows)), [])
+        self.assertEqual(list(documents.tests_faults(self.top, head + "| high_tests | low | all |\n")), [
+            (3, "low does not stand on high_tests by crates.txt"), (1, "high is not in the table of tests")])
 
     def test_map(self) -> None:
-        head = "| Crate | What it is for | Depends on |\n|---|---|---|\n"
-        self.assertEqual(list(documents.map_faults(self.top, head + "| `low` | maps | clap |\n| `high` | all | low |\n")), [])
-        self.assertEqual(list(documents.map_faults(self.top, head + "| `low` | maps | std alone |\n| `gone` | all | low |\n")), [
-            (3, "low depends on clap by crates.txt"), (4, "no crate gone in crates.txt"), (1, "high is not in the map")])
+        head = "## The map\n| Crate | What it is for |\n|---|---|\n"
+        self.assertEqual(list(documents.map_faults(self.top, head + "| `low` | maps |\n| `high` | all |\n")), [])
+        self.assertEqual(list(documents.map_faults(self.top, head + "| `low` | maps |\n| `gone` | all |\n")), [
+            (5, "no crate gone in crates.txt"), (1, "high is not in the map")])
 
     def test_trusted(self) -> None:
         self.assertEqual(list(documents.trusted_faults(self.top, "Trusted are the crates `clap`.")), [])
