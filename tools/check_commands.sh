@@ -8,14 +8,14 @@
 # The linters shellcheck and mypy --strict are asked too where they are installed. The documents are checked against the
 # sources (tools/check/documents.py), and the sources for where they say that memory ran out (tools/check/memory_faults.py);
 # each of these four counts as a failed test where it finds something. What needs a real file system and root is in
-# tools/check/live.sh and tools/check_snapshot.sh.
+# tools/check/live.sh and tools/check/snapshot.sh.
 set -eu
 top=$(cd "$(dirname "$0")/.." && pwd)
 if [ "${1:-}" = --all ]; then
     export ALL_TESTS=yes
     shift
 fi
-FACL=$(realpath "${1:-$top/crates/facl_cli/out/facl_cli}")
+FACL=$(realpath -m -- "${1:-$top/crates/facl_cli/out/facl_cli}")
 export FACL
 if [ ! -x "$FACL" ]; then
     echo "tools/check_commands.sh: $FACL: no such program: give one that is built" >&2
@@ -34,11 +34,13 @@ lint() {
     fi
 }
 
-export MYPYPATH=commands:commands/tests:tools/check
-lint shellcheck commands/facl-snapshot tools/check_commands.sh tools/install.sh tools/package.sh tools/check/live.sh tools/check/split.sh
+export MYPYPATH=commands:commands/tests:tools/check:tools/lib
+lint shellcheck -x commands/facl-snapshot .ci/run tools/*.sh tools/*/*.sh
+# The files with types; the others are not imported by these.
+# shellcheck disable=SC2046  # no name has a space
 lint mypy --strict --cache-dir=/dev/null --scripts-are-modules commands/facl_commands commands/facl-ask \
-    commands/facl-plan commands/facl-apply commands/facl-report commands/tests/*.py tools/check/*.py \
-    tools/check/tests/*.py
+    commands/facl-plan commands/facl-apply commands/facl-report \
+    $(grep -l '^from __future__ import annotations' commands/tests/*.py tools/*.py tools/*/*.py tools/check/tests/*.py)
 for check in tools/check/documents.py tools/check/memory_faults.py; do
     "$check" >&2 || lint_faults=$((lint_faults + 1))
 done

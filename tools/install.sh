@@ -6,7 +6,8 @@
 #        tools/install.sh --uninstall [PREFIX]           removes what it installs
 #
 # PREFIX is /usr/local. FILE is a program that is built; without it crates/facl_cli/out/facl_cli, which tools/prove.py
-# proves and builds. With DESTDIR in the environment all goes below that folder.
+# proves and builds. With DESTDIR in the environment all goes below that folder. The exit status is 2 where the words are
+# others, there is no program, or PREFIX cannot be written.
 set -eu
 top=$(cd "$(dirname "$0")/.." && pwd)
 
@@ -33,11 +34,11 @@ while [ $# -gt 0 ]; do
         shift
         ;;
     --help)
-        sed -n '2,9s/^# \{0,1\}//p' "$0"
+        sed -n '2,/^set/{/^set/!s/^# \{0,1\}//p}' "$0"
         exit 0
         ;;
     -*)
-        sed -n '5,6s/^# //p' "$0" >&2
+        sed -n '/^# usage:/,/^#$/s/^# //p' "$0" >&2
         exit 2
         ;;
     *) break ;;

@@ -5,14 +5,12 @@
 # usage: tools/package.sh [--program FILE] [DIR]      the package comes into DIR, or the current folder
 #
 # Without FILE the program is proved and built by tools/prove.py, and the package says that it was proved at its commit;
-# the files of that commit have to be as they were committed. FILE is a program that is built: the package says so.
+# the files of that commit have to be as they were committed. FILE is a program that is built: the package says so. The exit
+# status is 2 where the words are others, a tool is not installed, or the program is not built.
 set -eu
 top=$(cd "$(dirname "$0")/.." && pwd)
-
-fail() {
-    echo "tools/package.sh: $1" >&2
-    exit 2
-}
+# shellcheck source=tools/lib/program.sh
+. "$top/tools/lib/program.sh"
 
 program=
 while [ $# -gt 0 ]; do
@@ -23,11 +21,11 @@ while [ $# -gt 0 ]; do
         shift 2
         ;;
     --help)
-        sed -n '2,8s/^# \{0,1\}//p' "$0"
+        sed -n '2,/^set/{/^set/!s/^# \{0,1\}//p}' "$0"
         exit 0
         ;;
     -*)
-        sed -n '5s/^# //p' "$0" >&2
+        sed -n '/^# usage:/,/^#$/s/^# //p' "$0" >&2
         exit 2
         ;;
     *) break ;;
@@ -47,15 +45,12 @@ day=$(git show -s --format=%cd --date=format:%Y%m%d HEAD)
 if [ -n "$program" ]; then
     origin="The program was given as it is, and is not known to be the one that is proved at commit $commit."
 else
-    tools/prove.py
-    program=$top/crates/facl_cli/out/facl_cli
+    prove
+    program=$built
     origin="The program was proved and built at commit $commit."
 fi
 
-work=$(mktemp -d)
-trap 'rm -rf "$work"' EXIT
-trap 'exit 130' INT
-trap 'exit 143' TERM HUP
+make_work "${TMPDIR:-/tmp}"
 root=$work/root
 mkdir "$root"
 chmod 755 "$root"

@@ -10,37 +10,42 @@ are at most MAX_WAYS ways from one crate. A crate of tests, which nothing waits 
 most crates that one way has, which are proved one after another.
 
 Prints for each crate how many crates it lists, how many are below it, its longest chain, and the ways from it. The exit
-status is 1 where a crate has more ways than that, or a longer chain than MAX_CHAIN.
+status is 1 where a crate has more ways than that, or a longer chain than MAX_CHAIN, and 2 where the words are others.
 """
+from __future__ import annotations
+
 import functools
+import os
 import sys
+from typing import Dict, Tuple
 
 sys.dont_write_bytecode = True
-
-from crates import Crates
+sys.path.insert(0, os.path.join(os.path.dirname(os.path.realpath(__file__)), "lib"))
+import script  # noqa: E402
+from crates import Crates  # noqa: E402
 
 PROGRAM = "facl_cli"
 MAX_WAYS = 100
 MAX_CHAIN = 10
 
 
-def counts(crates):
+def counts(crates: Crates) -> Dict[str, Tuple[int, int]]:
     """For each crate the ways from it, itself counted, and the crates of its longest chain."""
 
     @functools.cache
-    def ways(crate):
+    def ways(crate: str) -> int:
         return 1 + sum(map(ways, crates.uses[crate]))
 
     @functools.cache
-    def chain(crate):
+    def chain(crate: str) -> int:
         return 1 + max(map(chain, crates.uses[crate]), default=0)
 
     return {crate: (ways(crate), chain(crate)) for crate in crates.uses}
 
 
-def main():
+def main() -> int:
     if any(word.startswith("-") for word in sys.argv[1:]) or len(sys.argv) > 2:
-        sys.exit(__doc__)
+        script.usage(__doc__)
     crates = Crates(*sys.argv[1:])
     program = crates.needed(PROGRAM)
     too_many = []
@@ -51,7 +56,9 @@ def main():
         if ways > most or chain > MAX_CHAIN:
             too_many.append(crate)
     if too_many:
-        sys.exit(f"tools/ways.py: too many ways, or a chain of more than {MAX_CHAIN}: {' '.join(too_many)}")
+        raise script.Failed(f"too many ways, or a chain of more than {MAX_CHAIN}: {' '.join(too_many)}")
+    return 0
 
 
-main()
+if __name__ == "__main__":
+    script.run(main)

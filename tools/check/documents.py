@@ -8,7 +8,8 @@ usage: tools/check/documents.py [--write | --files [CRATE]..]
 - docs/ARCHITECTURE.md: its map has each crate of the program. Its table of limits: each constant has the value of its row.
 - README.md, "What is proved": each function and clause named is in the sources; the kit's crates are those of crates.txt.
 - docs/READING.md: each line of its examples is one of the sources or definitions.
-- CONTRIBUTING.md: the table of tests has each crate, and crates of tests that stand above it. tools/README.md names each script.
+- CONTRIBUTING.md: the table of tests has each crate, and crates of tests that use it. tools/README.md names each script,
+  by its path in tools/.
 - The parts that are made of the sources (generated.py) are as these have it; --write makes them so, and does nothing else.
 - Each file of src/ and specs/ of a crate of the program, and each script of commands/ and tools/, has a sentence at its head;
   --files prints these sentences, of all crates and the commands or of some, and does nothing else.
@@ -43,6 +44,7 @@ PATH = re.compile(r"(?<![\w/.-])((?:tools|commands|docs|demo|crates|\.ci)/[\w./-
 NAME = re.compile(r"(?:[A-Za-z]\w*::)*[A-Za-z]\w*")
 PLACEHOLDER = re.compile(r"X_\w+|\w+_")
 IN_CRATE = re.compile(r"(?<![\w/])((?:\w+/)?(?:src|specs|proofs)/\w+\.(?:rt|antt))\b")
+SCRIPT = re.compile(r"(?<![\w/.])(?:\w+/)*\w+\.(?:py|sh|c)\b")
 NUMBER = re.compile(r"\d[\d,]*\d|\d")
 Fault = Tuple[int, str]
 
@@ -161,11 +163,11 @@ def head_faults(top: str) -> Iterator[Tuple[str, int, str]]:
 
 
 def tool_faults(top: str, text: str) -> Iterator[Fault]:
-    """Scripts of tools/ that tools/README.md does not name, and scripts that it names and that are not there."""
-    there = {os.path.basename(path) for path in scripts_of(top) if path.startswith("tools/")}
+    """Scripts that tools/README.md does not name, by their paths in tools/, and those that it names and that are not there."""
+    there = {os.path.relpath(path, "tools") for path in scripts_of(top) if path.startswith("tools/")}
     named: Set[str] = set()
     for line in lines_of(text):
-        found = set(re.findall(r"\b\w+\.(?:py|sh|c)\b", line.text))
+        found = set(SCRIPT.findall(line.text))
         yield from ((line.number, f"no {name} in tools/") for name in sorted(found - there))
         named |= found
     yield from ((1, f"{name} is not named") for name in sorted(there - named))
@@ -205,7 +207,7 @@ def tests_faults(top: str, text: str) -> Iterator[Fault]:
             named |= crates | tests
             for test in sorted(tests):
                 missing = sorted(crates - generated.below(listed, test) - {test})
-                yield from ((row.number, f"{test} does not stand on {crate} by crates.txt") for crate in missing)
+                yield from ((row.number, f"{test} does not use {crate} by crates.txt") for crate in missing)
     yield from ((1, f"{crate} is not in the table of tests") for crate in sorted(set(listed) - named))
 
 

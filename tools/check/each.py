@@ -1,11 +1,12 @@
 #!/usr/bin/env python3
 """Answers of facl-ask --each over several snapshots of a made tree: seconds and memory, and whether they are those of one session.
 
-usage: each.py PROGRAM [--files N] [--users N] [--parts N] [--index] [--folder FOLDER]
+usage: tools/check/each.py PROGRAM [--files N] [--users N] [--parts N] [--index] [--folder FOLDER]
 
-The tree is that of tools/make_tree.py, 50,000 files and 20 users in five snapshots where nothing is given. Where one session
+The tree is that of tools/lib/make_tree.py, 50,000 files and 20 users in five snapshots where nothing is given. Where one session
 takes the tree, each answer is compared with its answer. --index asks for the index too, whose lines are files times users.
-It makes a folder of its own in FOLDER (/tmp), and removes it.
+It makes a folder of its own in FOLDER (/tmp), and removes it. The exit status is 1 where an answer is not that of one session
+or facl-ask fails, 2 where the words are others.
 """
 from __future__ import annotations
 
@@ -19,9 +20,14 @@ import tempfile
 import time
 from typing import IO, Iterator, List
 
+sys.dont_write_bytecode = True
 HERE = os.path.dirname(os.path.realpath(__file__))
-ASK = os.path.join(HERE, "..", "..", "commands", "facl-ask")
-MAKE = os.path.join(HERE, "..", "make_tree.py")
+sys.path.insert(0, os.path.join(HERE, "..", "lib"))
+from make_tree import write_tree  # noqa: E402
+from script import TOP, Failed, run  # noqa: E402
+from session import program_at  # noqa: E402
+
+ASK = os.path.join(TOP, "commands", "facl-ask")
 SESSION_FILES = 1_048_576
 QUESTIONS = (b"may u3 w\n", b"may --reach u5 r\n", b"who r d00001/f001\n", b"can u1 d00000/f000\n", b"getfacl -R d00002\n",
              b"why --reach u1 d00000/f000\n", b"setfacl -m u:u7:rwx d00003/f001\nwho w d00003/f001\nchanges\n",
@@ -69,7 +75,7 @@ def ask(words: List[str], script: bytes, out: str) -> float:
     with open(out, "wb") as file:
         done = subprocess.run([sys.executable, "-B", ASK, *words], input=script, stdout=file, stderr=subprocess.PIPE, check=False)
     if done.returncode != 0 or done.stderr:
-        sys.exit("each.py: status %d: %s" % (done.returncode, done.stderr.decode("utf-8", "replace")))
+        raise Failed("facl-ask: status %d: %s" % (done.returncode, done.stderr.decode("utf-8", "replace")))
     return time.monotonic() - start
 
 
@@ -80,7 +86,7 @@ def is_same(one: str, other: str) -> bool:
 def measure(given: argparse.Namespace, work: str) -> int:
     whole = os.path.join(work, "whole")
     os.mkdir(whole)
-    subprocess.run([sys.executable, MAKE, whole, str(given.files), str(given.users)], check=True)
+    write_tree(whole, given.files, given.users)
     folders = cut(whole, given.parts, given.files)
     print("%d files, %d users, %d snapshots" % (given.files, given.users, len(folders)), flush=True)
     joined, one = os.path.join(work, "joined"), os.path.join(work, "one")
@@ -100,17 +106,16 @@ def measure(given: argparse.Namespace, work: str) -> int:
 
 def main() -> int:
     parser = argparse.ArgumentParser(description=__doc__, formatter_class=argparse.RawDescriptionHelpFormatter)
-    parser.add_argument("program")
+    parser.add_argument("program", type=program_at)
     parser.add_argument("--files", type=int, default=50_000)
     parser.add_argument("--users", type=int, default=20)
     parser.add_argument("--parts", type=int, default=5)
     parser.add_argument("--index", action="store_true")
     parser.add_argument("--folder", default="/tmp")
     given = parser.parse_args()
-    given.program = os.path.realpath(given.program)
     with tempfile.TemporaryDirectory(prefix="facl-each.", dir=given.folder) as work:
         return measure(given, work)
 
 
 if __name__ == "__main__":
-    sys.exit(main())
+    run(main)

@@ -8,10 +8,13 @@ from __future__ import annotations
 import glob
 import os
 import re
+import sys
 from dataclasses import dataclass
 from typing import Dict, Iterator, List, Set, Tuple
 
-from sources import Crate, Function, Library, is_of_tests, text_of
+sys.path.insert(0, os.path.join(os.path.dirname(os.path.realpath(__file__)), "..", "lib"))
+from crates import Crates  # noqa: E402
+from sources import Crate, Function, Library, is_of_tests, text_of  # noqa: E402
 
 BLOCK = re.compile(r"^<!-- (graph|index) -->\n(.*?)^<!-- end -->$", re.M | re.S)
 UNNAMED = ("lib.rt", "Lib.antt")
@@ -20,8 +23,7 @@ LAW = "Proof only"
 
 def rows_of_crates(top: str) -> Dict[str, Set[str]]:
     """What crates.txt lists for each crate, those of the kit too."""
-    rows = (line.split("#")[0].partition(":") for line in text_of(os.path.join(top, "crates.txt")).split("\n"))
-    return {head.split()[0]: set(tail.split()) for head, _, tail in rows if head.strip()}
+    return Crates(os.path.join(top, "crates.txt")).listed
 
 
 def below(rows: Dict[str, Set[str]], crate: str) -> Set[str]:

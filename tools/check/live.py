@@ -1,5 +1,7 @@
 """Random trees and plans on a real file system; tools/check/live.sh runs it.
 
+usage: tools/check/live.py PROGRAM [--folder FOLDER] [--plans N] [--kills N] [--signals N] [--hands N] [--seed N]
+
 - PLANS: a tree with default lists, masks, flags, hard links and odd names; a snapshot; a plan of one to ten lines;
   facl-apply. The tree is then as it was with the planned records in it, and what the kernel lets 20 pairs of a user and
   a file do is what the program says. In every other plan somebody changes, removes, replaces or adds a file between plan
@@ -9,6 +11,9 @@
   each call: then facl-apply itself has to put the tree back.
 - SIGNALS: of a plan, facl-apply is ended by each of three signals while setfacl is at work, and the tree is as before.
 - HANDS: plans that make and remove files; by_hand is run after facl-apply, and the tree is the planned one.
+
+A signal ends it early; what was counted by then is printed. The exit status is 1 where something is not as it has to be, 2
+where the words are others.
 """
 from __future__ import annotations
 
@@ -24,7 +29,12 @@ import tempfile
 import time
 from typing import Callable, Dict, List, NamedTuple, Optional, Tuple
 
-COMMANDS = os.path.join(os.path.dirname(os.path.dirname(os.path.dirname(os.path.realpath(__file__)))), "commands")
+sys.dont_write_bytecode = True
+sys.path.insert(0, os.path.join(os.path.dirname(os.path.realpath(__file__)), "..", "lib"))
+from script import TOP, at_signals  # noqa: E402
+from session import program_at  # noqa: E402
+
+COMMANDS = os.path.join(TOP, "commands")
 USERS = {b"ines": (70001, 70100), b"ben": (70002, 70100), b"mara": (70003, 70200), b"guest": (70009, 70300)}
 GROUPS = {b"staff": (70100, b""), b"design": (70200, b"ines"), b"guests": (70300, b""), b"audit": (70400, b"ben,mara")}
 UIDS = [uid for uid, _ in USERS.values()]
@@ -511,11 +521,13 @@ def ask_kernel(user: bytes, file: bytes) -> bytes:
     reader, writer = os.pipe()
     child = os.fork()
     if child == 0:
-        os.setgroups(groups)
-        os.setresgid(gid, gid, gid)
-        os.setresuid(uid, uid, uid)
-        os.write(writer, b" ".join(TEXTS[it] for it in range(1, 8) if os.access(file, it)) or b"none")
-        os._exit(0)
+        try:
+            os.setgroups(groups)
+            os.setresgid(gid, gid, gid)
+            os.setresuid(uid, uid, uid)
+            os.write(writer, b" ".join(TEXTS[it] for it in range(1, 8) if os.access(file, it)) or b"none")
+        finally:
+            os._exit(0)
     os.close(writer)
     answer = os.read(reader, 1000)
     os.close(reader)
@@ -524,8 +536,8 @@ def ask_kernel(user: bytes, file: bytes) -> bytes:
 
 
 def main() -> int:
-    options = argparse.ArgumentParser()
-    options.add_argument("program")
+    options = argparse.ArgumentParser(description=__doc__, formatter_class=argparse.RawDescriptionHelpFormatter)
+    options.add_argument("program", type=program_at)
     options.add_argument("--folder", default="/tmp")
     options.add_argument("--plans", type=int, default=500)
     options.add_argument("--kills", type=int, default=10)
@@ -533,11 +545,11 @@ def main() -> int:
     options.add_argument("--hands", type=int, default=50)
     options.add_argument("--seed", type=int, default=1)
     given = options.parse_args()
+    at_signals(signal.default_int_handler)
     work = os.fsencode(tempfile.mkdtemp(prefix="facl-live.", dir=given.folder))
-    signal.signal(signal.SIGTERM, signal.default_int_handler)
     try:
         os.chmod(work, 0o755)
-        check = Check(Given(os.path.realpath(given.program), work))
+        check = Check(Given(given.program, work))
         faults = run_all(check, given)
     finally:
         shutil.rmtree(work)

@@ -4,15 +4,18 @@
 # usage: tools/check/live.sh PROGRAM [--folder FOLDER] [--plans N] [--kills N] [--signals N] [--hands N] [--seed N]
 #
 # It makes a folder of its own in FOLDER (/tmp), and removes it; users and groups are those of a getent of its own, so
-# that no account is made. It needs the packages acl and strace. What it does is at the head of live.py.
+# that no account is made. It needs the packages acl and strace. What it does is at the head of live.py. The exit status is
+# 1 where something is not as it has to be, 2 where the words are others, a tool is not installed or it is not run as root.
 set -eu
-here=$(cd "$(dirname "$0")" && pwd)
+top=$(cd "$(dirname "$0")/../.." && pwd)
+# shellcheck source=tools/lib/program.sh
+. "$top/tools/lib/program.sh"
 if [ $# -eq 0 ] || [ "${1#-}" != "$1" ]; then
     sed -n '4s/^# //p' "$0" >&2
     exit 2
 fi
-[ "$(id -u)" -eq 0 ] || { echo "tools/check/live.sh: run it as root" >&2 && exit 2; }
+[ "$(id -u)" -eq 0 ] || fail "run it as root"
 for tool in getfacl setfacl strace python3; do
-    command -v $tool >/dev/null || { echo "tools/check/live.sh: $tool is not installed" >&2 && exit 2; }
+    command -v $tool >/dev/null || fail "$tool is not installed"
 done
-exec python3 -B "$here/live.py" "$@"
+exec python3 -B "$top/tools/check/live.py" "$@"

@@ -70,12 +70,12 @@ def pieces_of(cell: str) -> Iterator[Tuple[str, str]]:
 
 
 def codes_of(text: str) -> List[str]:
-    """What stands in backticks."""
+    """What is in backticks."""
     return re.findall(r"`([^`]+)`", text)
 
 
 def in_parentheses(text: str) -> List[str]:
-    """What stands in parentheses, each with those inside it."""
+    """What is in parentheses, each with those inside it."""
     found, depth = [], 0
     for char in text:
         if char == "(" and depth == 0:

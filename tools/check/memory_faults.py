@@ -6,9 +6,9 @@ usage: tools/check/memory_faults.py
 No contract can forbid a call to report that memory ran out where it did not, so this looks at the code of each crate that is
 not one of tests. Types, `use` and patterns may name what follows; of expressions:
 
-- `AllocError` and `AllocFailed` stand in none, so these values come from allocations alone.
+- `AllocError` and `AllocFailed` are in none, so these values come from allocations alone.
 - `NoMemory`, of any fault, is made only in an `impl From` of one of these, or out of another `NoMemory`: in an arm of a match
-  each of whose patterns names one, or in the block of an `if` whose condition ends by a comparison with one. Comparisons alone
+  each of whose patterns names one, or in the block of an `if` whose condition ends with a comparison with one. Comparisons alone
   may name it anywhere.
 - None of the three has another name, by `use .. as ..` or by `type` (`NoMemory` as a name of `AllocError` apart).
 
@@ -91,7 +91,7 @@ def compared_by(body: List[Token], at: int) -> str:
 
 
 class Body:
-    """Where in a body patterns and types stand, and where a NoMemory may be made."""
+    """Where in a body patterns and types are, and where a NoMemory may be made."""
 
     def __init__(self, body: List[Token]) -> None:
         self.body = body
@@ -141,7 +141,7 @@ class Body:
             self.patterns |= span(comma, find(self.body, comma, ("if",), end))
 
     def made(self) -> Iterator[Tuple[int, str]]:
-        """The lines where one of NAMES stands in an expression and may not, with its name."""
+        """The lines where one of NAMES is in an expression and may not be, with its name."""
         for at, token in enumerate(self.body):
             if token.text not in NAMES or at in self.patterns:
                 continue

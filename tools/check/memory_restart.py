@@ -1,9 +1,9 @@
 #!/usr/bin/env python3
-"""Compares the memory of a long session with that of a new one on the same state: what lines leave behind in the index.
+"""Compares the memory of a long session with that of a new one on the same state: what lines leave in the index.
 
-usage: memory_restart.py PROGRAM [--files N] [--users N] [--lines N] [--seed N] [--report N]
+usage: tools/check/memory_restart.py PROGRAM [--files N] [--users N] [--lines N] [--seed N] [--report N]
 
-The tree is that of tools/make_tree.py, 100,000 files and 1,000 users. It gets 20,000 random lines of all tools, all of them
+The tree is that of tools/lib/make_tree.py, 100,000 files and 1,000 users. It gets 20,000 random lines of all tools, all of them
 accepted: most change one file or one user or ask something, one of 50 a directory with its hundred files, and one of 1,000
 all files. After each 2,000 lines it prints the memory that the program has and the most that it had. At the end the
 listing of all files and the texts of the users and groups are loaded by a new session, some questions are asked of both,
@@ -15,74 +15,46 @@ from __future__ import annotations
 import argparse
 import os
 import random
-import subprocess
 import sys
 import tempfile
-import threading
 import time
-from typing import Any, Dict, List, Tuple
+from typing import Dict, List
 
 sys.dont_write_bytecode = True
-HERE = os.path.dirname(os.path.realpath(__file__))
-sys.path.insert(0, os.path.join(HERE, ".."))
-from answers import People  # type: ignore # noqa: E402
+sys.path.insert(0, os.path.join(os.path.dirname(os.path.realpath(__file__)), "..", "lib"))
+from answers import People  # noqa: E402
+from make_tree import PER_DIRECTORY, write_tree  # noqa: E402
+from script import Failed, run  # noqa: E402
+from session import Session, has_tool, program_at  # noqa: E402
 
-PER_DIRECTORY = 100
-MARK = ": facl: unknown tool"
 PERMS = ("r", "rw", "rx", "rwx", "x", "0")
+# How many times the memory of a new session the long one may have.
+MAX_PART = 1.1
 
 
-class Session:
-    """The program, loaded, with its output in a file."""
+class LongSession(Session):
+    """A session with its output in a file."""
 
     def __init__(self, program: str, folder: str, out: str) -> None:
-        words = [program]
-        for name in ("passwd", "group", "dump"):
-            words += ["--" + name, os.path.join(folder, name)]
         self.out = out
         with open(out, "wb") as file:
-            self.run = subprocess.Popen(words, stdin=subprocess.PIPE, stdout=file, stderr=subprocess.PIPE, text=True)
-        self.answer([])
-
-    def send(self, lines: List[str]) -> None:
-        assert self.run.stdin
-        self.run.stdin.write("".join(line + "\n" for line in [*lines, "mark"]))
-        self.run.stdin.flush()
+            super().__init__(program, folder, file)
 
     def answer(self, lines: List[str]) -> bytes:
         """What the lines print; a line that is refused ends the check."""
         start = os.path.getsize(self.out)
-        writer = threading.Thread(target=self.send, args=(lines,))
-        writer.start()
-        assert self.run.stderr
-        for message in self.run.stderr:
-            if message.rstrip("\n").endswith(MARK):
-                break
-            if ": warning: " not in message:
-                self.run.kill()
-                raise ChildProcessError(message)
-        else:
-            raise ChildProcessError("the program ended with status %d" % self.run.wait())
-        writer.join()
+        for message in self.messages(["".join(line + "\n" for line in lines).encode()]):
+            if b": warning: " not in message:
+                raise Failed(message.decode(errors="replace").strip())
         with open(self.out, "rb") as file:
             file.seek(start)
             return file.read()
-
-    def memory(self, field: str) -> int:
-        """A count of bytes that the system has of the program."""
-        with open("/proc/%d/status" % self.run.pid, encoding="ascii") as file:
-            return next(int(line.split()[1]) * 1024 for line in file if line.startswith(field))
-
-    def end(self) -> None:
-        assert self.run.stdin
-        self.run.stdin.close()
-        self.run.wait()
 
 
 class Lines:
     """Random lines that are accepted, with the users and groups after them."""
 
-    def __init__(self, seed: int, files: int, people: Any, with_why: bool) -> None:
+    def __init__(self, seed: int, files: int, people: People, with_why: bool) -> None:
         self.random, self.people = random.Random(seed), people
         self.asked = ["can %s %s", "can --reach %s %s"] + ["why %s %s"] * with_why
         self.directories = max(1, (files - 1) // (PER_DIRECTORY + 1))
@@ -91,12 +63,10 @@ class Lines:
         self.count = 0
 
     def user(self) -> str:
-        name: bytes = self.random.choice(self.people.users).name
-        return name.decode()
+        return self.random.choice(self.people.users).name.decode()
 
     def group(self) -> str:
-        name: bytes = self.random.choice(self.people.rows).name
-        return name.decode()
+        return self.random.choice(self.people.rows).name.decode()
 
     def directory(self) -> str:
         return "d%05d" % self.random.randrange(self.directories)
@@ -173,14 +143,9 @@ class Lines:
         return self.question() if chance < 0.3 else self.change_of_file()
 
 
-def has_tool(program: str, tool: bytes) -> bool:
-    done = subprocess.run([program], input=tool + b"\n", capture_output=True, check=False)
-    return b"unknown tool" not in done.stderr
-
-
 def shown(session: Session, files: int) -> str:
-    present, most = session.memory("VmRSS:"), session.memory("VmHWM:")
-    return "%.1f MB (%.0f bytes a file), at most %.1f MB" % (present / 1e6, present / files, most / 1e6)
+    present = session.present_memory()
+    return "%.1f MB (%.0f bytes a file), at most %.1f MB" % (present / 1e6, present / files, session.most_memory() / 1e6)
 
 
 def questions(lines: Lines) -> List[str]:
@@ -189,7 +154,7 @@ def questions(lines: Lines) -> List[str]:
     return asked + ["may %s w" % lines.user() for _ in range(5)]
 
 
-def stage(session: Session, lines: Lines, given: argparse.Namespace) -> None:
+def play(session: LongSession, lines: Lines, given: argparse.Namespace) -> None:
     """Plays the lines, and prints the memory as they go."""
     for done in range(0, given.lines, given.report):
         script: List[str] = []
@@ -199,49 +164,63 @@ def stage(session: Session, lines: Lines, given: argparse.Namespace) -> None:
         print("after %d lines: %s" % (min(done + given.report, given.lines), shown(session, given.files)), flush=True)
 
 
-def compare(given: argparse.Namespace, work: str) -> int:
-    folders = {name: os.path.join(work, name) for name in ("first", "restarted")}
-    for folder in folders.values():
-        os.mkdir(folder)
-    make = os.path.join(HERE, "..", "make_tree.py")
-    subprocess.run([sys.executable, make, folders["first"], str(given.files), str(given.users)], check=True)
-    texts: Dict[str, bytes] = {}
+def loaded_people(folder: str) -> People:
+    """The users and groups of the texts of a folder."""
+    texts: List[bytes] = []
     for name in ("passwd", "group"):
-        with open(os.path.join(folders["first"], name), "rb") as file:
-            texts[name] = file.read()
-    lines = Lines(given.seed, given.files, People(texts["passwd"], texts["group"]), has_tool(given.program, b"why"))
-    session = Session(given.program, folders["first"], os.path.join(work, "out"))
-    print("%d files, %d users, loaded: %s" % (given.files, given.users, shown(session, given.files)), flush=True)
-    stage(session, lines, given)
-    present = session.memory("VmRSS:")
-    texts = {"passwd": lines.people.passwd_text(), "group": lines.people.group_text(), "dump": session.answer(["getfacl -R ."])}
+        with open(os.path.join(folder, name), "rb") as file:
+            texts.append(file.read())
+    return People(*texts)
+
+
+def write_state(folder: str, people: People, listing: bytes) -> None:
+    """Writes the texts of the state after the lines."""
+    texts: Dict[str, bytes] = {"passwd": people.passwd_text(), "group": people.group_text(), "dump": listing}
     for name, text in texts.items():
-        with open(os.path.join(folders["restarted"], name), "wb") as out:
+        with open(os.path.join(folder, name), "wb") as out:
             out.write(text)
-    again = Session(given.program, folders["restarted"], os.path.join(work, "out2"))
-    print("the same state loaded anew: %s" % shown(again, given.files))
-    part = present / again.memory("VmRSS:")
-    asked = questions(lines)
-    is_same = session.answer(asked) == again.answer(asked)
-    for one in (session, again):
+
+
+def compare(session: LongSession, restarted: LongSession, present: int, asked: List[str]) -> int:
+    """Compares the memory and the answers of both sessions; returns the exit status."""
+    part = present / restarted.present_memory()
+    is_same = session.answer(asked) == restarted.answer(asked)
+    for one in (session, restarted):
         one.end()
     print("the long session has %.2f times the memory; %d questions are answered %s" % (part, len(asked), "the same" if is_same else "DIFFERENTLY"))
-    return 0 if is_same and part <= 1.1 else 1
+    return 0 if is_same and part <= MAX_PART else 1
+
+
+def check(given: argparse.Namespace, work: str) -> int:
+    first, second = os.path.join(work, "first"), os.path.join(work, "restarted")
+    os.mkdir(first)
+    os.mkdir(second)
+    write_tree(first, given.files, given.users)
+    lines = Lines(given.seed, given.files, loaded_people(first), has_tool(given.program, "why"))
+    with LongSession(given.program, first, os.path.join(work, "out")) as session:
+        session.answer([])
+        print("%d files, %d users, loaded: %s" % (given.files, given.users, shown(session, given.files)), flush=True)
+        play(session, lines, given)
+        present = session.present_memory()
+        write_state(second, lines.people, session.answer(["getfacl -R ."]))
+        with LongSession(given.program, second, os.path.join(work, "out2")) as restarted:
+            restarted.answer([])
+            print("the same state, loaded by a new session: %s" % shown(restarted, given.files))
+            return compare(session, restarted, present, questions(lines))
 
 
 def main() -> int:
-    parser = argparse.ArgumentParser(description=__doc__, formatter_class=argparse.RawDescriptionHelpFormatter)
-    parser.add_argument("program")
+    options = argparse.ArgumentParser(description=__doc__, formatter_class=argparse.RawDescriptionHelpFormatter)
+    options.add_argument("program", type=program_at)
     for name, value in (("--files", 100_000), ("--users", 1_000), ("--lines", 20_000), ("--seed", 1), ("--report", 2_000)):
-        parser.add_argument(name, type=int, default=value)
-    given = parser.parse_args()
-    given.program = os.path.realpath(given.program)
+        options.add_argument(name, type=int, default=value)
+    given = options.parse_args()
     started = time.monotonic()
     with tempfile.TemporaryDirectory(prefix="facl-memory.") as work:
-        status = compare(given, work)
+        status = check(given, work)
     print("%.0f s" % (time.monotonic() - started))
     return status
 
 
 if __name__ == "__main__":
-    sys.exit(main())
+    run(main)

@@ -203,7 +203,7 @@ def faults_of_group(mentions: List[Mention], clauses: Clauses) -> Iterator[str]:
 
 
 def is_met(carrier: Carrier, names: Set[str], clauses: Clauses) -> bool:
-    """Whether a function has one of the clauses, or has one alone where that is said; with nothing said it is enough that it is."""
+    """Whether a function has one of the clauses, or has one alone where the cell names that; an empty cell asks for none."""
     if not (names or clauses.only or clauses.requires):
         return True
     return bool(names & carrier.names) or (clauses.only and carrier.is_single) or (clauses.requires and carrier.requires)

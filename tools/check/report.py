@@ -1,12 +1,13 @@
 #!/usr/bin/env python3
 """The page of facl-report in headless Chromium (Debian's chromium, chromium-driver, python3-selenium).
 
-usage: report.py PROGRAM [--files N] [--users N] [--pictures FOLDER]
+usage: tools/check/report.py PROGRAM [--files N] [--users N] [--pictures FOLDER]
 
 It looks at the page of the stored snapshot with hostile names and a script: what is shown of users and groups, on files and
 along paths, the list of a file, changes, the search, and that no name is markup, and nothing is loaded or run but the
-page itself. Then a page of --files files and --users users of tools/make_tree.py is measured (5,000 and 20). With
---pictures it keeps pictures at 1,280 and 400 points of width, light and dark, in FOLDER, to be looked at.
+page itself. Then a page of --files files and --users users of tools/lib/make_tree.py is measured (5,000 and 20). With
+--pictures it keeps pictures at 1,280 and 400 points of width, light and dark, in FOLDER, to be looked at. The exit status is
+1 where something is not as it has to be, 2 where the words are others or Selenium is not installed.
 """
 from __future__ import annotations
 
@@ -20,19 +21,22 @@ import tempfile
 import time
 from typing import Any, List, Optional
 
+sys.dont_write_bytecode = True
 HERE = os.path.dirname(os.path.realpath(__file__))
-COMMANDS = os.path.join(HERE, "..", "..", "commands")
+sys.path.insert(0, os.path.join(HERE, "..", "lib"))
+from make_tree import write_tree  # noqa: E402
+from script import TOP, Failed, run, say  # noqa: E402
+from session import program_at  # noqa: E402
+
+COMMANDS = os.path.join(TOP, "commands")
 SHARE = os.path.join(COMMANDS, "tests", "snapshots", "share")
 NAMES = ["<script>document.title=1", "</title><b>", "<img src=x onerror=document.title=1>", "&lt;", "{{1}}", "\"'`", "javascript:document.title=1"]
 
 
-class Fault(Exception):
-    """Something is not as it has to be."""
-
-
 def expect(is_so: bool, text: str) -> None:
+    """Fails where something is not as it has to be."""
     if not is_so:
-        raise Fault(text)
+        raise Failed(text)
 
 
 def write_page(program: str, snapshot: str, script: Optional[bytes], page: str) -> float:
@@ -161,7 +165,7 @@ def take_pictures(driver: Any, file: str, folder: str) -> None:
 def measure(driver: Any, program: str, work: str, files: int, users: int) -> None:
     folder = os.path.join(work, "made")
     os.mkdir(folder)
-    subprocess.run([sys.executable, os.path.join(HERE, "..", "make_tree.py"), folder, str(files), str(users)], check=True)
+    write_tree(folder, files, users)
     with open(os.path.join(folder, "links"), "wb"):
         pass
     file = os.path.join(work, "made.html")
@@ -176,29 +180,25 @@ def measure(driver: Any, program: str, work: str, files: int, users: int) -> Non
 
 def main() -> int:
     parser = argparse.ArgumentParser(description=__doc__, formatter_class=argparse.RawDescriptionHelpFormatter)
-    parser.add_argument("program")
+    parser.add_argument("program", type=program_at)
     parser.add_argument("--files", type=int, default=5_000)
     parser.add_argument("--users", type=int, default=20)
     parser.add_argument("--pictures", metavar="FOLDER")
     given = parser.parse_args()
-    program = os.path.realpath(given.program)
     try:
         driver = browser()
     except ImportError:
-        print("report.py: python3-selenium is not installed for %s" % sys.executable, file=sys.stderr)
+        say("python3-selenium is not installed for %s" % sys.executable)
         return 2
     try:
         with tempfile.TemporaryDirectory(prefix="facl-report.") as work:
-            check_share(driver, program, work, given.pictures)
-            measure(driver, program, work, given.files, given.users)
-    except Fault as fault:
-        print("report.py: %s" % fault, file=sys.stderr)
-        return 1
+            check_share(driver, given.program, work, given.pictures)
+            measure(driver, given.program, work, given.files, given.users)
     finally:
         driver.quit()
-    print("report.py: all as it has to be")
+    print("tools/check/report.py: all as it has to be")
     return 0
 
 
 if __name__ == "__main__":
-    sys.exit(main())
+    run(main)

@@ -5,16 +5,19 @@
 # usage: tools/check/split.sh PROGRAM [FOLDER]
 #
 # It makes a folder of its own in FOLDER (/tmp), on a file system with lists, and removes it. It needs the packages acl and
-# parallel.
+# parallel. The exit status is 1 where an answer differs, 2 where there is no program or a tool is not installed.
 set -eu
 top=$(cd "$(dirname "$0")/../.." && pwd)
+# shellcheck source=tools/lib/program.sh
+. "$top/tools/lib/program.sh"
 [ $# -ge 1 ] || { sed -n '5s/^# //p' "$0" >&2 && exit 2; }
-FACL=$(realpath -- "$1")
+for tool in setfacl getfacl parallel; do
+    command -v $tool >/dev/null || fail "$tool is not installed"
+done
+choose_program "$1"
+FACL=$program
 export FACL
-work=$(mktemp -d -- "${2:-/tmp}/facl-split.XXXXXX")
-trap 'rm -rf -- "$work"' EXIT
-trap 'exit 130' INT
-trap 'exit 143' TERM HUP
+make_work "${2:-/tmp}"
 cd -- "$work"
 
 # make_tree: folders of files whose lists differ, with names that have to be quoted
@@ -43,7 +46,7 @@ for count in $((above + 10)) $((above + 25)) 1000; do
     cmp joined whole
     for part in parts/*; do
         files=$(grep -c '^# file: ' "$part/dump")
-        [ "$files" -le "$count" ] || { echo "tools/check/split.sh: $part: $files files" >&2 && exit 1; }
+        [ "$files" -le "$count" ] || { echo "$script_name: $part: $files files" >&2 && exit 1; }
     done
 done
-echo "tools/check/split.sh: all as it has to be"
+echo "$script_name: all as it has to be"

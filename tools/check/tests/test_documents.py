@@ -38,6 +38,7 @@ FILES = {
     "commands/facl_commands/names.py": '"""Names: their escapes.\n\nMore.\n"""\n',
     "commands/facl-ask": "#!/bin/sh\nexit\n",
     "tools/check.sh": "#!/bin/sh\n# Checks all.\n",
+    "tools/lib/check.sh": "# A part of it.\n",
     "docs/OTHER.md": "# The crates\n\n## Its `parts`, in short\n",
 }
 LOW = "low: maps"
@@ -130,8 +131,9 @@ class Heads(Case):
             self.assertEqual(documents.head_of_script(os.path.join(self.top, file)), head)
 
     def test_tools(self) -> None:
-        self.assertEqual(list(documents.tool_faults(self.top, "check.sh is there, and facl_words.md is no script.")), [])
-        self.assertEqual(list(documents.tool_faults(self.top, "gone.py is not.")), [(1, "no gone.py in tools/"), (1, "check.sh is not named")])
+        self.assertEqual(list(documents.tool_faults(self.top, "check.sh and lib/check.sh are there, and facl_words.md is no script.")), [])
+        self.assertEqual(list(documents.tool_faults(self.top, "gone.py is not.\nNor is lib/gone.sh, and lib/check.sh is.")), [
+            (1, "no gone.py in tools/"), (2, "no lib/gone.sh in tools/"), (1, "check.sh is not named")])
 
 
 class Tables(Case):
@@ -154,7 +156,7 @@ class Tables(Case):
         rows = "| low, high | high_tests | all |\n"
         self.assertEqual(list(documents.tests_faults(self.top, head + rows)), [])
         self.assertEqual(list(documents.tests_faults(self.top, head + "| high_tests | low | all |\n")), [
-            (3, "low does not stand on high_tests by crates.txt"), (1, "high is not in the table of tests")])
+            (3, "low does not use high_tests by crates.txt"), (1, "high is not in the table of tests")])
 
     def test_map(self) -> None:
         head = "## The map\n| Crate | What it is for |\n|---|---|\n"

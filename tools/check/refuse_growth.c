@@ -1,0 +1,43 @@
+/* A malloc that refuses one growth: the one with the number REFUSE, counted from 1; where REFUSE_ON is set all after it
+   too. It reports on descriptor 9, if that is open, that it did. Preloaded by tools/check/each_growth.sh under the built
+   program; no part of facl. */
+#define _GNU_SOURCE
+#include <dlfcn.h>
+#include <stddef.h>
+#include <stdlib.h>
+#include <unistd.h>
+
+static long growths;
+
+static int refused(void) {
+    static long wanted = -1;
+    static int goes_on;
+    if (wanted < 0) {
+        const char *text = getenv("REFUSE");
+        wanted = text ? atol(text) : 0;
+        goes_on = getenv("REFUSE_ON") != NULL;
+    }
+    growths++;
+    if (wanted && goes_on && growths > wanted) return 1;
+    if (growths != wanted) return 0;
+    (void)!write(9, "refused\n", 8);
+    return 1;
+}
+
+void *malloc(size_t bytes) {
+    static void *(*next)(size_t);
+    if (!next) next = (void *(*)(size_t))dlsym(RTLD_NEXT, "malloc");
+    return refused() ? NULL : next(bytes);
+}
+
+void *realloc(void *old, size_t bytes) {
+    static void *(*next)(void *, size_t);
+    if (!next) next = (void *(*)(void *, size_t))dlsym(RTLD_NEXT, "realloc");
+    return refused() ? NULL : next(old, bytes);
+}
+
+void *aligned_alloc(size_t alignment, size_t bytes) {
+    static void *(*next)(size_t, size_t);
+    if (!next) next = (void *(*)(size_t, size_t))dlsym(RTLD_NEXT, "aligned_alloc");
+    return refused() ? NULL : next(alignment, bytes);
+}
