@@ -20,7 +20,7 @@ top=$(cd "$(dirname "$0")/../.." && pwd)
 . "$top/tools/lib/program.sh"
 case " $* " in
 *" --help "*) sed -n '2,/^set/{/^set/!s/^# \{0,1\}//p}' "$0" && exit 0 ;;
-*" --program "*) ;;
+*" --program "* | *" --program="*) ;;
 *) prove && set -- --program "$built" "$@" ;;
 esac
 exec python3 "$top/tools/check/compare.py" "$@"
