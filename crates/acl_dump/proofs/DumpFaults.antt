@@ -1,6 +1,7 @@
 -- The first fault of a dump is returned, and what is returned is the first fault.
 use Rattle.std.proofs.Common.{◌≡◌, ℕ, Bool, true, false, List, [], ◌∷◌, ◌++◌, Option, Some, None, Result, Ok, Err, refl, sym, ap, subst, ◌∙◌, inl, inr}
 use Rattle.std.specs.Prelude.{◌⊎◌, if◌then◌else◌}
+use Rattle.acl_syntax.specs.Naming.{Naming}
 use Rattle.acl_syntax.specs.declared.fault.FaultKind.{FaultKind}
 use Rattle.acl_syntax.specs.declared.fault.FaultKind.TheVariants.{BadHeader, BadPath, RepeatedFile}
 use Rattle.acl_syntax.specs.declared.fault.TextFault.{TextFault}
@@ -11,16 +12,16 @@ use Rattle.acl_dump.specs.declared.record.DumpRecord.{DumpRecord}
 use Rattle.acl_dump.specs.declared.draft.Draft.{Draft}
 use Rattle.acl_dump.specs.declared.item.Item.{Item}
 use Rattle.acl_dump.specs.declared.item.Item.TheVariants.{Owner, OwningGroup, Flags, Entry}
-use Rattle.acl_dump.specs.Groups.{next, in_turn, streamed}
+use Rattle.acl_dump.specs.Groups.{in_turn, streamed}
 use Rattle.acl_dump.specs.Lines.{content_of}
 use Rattle.acl_dump.specs.Records.{Numbered, begins, opened_draft, open_record, line_in, close, item_of, add, may_head, with_entry, is_repeated, ends_in_slash, record_of}
 use Rattle.acl_dump.specs.Faults.{added, IsOfALine, IsOfTheRecord, records_in, IsOfALaterRecord, IsFirstFault}
 use Rattle.acl_dump.proofs.Streams.{streamed_by_groups}
 use Rattle.acl_dump.proofs.FirstFaults.{InPiece, InWhole, InLater, cases_Result, reported_found, group_reported, later_reported}
 
-module _ (user_id group_id : List ℕ → Option ℕ) where
+module _ (naming : Naming) where
   abbrev line : Option Draft → Numbered → Result (Option Draft) TextFault
-  line draft l = line_in user_id group_id draft l
+  line draft l = line_in naming draft l
 
   -- before the first record there is no content
   no_item : (at : ℕ) (r : Result (Option Item) FaultKind) (d : Option Draft) → at_place at (r >>= (λ item. add item None)) (λ new. Ok new) ≡ Ok d → d ≡ None
@@ -28,13 +29,13 @@ module _ (user_id group_id : List ℕ → Option ℕ) where
   no_item at (Ok None) d e = cc
   no_item at (Ok (Some item)) d e = absurd cc
 
-  none_added : (ls : List Numbered) (d : Option Draft) → added user_id group_id None ls ≡ Ok d → d ≡ None
+  none_added : (ls : List Numbered) (d : Option Draft) → added naming None ls ≡ Ok d → d ≡ None
   none_added [] d e = cc
   none_added (l ∷ ls) d e =
       elim (cases_Result (line None l)) [
         | inl fine ↦
-            let none : fine.0 ≡ None = no_item l.0 (item_of user_id group_id l.0 (content_of l.1).0 (content_of l.1).1) fine.0 fine.1 in
-            none_added ls d (sym (ap (λ r. next r (λ more. in_turn line more ls)) (fine.1 ∙ ap (λ n. Ok n) none)) ∙ e)
+            let none : fine.0 ≡ None = no_item l.0 (item_of naming l.0 (content_of l.1).0 (content_of l.1).1) fine.0 fine.1 in
+            none_added ls d (sym (ap (λ r. r >>= (λ more. in_turn line more ls)) (fine.1 ∙ ap (λ n. Ok n) none)) ∙ e)
         | inr bad ↦ absurd cc
       ]
 
@@ -66,12 +67,12 @@ module _ (user_id group_id : List ℕ → Option ℕ) where
         | inr bad ↦ absurd (cc (sym (ap (λ j. at_place n j (λ new. let r : Result (Option Draft) TextFault = Ok new in r)) bad.1) ∙ e))
       ]
 
-  added_at : (at : ℕ) (ls : List Numbered) (old d : Option Draft) → IsAtLine at old → added user_id group_id old ls ≡ Ok d → IsAtLine at d
+  added_at : (at : ℕ) (ls : List Numbered) (old d : Option Draft) → IsAtLine at old → added naming old ls ≡ Ok d → IsAtLine at d
   added_at at [] old d is_at e = let same : old ≡ d = cc in subst (IsAtLine at) same is_at
   added_at at (l ∷ ls) old d is_at e =
       elim (cases_Result (line old l)) [
-        | inl fine ↦ added_at at ls fine.0 d (judged_at at l.0 (item_of user_id group_id l.0 (content_of l.1).0 (content_of l.1).1) old fine.0 is_at fine.1) (sym (ap (λ r. next r (λ more. in_turn line more ls)) fine.1) ∙ e)
-        | inr bad ↦ absurd (cc (sym (ap (λ r. next r (λ more. in_turn line more ls)) bad.1) ∙ e))
+        | inl fine ↦ added_at at ls fine.0 d (judged_at at l.0 (item_of naming l.0 (content_of l.1).0 (content_of l.1).1) old fine.0 is_at fine.1) (sym (ap (λ r. r >>= (λ more. in_turn line more ls)) fine.1) ∙ e)
+        | inr bad ↦ absurd (cc (sym (ap (λ r. r >>= (λ more. in_turn line more ls)) bad.1) ∙ e))
       ]
 
   abbrev draft_of : ℕ → List ℕ → List (List ℕ) → Draft
@@ -84,13 +85,13 @@ module _ (user_id group_id : List ℕ → Option ℕ) where
     abbrev stream : List DumpRecord → Option Draft → List Numbered → Result (List DumpRecord) TextFault
     stream records draft ls = streamed begins open_record line (close dump_use) records draft ls
 
-    by_stream : (ls : List Numbered) → stream [] None ls ≡ records_in user_id group_id dump_use ls
+    by_stream : (ls : List Numbered) → stream [] None ls ≡ records_in naming dump_use ls
     by_stream ls = streamed_by_groups begins open_record line (close dump_use) [] None ls
 
-    of_piece : (draft : Option Draft) (ls : List Numbered) (fault : TextFault) → InPiece begins open_record line (close dump_use) draft ls fault → IsOfALine user_id group_id draft ls fault
+    of_piece : (draft : Option Draft) (ls : List Numbered) (fault : TextFault) → InPiece begins open_record line (close dump_use) draft ls fault → IsOfALine naming draft ls fault
     of_piece draft ls fault w = record { before = w.before; line = w.piece; after = w.after; parts = w.parts; same_record = w.same_group; begins_none = w.begins_none; so_far = w.so_far; no_fault_before = w.no_fault_before; faulty = w.faulty }
 
-    to_piece : (draft : Option Draft) (ls : List Numbered) (fault : TextFault) → IsOfALine user_id group_id draft ls fault → InPiece begins open_record line (close dump_use) draft ls fault
+    to_piece : (draft : Option Draft) (ls : List Numbered) (fault : TextFault) → IsOfALine naming draft ls fault → InPiece begins open_record line (close dump_use) draft ls fault
     to_piece draft ls fault w = record { before = w.before; piece = w.line; after = w.after; parts = w.parts; same_group = w.same_record; begins_none = w.begins_none; so_far = w.so_far; no_fault_before = w.no_fault_before; faulty = w.faulty }
 
     -- an open record keeps its place
@@ -118,7 +119,7 @@ module _ (user_id group_id : List ℕ → Option ℕ) where
         by (Err kind) e = let same : record { kind = kind; at = d.at } ≡ fault = cc in sym (ap (λ (f : TextFault). f.at) same)
 
     of_group : (at : ℕ) (records : List DumpRecord) (draft : Option Draft) (ls : List Numbered) (fault : TextFault) → IsAtLine at draft
-        → InPiece begins open_record line (close dump_use) draft ls fault ⊎ InWhole begins open_record line (close dump_use) records draft ls fault → IsOfTheRecord user_id group_id dump_use at records draft ls fault
+        → InPiece begins open_record line (close dump_use) draft ls fault ⊎ InWhole begins open_record line (close dump_use) records draft ls fault → IsOfTheRecord naming dump_use at records draft ls fault
     of_group at records draft ls fault is_at found =
         elim found [
           | inl w ↦ inl (of_piece draft ls fault w)
@@ -126,14 +127,14 @@ module _ (user_id group_id : List ℕ → Option ℕ) where
         ]
 
     to_group : (at : ℕ) (records : List DumpRecord) (draft : Option Draft) (ls : List Numbered) (fault : TextFault)
-        → IsOfTheRecord user_id group_id dump_use at records draft ls fault → InPiece begins open_record line (close dump_use) draft ls fault ⊎ InWhole begins open_record line (close dump_use) records draft ls fault
+        → IsOfTheRecord naming dump_use at records draft ls fault → InPiece begins open_record line (close dump_use) draft ls fault ⊎ InWhole begins open_record line (close dump_use) records draft ls fault
     to_group at records draft ls fault found =
         elim found [
           | inl w ↦ inl (to_piece draft ls fault w)
           | inr w ↦ inr (record { others = w.others; after = w.after; parts = w.parts; same_group = w.same_record; ends = w.ended; so_far = w.so_far; no_faulty_piece = w.no_faulty_line; faulty = w.faulty })
         ]
 
-    of_later : (ls : List Numbered) (fault : TextFault) → InLater begins open_record line (close dump_use) [] None ls fault → IsOfALaterRecord user_id group_id dump_use ls fault
+    of_later : (ls : List Numbered) (fault : TextFault) → InLater begins open_record line (close dump_use) [] None ls fault → IsOfALaterRecord naming dump_use ls fault
     of_later ls fault w = record {
       before = w.before;
       file = w.head;
@@ -148,7 +149,7 @@ module _ (user_id group_id : List ℕ → Option ℕ) where
       ];
     }
 
-    to_later : (ls : List Numbered) (fault : TextFault) → IsOfALaterRecord user_id group_id dump_use ls fault → InLater begins open_record line (close dump_use) [] None ls fault
+    to_later : (ls : List Numbered) (fault : TextFault) → IsOfALaterRecord naming dump_use ls fault → InLater begins open_record line (close dump_use) [] None ls fault
     to_later ls fault w = record {
       before = w.before;
       head = w.file;
@@ -167,7 +168,7 @@ module _ (user_id group_id : List ℕ → Option ℕ) where
     no_whole : (ls : List Numbered) (fault : TextFault) → InWhole begins open_record line (close dump_use) [] None ls fault → ⊥
     no_whole ls fault w = cc (sym (ap (λ d. close dump_use [] d) (none_added w.others w.so_far w.no_faulty_piece)) ∙ w.faulty)
 
-    pub reported_is_first : (ls : List Numbered) (fault : TextFault) → records_in user_id group_id dump_use ls ≡ Err fault → IsFirstFault user_id group_id dump_use ls fault
+    pub reported_is_first : (ls : List Numbered) (fault : TextFault) → records_in naming dump_use ls ≡ Err fault → IsFirstFault naming dump_use ls fault
     reported_is_first ls fault e =
         elim (reported_found begins open_record line (close dump_use) [] None ls fault (by_stream ls ∙ e)) [
           | inl here ↦ elim here [
@@ -177,7 +178,7 @@ module _ (user_id group_id : List ℕ → Option ℕ) where
           | inr w ↦ inr (of_later ls fault w)
         ]
 
-    pub first_is_reported : (ls : List Numbered) (fault : TextFault) → IsFirstFault user_id group_id dump_use ls fault → records_in user_id group_id dump_use ls ≡ Err fault
+    pub first_is_reported : (ls : List Numbered) (fault : TextFault) → IsFirstFault naming dump_use ls fault → records_in naming dump_use ls ≡ Err fault
     first_is_reported ls fault first =
         sym (by_stream ls)
         ∙ elim first [

@@ -4,7 +4,8 @@ use Rattle.std.specs.Prelude.{◌⊎◌}
 use Rattle.std.specs.List.{AllByRecursion}
 use Rattle.std.proofs.lemmas.Bool.{cases_Bool}
 use Rattle.acl_syntax.specs.declared.fault.TextFault.{TextFault}
-use Rattle.acl_dump.specs.Groups.{next, in_turn, streamed}
+use Rattle.acl_syntax.specs.InTurn.{◌>>=◌}
+use Rattle.acl_dump.specs.Groups.{in_turn, streamed}
 use Rattle.acl_dump.proofs.Streams.{next_assoc}
 
 pub cases_Result : {A E : Type 0} (r : Result A E) → ((x : A) × (r ≡ Ok x)) ⊎ ((e : E) × (r ≡ Err e))
@@ -67,13 +68,13 @@ module _ {S D P : Type 0} (begins : P → Bool) (first : S → P → Result D Te
   -- ---- what is returned is the first fault
 
   abbrev with_draft : S → Result D TextFault → Result (S × D) TextFault
-  with_draft item r = next r (λ new. Ok (item, new))
+  with_draft item r = r >>= (λ new. Ok (item, new))
 
   abbrev with_item : P → Result S TextFault → Result (S × D) TextFault
-  with_item p r = next r (λ more. with_draft more (first more p))
+  with_item p r = r >>= (λ more. with_draft more (first more p))
 
   abbrev goes_on : List P → Result (S × D) TextFault → Result S TextFault
-  goes_on ps r = next r (λ s. stream s.0 s.1 ps)
+  goes_on ps r = r >>= (λ s. stream s.0 s.1 ps)
 
   abbrev step_by : Bool → S → D → P → Result (S × D) TextFault
   step_by b item draft p = cond b (with_item p (close item draft)) (with_draft item (line draft p))
@@ -94,7 +95,7 @@ module _ {S D P : Type 0} (begins : P → Bool) (first : S → P → Result D Te
       ∙ ap (λ r. goes_on ps (with_item p r)) bad
 
   -- a piece that begins a group, once the group before it is closed
-  on_head : (item more : S) (draft : D) (p : P) (ps : List P) → begins p ≡ true → close item draft ≡ Ok more → stream item draft (p ∷ ps) ≡ next (first more p) (λ new. stream more new ps)
+  on_head : (item more : S) (draft : D) (p : P) (ps : List P) → begins p ≡ true → close item draft ≡ Ok more → stream item draft (p ∷ ps) ≡ (first more p >>= (λ new. stream more new ps))
   on_head item more draft p ps heads fine =
       ap (λ b. goes_on ps (step_by b item draft p)) heads
       ∙ (ap (λ r. goes_on ps (with_item p r)) fine
@@ -113,7 +114,7 @@ module _ {S D P : Type 0} (begins : P → Bool) (first : S → P → Result D Te
             same_group = (plain, w.same_group);
             begins_none = w.begins_none;
             so_far = w.so_far;
-            no_fault_before = ap (λ r. next r (λ more. in_turn line more w.before)) fine ∙ w.no_fault_before;
+            no_fault_before = ap (λ r. r >>= (λ more. in_turn line more w.before)) fine ∙ w.no_fault_before;
             faulty = w.faulty;
           }))
           | inr w ↦ inl (inr (record {
@@ -123,7 +124,7 @@ module _ {S D P : Type 0} (begins : P → Bool) (first : S → P → Result D Te
             same_group = (plain, w.same_group);
             ends = w.ends;
             so_far = w.so_far;
-            no_faulty_piece = ap (λ r. next r (λ more. in_turn line more w.others)) fine ∙ w.no_faulty_piece;
+            no_faulty_piece = ap (λ r. r >>= (λ more. in_turn line more w.others)) fine ∙ w.no_faulty_piece;
             faulty = w.faulty;
           }))
         ]
@@ -160,7 +161,7 @@ module _ {S D P : Type 0} (begins : P → Bool) (first : S → P → Result D Te
           parts = ap (λ (qs : List P). p ∷ qs) w.parts;
           begins_one = w.begins_one;
           more = w.more;
-          no_fault_before = on_head item more draft p w.before heads closed ∙ (ap (λ r. next r (λ d. stream more d w.before)) fine ∙ w.no_fault_before);
+          no_fault_before = on_head item more draft p w.before heads closed ∙ (ap (λ r. r >>= (λ d. stream more d w.before)) fine ∙ w.no_fault_before);
           faulty = w.faulty;
         })
       ]
@@ -183,8 +184,8 @@ module _ {S D P : Type 0} (begins : P → Bool) (first : S → P → Result D Te
           | inl closed ↦
               let rest = sym (on_head item closed.0 draft p ps heads closed.1) ∙ e in
               elim (cases_Result (first closed.0 p)) [
-                | inr bad ↦ head_here item closed.0 draft p ps fault heads closed.1 (bad.1 ∙ ap (λ x. Err x) (same_fault {A = S} bad.0 fault (sym (ap (λ r. next r (λ new. stream closed.0 new ps)) bad.1) ∙ rest)))
-                | inl fine ↦ after_head item closed.0 draft fine.0 p ps fault heads closed.1 fine.1 (reported_found closed.0 fine.0 ps fault (sym (ap (λ r. next r (λ new. stream closed.0 new ps)) fine.1) ∙ rest))
+                | inr bad ↦ head_here item closed.0 draft p ps fault heads closed.1 (bad.1 ∙ ap (λ x. Err x) (same_fault {A = S} bad.0 fault (sym (ap (λ r. r >>= (λ new. stream closed.0 new ps)) bad.1) ∙ rest)))
+                | inl fine ↦ after_head item closed.0 draft fine.0 p ps fault heads closed.1 fine.1 (reported_found closed.0 fine.0 ps fault (sym (ap (λ r. r >>= (λ new. stream closed.0 new ps)) fine.1) ∙ rest))
               ]
         ]
         | inr plain ↦ elim (cases_Result (line draft p)) [
@@ -202,23 +203,23 @@ module _ {S D P : Type 0} (begins : P → Bool) (first : S → P → Result D Te
       elim (cases_Result (line draft p)) [
         | inl one ↦
             on_line item draft one.0 p (before ++ ps) none.0 one.1
-            ∙ along item one.0 new before ps none.1 (sym (ap (λ r. next r (λ more. in_turn line more before)) one.1) ∙ fine)
-        | inr bad ↦ absurd (cc (ap (λ r. next r (λ more. in_turn line more before)) bad.1))
+            ∙ along item one.0 new before ps none.1 (sym (ap (λ r. r >>= (λ more. in_turn line more before)) one.1) ∙ fine)
+        | inr bad ↦ absurd (cc (ap (λ r. r >>= (λ more. in_turn line more before)) bad.1))
       ]
 
   -- whole groups, without a fault
-  past : (item more : S) (draft : D) (before : List P) (p : P) (ps : List P) → begins p ≡ true → stream item draft before ≡ Ok more → stream item draft (before ++ p ∷ ps) ≡ next (first more p) (λ new. stream more new ps)
+  past : (item more : S) (draft : D) (before : List P) (p : P) (ps : List P) → begins p ≡ true → stream item draft before ≡ Ok more → stream item draft (before ++ p ∷ ps) ≡ (first more p >>= (λ new. stream more new ps))
   past item more draft [] p ps heads fine = on_head item more draft p ps heads fine
   past item more draft (q ∷ before) p ps heads fine =
       elim (cases_Bool (begins q)) [
         | inl head ↦ elim (cases_Result (close item draft)) [
           | inr bad ↦ absurd (cc (bad_whole item draft q before bad.0 head bad.1))
           | inl closed ↦ elim (cases_Result (first closed.0 q)) [
-            | inr bad ↦ absurd (cc (on_head item closed.0 draft q before head closed.1, ap (λ r. next r (λ new. stream closed.0 new before)) bad.1))
+            | inr bad ↦ absurd (cc (on_head item closed.0 draft q before head closed.1, ap (λ r. r >>= (λ new. stream closed.0 new before)) bad.1))
             | inl one ↦
                 on_head item closed.0 draft q (before ++ p ∷ ps) head closed.1
-                ∙ (ap (λ r. next r (λ new. stream closed.0 new (before ++ p ∷ ps))) one.1
-                ∙ past closed.0 more one.0 before p ps heads (sym (on_head item closed.0 draft q before head closed.1 ∙ ap (λ r. next r (λ new. stream closed.0 new before)) one.1) ∙ fine))
+                ∙ (ap (λ r. r >>= (λ new. stream closed.0 new (before ++ p ∷ ps))) one.1
+                ∙ past closed.0 more one.0 before p ps heads (sym (on_head item closed.0 draft q before head closed.1 ∙ ap (λ r. r >>= (λ new. stream closed.0 new before)) one.1) ∙ fine))
           ]
         ]
         | inr plain ↦ elim (cases_Result (line draft q)) [
@@ -245,6 +246,6 @@ module _ {S D P : Type 0} (begins : P → Bool) (first : S → P → Result D Te
       ap (λ (qs : List P). stream item draft qs) w.parts
       ∙ (past item w.more draft w.before w.head w.following w.begins_one w.no_fault_before
       ∙ elim w.faulty [
-        | inl bad ↦ ap (λ r. next r (λ new. stream w.more new w.following)) bad
-        | inr b ↦ ap (λ r. next r (λ new. stream w.more new w.following)) b.no_fault ∙ group_reported w.more b.draft w.following fault b.following
+        | inl bad ↦ ap (λ r. r >>= (λ new. stream w.more new w.following)) bad
+        | inr b ↦ ap (λ r. r >>= (λ new. stream w.more new w.following)) b.no_fault ∙ group_reported w.more b.draft w.following fault b.following
       ])

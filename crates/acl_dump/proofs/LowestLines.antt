@@ -8,6 +8,7 @@ use Rattle.std.proofs.lemmas.Cmp.{tied_itself}
 use Rattle.std.proofs.lemmas.List.Elements.{Contains-append_left, Contains-append_right, Contains-append_cases, Contains-push, Contains-push_cases}
 use Rattle.acl_names.specs.Paths.{path_of, path_cmp}
 use Rattle.acl_names.proofs.PathOrder.{path_total, exact_paths}
+use Rattle.acl_syntax.specs.Naming.{Naming}
 use Rattle.acl_syntax.specs.declared.fault.FaultKind.{FaultKind}
 use Rattle.acl_syntax.specs.declared.fault.FaultKind.TheVariants as kinds
 use Rattle.acl_syntax.specs.InTurn.{◌>>=◌, or_fault}
@@ -161,37 +162,37 @@ reads_of_kind : {A : Type 0} (r : Result A FaultKind) (item_from : A → Item) (
 reads_of_kind (Ok x) item_from kind s is e = let same : Some (item_from x) ≡ s = cc in rw (← same) (is x)
 reads_of_kind (Err j) item_from kind s is e = absurd cc
 
-module _ (user_id group_id : List ℕ → Option ℕ) (at : ℕ) where
+module _ (naming : Naming) (at : ℕ) where
   abbrev reads_as : LineKind → List ℕ → Result (Option Item) FaultKind
-  reads_as kind value = item_of user_id group_id at kind value
+  reads_as kind value = item_of naming at kind value
 
   none_check : ReportsLowest (λ k. ⊥) (reads_as Nothing [])
   none_check = alone (λ k. ⊥) (reads_as Nothing []) (λ k h. absurd h) (λ k e. absurd cc)
 
-  itself_check : (kind : LineKind) (value : List ℕ) → ReportsLowest (HasInItself user_id group_id kind value) (reads_as kind value)
+  itself_check : (kind : LineKind) (value : List ℕ) → ReportsLowest (HasInItself naming kind value) (reads_as kind value)
   itself_check Nothing value = none_check
   itself_check File value = none_check
-  itself_check Owner value = made (HasInItself user_id group_id Owner value) (named user_id kinds.UnknownUser value) (λ id. Some (item.Owner id)) (named_check user_id kinds.UnknownUser value)
-  itself_check OwningGroup value = made (HasInItself user_id group_id OwningGroup value) (named group_id kinds.UnknownGroup value) (λ id. Some (item.OwningGroup id)) (named_check group_id kinds.UnknownGroup value)
-  itself_check Flags value = made (HasInItself user_id group_id Flags value) (or_fault (flags_of value) kinds.BadHeader) (λ flags. Some (item.Flags flags)) (flags_check value)
-  itself_check Entry value = made (EntryHas user_id group_id rules value) (entry_of user_id group_id rules at value) (λ spec. Some (entry_item spec)) (entry_lowest user_id group_id rules at value)
+  itself_check Owner value = made (HasInItself naming Owner value) (named naming.user_id kinds.UnknownUser value) (λ id. Some (item.Owner id)) (named_check naming.user_id kinds.UnknownUser value)
+  itself_check OwningGroup value = made (HasInItself naming OwningGroup value) (named naming.group_id kinds.UnknownGroup value) (λ id. Some (item.OwningGroup id)) (named_check naming.group_id kinds.UnknownGroup value)
+  itself_check Flags value = made (HasInItself naming Flags value) (or_fault (flags_of value) kinds.BadHeader) (λ flags. Some (item.Flags flags)) (flags_check value)
+  itself_check Entry value = made (EntryHas naming rules value) (entry_of naming rules at value) (λ spec. Some (entry_item spec)) (entry_lowest naming rules at value)
 
   -- the kinds that a line has in itself
-  itself-kind : (kind : LineKind) (value : List ℕ) (k : FaultKind) → HasInItself user_id group_id kind value k → number k ≤ 8
+  itself-kind : (kind : LineKind) (value : List ℕ) (k : FaultKind) → HasInItself naming kind value k → number k ≤ 8
   itself-kind Nothing value k h = absurd h
   itself-kind File value k h = absurd h
   itself-kind Owner value k h = elim h [ inl e ↦ omega (arith, ap number e.is) | inr n ↦ omega (arith, ap number n.is) ]
   itself-kind OwningGroup value k h = elim h [ inl e ↦ omega (arith, ap number e.is) | inr n ↦ omega (arith, ap number n.is) ]
   itself-kind Flags value k h = omega (arith, ap number h.is)
-  itself-kind Entry value k h = let is = fields-kind user_id group_id rules (default_of (entry_fields value)) k h in omega (arith, is)
+  itself-kind Entry value k h = let is = fields-kind naming rules (default_of (entry_fields value)) k h in omega (arith, is)
 
   of_kind : (kind : LineKind) (value : List ℕ) (s : Option Item) → reads_as kind value ≡ Ok s → IsOfKind kind s
   of_kind Nothing value s e = let same : None ≡ s = cc in rw (← same) (record { lone = refl; late_is = λ draft. refl })
   of_kind File value s e = let same : None ≡ s = cc in rw (← same) (record { lone = refl; late_is = λ draft. refl })
-  of_kind Owner value s e = reads_of_kind (named user_id kinds.UnknownUser value) (λ id. item.Owner id) Owner s (λ id. record { lone = refl; late_is = λ draft. refl }) e
-  of_kind OwningGroup value s e = reads_of_kind (named group_id kinds.UnknownGroup value) (λ id. item.OwningGroup id) OwningGroup s (λ id. record { lone = refl; late_is = λ draft. refl }) e
+  of_kind Owner value s e = reads_of_kind (named naming.user_id kinds.UnknownUser value) (λ id. item.Owner id) Owner s (λ id. record { lone = refl; late_is = λ draft. refl }) e
+  of_kind OwningGroup value s e = reads_of_kind (named naming.group_id kinds.UnknownGroup value) (λ id. item.OwningGroup id) OwningGroup s (λ id. record { lone = refl; late_is = λ draft. refl }) e
   of_kind Flags value s e = reads_of_kind (or_fault (flags_of value) kinds.BadHeader) (λ flags. item.Flags flags) Flags s (λ flags. record { lone = refl; late_is = λ draft. refl }) e
-  of_kind Entry value s e = reads_of_kind (entry_of user_id group_id rules at value) entry_item Entry s (λ spec. record { lone = refl; late_is = λ draft. refl }) e
+  of_kind Entry value s e = reads_of_kind (entry_of naming rules at value) entry_item Entry s (λ spec. record { lone = refl; late_is = λ draft. refl }) e
 
 -- ---- the place of a line
 
@@ -225,12 +226,12 @@ none_where : (s : Option Item) (k : FaultKind) → add s None ≡ Err k → (k �
 none_where None k e = absurd cc
 none_where (Some x) k e = (cc, refl)
 
-module _ (user_id group_id : List ℕ → Option ℕ) (draft : Option Draft) (l : Numbered) where
+module _ (naming : Naming) (draft : Option Draft) (l : Numbered) where
   abbrev kind_of : LineKind
   kind_of = (content_of l.1).0
 
   abbrev Misplaced : FaultKind → Type 0
-  Misplaced k = HasNoRecord user_id group_id draft l k ⊎ IsLate user_id group_id draft l k
+  Misplaced k = HasNoRecord naming draft l k ⊎ IsLate naming draft l k
 
   found : (s : Option Item) → IsOfKind kind_of s → (k : FaultKind) → Misplaced k → add s draft ≡ Err k
   found s is k misplaced =
@@ -247,17 +248,17 @@ module _ (user_id group_id : List ℕ → Option ℕ) (draft : Option Draft) (l 
   place_check s is = alone Misplaced (add s draft) (found s is) (λ k e. applies_to s is draft refl k e)
 
   abbrev Itself : FaultKind → Type 0
-  Itself k = HasInItself user_id group_id kind_of (content_of l.1).1 k
+  Itself k = HasInItself naming kind_of (content_of l.1).1 k
 
   below : (j k : FaultKind) → Itself j → Misplaced k → number j ≤ number k
   below j k h misplaced =
-      let low = itself-kind user_id group_id l.0 kind_of (content_of l.1).1 j h in
+      let low = itself-kind naming l.0 kind_of (content_of l.1).1 j h in
       elim misplaced [
         | inl m ↦ omega (arith, low, ap number m.is)
         | inr m ↦ omega (arith, low, ap number m.is)
       ]
 
-  pub line_lowest : ReportsLowest (LineHas user_id group_id draft l) (judged user_id group_id draft l)
+  pub line_lowest : ReportsLowest (LineHas naming draft l) (judged naming draft l)
   line_lowest =
-      in_turn Itself Misplaced (item_of user_id group_id l.0 kind_of (content_of l.1).1) (λ s. add s draft) below (itself_check user_id group_id l.0 kind_of (content_of l.1).1)
-      (λ s e. place_check s (of_kind user_id group_id l.0 kind_of (content_of l.1).1 s e))
+      in_turn Itself Misplaced (item_of naming l.0 kind_of (content_of l.1).1) (λ s. add s draft) below (itself_check naming l.0 kind_of (content_of l.1).1)
+      (λ s e. place_check s (of_kind naming l.0 kind_of (content_of l.1).1 s e))

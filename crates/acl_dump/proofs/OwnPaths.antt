@@ -5,6 +5,7 @@ use Rattle.std.proofs.lemmas.Cmp.{eq_by_cmp_equiv}
 use Rattle.std.proofs.lemmas.List.Folds.{list_any-append}
 use Rattle.acl_names.specs.Paths.{path_of}
 use Rattle.acl_names.proofs.PathOrder.{path_total}
+use Rattle.acl_syntax.specs.Naming.{Naming}
 use Rattle.acl_syntax.specs.declared.fault.FaultKind.{FaultKind}
 use Rattle.acl_syntax.specs.declared.fault.FaultKind.TheVariants.{BadHeader, BadPath, MissingHeader, RepeatedFile}
 use Rattle.acl_syntax.specs.declared.fault.TextFault.{TextFault}
@@ -16,7 +17,6 @@ use Rattle.acl_dump.specs.declared.record.DumpUse.{DumpUse}
 use Rattle.acl_dump.specs.declared.item.Item.{Item}
 use Rattle.acl_dump.specs.declared.item.Item.TheVariants as item
 use Rattle.acl_dump.specs.OwnPaths.{have_own_paths}
-use Rattle.acl_dump.specs.Groups.{next}
 use Rattle.acl_dump.proofs.Streams.{streamed_by_groups}
 use Rattle.acl_dump.specs.Lines.{content_of}
 use Rattle.acl_dump.specs.Records.{Numbered, same_path, is_repeated, ends_in_slash, opened_draft, open_record, begins, close, list_of, default_list_of, whole, has_headers, record_of, with_item, may_head, add, item_of, judged, line_in, lines_of, dump_of, dump_stream}
@@ -31,7 +31,7 @@ at_place_ok : {A B : Type 0} (at : ℕ) (m : Result A FaultKind) (f : A → Resu
 at_place_ok at (Ok x) f P Q p h = h x p
 at_place_ok at (Err kind) f P Q p h = tt
 
-next_ok : {A B : Type 0} (m : Result A TextFault) (f : A → Result B TextFault) (P : A → Type 0) (Q : B → Type 0) → IfOk m P → ((x : A) → P x → IfOk (f x) Q) → IfOk (next m f) Q
+next_ok : {A B : Type 0} (m : Result A TextFault) (f : A → Result B TextFault) (P : A → Type 0) (Q : B → Type 0) → IfOk m P → ((x : A) → P x → IfOk (f x) Q) → IfOk (m >>= f) Q
 next_ok (Ok x) f P Q p h = h x p
 next_ok (Err fault) f P Q p h = tt
 
@@ -142,28 +142,28 @@ close_apart dump_use records (Some draft) apart fresh =
 
 -- ---- the whole dump
 
-module _ (user_id group_id : List ℕ → Option ℕ) (dump_use : DumpUse) where
-  line_fresh : (records : List DumpRecord) (draft : Option Draft) (l : Numbered) → Fresh records draft → IfOk (line_in user_id group_id draft l) (Fresh records)
+module _ (naming : Naming) (dump_use : DumpUse) where
+  line_fresh : (records : List DumpRecord) (draft : Option Draft) (l : Numbered) → Fresh records draft → IfOk (line_in naming draft l) (Fresh records)
   line_fresh records draft l fresh =
-      at_place_ok l.0 (judged user_id group_id draft l) (λ new. Ok new) (Fresh records) (Fresh records)
-      (bind_ok (item_of user_id group_id l.0 (content_of l.1).0 (content_of l.1).1) (λ s. add s draft) (Fresh records) (λ s. add_fresh records s draft fresh))
+      at_place_ok l.0 (judged naming draft l) (λ new. Ok new) (Fresh records) (Fresh records)
+      (bind_ok (item_of naming l.0 (content_of l.1).0 (content_of l.1).1) (λ s. add s draft) (Fresh records) (λ s. add_fresh records s draft fresh))
       (λ new fresh. fresh)
 
   abbrev Good : List DumpRecord × Option Draft → Type 0
   Good s = Apart s.0 × Fresh s.0 s.1
 
   stepped_good : (records : List DumpRecord) (draft : Option Draft) (l : Numbered) → Apart records → Fresh records draft
-      → (b : Bool) → IfOk (cond b (next (close dump_use records draft) (λ more. next (open_record more l) (λ new. Ok (more, new)))) (next (line_in user_id group_id draft l) (λ more. Ok (records, more)))) Good
+      → (b : Bool) → IfOk (cond b (close dump_use records draft >>= (λ more. open_record more l >>= (λ new. Ok (more, new)))) (line_in naming draft l >>= (λ more. Ok (records, more)))) Good
   stepped_good records draft l apart fresh true =
       next_ok (close dump_use records draft) _ Apart Good (close_apart dump_use records draft apart fresh) (λ more are.
       next_ok (open_record more l) _ (Fresh more) Good (open_fresh more l) (λ new is. (are, is)))
-  stepped_good records draft l apart fresh false = next_ok (line_in user_id group_id draft l) _ (Fresh records) Good (line_fresh records draft l fresh) (λ more is. (apart, is))
+  stepped_good records draft l apart fresh false = next_ok (line_in naming draft l) _ (Fresh records) Good (line_fresh records draft l fresh) (λ more is. (apart, is))
 
-  stream_apart : (records : List DumpRecord) (draft : Option Draft) (lines : List Numbered) → Apart records → Fresh records draft → IfOk (dump_stream user_id group_id dump_use records draft lines) Apart
+  stream_apart : (records : List DumpRecord) (draft : Option Draft) (lines : List Numbered) → Apart records → Fresh records draft → IfOk (dump_stream naming dump_use records draft lines) Apart
   stream_apart records draft [] apart fresh = close_apart dump_use records draft apart fresh
   stream_apart records draft (l ∷ ls) apart fresh =
-      next_ok _ (λ s. dump_stream user_id group_id dump_use s.0 s.1 ls) Good Apart (stepped_good records draft l apart fresh (begins l)) (λ s good. stream_apart s.0 s.1 ls good.0 good.1)
+      next_ok _ (λ s. dump_stream naming dump_use s.0 s.1 ls) Good Apart (stepped_good records draft l apart fresh (begins l)) (λ s good. stream_apart s.0 s.1 ls good.0 good.1)
 
   -- the records of a dump have different paths
-  pub dump_apart : (bytes : List ℕ) → IfOk (dump_of user_id group_id dump_use bytes) Apart
-  dump_apart bytes = subst (λ r. IfOk r Apart) (streamed_by_groups begins open_record (line_in user_id group_id) (close dump_use) [] None (lines_of bytes)) (stream_apart [] None (lines_of bytes) refl tt)
+  pub dump_apart : (bytes : List ℕ) → IfOk (dump_of naming dump_use bytes) Apart
+  dump_apart bytes = subst (λ r. IfOk r Apart) (streamed_by_groups begins open_record (line_in naming) (close dump_use) [] None (lines_of bytes)) (stream_apart [] None (lines_of bytes) refl tt)

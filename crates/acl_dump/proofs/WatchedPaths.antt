@@ -5,6 +5,7 @@ use Rattle.std.specs.List.{AllByRecursion, IsDistinct}
 use Rattle.std.proofs.lemmas.List.{append-nil, map-append}
 use Rattle.std.proofs.lemmas.Map.Keys.{IsDistinct-head, IsDistinct-tail}
 use Rattle.acl_names.specs.Paths.{path_of}
+use Rattle.acl_syntax.specs.Naming.{Naming}
 use Rattle.acl_syntax.specs.declared.fault.FaultKind.{FaultKind}
 use Rattle.acl_syntax.specs.declared.fault.FaultKind.TheVariants as kinds
 use Rattle.acl_syntax.specs.declared.fault.TextFault.{TextFault}
@@ -15,7 +16,7 @@ use Rattle.acl_dump.specs.declared.record.DumpRecord.{DumpRecord}
 use Rattle.acl_dump.specs.declared.draft.Draft.{Draft}
 use Rattle.acl_dump.specs.declared.item.Item.{Item}
 use Rattle.acl_dump.specs.declared.item.Item.TheVariants as item
-use Rattle.acl_dump.specs.Groups.{next, streamed}
+use Rattle.acl_dump.specs.Groups.{streamed}
 use Rattle.acl_dump.specs.Lines.{content_of}
 use Rattle.acl_dump.specs.Records.{Numbered, same_path, is_repeated, may_head, with_entry, with_item, add, item_of, opened_draft, open_record, begins, list_of, default_list_of, has_headers, whole, record_of, close, judged, line_in, lines_of, dump_of}
 use Rattle.acl_dump.specs.Watched as watched
@@ -41,7 +42,7 @@ not_among all records path rest parts apart = not_repeated records path rest (su
 
 -- ---- what a value is made of
 
-next-ok : {A B : Type 0} (r : Result A TextFault) (f : A → Result B TextFault) (y : B) → next r f ≡ Ok y → (x : A) × ((r ≡ Ok x) × (f x ≡ Ok y))
+next-ok : {A B : Type 0} (r : Result A TextFault) (f : A → Result B TextFault) (y : B) → (r >>= f) ≡ Ok y → (x : A) × ((r ≡ Ok x) × (f x ≡ Ok y))
 next-ok (Ok x) f y e = (x, (refl, e))
 next-ok (Err fault) f y e = absurd cc
 
@@ -124,18 +125,18 @@ same_opened records at (b ∷ bs) = refl
 same_open : watched.open_record true ≡ open_record
 same_open = λ i records l. at_place l.0 (same_opened records l.0 (content_of l.1).1 i) (λ draft. Ok (Some draft))
 
-module _ (user_id group_id : List ℕ → Option ℕ) (dump_use : DumpUse) where
+module _ (naming : Naming) (dump_use : DumpUse) where
   abbrev stream : Bool → List DumpRecord → Option Draft → List Numbered → Result (List DumpRecord) TextFault
-  stream are_watched records draft ls = watched.stream user_id group_id are_watched dump_use records draft ls
+  stream are_watched records draft ls = watched.stream naming are_watched dump_use records draft ls
 
   abbrev step_by : Bool → Bool → List DumpRecord → Option Draft → Numbered → Result (List DumpRecord × Option Draft) TextFault
   step_by are_watched b records draft l =
-      cond b (next (close dump_use records draft) (λ more. next (watched.open_record are_watched more l) (λ new. Ok (more, new)))) (next (line_in user_id group_id draft l) (λ new. Ok (records, new)))
+      cond b (close dump_use records draft >>= (λ more. watched.open_record are_watched more l >>= (λ new. Ok (more, new)))) (line_in naming draft l >>= (λ new. Ok (records, new)))
 
-  line_path : (draft : Option Draft) (l : Numbered) (more : Option Draft) → line_in user_id group_id draft l ≡ Ok more → drafted more ≡ drafted draft
+  line_path : (draft : Option Draft) (l : Numbered) (more : Option Draft) → line_in naming draft l ≡ Ok more → drafted more ≡ drafted draft
   line_path draft l more e =
-      let s = at_place-ok l.0 (judged user_id group_id draft l) (λ new. Ok new) more e in
-      let w = bind-ok (item_of user_id group_id l.0 (content_of l.1).0 (content_of l.1).1) (λ s. add s draft) s.0 s.1.0 in
+      let s = at_place-ok l.0 (judged naming draft l) (λ new. Ok new) more e in
+      let w = bind-ok (item_of naming l.0 (content_of l.1).0 (content_of l.1).1) (λ s. add s draft) s.0 s.1.0 in
       ap drafted (sym (ok-is s.0 more s.1.1)) ∙ added_path w.0 draft s.0 w.1.1
 
   -- the paths of all records begin with those that were read
@@ -148,7 +149,7 @@ module _ (user_id group_id : List ℕ → Option ℕ) (dump_use : DumpUse) where
   further : {X : Type 0} (all more new rest front : List X) → all ≡ (more ++ new) ++ rest → more ≡ front → all ≡ front ++ (new ++ rest)
   further all more new rest front e same = e ∙ (append_assoc more new rest ∙ ap (λ p. p ++ (new ++ rest)) same)
 
-  continues_by : (b : Bool) (l : Numbered) (ls : List Numbered) (records : List DumpRecord) (draft : Option Draft) (all : List DumpRecord) → next (step_by false b records draft l) (λ s. stream false s.0 s.1 ls) ≡ Ok all
+  continues_by : (b : Bool) (l : Numbered) (ls : List Numbered) (records : List DumpRecord) (draft : Option Draft) (all : List DumpRecord) → (step_by false b records draft l >>= (λ s. stream false s.0 s.1 ls)) ≡ Ok all
       → ((more : List DumpRecord) (new : Option Draft) → stream false more new ls ≡ Ok all → Continues more new all) → Continues records draft all
   continues_by true l ls records draft all e again =
       let s = next-ok (step_by false true records draft l) (λ s. stream false s.0 s.1 ls) all e in
@@ -159,7 +160,7 @@ module _ (user_id group_id : List ℕ → Option ℕ) (dump_use : DumpUse) where
       (drafted n.0 ++ tail.0, further (paths all) (paths c.0) (drafted n.0) tail.0 (paths records ++ drafted draft) tail.1 (closed_paths dump_use records draft c.0 c.1.0))
   continues_by false l ls records draft all e again =
       let s = next-ok (step_by false false records draft l) (λ s. stream false s.0 s.1 ls) all e in
-      let n = next-ok (line_in user_id group_id draft l) _ s.0 s.1.0 in
+      let n = next-ok (line_in naming draft l) _ s.0 s.1.0 in
       let pair = ok-is (records, n.0) s.0 n.1.1 in
       let tail = again records n.0 (ap (λ (p : List DumpRecord × Option Draft). stream false p.0 p.1 ls) pair ∙ s.1.1) in
       (tail.0, middle_is (paths all) (paths records) (drafted n.0) (drafted draft) tail.0 tail.1 (line_path draft l n.0 n.1.0))
@@ -168,8 +169,8 @@ module _ (user_id group_id : List ℕ → Option ℕ) (dump_use : DumpUse) where
   continues [] records draft all e = ([], closed_paths dump_use records draft all e ∙ sym (append-nil (paths records ++ drafted draft)))
   continues (l ∷ ls) records draft all e = continues_by (begins l) l ls records draft all e (λ more new f. continues ls more new all f)
 
-  watched_by : (b : Bool) (l : Numbered) (ls : List Numbered) (records : List DumpRecord) (draft : Option Draft) (all : List DumpRecord) → IsDistinct same_path (paths all) → next (step_by false b records draft l) (λ s. stream false s.0 s.1 ls) ≡ Ok all
-      → ((more : List DumpRecord) (new : Option Draft) → stream false more new ls ≡ Ok all → stream true more new ls ≡ Ok all) → next (step_by true b records draft l) (λ s. stream true s.0 s.1 ls) ≡ Ok all
+  watched_by : (b : Bool) (l : Numbered) (ls : List Numbered) (records : List DumpRecord) (draft : Option Draft) (all : List DumpRecord) → IsDistinct same_path (paths all) → (step_by false b records draft l >>= (λ s. stream false s.0 s.1 ls)) ≡ Ok all
+      → ((more : List DumpRecord) (new : Option Draft) → stream false more new ls ≡ Ok all → stream true more new ls ≡ Ok all) → (step_by true b records draft l >>= (λ s. stream true s.0 s.1 ls)) ≡ Ok all
   watched_by true l ls records draft all apart e again =
       let s = next-ok (step_by false true records draft l) (λ s. stream false s.0 s.1 ls) all e in
       let c = next-ok (close dump_use records draft) _ s.0 s.1.0 in
@@ -182,7 +183,7 @@ module _ (user_id group_id : List ℕ → Option ℕ) (dump_use : DumpUse) where
       rw (c.1.0, one.1.1 new) (again c.0 n.0 f)
   watched_by false l ls records draft all apart e again =
       let s = next-ok (step_by false false records draft l) (λ s. stream false s.0 s.1 ls) all e in
-      let n = next-ok (line_in user_id group_id draft l) _ s.0 s.1.0 in
+      let n = next-ok (line_in naming draft l) _ s.0 s.1.0 in
       let pair = ok-is (records, n.0) s.0 n.1.1 in
       rw (n.1.0) (again records n.0 (ap (λ (p : List DumpRecord × Option Draft). stream false p.0 p.1 ls) pair ∙ s.1.1))
 
@@ -191,7 +192,7 @@ module _ (user_id group_id : List ℕ → Option ℕ) (dump_use : DumpUse) where
   watched_alike (l ∷ ls) records draft all e apart = watched_by (begins l) l ls records draft all apart e (λ more new f. watched_alike ls more new all f apart)
 
   -- a dump is read by groups as it is line by line, where paths are watched
-  pub watched_dump : (bytes : List ℕ) → stream true [] None (lines_of bytes) ≡ dump_of user_id group_id dump_use bytes
+  pub watched_dump : (bytes : List ℕ) → stream true [] None (lines_of bytes) ≡ dump_of naming dump_use bytes
   watched_dump bytes =
-      ap (λ first. streamed begins first (line_in user_id group_id) (close dump_use) [] None (lines_of bytes)) same_open
-      ∙ streamed_by_groups begins open_record (line_in user_id group_id) (close dump_use) [] None (lines_of bytes)
+      ap (λ first. streamed begins first (line_in naming) (close dump_use) [] None (lines_of bytes)) same_open
+      ∙ streamed_by_groups begins open_record (line_in naming) (close dump_use) [] None (lines_of bytes)

@@ -12,6 +12,7 @@ use Rattle.acl_entry.specs.Keys.{id_of, is_class}
 use Rattle.acl_entry.specs.Perms as perms
 use Rattle.acl_entry.specs.Perms.{Perms}
 use Rattle.acl_names.specs.Pieces.{pieces}
+use Rattle.acl_syntax.specs.Naming.{Naming}
 use Rattle.acl_syntax.specs.declared.fault.FaultKind.{FaultKind}
 use Rattle.acl_syntax.specs.declared.fault.FaultKind.TheVariants.{BadTag}
 use Rattle.acl_syntax.specs.declared.fault.Which.{Which}
@@ -139,7 +140,7 @@ bind_same : {A : Type 0} (r : Result A FaultKind) (f g : A → Result Spec Fault
 bind_same (Ok x) f g same = same x
 bind_same (Err kind) f g same = refl
 
-module _ (user_id group_id : List ℕ → Option ℕ) (user_name group_name : ℕ → Option (List ℕ)) where
+module _ (naming : Naming) where
   abbrev from_allowed : ℕ → Bool → Option PermSpec → Key → Result Spec FaultKind
   from_allowed at dflt perm key = Ok (record { at = at; dflt = dflt; key = key; perm = perm })
 
@@ -147,18 +148,18 @@ module _ (user_id group_id : List ℕ → Option ℕ) (user_name group_name : �
   from_key at dflt perm key = allowed_key rules key >>= from_allowed at dflt perm
 
   abbrev from_perm : ℕ → Bool → EntryRow → Option PermSpec → Result Spec FaultKind
-  from_perm at dflt row perm = key_of user_id group_id row.tag row.word >>= from_key at dflt perm
+  from_perm at dflt row perm = key_of naming row.tag row.word >>= from_key at dflt perm
 
   abbrev from_row : ℕ → Bool → EntryRow → Result Spec FaultKind
   from_row at dflt row = wanted_perms rules row.perms >>= from_perm at dflt row
 
   default_again : (at : ℕ) (tag word perm : List ℕ) → is_default_word tag ≡ false
-      → entry_from user_id group_id rules at (codes "default" ∷ tag ∷ word ∷ perm ∷ []) ≡ as_default (entry_from user_id group_id rules at (tag ∷ word ∷ perm ∷ []))
+      → entry_from naming rules at (codes "default" ∷ tag ∷ word ∷ perm ∷ []) ≡ as_default (entry_from naming rules at (tag ∷ word ∷ perm ∷ []))
   default_again at tag word perm plain =
       let fields = tag ∷ word ∷ perm ∷ [] in
       bind_same (or_fault (row_of fields) BadTag) (from_row at true) (from_row at false)
       (λ row. bind_same (wanted_perms rules row.perms) (from_perm at true row) (from_perm at false row)
-      (λ p. bind_same (key_of user_id group_id row.tag row.word) (from_key at true p) (from_key at false p) (λ k. bind_same (allowed_key rules k) (from_allowed at true p) (from_allowed at false p) (λ a. refl))))
+      (λ p. bind_same (key_of naming row.tag row.word) (from_key at true p) (from_key at false p) (λ k. bind_same (allowed_key rules k) (from_allowed at true p) (from_allowed at false p) (λ a. refl))))
       ∙ ap (λ d. as_default (or_fault (tagged rules d) BadTag >>= from_row at d.0)) (ap (λ b. cond b (true, word ∷ perm ∷ []) (false, fields)) (sym plain))
 
   default_tag : (k : Key) → is_default_word (tag_text Long k) ≡ false
@@ -170,13 +171,13 @@ module _ (user_id group_id : List ℕ → Option ℕ) (user_name group_name : �
   default_tag keys.Other = refl
 
   abbrev IsNamedKey : Key → Type 0
-  IsNamedKey k = IsKeyNamed user_id group_id user_name group_name k
+  IsNamedKey k = IsKeyNamed naming k
 
   abbrev written : Entry → List ℕ
-  written e = entry_text user_name group_name Long e
+  written e = entry_text naming Long e
 
   abbrev word_of : Key → List ℕ
-  word_of k = qualifier user_name group_name k
+  word_of k = qualifier naming k
 
   -- the fields of an entry with blanks after it
   entry_fields_again : (e : Entry) (t : List ℕ) → id_of e.key < nobody → IsNamedKey e.key → AllByRecursion (λ b. is_blank b ≡ true) t
@@ -185,20 +186,20 @@ module _ (user_id group_id : List ℕ → Option ℕ) (user_name group_name : �
       let tag = tag_text Long e.key in
       let word = word_of e.key in
       ap entry_fields (append_assoc tag (58 ∷ (word ++ 58 ∷ perms.text e.perm)) t ∙ ap (λ (l : List ℕ). tag ++ 58 ∷ l) (append_assoc word (58 ∷ perms.text e.perm) t))
-      ∙ fields_followed tag word t e.perm (tag_plain Long e.key) (qualifier_plain true false user_id group_id user_name group_name e.key lt named) blank
+      ∙ fields_followed tag word t e.perm (tag_plain Long e.key) (qualifier_plain true false naming e.key lt named) blank
 
   -- an entry with blanks after it
   fields_again : (at : ℕ) (which : Which) (e : Entry) (t : List ℕ) → id_of e.key < nobody → IsNamedKey e.key → AllByRecursion (λ b. is_blank b ≡ true) t
-      → item_of user_id group_id at lines.Entry (shown user_name group_name which e ++ t) ≡ Ok (Some (item.Entry (is_default which) e))
+      → item_of naming at lines.Entry (shown naming which e ++ t) ≡ Ok (Some (item.Entry (is_default which) e))
   fields_again at Access e t lt named blank =
-      ap (λ f. entry_from user_id group_id rules at f >>= (λ spec. Ok (Some (entry_item spec)))) (entry_fields_again e t lt named blank)
-      ∙ ap (λ r. r >>= (λ spec. Ok (Some (entry_item spec)))) (key_again true false user_id group_id user_name group_name Long at e.key e.perm lt named)
+      ap (λ f. entry_from naming rules at f >>= (λ spec. Ok (Some (entry_item spec)))) (entry_fields_again e t lt named blank)
+      ∙ ap (λ r. r >>= (λ spec. Ok (Some (entry_item spec)))) (key_again true false naming Long at e.key e.perm lt named)
   fields_again at Default e t lt named blank =
       let cut : entry_fields (codes "default" ++ 58 ∷ (written e ++ t)) ≡ codes "default" ∷ entry_fields (written e ++ t) =
       ap (map trimmed) (pieces_at 58 (codes "default") (written e ++ t) (refl, (refl, (refl, (refl, (refl, (refl, (refl, tt)))))))) in
-      ap (λ f. entry_from user_id group_id rules at f >>= (λ spec. Ok (Some (entry_item spec)))) (cut ∙ ap (λ (f : List (List ℕ)). codes "default" ∷ f) (entry_fields_again e t lt named blank))
+      ap (λ f. entry_from naming rules at f >>= (λ spec. Ok (Some (entry_item spec)))) (cut ∙ ap (λ (f : List (List ℕ)). codes "default" ∷ f) (entry_fields_again e t lt named blank))
       ∙ ap (λ r. r >>= (λ spec. Ok (Some (entry_item spec)))) (default_again at (tag_text Long e.key) (word_of e.key) (perms.text e.perm) (default_tag e.key)
-      ∙ ap as_default (key_again true false user_id group_id user_name group_name Long at e.key e.perm lt named))
+      ∙ ap as_default (key_again true false naming Long at e.key e.perm lt named))
 
   -- ---- lines
 
@@ -210,7 +211,7 @@ module _ (user_id group_id : List ℕ → Option ℕ) (user_name group_name : �
   opened_key keys.Mask rest = refl
   opened_key keys.Other rest = refl
 
-  opened : (which : Which) (e : Entry) (rest : List ℕ) → content_of (shown user_name group_name which e ++ rest) ≡ (lines.Entry, content Line (shown user_name group_name which e ++ rest))
+  opened : (which : Which) (e : Entry) (rest : List ℕ) → content_of (shown naming which e ++ rest) ≡ (lines.Entry, content Line (shown naming which e ++ rest))
   opened Access e rest =
       let following = 58 ∷ (word_of e.key ++ 58 ∷ perms.text e.perm) in
       subst (λ (l : List ℕ). content_of l ≡ (lines.Entry, content Line l)) (sym (append_assoc (tag_text Long e.key) following rest)) (opened_key e.key (following ++ rest))
@@ -225,35 +226,35 @@ module _ (user_id group_id : List ℕ → Option ℕ) (user_name group_name : �
   front_line Default = (refl, (refl, (refl, (refl, (refl, (refl, (refl, (refl, tt))))))))
 
   in_shown : (q : ℕ → Bool) → ((b : ℕ) → is_plain b ≡ true → q b ≡ false) → q 58 ≡ false → (which : Which) → AllByRecursion (λ b. q b ≡ false) (front which) → (e : Entry) → id_of e.key < nobody → IsNamedKey e.key
-      → AllByRecursion (λ b. q b ≡ false) (shown user_name group_name which e)
-  in_shown q why colon which none e lt named = all-append (λ b. q b ≡ false) (front which) (written e) none (in_entry true false user_id group_id user_name group_name q why colon Long e lt named)
+      → AllByRecursion (λ b. q b ≡ false) (shown naming which e)
+  in_shown q why colon which none e lt named = all-append (λ b. q b ≡ false) (front which) (written e) none (in_entry true false naming q why colon Long e lt named)
 
   -- where a line is an entry with blanks after it
   abbrev ReadsAs : ℕ → Which → Entry → List ℕ → Type 0
-  ReadsAs at which e line = (v : List ℕ) × (content_of line ≡ (lines.Entry, v)) × (item_of user_id group_id at lines.Entry v ≡ Ok (Some (item.Entry (is_default which) e)))
+  ReadsAs at which e line = (v : List ℕ) × (content_of line ≡ (lines.Entry, v)) × (item_of naming at lines.Entry v ≡ Ok (Some (item.Entry (is_default which) e)))
 
-  reads_bare : (at : ℕ) (which : Which) (e : Entry) → id_of e.key < nobody → IsNamedKey e.key → ReadsAs at which e (shown user_name group_name which e ++ [])
+  reads_bare : (at : ℕ) (which : Which) (e : Entry) → id_of e.key < nobody → IsNamedKey e.key → ReadsAs at which e (shown naming which e ++ [])
   reads_bare at which e lt named =
-      let text = shown user_name group_name which e in
+      let text = shown naming which e in
       let none = all-append (λ b. (b == 35) ≡ false) text [] (in_shown (λ b. b == 35) plain-hash refl which (front_hash which) e lt named) tt in
       (text ++ [], opened which e [] ∙ ap (λ (v : List ℕ). (lines.Entry, v)) (before_first_none (λ b. b == 35) (text ++ []) none), fields_again at which e [] lt named tt)
 
-  reads_commented : (at : ℕ) (which : Which) (e : Entry) (t ys : List ℕ) → id_of e.key < nobody → IsNamedKey e.key → AllByRecursion (λ b. is_blank b ≡ true) t → ReadsAs at which e (shown user_name group_name which e ++ (t ++ 35 ∷ ys))
+  reads_commented : (at : ℕ) (which : Which) (e : Entry) (t ys : List ℕ) → id_of e.key < nobody → IsNamedKey e.key → AllByRecursion (λ b. is_blank b ≡ true) t → ReadsAs at which e (shown naming which e ++ (t ++ 35 ∷ ys))
   reads_commented at which e t ys lt named blank =
-      let text = shown user_name group_name which e in
+      let text = shown naming which e in
       let none = all-append (λ b. (b == 35) ≡ false) text t (in_shown (λ b. b == 35) plain-hash refl which (front_hash which) e lt named) (no_hash t blank) in
       (text ++ t, opened which e (t ++ 35 ∷ ys) ∙ ap (λ (v : List ℕ). (lines.Entry, v)) (ap (before_first (λ b. b == 35)) (sym (append_assoc text t (35 ∷ ys))) ∙ before_first_at (λ b. b == 35) (text ++ t) 35 ys none refl), fields_again at which e t lt named blank)
 
   -- a line of an entry, with or without its effective permissions
   pub line_again : (at : ℕ) (how : Effective) (which : Which) (mask : Option Perms) (e : Entry) → id_of e.key < nobody → IsNamedKey e.key
-      → ReadsAs at which e (shown user_name group_name which e ++ comment how mask e (length (shown user_name group_name which e)))
+      → ReadsAs at which e (shown naming which e ++ comment how mask e (length (shown naming which e)))
   line_again at how which None e lt named = reads_bare at which e lt named
   line_again at how which (Some mask) e lt named =
-      let bytes = length (shown user_name group_name which e) in
+      let bytes = length (shown naming which e) in
       let following = tabs bytes ++ (codes "#effective:" ++ perms.text (perms.meet e.perm mask)) in
       elim (cases_Bool (is_class e.key && is_shown how mask e.perm)) [
-        | inl shown_text ↦ subst (λ b. ReadsAs at which e (shown user_name group_name which e ++ cond b following [])) (sym shown_text) (reads_commented at which e (tabs bytes) _ lt named (blank_front (tab_count bytes)))
-        | inr without_comment ↦ subst (λ b. ReadsAs at which e (shown user_name group_name which e ++ cond b following [])) (sym without_comment) (reads_bare at which e lt named)
+        | inl shown_text ↦ subst (λ b. ReadsAs at which e (shown naming which e ++ cond b following [])) (sym shown_text) (reads_commented at which e (tabs bytes) _ lt named (blank_front (tab_count bytes)))
+        | inr without_comment ↦ subst (λ b. ReadsAs at which e (shown naming which e ++ cond b following [])) (sym without_comment) (reads_bare at which e lt named)
       ]
 
   comment_clean : (how : Effective) (mask : Option Perms) (e : Entry) (bytes : ℕ) → AllByRecursion (λ b. (b == 10) ≡ false) (comment how mask e bytes)
@@ -269,7 +270,7 @@ module _ (user_id group_id : List ℕ → Option ℕ) (user_name group_name : �
       ]
 
   pub line_clean : (how : Effective) (which : Which) (mask : Option Perms) (e : Entry) → id_of e.key < nobody → IsNamedKey e.key
-      → AllByRecursion (λ b. (b == 10) ≡ false) (shown user_name group_name which e ++ comment how mask e (length (shown user_name group_name which e)))
+      → AllByRecursion (λ b. (b == 10) ≡ false) (shown naming which e ++ comment how mask e (length (shown naming which e)))
   line_clean how which mask e lt named =
-      let text = shown user_name group_name which e in
+      let text = shown naming which e in
       all-append (λ b. (b == 10) ≡ false) text (comment how mask e (length text)) (in_shown (λ b. b == 10) plain-line refl which (front_line which) e lt named) (comment_clean how mask e (length text))

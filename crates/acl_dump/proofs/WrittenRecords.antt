@@ -14,6 +14,7 @@ use Rattle.acl_entry.specs.Perms.{Perms}
 use Rattle.acl_entry.proofs.Maps.{map_of-entries}
 use Rattle.acl_names.specs.Pieces.{pieces}
 use Rattle.acl_names.specs.Paths.{path_of, path_text, is_component}
+use Rattle.acl_syntax.specs.Naming.{Naming}
 use Rattle.acl_syntax.specs.declared.fault.FaultKind.{FaultKind}
 use Rattle.acl_syntax.specs.declared.fault.FaultKind.TheVariants.{UnknownUser, UnknownGroup, BadHeader, MissingHeader, BadPath, RepeatedFile}
 use Rattle.acl_syntax.specs.declared.fault.TextFault.{TextFault}
@@ -33,7 +34,6 @@ use Rattle.acl_dump.specs.declared.draft.Draft.{Draft}
 use Rattle.acl_dump.specs.declared.effective.Effective.TheVariants.{WhereMasked}
 use Rattle.acl_dump.specs.declared.item.Item.{Item}
 use Rattle.acl_dump.specs.declared.item.Item.TheVariants as item
-use Rattle.acl_dump.specs.Groups.{next}
 use Rattle.acl_dump.specs.Lines.{content_of, begins_record}
 use Rattle.acl_dump.specs.Records.{named, flags_of, item_of, add, opened_draft, ends_in_slash, is_repeated, same_path, list_of, list_unless, default_list_of, has_headers, whole, begins, open_record, close, line_in, lines_of, dump_of, dump_stream}
 use Rattle.acl_dump.specs.Writing.{mark, marks, flags_text, slash_text, file_text, owner_text, group_text, shown, comment, entry_line, list_text, default_text, record_text}
@@ -62,9 +62,9 @@ all_lines at r = record { at = at; path = r.path; slash = r.slash; owner = r.own
 five : (a b c d e f rest : List ℕ) → ((a ++ (b ++ (c ++ d))) ++ (e ++ (f ++ 10 ∷ []))) ++ rest ≡ a ++ (b ++ (c ++ (d ++ (e ++ (f ++ 10 ∷ rest)))))
 five a b c d e f rest = simp append_assoc
 
-module _ (dump_use : DumpUse) (user_id group_id : List ℕ → Option ℕ) (user_name group_name : ℕ → Option (List ℕ)) where
+module _ (dump_use : DumpUse) (naming : Naming) where
   abbrev Readable : DumpRecord → Type 0
-  Readable r = IsReadable user_id group_id user_name group_name dump_use r
+  Readable r = IsReadable naming dump_use r
 
   headers : (r : DumpRecord) (at : ℕ) → HasHeaders dump_use r → has_headers dump_use (all_lines at r) ≡ true
   headers r at there = elim dump_use as (λ u. HasHeaders u r → has_headers u (all_lines at r) ≡ true) [
@@ -72,7 +72,7 @@ module _ (dump_use : DumpUse) (user_id group_id : List ℕ → Option ℕ) (user
     | Restore ↦ λ h. refl
   ] there
 
-  defaults : (d : Option KeyMap) → IsListIf user_id group_id user_name group_name d → default_list_of (default_entries d) ≡ Ok d
+  defaults : (d : Option KeyMap) → IsListIf naming d → default_list_of (default_entries d) ≡ Ok d
   defaults None is = refl
   defaults (Some acl) is = default_listed (entries acl) acl is.valid (listed Default acl is.valid)
 
@@ -86,37 +86,37 @@ module _ (dump_use : DumpUse) (user_id group_id : List ℕ → Option ℕ) (user
   -- ---- lines
 
   abbrev reading : List DumpRecord → Option Draft → ℕ → List ℕ → Result (List DumpRecord) TextFault
-  reading records draft at bytes = dump_stream user_id group_id dump_use records draft (enumerate_from at (pieces 10 bytes))
+  reading records draft at bytes = dump_stream naming dump_use records draft (enumerate_from at (pieces 10 bytes))
 
   abbrev step : List DumpRecord → Option Draft → ℕ → LineKind × List ℕ → Result (List DumpRecord × Option Draft) TextFault
   step records draft at c =
-      cond (begins_record c.0) (next (close dump_use records draft) (λ more. next (at_place at (opened_draft more at c.1) (λ d. Ok (Some d))) (λ new. Ok (more, new))))
-      (next (at_place at (item_of user_id group_id at c.0 c.1 >>= (λ item. add item draft)) (λ new. Ok new)) (λ more. Ok (records, more)))
+      cond (begins_record c.0) (close dump_use records draft >>= (λ more. at_place at (opened_draft more at c.1) (λ d. Ok (Some d)) >>= (λ new. Ok (more, new))))
+      ((at_place at (item_of naming at c.0 c.1 >>= (λ item. add item draft)) (λ new. Ok new)) >>= (λ more. Ok (records, more)))
 
   cut : (records : List DumpRecord) (draft : Option Draft) (at : ℕ) (line rest : List ℕ) (c : LineKind × List ℕ) → AllByRecursion (λ b. (b == 10) ≡ false) line → content_of line ≡ c
-      → reading records draft at (line ++ 10 ∷ rest) ≡ next (step records draft at c) (λ s. reading s.0 s.1 (at + 1) rest)
+      → reading records draft at (line ++ 10 ∷ rest) ≡ (step records draft at c >>= (λ s. reading s.0 s.1 (at + 1) rest))
   cut records draft at line rest c clean is =
-      ap (λ ps. dump_stream user_id group_id dump_use records draft (enumerate_from at ps)) (pieces_at 10 line rest clean)
-      ∙ ap (λ k. next (step records draft at k) (λ s. reading s.0 s.1 (at + 1) rest)) is
+      ap (λ ps. dump_stream naming dump_use records draft (enumerate_from at ps)) (pieces_at 10 line rest clean)
+      ∙ ap (λ k. step records draft at k >>= (λ s. reading s.0 s.1 (at + 1) rest)) is
 
   -- a line that adds to the open record
   pub read_one_item : (records : List DumpRecord) (draft new : Option Draft) (at : ℕ) (line rest : List ℕ) (k : LineKind) (v : List ℕ) (s : Option Item) → AllByRecursion (λ b. (b == 10) ≡ false) line → content_of line ≡ (k, v)
-      → begins_record k ≡ false → item_of user_id group_id at k v ≡ Ok s → add s draft ≡ Ok new → reading records draft at (line ++ 10 ∷ rest) ≡ reading records new (at + 1) rest
+      → begins_record k ≡ false → item_of naming at k v ≡ Ok s → add s draft ≡ Ok new → reading records draft at (line ++ 10 ∷ rest) ≡ reading records new (at + 1) rest
   read_one_item records draft new at line rest k v s clean is other reads_as adds =
-      let on = λ (r : Result (List DumpRecord × Option Draft) TextFault). next r (λ s. reading s.0 s.1 (at + 1) rest) in
+      let on = λ (r : Result (List DumpRecord × Option Draft) TextFault). (r >>= (λ s. reading s.0 s.1 (at + 1) rest)) in
       cut records draft at line rest (k, v) clean is
-      ∙ (ap (λ b. on (cond b (next (close dump_use records draft) (λ more. next (at_place at (opened_draft more at v) (λ d. Ok (Some d))) (λ new. Ok (more, new)))) (next (at_place at (item_of user_id group_id at k v >>= (λ item. add item draft)) (λ new. Ok new)) (λ more. Ok (records, more))))) other
-      ∙ (ap (λ r. on (next (at_place at (r >>= (λ item. add item draft)) (λ new. Ok new)) (λ more. Ok (records, more)))) reads_as
-      ∙ ap (λ r. on (next (at_place at r (λ new. Ok new)) (λ more. Ok (records, more)))) adds))
+      ∙ (ap (λ b. on (cond b (close dump_use records draft >>= (λ more. at_place at (opened_draft more at v) (λ d. Ok (Some d)) >>= (λ new. Ok (more, new)))) ((at_place at (item_of naming at k v >>= (λ item. add item draft)) (λ new. Ok new)) >>= (λ more. Ok (records, more))))) other
+      ∙ (ap (λ r. on ((at_place at (r >>= (λ item. add item draft)) (λ new. Ok new)) >>= (λ more. Ok (records, more)))) reads_as
+      ∙ ap (λ r. on (at_place at r (λ new. Ok new) >>= (λ more. Ok (records, more)))) adds))
 
   -- a line that begins a record
   pub opened : (records more : List DumpRecord) (draft : Option Draft) (new : Draft) (at : ℕ) (line rest v : List ℕ) → AllByRecursion (λ b. (b == 10) ≡ false) line → content_of line ≡ (lines.File, v)
       → close dump_use records draft ≡ Ok more → opened_draft more at v ≡ Ok new → reading records draft at (line ++ 10 ∷ rest) ≡ reading more (Some new) (at + 1) rest
   opened records more draft new at line rest v clean is closes begins =
-      let on = λ (r : Result (List DumpRecord × Option Draft) TextFault). next r (λ s. reading s.0 s.1 (at + 1) rest) in
+      let on = λ (r : Result (List DumpRecord × Option Draft) TextFault). (r >>= (λ s. reading s.0 s.1 (at + 1) rest)) in
       cut records draft at line rest (lines.File, v) clean is
-      ∙ (ap (λ r. on (next r (λ more. next (at_place at (opened_draft more at v) (λ d. Ok (Some d))) (λ new. Ok (more, new))))) closes
-      ∙ ap (λ r. on (next (at_place at r (λ d. Ok (Some d))) (λ new. Ok (more, new)))) begins)
+      ∙ (ap (λ r. on (r >>= (λ more. at_place at (opened_draft more at v) (λ d. Ok (Some d)) >>= (λ new. Ok (more, new))))) closes
+      ∙ ap (λ r. on (at_place at r (λ d. Ok (Some d)) >>= (λ new. Ok (more, new)))) begins)
 
   -- ---- headers
 
@@ -153,29 +153,29 @@ module _ (dump_use : DumpUse) (user_id group_id : List ℕ → Option ℕ) (user
   no_more : (records : List DumpRecord) (draft : Option Draft) (at : ℕ) (rest : List ℕ) → reading records draft at rest ≡ reading records draft (at + 0) rest
   no_more records draft at rest = ap (λ (n : ℕ). reading records draft n rest) (omega arith)
 
-  owner_chunk : (records : List DumpRecord) (first at : ℕ) (r : DumpRecord) (owner : Option ℕ) (rest : List ℕ) → IsFoundIf user_id user_name owner
-      → reading records (drafted first r None None None [] []) at (owner_text user_name owner ++ rest) ≡ reading records (drafted first r owner None None [] []) (at + lines_if owner) rest
+  owner_chunk : (records : List DumpRecord) (first at : ℕ) (r : DumpRecord) (owner : Option ℕ) (rest : List ℕ) → IsFoundIf naming.user_id naming.user_name owner
+      → reading records (drafted first r None None None [] []) at (owner_text naming.user_name owner ++ rest) ≡ reading records (drafted first r owner None None [] []) (at + lines_if owner) rest
   owner_chunk records first at r None rest found = no_more records (drafted first r None None None [] []) at rest
   owner_chunk records first at r (Some id) rest found =
-      let w = id_text id (user_name id) in
-      let word = word_again user_id id (user_name id) found.small found.named in
+      let w = id_text id (naming.user_name id) in
+      let word = word_again naming.user_id id (naming.user_name id) found.small found.named in
       ap (λ (l : List ℕ). reading records (drafted first r None None None [] []) at (codes "# owner: " ++ l)) (append_assoc w (10 ∷ []) rest)
       ∙ read_one_item records (drafted first r None None None [] []) (drafted first r (Some id) None None [] []) at (codes "# owner: " ++ w) rest lines.Owner w (Some (item.Owner id))
       (refl, (refl, (refl, (refl, (refl, (refl, (refl, (refl, (refl, none_of is_plain (λ b. b == 10) plain-line w word.plain)))))))))
       (ap (λ (v : List ℕ). (lines.Owner, v)) (bare w word.plain)) refl
-      (ap (λ n. n >>= (λ id. Ok (Some (item.Owner id)))) (named_again user_id UnknownUser id w word)) refl
+      (ap (λ n. n >>= (λ id. Ok (Some (item.Owner id)))) (named_again naming.user_id UnknownUser id w word)) refl
 
-  group_chunk : (records : List DumpRecord) (first at : ℕ) (r : DumpRecord) (owner group : Option ℕ) (rest : List ℕ) → IsFoundIf group_id group_name group
-      → reading records (drafted first r owner None None [] []) at (group_text group_name group ++ rest) ≡ reading records (drafted first r owner group None [] []) (at + lines_if group) rest
+  group_chunk : (records : List DumpRecord) (first at : ℕ) (r : DumpRecord) (owner group : Option ℕ) (rest : List ℕ) → IsFoundIf naming.group_id naming.group_name group
+      → reading records (drafted first r owner None None [] []) at (group_text naming.group_name group ++ rest) ≡ reading records (drafted first r owner group None [] []) (at + lines_if group) rest
   group_chunk records first at r owner None rest found = no_more records (drafted first r owner None None [] []) at rest
   group_chunk records first at r owner (Some id) rest found =
-      let w = id_text id (group_name id) in
-      let word = word_again group_id id (group_name id) found.small found.named in
+      let w = id_text id (naming.group_name id) in
+      let word = word_again naming.group_id id (naming.group_name id) found.small found.named in
       ap (λ (l : List ℕ). reading records (drafted first r owner None None [] []) at (codes "# group: " ++ l)) (append_assoc w (10 ∷ []) rest)
       ∙ read_one_item records (drafted first r owner None None [] []) (drafted first r owner (Some id) None [] []) at (codes "# group: " ++ w) rest lines.OwningGroup w (Some (item.OwningGroup id))
       (refl, (refl, (refl, (refl, (refl, (refl, (refl, (refl, (refl, none_of is_plain (λ b. b == 10) plain-line w word.plain)))))))))
       (ap (λ (v : List ℕ). (lines.OwningGroup, v)) (bare w word.plain)) refl
-      (ap (λ n. n >>= (λ id. Ok (Some (item.OwningGroup id)))) (named_again group_id UnknownGroup id w word)) refl
+      (ap (λ n. n >>= (λ id. Ok (Some (item.OwningGroup id)))) (named_again naming.group_id UnknownGroup id w word)) refl
 
   flags_again : (a b c : Bool) → flags_of (trimmed (32 ∷ marks (a ∷ b ∷ c ∷ []))) ≡ Some (a ∷ b ∷ c ∷ [])
   flags_again true true true = refl
@@ -207,17 +207,17 @@ module _ (dump_use : DumpUse) (user_id group_id : List ℕ → Option ℕ) (user
   -- ---- entries
 
   abbrev NamedEntry : Entry → Type 0
-  NamedEntry e = IsKeyNamed user_id group_id user_name group_name e.key
+  NamedEntry e = IsKeyNamed naming e.key
 
   abbrev lines_text : Which → Option Perms → List Entry → List ℕ
-  lines_text which mask es = flat_map (entry_line user_name group_name WhereMasked which mask) es
+  lines_text which mask es = flat_map (entry_line naming WhereMasked which mask) es
 
   abbrev plain_line : Which → Option Perms → Entry → List ℕ
-  plain_line which mask e = shown user_name group_name which e ++ comment WhereMasked mask e (length (shown user_name group_name which e))
+  plain_line which mask e = shown naming which e ++ comment WhereMasked mask e (length (shown naming which e))
 
   moved_line : (which : Which) (mask : Option Perms) (e : Entry) (es : List Entry) (rest : List ℕ) → lines_text which mask (e ∷ es) ++ rest ≡ plain_line which mask e ++ 10 ∷ (lines_text which mask es ++ rest)
   moved_line which mask e es rest =
-      let text = shown user_name group_name which e in
+      let text = shown naming which e in
       let note = comment WhereMasked mask e (length text) in
       let more = lines_text which mask es in
       append_assoc (text ++ (note ++ 10 ∷ [])) more rest
@@ -230,10 +230,10 @@ module _ (dump_use : DumpUse) (user_id group_id : List ℕ → Option ℕ) (user
       no_more records (drafted first r r.owner r.group r.flags xs []) at rest ∙ ap (λ (l : List Entry). reading records (drafted first r r.owner r.group r.flags l []) (at + 0) rest) (sym (append-nil xs))
   access_chunk records first at r mask xs (e ∷ es) rest small found =
       let draft = drafted first r r.owner r.group r.flags in
-      let reads_as = line_again user_id group_id user_name group_name at WhereMasked Access mask e small.0 found.0 in
+      let reads_as = line_again naming at WhereMasked Access mask e small.0 found.0 in
       ap (reading records (draft xs []) at) (moved_line Access mask e es rest)
       ∙ (read_one_item records (draft xs []) (draft (xs ++ e ∷ []) []) at (plain_line Access mask e) (lines_text Access mask es ++ rest) lines.Entry reads_as.0 (Some (item.Entry false e))
-      (line_clean user_id group_id user_name group_name WhereMasked Access mask e small.0 found.0) reads_as.1 refl reads_as.2 refl
+      (line_clean naming WhereMasked Access mask e small.0 found.0) reads_as.1 refl reads_as.2 refl
       ∙ (access_chunk records first (at + 1) r mask (xs ++ e ∷ []) es rest small.1 found.1
       ∙ (ap (λ (l : List Entry). reading records (draft l []) (at + 1 + length es) rest) (append_assoc xs (e ∷ []) es)
       ∙ ap (λ (n : ℕ). reading records (draft (xs ++ e ∷ es) []) n rest) (omega arith))))
@@ -244,40 +244,40 @@ module _ (dump_use : DumpUse) (user_id group_id : List ℕ → Option ℕ) (user
       no_more records (drafted first r r.owner r.group r.flags access xs) at rest ∙ ap (λ (l : List Entry). reading records (drafted first r r.owner r.group r.flags access l) (at + 0) rest) (sym (append-nil xs))
   default_chunk records first at r mask access xs (e ∷ es) rest small found =
       let draft = drafted first r r.owner r.group r.flags access in
-      let reads_as = line_again user_id group_id user_name group_name at WhereMasked Default mask e small.0 found.0 in
+      let reads_as = line_again naming at WhereMasked Default mask e small.0 found.0 in
       ap (reading records (draft xs) at) (moved_line Default mask e es rest)
       ∙ (read_one_item records (draft xs) (draft (xs ++ e ∷ [])) at (plain_line Default mask e) (lines_text Default mask es ++ rest) lines.Entry reads_as.0 (Some (item.Entry true e))
-      (line_clean user_id group_id user_name group_name WhereMasked Default mask e small.0 found.0) reads_as.1 refl reads_as.2 refl
+      (line_clean naming WhereMasked Default mask e small.0 found.0) reads_as.1 refl reads_as.2 refl
       ∙ (default_chunk records first (at + 1) r mask access (xs ++ e ∷ []) es rest small.1 found.1
       ∙ (ap (λ (l : List Entry). reading records (draft l) (at + 1 + length es) rest) (append_assoc xs (e ∷ []) es)
       ∙ ap (λ (n : ℕ). reading records (draft (xs ++ e ∷ es)) n rest) (omega arith))))
 
-  defaults_chunk : (records : List DumpRecord) (first at : ℕ) (r : DumpRecord) (access : List Entry) (dacl : Option KeyMap) (rest : List ℕ) → IsListIf user_id group_id user_name group_name dacl
-      → reading records (drafted first r r.owner r.group r.flags access []) at (default_text user_name group_name WhereMasked dacl ++ rest) ≡ reading records (drafted first r r.owner r.group r.flags access (default_entries dacl)) (at + default_count dacl) rest
+  defaults_chunk : (records : List DumpRecord) (first at : ℕ) (r : DumpRecord) (access : List Entry) (dacl : Option KeyMap) (rest : List ℕ) → IsListIf naming dacl
+      → reading records (drafted first r r.owner r.group r.flags access []) at (default_text naming WhereMasked dacl ++ rest) ≡ reading records (drafted first r r.owner r.group r.flags access (default_entries dacl)) (at + default_count dacl) rest
   defaults_chunk records first at r access None rest is = no_more records (drafted first r r.owner r.group r.flags access []) at rest
   defaults_chunk records first at r access (Some acl) rest is =
       default_chunk records first at r (maps.get acl Mask) access [] (entries acl) rest (recursion_from_All (λ (e : Entry). id_of e.key < nobody) (entries acl) is.ids) is.named
 
   -- ---- records
 
-  apart_text : (r : DumpRecord) (rest : List ℕ) → record_text user_name group_name r ++ rest
-      ≡ file_text r.path r.slash ++ (owner_text user_name r.owner ++ (group_text group_name r.group ++ (flags_text r.flags ++ (list_text user_name group_name WhereMasked Access r.access ++ (default_text user_name group_name WhereMasked r.dacl ++ 10 ∷ rest)))))
-  apart_text r rest = five (file_text r.path r.slash) (owner_text user_name r.owner) (group_text group_name r.group) (flags_text r.flags) (list_text user_name group_name WhereMasked Access r.access) (default_text user_name group_name WhereMasked r.dacl) rest
+  apart_text : (r : DumpRecord) (rest : List ℕ) → record_text naming r ++ rest
+      ≡ file_text r.path r.slash ++ (owner_text naming.user_name r.owner ++ (group_text naming.group_name r.group ++ (flags_text r.flags ++ (list_text naming WhereMasked Access r.access ++ (default_text naming WhereMasked r.dacl ++ 10 ∷ rest)))))
+  apart_text r rest = five (file_text r.path r.slash) (owner_text naming.user_name r.owner) (group_text naming.group_name r.group) (flags_text r.flags) (list_text naming WhereMasked Access r.access) (default_text naming WhereMasked r.dacl) rest
 
   record_chunk : (records more : List DumpRecord) (draft : Option Draft) (at : ℕ) (r : DumpRecord) (rest : List ℕ) → close dump_use records draft ≡ Ok more → is_repeated more r.path ≡ false → Readable r
-      → reading records draft at (record_text user_name group_name r ++ rest) ≡ reading more (Some (all_lines at r)) (at + line_count r) rest
+      → reading records draft at (record_text naming r ++ rest) ≡ reading more (Some (all_lines at r)) (at + line_count r) rest
   record_chunk records more draft at r rest closes new is =
-      let ending = default_text user_name group_name WhereMasked r.dacl ++ 10 ∷ rest in
-      let listing = list_text user_name group_name WhereMasked Access r.access ++ ending in
+      let ending = default_text naming WhereMasked r.dacl ++ 10 ∷ rest in
+      let listing = list_text naming WhereMasked Access r.access ++ ending in
       let flagged = flags_text r.flags ++ listing in
-      let grouping = group_text group_name r.group ++ flagged in
+      let grouping = group_text naming.group_name r.group ++ flagged in
       let from_owner = at + 1 in
       let from_group = from_owner + lines_if r.owner in
       let from_flags = from_group + lines_if r.group in
       let from_access = from_flags + lines_if r.flags in
       let from_default = from_access + length (entries r.access) in
       ap (reading records draft at) (apart_text r rest)
-      ∙ (file_chunk records more draft at r (owner_text user_name r.owner ++ grouping) closes is.path new
+      ∙ (file_chunk records more draft at r (owner_text naming.user_name r.owner ++ grouping) closes is.path new
       ∙ (owner_chunk more at from_owner r r.owner grouping is.owner
       ∙ (group_chunk more at from_group r r.owner r.group flagged is.group
       ∙ (flags_chunk more at from_flags r r.owner r.group r.flags listing is.flags
@@ -291,17 +291,17 @@ module _ (dump_use : DumpUse) (user_id group_id : List ℕ → Option ℕ) (user
   any_paths path (r ∷ rs) = ap (λ b. same_path path r.path || b) (any_paths path rs)
 
   all_again : (records more : List DumpRecord) (draft : Option Draft) (at : ℕ) (rs : List DumpRecord) → close dump_use records draft ≡ Ok more → AllByRecursion Readable rs → AreApart (paths more) (paths rs)
-      → reading records draft at (dump_text user_name group_name rs) ≡ Ok (more ++ placed at rs)
+      → reading records draft at (dump_text naming rs) ≡ Ok (more ++ placed at rs)
   all_again records more draft at [] closes are apart = closes ∙ ap (λ (l : List DumpRecord). Ok l) (sym (append-nil more))
   all_again records more draft at (r ∷ rs) closes are apart =
       let placed_r : DumpRecord = record r { at = at } in
-      record_chunk records more draft at r (dump_text user_name group_name rs) closes (any_paths r.path more ∙ apart.0) are.0
+      record_chunk records more draft at r (dump_text naming rs) closes (any_paths r.path more ∙ apart.0) are.0
       ∙ (all_again more (more ++ placed_r ∷ []) (Some (all_lines at r)) (at + line_count r) rs (closed more r at are.0) are.1
       (subst (λ ps. AreApart ps (paths rs)) (sym (map-append (λ (s : DumpRecord). s.path) more (placed_r ∷ []))) apart.1)
       ∙ ap (λ (l : List DumpRecord). Ok l) (append_assoc more (placed_r ∷ []) (placed (at + line_count r) rs)))
 
   -- the texts of records, one after another, are read as those records
-  pub dump_again : (rs : List DumpRecord) → AllByRecursion Readable rs → AreApart [] (paths rs) → dump_of user_id group_id dump_use (dump_text user_name group_name rs) ≡ Ok (placed 1 rs)
+  pub dump_again : (rs : List DumpRecord) → AllByRecursion Readable rs → AreApart [] (paths rs) → dump_of naming dump_use (dump_text naming rs) ≡ Ok (placed 1 rs)
   dump_again rs are apart =
-      sym (streamed_by_groups begins open_record (line_in user_id group_id) (close dump_use) [] None (lines_of (dump_text user_name group_name rs)))
+      sym (streamed_by_groups begins open_record (line_in naming) (close dump_use) [] None (lines_of (dump_text naming rs)))
       ∙ all_again [] [] None 1 rs refl are apart

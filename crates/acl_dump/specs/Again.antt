@@ -4,6 +4,7 @@ use Rattle.std.specs.List.{list_all, list_any, flat_map}
 use Rattle.acl_entry.specs.Ids.{nobody}
 use Rattle.acl_entry.specs.Lists.{KeyMap, entries, IsValid, HasIds}
 use Rattle.acl_names.specs.Paths.{is_component}
+use Rattle.acl_syntax.specs.Naming.{Naming}
 use Rattle.acl_syntax.specs.Writing.{IsNamed, AreNamed}
 use Rattle.acl_dump.specs.declared.record.DumpUse.{DumpUse}
 use Rattle.acl_dump.specs.declared.record.DumpUse.TheVariants.{Load, Restore}
@@ -30,12 +31,12 @@ abbrev pub HasHeaders : DumpUse → DumpRecord → Type 0
 HasHeaders Load r = (is_some r.owner ≡ true) × (is_some r.group ≡ true)
 HasHeaders Restore r = Unit {0}
 
-module _ (user_id group_id : List ℕ → Option ℕ) (user_name group_name : ℕ → Option (List ℕ)) where
+module _ (naming : Naming) where
   -- a valid list, whose names are found again
   pub record IsList (acl : KeyMap) : Type 0 where
     pub valid : IsValid acl
     pub ids : HasIds (entries acl)
-    pub named : AreNamed user_id group_id user_name group_name (entries acl)
+    pub named : AreNamed naming (entries acl)
 
   abbrev pub IsListIf : Option KeyMap → Type 0
   IsListIf None = Unit {0}
@@ -45,8 +46,8 @@ module _ (user_id group_id : List ℕ → Option ℕ) (user_name group_name : �
   pub record IsReadable (dump_use : DumpUse) (r : DumpRecord) : Type 0 where
     pub path : list_all is_component r.path ≡ true
     pub headers : HasHeaders dump_use r
-    pub owner : IsFoundIf user_id user_name r.owner
-    pub group : IsFoundIf group_id group_name r.group
+    pub owner : IsFoundIf naming.user_id naming.user_name r.owner
+    pub group : IsFoundIf naming.group_id naming.group_name r.group
     pub flags : AreFlags r.flags
     pub access : IsList r.access
     pub dacl : IsListIf r.dacl
@@ -78,5 +79,5 @@ placed at [] = []
 placed at (r ∷ rs) = record r { at = at } ∷ placed (at + line_count r) rs
 
 -- the texts of records, one after another
-abbrev pub dump_text : (ℕ → Option (List ℕ)) → (ℕ → Option (List ℕ)) → List DumpRecord → List ℕ
-dump_text user_name group_name rs = flat_map (record_text user_name group_name) rs
+abbrev pub dump_text : Naming → List DumpRecord → List ℕ
+dump_text naming rs = flat_map (record_text naming) rs

@@ -1,6 +1,7 @@
 -- The first fault of a dump, by its lines.
 use Rattle.std.specs.Prelude.{◌≡◌, ℕ, ◌⊎◌, List, [], ◌∷◌, ◌++◌, true, false, Option, None, Result, Ok, Err}
 use Rattle.std.specs.List.{AllByRecursion}
+use Rattle.acl_syntax.specs.Naming.{Naming}
 use Rattle.acl_syntax.specs.declared.fault.TextFault.{TextFault}
 use Rattle.acl_dump.specs.declared.record.DumpUse.{DumpUse}
 use Rattle.acl_dump.specs.declared.record.DumpRecord.{DumpRecord}
@@ -17,10 +18,10 @@ abbrev pub EndARecord : List Numbered → Type 0
 EndARecord [] = Unit {0}
 EndARecord (l ∷ ls) = begins l ≡ true
 
-module _ (user_id group_id : List ℕ → Option ℕ) where
+module _ (naming : Naming) where
   -- lines that begin no record, each added to the open one
   abbrev pub added : Option Draft → List Numbered → Result (Option Draft) TextFault
-  added draft ls = in_turn (line_in user_id group_id) draft ls
+  added draft ls = in_turn (line_in naming) draft ls
 
   -- One of the lines after has the fault; those before it belong to the same record, or to no record, and are not faulty.
   pub record IsOfALine (draft : Option Draft) (ls : List Numbered) (fault : TextFault) : Type 0 where
@@ -32,7 +33,7 @@ module _ (user_id group_id : List ℕ → Option ℕ) where
     pub begins_none : begins line ≡ false
     pub so_far : Option Draft
     pub no_fault_before : added draft before ≡ Ok so_far
-    pub faulty : line_in user_id group_id so_far line ≡ Err fault
+    pub faulty : line_in naming so_far line ≡ Err fault
 
   module _ (dump_use : DumpUse) where
     -- A record has the fault as a whole, at a place; all its lines are not faulty, and what comes after it
@@ -60,7 +61,7 @@ module _ (user_id group_id : List ℕ → Option ℕ) where
 
     -- the records of these lines, or the first fault
     abbrev pub records_in : List Numbered → Result (List DumpRecord) TextFault
-    records_in ls = by_groups begins open_record (line_in user_id group_id) (close dump_use) [] None (grouped begins ls)
+    records_in ls = by_groups begins open_record (line_in naming) (close dump_use) [] None (grouped begins ls)
 
     -- A record has the fault, in its `file:` line or after it; the lines before it are a dump without a fault.
     pub record IsOfALaterRecord (ls : List Numbered) (fault : TextFault) : Type 0 where

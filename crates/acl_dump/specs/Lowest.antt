@@ -2,6 +2,7 @@
 use Rattle.std.specs.Prelude.{◌≡◌, ℕ, ◌<◌, ◌⊎◌, List, [], length, map, Bool, true, false, not, Option, Some, None}
 use Rattle.std.specs.List.{Contains}
 use Rattle.acl_names.specs.Paths.{path_of}
+use Rattle.acl_syntax.specs.Naming.{Naming}
 use Rattle.acl_syntax.specs.declared.fault.FaultKind.{FaultKind}
 use Rattle.acl_syntax.specs.declared.fault.FaultKind.TheVariants.{UnknownUser, UnknownGroup, BadHeader, MissingHeader, BadPath, RepeatedFile}
 use Rattle.acl_syntax.specs.Words.{word_id}
@@ -69,15 +70,15 @@ is_late OwningGroup draft = not (may_head draft.group draft)
 is_late Flags draft = not (may_head draft.flags draft)
 is_late Entry draft = false
 
-module _ (user_id group_id : List ℕ → Option ℕ) where
+module _ (naming : Naming) where
   -- what a line has wherever it is
   abbrev pub HasInItself : LineKind → List ℕ → FaultKind → Type 0
   HasInItself Nothing value kind = ⊥
   HasInItself File value kind = ⊥
-  HasInItself Owner value kind = IsEmpty value kind ⊎ NamesNobody user_id UnknownUser value kind
-  HasInItself OwningGroup value kind = IsEmpty value kind ⊎ NamesNobody group_id UnknownGroup value kind
+  HasInItself Owner value kind = IsEmpty value kind ⊎ NamesNobody naming.user_id UnknownUser value kind
+  HasInItself OwningGroup value kind = IsEmpty value kind ⊎ NamesNobody naming.group_id UnknownGroup value kind
   HasInItself Flags value kind = AreNoFlags value kind
-  HasInItself Entry value kind = EntryHas user_id group_id rules value kind
+  HasInItself Entry value kind = EntryHas naming rules value kind
 
   module _ (draft : Option Draft) (l : Numbered) where
     -- it belongs to a record, and no record is open

@@ -8,6 +8,7 @@ use Rattle.acl_entry.specs.Lists.{KeyMap, map_of, fault}
 use Rattle.acl_entry.specs.Perms.{Perms, none}
 use Rattle.acl_names.specs.Pieces.{pieces}
 use Rattle.acl_names.specs.Paths.{path_of, path_cmp}
+use Rattle.acl_syntax.specs.Naming.{Naming}
 use Rattle.acl_syntax.specs.declared.fault.FaultKind.{FaultKind}
 use Rattle.acl_syntax.specs.declared.fault.FaultKind.TheVariants as kinds
 use Rattle.acl_syntax.specs.declared.fault.FaultKind.TheVariants.{UnknownUser, UnknownGroup, BadHeader, MissingHeader, BadPath, RepeatedFile, NoMemory}
@@ -63,22 +64,22 @@ perm_of_spec (Some perm) = perm.fixed
 abbrev pub entry_item : Spec → Item
 entry_item spec = item.Entry spec.dflt (record { key = spec.key; perm = perm_of_spec spec.perm })
 
-module _ (user_id group_id : List ℕ → Option ℕ) where
+module _ (naming : Naming) where
   -- the content of a line that begins no record, or the lowest kind of fault that it has in itself
   abbrev pub item_of : ℕ → LineKind → List ℕ → Result (Option Item) FaultKind
   item_of at Nothing value = Ok None
   item_of at File value = Ok None
   item_of at Owner value = do
-    id ← named user_id UnknownUser value
+    id ← named naming.user_id UnknownUser value
     Ok (Some (item.Owner id))
   item_of at OwningGroup value = do
-    id ← named group_id UnknownGroup value
+    id ← named naming.group_id UnknownGroup value
     Ok (Some (item.OwningGroup id))
   item_of at Flags value = do
     flags ← or_fault (flags_of value) BadHeader
     Ok (Some (item.Flags flags))
   item_of at Entry value = do
-    spec ← entry_of user_id group_id rules at value
+    spec ← entry_of naming rules at value
     Ok (Some (entry_item spec))
 
 -- ---- an open record
@@ -177,11 +178,11 @@ abbrev pub close : DumpUse → List DumpRecord → Option Draft → Result (List
 close dump_use records None = Ok records
 close dump_use records (Some draft) = at_place draft.at (record_of dump_use draft) (λ r. Ok (records ++ r ∷ []))
 
-module _ (user_id group_id : List ℕ → Option ℕ) where
+module _ (naming : Naming) where
   -- a line that begins no record, with the open record, or the lowest kind of fault that it has there
   abbrev pub judged : Option Draft → Numbered → Result (Option Draft) FaultKind
   judged draft l = do
-    item ← item_of user_id group_id l.0 (content_of l.1).0 (content_of l.1).1
+    item ← item_of naming l.0 (content_of l.1).0 (content_of l.1).1
     add item draft
 
   abbrev pub line_in : Option Draft → Numbered → Result (Option Draft) TextFault

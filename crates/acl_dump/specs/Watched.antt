@@ -1,6 +1,7 @@
 -- A dump read line by line, where the paths of earlier records are watched or not. Only the clauses of inner functions name it.
 use Rattle.std.specs.Prelude.{ℕ, List, [], ◌∷◌, Bool, ◌&&◌, if◌then◌else◌, Option, Some, None, Result, Ok, Err}
 use Rattle.acl_names.specs.Paths.{path_of}
+use Rattle.acl_syntax.specs.Naming.{Naming}
 use Rattle.acl_syntax.specs.declared.fault.FaultKind.{FaultKind}
 use Rattle.acl_syntax.specs.declared.fault.FaultKind.TheVariants.{BadHeader, BadPath, RepeatedFile}
 use Rattle.acl_syntax.specs.declared.fault.TextFault.{TextFault}
@@ -22,5 +23,5 @@ opened_draft watched records at (b ∷ bs) = do
 abbrev pub open_record : Bool → List DumpRecord → Numbered → Result (Option Draft) TextFault
 open_record watched records l = at_place l.0 (opened_draft watched records l.0 (content_of l.1).1) (λ draft. Ok (Some draft))
 
-abbrev pub stream : (user_id group_id : List ℕ → Option ℕ) → Bool → DumpUse → List DumpRecord → Option Draft → List Numbered → Result (List DumpRecord) TextFault
-stream user_id group_id watched dump_use records draft lines = streamed begins (open_record watched) (line_in user_id group_id) (close dump_use) records draft lines
+abbrev pub stream : Naming → Bool → DumpUse → List DumpRecord → Option Draft → List Numbered → Result (List DumpRecord) TextFault
+stream naming watched dump_use records draft lines = streamed begins (open_record watched) (line_in naming) (close dump_use) records draft lines

@@ -9,6 +9,7 @@ use Rattle.acl_entry.specs.Lists.{KeyMap, entries}
 use Rattle.acl_entry.specs.Perms as perms
 use Rattle.acl_entry.specs.Perms.{Perms}
 use Rattle.acl_names.specs.Paths.{path_text}
+use Rattle.acl_syntax.specs.Naming.{Naming}
 use Rattle.acl_syntax.specs.declared.fault.Which.{Which}
 use Rattle.acl_syntax.specs.declared.fault.Which.TheVariants.{Access, Default}
 use Rattle.acl_syntax.specs.declared.form.Form.TheVariants.{Long}
@@ -73,14 +74,14 @@ abbrev pub group_text : (ℕ → Option (List ℕ)) → Option ℕ → List ℕ
 group_text group_name None = []
 group_text group_name (Some id) = codes "# group: " ++ (id_text id (group_name id) ++ 10 ∷ [])
 
-module _ (user_name group_name : ℕ → Option (List ℕ)) where
+module _ (naming : Naming) where
   -- the header lines, each where it is present
   abbrev pub header_text : List (List ℕ) → Bool → Option ℕ → Option ℕ → Option (List Bool) → List ℕ
-  header_text path slash owner group flags = file_text path slash ++ (owner_text user_name owner ++ (group_text group_name group ++ flags_text flags))
+  header_text path slash owner group flags = file_text path slash ++ (owner_text naming.user_name owner ++ (group_text naming.group_name group ++ flags_text flags))
 
   -- an entry as it is written in a list of a record
   abbrev pub shown : Which → Entry → List ℕ
-  shown which e = front which ++ entry_text user_name group_name Long e
+  shown which e = front which ++ entry_text naming Long e
 
   abbrev pub entry_line : Effective → Which → Option Perms → Entry → List ℕ
   entry_line how which mask e = shown which e ++ (comment how mask e (length (shown which e)) ++ 10 ∷ [])

@@ -41,7 +41,7 @@ pub fn read_dump<N: Names>(
     dump_use: DumpUse,
     names: &N,
 ) -> Result<Vec<DumpRecord>, TextFault>
-    ensures made { Gives (λ records. records.items) result (dump_of (N.user_id names.now) (N.group_id names.now) dump_use bytes.now) }
+    ensures made { Gives (λ records. records.items) result (dump_of (N.naming names.now) dump_use bytes.now) }
     ensures apart { IfOk result (λ records. have_own_paths records.items ≡ true) }
 {
     // A dump without a fault needs no set of paths: they are compared once all are known.
@@ -70,7 +70,7 @@ fn read_stream<N: Names>(
     mut seen: Option<Seen>,
 ) -> Result<Vec<DumpRecord>, TextFault>
     requires { SeenAre seen [] }
-    ensures { Gives (λ records. records.items) result (watched.stream (N.user_id names.now) (N.group_id names.now) (is_some seen) dump_use [] None (lines_of bytes.now)) }
+    ensures { Gives (λ records. records.items) result (watched.stream (N.naming names.now) (is_some seen) dump_use [] None (lines_of bytes.now)) }
 {
     let mut records = Vec::new(alloc);
     let mut draft = None;
@@ -108,7 +108,7 @@ fn read_line<N: Names>(
     line: &[u8],
 ) -> Result<Option<Draft>, TextFault>
     requires { SeenAre seen.old records.old.items }
-    ensures stepped { Gives (λ new. (records.new.items, new)) result (stepped begins (watched.open_record (is_some seen.old)) (line_in (N.user_id names.now) (N.group_id names.now)) (close dump_use) records.old.items draft (at, line.now)) }
+    ensures stepped { Gives (λ new. (records.new.items, new)) result (stepped begins (watched.open_record (is_some seen.old)) (line_in (N.naming names.now)) (close dump_use) records.old.items draft (at, line.now)) }
     ensures seen_are { OnOk result (SeenAre seen.new records.new.items) }
     ensures watched { is_some seen.new ≡ is_some seen.old }
 {

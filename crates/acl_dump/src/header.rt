@@ -2,6 +2,7 @@
 
 ghost use Rattle.std.specs.Prelude.{◌≡◌, ◌++◌, OnOk, OnErr};
 ghost use Rattle.std.specs.Io.{StartsWith};
+ghost use Rattle.acl_names.specs.Appends.{Appends, AppendsWhole};
 ghost use Rattle.acl_dump.specs.Writing.{mark, marks, flags_text, file_text, owner_text, group_text, header_text, record_text};
 
 use crate::effective::Effective;
@@ -11,6 +12,18 @@ use acl_entry::Id;
 use acl_names::{Path, append_path};
 use acl_syntax::{Names, Which, append_id};
 use std::alloc::AllocError;
+
+/// What the header lines of a record contain.
+#[derive(Clone, Copy, Debug)]
+pub struct Header<'a> {
+    pub path: &'a Path,
+    /// The path is written with a final `/`.
+    pub slash: bool,
+    pub owner: Option<Id>,
+    pub group: Option<Id>,
+    /// Set user ID, set group ID and sticky.
+    pub flags: Option<[bool; 3]>,
+}
 
 /// The letter of a flag that is set, else `-`.
 fn mark(letter: u8, set: bool) -> u8
@@ -29,8 +42,7 @@ fn marks(flags: [bool; 3]) -> [u8; 3]
 
 /// Adds the `# flags:` line, if there are flags.
 fn push_flags(text: &mut Vec<u8>, flags: Option<[bool; 3]>) -> Result<(), AllocError>
-    ensures ok { OnOk result (text.new.items ≡ text.old.items ++ flags_text flags) }
-    ensures err { OnErr result (StartsWith text.new.items text.old.items) }
+    ensures { Appends result text.old text.new (flags_text flags) }
 {
     let Some(flags) = flags else {
         return Ok(());
@@ -43,8 +55,7 @@ fn push_flags(text: &mut Vec<u8>, flags: Option<[bool; 3]>) -> Result<(), AllocE
 
 /// Adds the `# file:` line.
 fn push_file(text: &mut Vec<u8>, path: &Path, slash: bool) -> Result<(), AllocError>
-    ensures ok { OnOk result (text.new.items ≡ text.old.items ++ file_text path.now slash) }
-    ensures err { OnErr result (StartsWith text.new.items text.old.items) }
+    ensures { Appends result text.old text.new (file_text path.now slash) }
 {
     text.extend_from_slice(b"# file: ")?;
     append_path(text, path)?;
@@ -57,8 +68,7 @@ fn push_file(text: &mut Vec<u8>, path: &Path, slash: bool) -> Result<(), AllocEr
 
 /// Adds the `# owner:` line, if there is an owner.
 fn push_owner<N: Names>(text: &mut Vec<u8>, owner: &Option<Id>, names: &N) -> Result<(), AllocError>
-    ensures ok { OnOk result (text.new.items ≡ text.old.items ++ owner_text (N.user_name names.now) owner.now) }
-    ensures err { OnErr result (StartsWith text.new.items text.old.items) }
+    ensures { Appends result text.old text.new (owner_text (N.naming names.now).user_name owner.now) }
 {
     match owner {
         None => Ok(()),
@@ -73,8 +83,7 @@ fn push_owner<N: Names>(text: &mut Vec<u8>, owner: &Option<Id>, names: &N) -> Re
 
 /// Adds the `# group:` line, if there is a group.
 fn push_group<N: Names>(text: &mut Vec<u8>, group: &Option<Id>, names: &N) -> Result<(), AllocError>
-    ensures ok { OnOk result (text.new.items ≡ text.old.items ++ group_text (N.group_name names.now) group.now) }
-    ensures err { OnErr result (StartsWith text.new.items text.old.items) }
+    ensures { Appends result text.old text.new (group_text (N.naming names.now).group_name group.now) }
 {
     match group {
         None => Ok(()),
@@ -90,43 +99,33 @@ fn push_group<N: Names>(text: &mut Vec<u8>, group: &Option<Id>, names: &N) -> Re
 /// Adds the header lines. A part of them is left where memory runs out.
 fn push_header<N: Names>(
     text: &mut Vec<u8>,
-    path: &Path,
-    slash: bool,
-    owner: &Option<Id>,
-    group: &Option<Id>,
-    flags: Option<[bool; 3]>,
+    header: &Header<'_>,
     names: &N,
 ) -> Result<(), AllocError>
-    ensures ok { OnOk result (text.new.items ≡ text.old.items ++ header_text (N.user_name names.now) (N.group_name names.now) path.now slash owner.now group.now flags) }
-    ensures err { OnErr result (StartsWith text.new.items text.old.items) }
+    ensures { Appends result text.old text.new (header_text (N.naming names.now) header.now.path.now header.now.slash header.now.owner header.now.group header.now.flags) }
 {
-    push_file(text, path, slash)?;
-    push_owner(text, owner, names)?;
-    push_group(text, group, names)?;
-    push_flags(text, flags)
+    push_file(text, header.path, header.slash)?;
+    push_owner(text, &header.owner, names)?;
+    push_group(text, &header.group, names)?;
+    push_flags(text, header.flags)?;
+    Ok(())
 }
 
-/// Adds the header lines of a record: `# file:`, with a final `/` where `slash` is true, and `# owner:`,
-/// `# group:` and `# flags:` (set user ID, set group ID, sticky), each where it is present. An id is written
-/// as its name, with escapes, and as a number where it has none.
+/// Adds the header lines of a record: `# file:`, and `# owner:`, `# group:` and `# flags:`, each where it is present.
+/// An id is written as its name, with escapes, and as a number where it has none.
 ///
 /// # Errors
 ///
 /// If memory runs out; then nothing is added.
 pub fn append_header<N: Names>(
     text: &mut Vec<u8>,
-    path: &Path,
-    slash: bool,
-    owner: &Option<Id>,
-    group: &Option<Id>,
-    flags: Option<[bool; 3]>,
+    header: &Header<'_>,
     names: &N,
 ) -> Result<(), AllocError>
-    ensures ok { OnOk result (text.new.items ≡ text.old.items ++ header_text (N.user_name names.now) (N.group_name names.now) path.now slash owner.now group.now flags) }
-    ensures err { OnErr result (text.new.items ≡ text.old.items) }
+    ensures { AppendsWhole result text.old text.new (header_text (N.naming names.now) header.now.path.now header.now.slash header.now.owner header.now.group header.now.flags) }
 {
     let before = text.len();
-    if let Err(refused) = push_header(text, path, slash, owner, group, flags, names) {
+    if let Err(refused) = push_header(text, header, names) {
         text.truncate(before);
         return Err(refused);
     }
@@ -139,18 +138,16 @@ fn push_record<N: Names>(
     dump_record: &DumpRecord,
     names: &N,
 ) -> Result<(), AllocError>
-    ensures ok { OnOk result (text.new.items ≡ text.old.items ++ record_text (N.user_name names.now) (N.group_name names.now) dump_record.now) }
-    ensures err { OnErr result (StartsWith text.new.items text.old.items) }
+    ensures { Appends result text.old text.new (record_text (N.naming names.now) dump_record.now) }
 {
-    append_header(
-        text,
-        &dump_record.path,
-        dump_record.slash,
-        &dump_record.owner,
-        &dump_record.group,
-        dump_record.flags,
-        names,
-    )?;
+    let header = Header {
+        path: &dump_record.path,
+        slash: dump_record.slash,
+        owner: dump_record.owner,
+        group: dump_record.group,
+        flags: dump_record.flags,
+    };
+    append_header(text, &header, names)?;
     append_list(
         text,
         &dump_record.access,
@@ -174,8 +171,7 @@ pub fn append_record<N: Names>(
     dump_record: &DumpRecord,
     names: &N,
 ) -> Result<(), AllocError>
-    ensures ok { OnOk result (text.new.items ≡ text.old.items ++ record_text (N.user_name names.now) (N.group_name names.now) dump_record.now) }
-    ensures err { OnErr result (text.new.items ≡ text.old.items) }
+    ensures { AppendsWhole result text.old text.new (record_text (N.naming names.now) dump_record.now) }
 {
     let before = text.len();
     if let Err(refused) = push_record(text, dump_record, names) {

@@ -86,7 +86,7 @@ fn entry_item(spec: Spec) -> Item
 }
 
 fn read_owner<N: Names>(alloc: Global, names: &N, at: usize, value: &[u8]) -> Result<Id, TextFault>
-    ensures { GivesAt at (λ id. id) result (named (N.user_id names.now) UnknownUser value.now) }
+    ensures { GivesAt at (λ id. id) result (named (N.naming names.now).user_id UnknownUser value.now) }
 {
     if value.is_empty() {
         return Err(bad_header(at));
@@ -101,7 +101,7 @@ fn read_owner<N: Names>(alloc: Global, names: &N, at: usize, value: &[u8]) -> Re
 }
 
 fn read_group<N: Names>(alloc: Global, names: &N, at: usize, value: &[u8]) -> Result<Id, TextFault>
-    ensures { GivesAt at (λ id. id) result (named (N.group_id names.now) UnknownGroup value.now) }
+    ensures { GivesAt at (λ id. id) result (named (N.naming names.now).group_id UnknownGroup value.now) }
 {
     if value.is_empty() {
         return Err(bad_header(at));
@@ -142,7 +142,7 @@ pub(crate) fn item_of<N: Names>(
     kind: LineKind,
     value: &[u8],
 ) -> Result<Option<Item>, TextFault>
-    ensures { GivesAt at (λ item. item) result (item_of (N.user_id names.now) (N.group_id names.now) at kind value.now) }
+    ensures { GivesAt at (λ item. item) result (item_of (N.naming names.now) at kind value.now) }
 {
     match kind {
         LineKind::Nothing | LineKind::File => Ok(None),

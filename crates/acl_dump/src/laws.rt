@@ -4,6 +4,7 @@ ghost use Rattle.std.specs.Prelude.{◌≡◌, ◌↔◌, ℕ, List, [], Option,
 ghost use Rattle.std.specs.List.{AllByRecursion};
 ghost use Rattle.acl_dump.specs.declared.record.DumpUse.{DumpUse};
 ghost use Rattle.acl_dump.specs.declared.record.DumpRecord.{DumpRecord};
+ghost use Rattle.acl_syntax.specs.Naming.{Naming};
 ghost use Rattle.acl_syntax.specs.declared.fault.TextFault.{TextFault};
 ghost use Rattle.acl_syntax.specs.Lowest.{ReportsLowest};
 ghost use Rattle.acl_dump.specs.declared.draft.Draft.{Draft};
@@ -18,8 +19,8 @@ ghost use Rattle.acl_dump.specs.Again.{IsReadable, AreApart, paths, placed, dump
 /// no line is faulty that of the record as a whole, at its `# file:` line, whatever comes after the
 /// record. A fault of a line before the first record goes before all these.
 pub fn dump_fault_is_first()
-    ensures { (user_id group_id : List ℕ → Option ℕ) (dump_use : DumpUse) (bytes : List ℕ) (fault : TextFault) →
-        (dump_of user_id group_id dump_use bytes ≡ Err fault) ↔ IsFirstFault user_id group_id dump_use (lines_of bytes) fault }
+    ensures { (naming : Naming) (dump_use : DumpUse) (bytes : List ℕ) (fault : TextFault) →
+        (dump_of naming dump_use bytes ≡ Err fault) ↔ IsFirstFault naming dump_use (lines_of bytes) fault }
 {}
 
 /// Proof only: the fault of a `# file:` line is the lowest of the kinds that it has, each looked for on its own: an
@@ -35,15 +36,15 @@ pub fn dump_file_fault_is_lowest()
 /// flags, a line before the first record, and a header that comes twice or after an entry. Without a
 /// fault, the line is read.
 pub fn dump_line_fault_is_lowest()
-    ensures { (user_id group_id : List ℕ → Option ℕ) (draft : Option Draft) (line : Numbered) →
-        ReportsLowest (LineHas user_id group_id draft line) (judged user_id group_id draft line) }
+    ensures { (naming : Naming) (draft : Option Draft) (line : Numbered) →
+        ReportsLowest (LineHas naming draft line) (judged naming draft line) }
 {}
 
 /// Proof only: the texts of records, put one after another, are read as those records, each at its line: where their
 /// names are found again under the ids that they are written for, no path is twice, and records that
 /// are loaded have owners and groups.
 pub fn records_are_read_again()
-    ensures { (user_id group_id : List ℕ → Option ℕ) (user_name group_name : ℕ → Option (List ℕ)) (dump_use : DumpUse) (records : List DumpRecord) →
-        AllByRecursion (IsReadable user_id group_id user_name group_name dump_use) records → AreApart [] (paths records) →
-        dump_of user_id group_id dump_use (dump_text user_name group_name records) ≡ Ok (placed 1 records) }
+    ensures { (naming : Naming) (dump_use : DumpUse) (records : List DumpRecord) →
+        AllByRecursion (IsReadable naming dump_use) records → AreApart [] (paths records) →
+        dump_of naming dump_use (dump_text naming records) ≡ Ok (placed 1 records) }
 {}

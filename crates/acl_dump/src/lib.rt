@@ -21,7 +21,7 @@ pub use acl_syntax::{
 };
 pub use dump::read_dump;
 pub use effective::Effective;
-pub use header::{append_header, append_record};
+pub use header::{Header, append_header, append_record};
 pub use laws::{
     dump_fault_is_first, dump_file_fault_is_lowest, dump_line_fault_is_lowest,
     records_are_read_again,

@@ -1,7 +1,7 @@
 //! The lines of a dump.
 
 ghost use Rattle.std.specs.Prelude.{◌≡◌};
-ghost use Rattle.acl_dump.specs.Lines.{begins_with, without_space, header_of, content_of};
+ghost use Rattle.acl_dump.specs.Lines.{without_space, header_of, content_of};
 
 use acl_syntax::{Sep, content, trim, trim_front};
 
@@ -20,12 +20,6 @@ pub(crate) enum LineKind {
     Flags,
     /// An entry of one of the record's lists.
     Entry,
-}
-
-fn begins_with(text: &[u8], word: &[u8]) -> bool
-    ensures { result ≡ begins_with text.now word.now }
-{
-    text.starts_with(word)
 }
 
 /// The value without one space in front.

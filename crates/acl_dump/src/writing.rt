@@ -3,6 +3,7 @@
 ghost use Rattle.std.specs.Prelude.{◌≡◌, ◌++◌, ◌∷◌, [], OnOk, OnErr, length};
 ghost use Rattle.std.specs.Io.{StartsWith};
 ghost use Rattle.std.specs.List.{flat_map};
+ghost use Rattle.acl_names.specs.Appends.{Appends, AppendsWhole};
 ghost use Rattle.acl_entry.specs.Lists as lists;
 ghost use Rattle.acl_syntax.specs.declared.fault.Which.TheVariants.{Default};
 ghost use Rattle.acl_dump.specs.Writing.{is_shown, tab_count, tabs, comment, front, shown, entry_line, list_text, default_text};
@@ -41,8 +42,7 @@ fn push_comment(
     entry: &Entry,
     bytes: usize,
 ) -> Result<(), AllocError>
-    ensures ok { OnOk result (text.new.items ≡ text.old.items ++ comment how mask.now entry.now bytes) }
-    ensures err { OnErr result (StartsWith text.new.items text.old.items) }
+    ensures { Appends result text.old text.new (comment how mask.now entry.now bytes) }
 {
     let Some(mask) = mask else {
         return Ok(());
@@ -66,18 +66,18 @@ fn front(which: Which) -> &'static [u8]
     }
 }
 
-/// Adds an entry and its effective permissions.
-fn push_shown<N: Names>(
+/// Adds an entry, with `default:` in front where it is one of a default list.
+fn push_front_and_entry<N: Names>(
     text: &mut Vec<u8>,
     which: Which,
     entry: &Entry,
     names: &N,
 ) -> Result<(), AllocError>
-    ensures ok { OnOk result (text.new.items ≡ text.old.items ++ shown (N.user_name names.now) (N.group_name names.now) which entry.now) }
-    ensures err { OnErr result (StartsWith text.new.items text.old.items) }
+    ensures { Appends result text.old text.new (shown (N.naming names.now) which entry.now) }
 {
     text.extend_from_slice(front(which))?;
-    append_entry(text, entry, Form::Long, names)
+    append_entry(text, entry, Form::Long, names)?;
+    Ok(())
 }
 
 /// Adds an entry of one of a file's lists, whose mask is given, as [`append_list`] adds it.
@@ -93,11 +93,10 @@ pub fn append_line<N: Names>(
     entry: &Entry,
     names: &N,
 ) -> Result<(), AllocError>
-    ensures ok { OnOk result (text.new.items ≡ text.old.items ++ entry_line (N.user_name names.now) (N.group_name names.now) how which mask.now entry.now) }
-    ensures err { OnErr result (StartsWith text.new.items text.old.items) }
+    ensures { Appends result text.old text.new (entry_line (N.naming names.now) how which mask.now entry.now) }
 {
     let before = text.len();
-    push_shown(text, which, entry, names)?;
+    push_front_and_entry(text, which, entry, names)?;
     let bytes = text.len() - before;
     push_comment(text, how, mask, entry, bytes)?;
     text.push(b'\n')?;
@@ -113,8 +112,7 @@ fn push_list<N: Names>(
     entries: &[Entry],
     names: &N,
 ) -> Result<(), AllocError>
-    ensures ok { OnOk result (text.new.items ≡ text.old.items ++ flat_map (entry_line (N.user_name names.now) (N.group_name names.now) how which mask.now) entries.now) }
-    ensures err { OnErr result (StartsWith text.new.items text.old.items) }
+    ensures { Appends result text.old text.new (flat_map (entry_line (N.naming names.now) how which mask.now) entries.now) }
 {
     for entry in entries {
         append_line(text, how, which, mask, entry, names)?;
@@ -136,8 +134,7 @@ pub fn append_list<N: Names>(
     how: Effective,
     names: &N,
 ) -> Result<(), AllocError>
-    ensures ok { OnOk result (text.new.items ≡ text.old.items ++ list_text (N.user_name names.now) (N.group_name names.now) how which acl.now) }
-    ensures err { OnErr result (text.new.items ≡ text.old.items) }
+    ensures { AppendsWhole result text.old text.new (list_text (N.naming names.now) how which acl.now) }
 {
     let mask = acl.get(Key::Mask);
     let before = text.len();
@@ -154,8 +151,7 @@ pub(crate) fn append_default<N: Names>(
     how: Effective,
     names: &N,
 ) -> Result<(), AllocError>
-    ensures ok { OnOk result (text.new.items ≡ text.old.items ++ default_text (N.user_name names.now) (N.group_name names.now) how dacl.now) }
-    ensures err { OnErr result (text.new.items ≡ text.old.items) }
+    ensures { AppendsWhole result text.old text.new (default_text (N.naming names.now) how dacl.now) }
 {
     match dacl {
         None => Ok(()),

@@ -1,7 +1,7 @@
 use crate::people::People;
 use crate::slow::{Slow, read};
 use acl_dump::{
-    DumpRecord, DumpUse, Effective, append_header, append_list, append_record, read_dump,
+    DumpRecord, DumpUse, Effective, Header, append_header, append_list, append_record, read_dump,
 };
 use acl_entry::{Acl, Entry, Id};
 use acl_names::Path;
@@ -214,19 +214,20 @@ fn repeated_paths(rt: HostRuntime) {
     }
 }
 
-fn header(rt: &impl Abort, alloc: Global, record: &DumpRecord) -> Vec<u8> {
-    let mut header = Vec::new(alloc);
-    append_header(
-        &mut header,
-        &record.path,
-        record.slash,
-        &record.owner,
-        &record.group,
-        record.flags,
-        &People,
-    )
-    .expect(rt, "memory");
-    header
+fn header_of(record: &DumpRecord) -> Header<'_> {
+    Header {
+        path: &record.path,
+        slash: record.slash,
+        owner: record.owner,
+        group: record.group,
+        flags: record.flags,
+    }
+}
+
+fn header_text(rt: &impl Abort, alloc: Global, record: &DumpRecord) -> Vec<u8> {
+    let mut text = Vec::new(alloc);
+    append_header(&mut text, &header_of(record), &People).expect(rt, "memory");
+    text
 }
 
 /// Headers that are written as they were read: of the greatest owner, of a name that ends in a blank, with flags.
@@ -244,7 +245,7 @@ fn expect_header(rt: &impl Abort, alloc: Global, want: &[u8]) {
     let records = load(rt, alloc, &text);
     assert!(rt; records.len() == 1);
     for record in &records {
-        assert!(rt; header(rt, alloc, record).as_slice() == want);
+        assert!(rt; header_text(rt, alloc, record).as_slice() == want);
     }
 }
 

@@ -10,13 +10,12 @@ use acl_syntax::Names;
 pub struct People;
 
 impl Names for People {
-    ghost user_id = { λ _ name. if bytes_eq name (codes "lisa") then Some 1001 else (if bytes_eq name (codes "joe") then Some 1000 else None) };
-
-    ghost group_id = { λ _ name. if bytes_eq name (codes "staff") then Some 50 else (if bytes_eq name (codes "cool") then Some 60 else None) };
-
-    ghost user_name = { λ _ id. if id == 1001 then Some (codes "lisa") else (if id == 1000 then Some (codes "joe") else None) };
-
-    ghost group_name = { λ _ id. if id == 50 then Some (codes "staff") else (if id == 60 then Some (codes "cool") else None) };
+    ghost naming = { λ _. record {
+      user_id = λ name. if bytes_eq name (codes "lisa") then Some 1001 else (if bytes_eq name (codes "joe") then Some 1000 else None);
+      group_id = λ name. if bytes_eq name (codes "staff") then Some 50 else (if bytes_eq name (codes "cool") then Some 60 else None);
+      user_name = λ id. if id == 1001 then Some (codes "lisa") else (if id == 1000 then Some (codes "joe") else None);
+      group_name = λ id. if id == 50 then Some (codes "staff") else (if id == 60 then Some (codes "cool") else None);
+    } };
 
     fn user_id(&self, name: &[u8]) -> Option<Id> {
         if name == b"lisa".as_slice() {

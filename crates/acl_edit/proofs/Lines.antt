@@ -15,7 +15,8 @@ use Rattle.acl_edit.specs.Nodes.{IsSound, HasValidLists, with_lists}
 use Rattle.acl_edit.specs.Parts.{Part, part, names, puts, is_given, is_mask}
 use Rattle.acl_edit.specs.Steps.{gives_execute, perms_of, strip, replace, fill_from}
 use Rattle.acl_edit.specs.Masks.{takes_mask, with_mask, add_mask, recalculate, is_recalculated}
-use Rattle.acl_edit.specs.Edits.{worked, checked, checked_default, access_after, default_after, access_before, default_before, changed_access, changed_default, ◌>>=◌}
+use Rattle.acl_syntax.specs.InTurn.{◌>>=◌}
+use Rattle.acl_edit.specs.Edits.{worked, checked, checked_default, access_after, default_after, access_before, default_before, changed_access, changed_default}
 use Rattle.acl_edit.specs.Laws.{HidesNothing, LeavesUnnamed, ShowsRecalculated, KeepsGranted, GivesModified, GoesByKey, LeavesByKey, CopiesBase, MakesMask, BoundsRecalculated, MasksNoMore, DropsDefault, last_for, given, has_entry, left_at, mask_made, mask_after, had_access, had_default}
 use Rattle.acl_edit.specs.Changes.{Change}
 use Rattle.acl_edit.specs.declared.edit.EditFault.{EditFault}

@@ -11,7 +11,8 @@ use Rattle.acl_syntax.specs.declared.fault.Which.TheVariants.{Access, Default}
 use Rattle.acl_edit.specs.Nodes.{is_directory, with_lists}
 use Rattle.acl_edit.specs.Parts.{is_given, is_for}
 use Rattle.acl_edit.specs.Edits as steps
-use Rattle.acl_edit.specs.Edits.{edit, edit_of, checked_default, changed_default, is_misplaced, allowed, ◌>>=◌}
+use Rattle.acl_syntax.specs.InTurn.{◌>>=◌}
+use Rattle.acl_edit.specs.Edits.{edit, edit_of, checked_default, changed_default, is_misplaced, allowed}
 use Rattle.acl_edit.specs.Laws.{OfLine, puts_default, misplaces_default, RefusesLists, RefusesNoList}
 use Rattle.acl_edit.specs.Changes.{Change, options}
 use Rattle.acl_edit.specs.declared.edit.Edit.{Edit}

@@ -5,6 +5,7 @@ use Rattle.std.specs.FinMap as maps
 use Rattle.acl_entry.specs.Lists.{KeyMap, entries, fault, minimal, mode, or_else}
 use Rattle.acl_syntax.specs.declared.fault.Which.{Which}
 use Rattle.acl_syntax.specs.declared.fault.Which.TheVariants.{Access, Default}
+use Rattle.acl_syntax.specs.InTurn.{◌>>=◌}
 use Rattle.acl_edit.specs.Nodes.{is_directory, with_lists}
 use Rattle.acl_edit.specs.Parts.{Part, part, puts, names}
 use Rattle.acl_edit.specs.Steps.{gives_execute, strip, remove, modify, replace, fill_from}
@@ -17,11 +18,6 @@ use Rattle.acl_edit.specs.declared.edit.EditFault.TheVariants.{DefaultOnFile, Li
 use Rattle.acl_edit.specs.declared.node.Kind.{Kind}
 use Rattle.acl_edit.specs.declared.node.Kind.TheVariants.{Plain, Directory}
 use Rattle.acl_edit.specs.declared.node.Node.{Node}
-
-infixl 10 ◌>>=◌
-abbrev pub ◌>>=◌ : {A B : Type 0} → Result A EditFault → (A → Result B EditFault) → Result B EditFault
-(Ok x) >>= f = f x
-(Err fault) >>= f = Err fault
 
 -- ---- a line of setfacl
 

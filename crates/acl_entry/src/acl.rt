@@ -2,7 +2,7 @@
 //! BITS".
 ghost use Rattle.std.specs.Prelude.{◌≡◌, ◌≢◌, ◌<◌, ◌≤◌, ◌%◌, ℕ, length, IfOk, IfErr, OnOk, IsOk, Ok, Err, IsTrue, Some, None, ◌↔◌};
 ghost use Rattle.acl_entry.specs.declared.key.Key.{Key};
-ghost use Rattle.acl_entry.specs.declared.entry.ListFault.TheVariants.{NoMemory, Repeated};
+ghost use Rattle.acl_entry.specs.declared.entry.ListFault.TheVariants.{NoMemory, Repeated, TooLong};
 ghost use Rattle.acl_entry.specs.declared.key.Key.TheVariants.{Mask};
 ghost use Rattle.std.specs.List.Sorted.{IsPermutation};
 ghost use Rattle.std.specs.FinMap as maps;
@@ -95,12 +95,13 @@ impl Acl {
     /// # Errors
     ///
     /// The first fault of the sequence, or that memory ran out, never for at most [`INLINE_ENTRIES`]
-    /// entries.
+    /// entries, and never where there are too many.
     pub fn from_entries(alloc: Global, entries: &[Entry]) -> Result<Acl, ListFault>
         ensures ok { IfOk result (λ acl. acl ≡ lists.map_of entries.now) }
         ensures no_fault { OnOk result (lists.fault entries.now ≡ None) }
         ensures reported { IfErr result (λ fault. fault ≢ NoMemory → lists.fault entries.now ≡ Some fault) }
         ensures inline { length entries.now ≤ INLINE_ENTRIES → result ≢ Err NoMemory }
+        ensures too_long { lists.most_entries < length entries.now → result ≡ Err TooLong }
     {
         if entries.len() > MAX_ENTRIES {
             return Err(ListFault::TooLong);

@@ -1,34 +1,25 @@
 -- The paths of the files that a path is below: the nearest, and those above it.
 use Rattle.std.proofs.Common.{◌≡◌, ◌<◌, ◌≤◌, Bool, true, false, cond, List, [], ◌∷◌, ◌++◌, length, map, reverse, append-nil, append_assoc, Ordering, Less, Equal, Greater, IsTrue, refl, sym, ap, subst, ◌∙◌, arith}
 use Rattle.std.specs.List.{AllByRecursion, flat_map}
-use Rattle.std.specs.Ordering.{is_gt, is_lt}
+use Rattle.std.specs.Ordering.{is_lt}
 use Rattle.std.specs.FinMap.{is_sorted}
 use Rattle.std.specs.FinMap.Entries.{below_all}
 use Rattle.std.proofs.lemmas.Bool.{and_parts}
 use Rattle.std.proofs.lemmas.List.{map-append, reverse-append}
 use Rattle.acl_names.specs.Paths.{path_cmp}
-use Rattle.acl_names.proofs.PathOrder.{path_total}
 use Rattle.acl_edit.specs.declared.node.Node.{Node}
 use Rattle.path_map.specs.Entries.{PathOf, IsInOrder}
-use Rattle.path_map.proofs.Convex.{convex}
+use Rattle.acl_names.proofs.Below.{below_less, below_trans, convex_below, not_below_itself}
 use Rattle.acl_files.specs.Files.{Files}
-use Rattle.acl_files.specs.Below.{is_below}
+use Rattle.acl_names.specs.Below.{is_below}
 use Rattle.acl_files.specs.Walks.{ancestors, last_or, nearest_above}
-use Rattle.acl_files.proofs.Follows.{above, below_within, below_less, within_below, not_below_itself}
-use Rattle.acl_files.proofs.Selected.{within_trans}
+use Rattle.acl_files.proofs.Follows.{above}
 use Rattle.acl_files.proofs.Nearest.{clash, false_from, those}
 
 less : (o : Ordering) → is_lt o ≡ true → o ≡ Less
 less Less h = refl
 less Equal h = cc
 less Greater h = cc
-
-below_trans : (e r p : PathOf) → is_below e r ≡ true → is_below r p ≡ true → is_below e p ≡ true
-below_trans e r p h k = within_below e p (within_trans e r p (below_within e r h) (below_within r p k)) (path_total.trans e r p (below_less e r h) (below_less r p k))
-
--- of two paths above a third one the first is above the second
-between : (e r p : PathOf) → path_cmp e r ≡ Less → is_below e p ≡ true → is_below r p ≡ true → is_below e r ≡ true
-between e r p lt h k = within_below e r (convex e r p (ap is_gt lt) (below_less r p k) (below_within e p h)) lt
 
 -- ---- the last of some
 
@@ -116,7 +107,7 @@ module _ {A : Type 0} where
           ∙ ap (λ l. l ++ r ∷ []) (sym (none_over e es after) ∙ ap (λ (x : PathOf × A). those x.0 (e ∷ es)) same)
       by true over (y ∷ l) tail last after rest =
           let found : nearest_above p es ≡ r ∷ [] = ap (last_or []) tail ∙ last in
-          let inside : is_below e.0 r.0 ≡ true = between e.0 r.0 p (one_later e.0 p es r after found) over (one_above p es r found) in
+          let inside : is_below e.0 r.0 ≡ true = convex_below e.0 r.0 p (one_later e.0 p es r after found) (below_less r.0 p (one_above p es r found)) over in
           ap (λ l. e ∷ l) (rest found) ∙ sym (ap (λ b. cond b (e ∷ those r.0 es) (those r.0 es) ++ r ∷ []) inside)
 
 -- ---- files, from the nearest one on

@@ -1,47 +1,17 @@
 -- Files in path order: what lies below a path follows it at once.
-use Rattle.std.proofs.Common.{◌≡◌, Bool, true, false, IsTrue, ◌&&◌, ◌||◌, [], ◌∷◌, ◌++◌, Ordering, Less, Equal, Greater, refl, sym, ap, ◌∙◌}
-use Rattle.std.specs.Ordering.{is_gt, is_eq, is_lt, nat_cmp, ordering_then}
+use Rattle.std.proofs.Common.{◌≡◌, Bool, true, false, IsTrue, ◌||◌, [], ◌∷◌, ◌++◌, Ordering, Less, Equal, Greater, refl, sym, ap, ◌∙◌}
+use Rattle.std.specs.Ordering.{is_lt}
 use Rattle.std.specs.FinMap.{is_sorted}
 use Rattle.std.specs.FinMap.Entries.{below_all}
-use Rattle.std.specs.Cmp.Lexicographic.{slice_cmp}
 use Rattle.std.proofs.lemmas.Bool.{and_parts}
 use Rattle.std.proofs.lemmas.List.Folds.{list_any-append}
-use Rattle.std.proofs.lemmas.Cmp.{tied_itself}
 use Rattle.acl_names.specs.Paths.{path_cmp}
-use Rattle.acl_names.proofs.PathOrder.{path_total}
+use Rattle.acl_names.proofs.Below.{below_less, convex_below, not_below_itself}
 use Rattle.acl_edit.specs.declared.node.Node.{Node}
 use Rattle.acl_files.specs.Files.{PathOf, Files, IsInOrder, holds_below}
-use Rattle.acl_files.specs.Below.{is_within, is_below}
+use Rattle.acl_names.specs.Below.{is_below}
 use Rattle.acl_files.specs.Inner.{next_file_below}
-use Rattle.path_map.proofs.Convex.{convex}
 pub use Rattle.path_map.proofs.Places.{above}
-
-equal : (o : Ordering) → is_eq o ≡ true → o ≡ Equal
-equal Less h = cc
-equal Equal h = refl
-equal Greater h = cc
-
-pub below_within : (p q : PathOf) → is_below p q ≡ true → is_within p q ≡ true
-below_within [] q h = refl
-below_within (x ∷ p) [] h = h
-below_within (x ∷ p) (y ∷ q) h = let parts = and_parts (is_eq (slice_cmp nat_cmp x y)) (is_below p q) h in ap (λ b. b && is_within p q) parts.0 ∙ below_within p q parts.1
-
-pub below_less : (p q : PathOf) → is_below p q ≡ true → path_cmp p q ≡ Less
-unfolding path_cmp
-below_less [] [] h = cc
-below_less [] (y ∷ q) h = refl
-below_less (x ∷ p) [] h = cc
-below_less (x ∷ p) (y ∷ q) h = let parts = and_parts (is_eq (slice_cmp nat_cmp x y)) (is_below p q) h in ap (λ o. ordering_then o (slice_cmp (slice_cmp nat_cmp) p q)) (equal (slice_cmp nat_cmp x y) parts.0) ∙ below_less p q parts.1
-
-pub within_below : (p q : PathOf) → is_within p q ≡ true → path_cmp p q ≡ Less → is_below p q ≡ true
-unfolding path_cmp
-within_below [] [] w h = cc
-within_below [] (y ∷ q) w h = refl
-within_below (x ∷ p) [] w h = w
-within_below (x ∷ p) (y ∷ q) w h =
-    let parts = and_parts (is_eq (slice_cmp nat_cmp x y)) (is_within p q) w in
-    ap (λ b. b && is_below p q) parts.0
-    ∙ within_below p q parts.1 (ap (λ o. ordering_then o (slice_cmp (slice_cmp nat_cmp) p q)) (sym (equal (slice_cmp nat_cmp x y) parts.0)) ∙ h)
 
 false_from : (b : Bool) → (b ≡ true → ⊥) → b ≡ false
 false_from true h = absurd (h refl)
@@ -50,10 +20,6 @@ false_from false h = refl
 not_both : (b : Bool) → b ≡ true → b ≡ false → ⊥
 not_both true x y = cc
 not_both false x y = cc
-
--- a path before another has nothing below it past a path that isn't below it
-convex_below : (p s t : PathOf) → path_cmp p s ≡ Less → path_cmp s t ≡ Less → is_below p t ≡ true → is_below p s ≡ true
-convex_below p s t ps st h = within_below p s (convex p s t (ap is_gt ps) st (below_within p t h)) ps
 
 less : (o : Ordering) → is_lt o ≡ true → o ≡ Less
 less Less h = refl
@@ -96,12 +62,6 @@ not_before_below (q ∷ pre) e es order =
 order-right : (pre es : Files) → IsInOrder (pre ++ es) → IsInOrder es
 order-right [] es order = order
 order-right (q ∷ pre) es order = order-right pre es (and_parts (below_all path_cmp q.0 (pre ++ es)) (is_sorted path_cmp (pre ++ es)) order).1
-
-pub not_below_itself : (p : PathOf) → is_below p p ≡ false
-not_below_itself p = false_from (is_below p p) (λ below. equal_is_not_less (sym (tied_itself path_total p) ∙ below_less p p below))
-  where
-    equal_is_not_less : Equal ≡ Less → ⊥
-    equal_is_not_less e = cc
 
 -- another file lies below a file exactly if the next one in path order does
 pub known_by_next : (pre : Files) (e : PathOf × Node) (es : Files) → IsInOrder (pre ++ e ∷ es) → next_file_below e.0 es ≡ holds_below (pre ++ e ∷ es) e.0

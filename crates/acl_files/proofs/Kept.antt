@@ -9,7 +9,7 @@ use Rattle.acl_dump.specs.declared.record.DumpRecord.{DumpRecord}
 use Rattle.acl_edit.specs.declared.node.Node.{Node}
 use Rattle.acl_edit.specs.declared.node.Kind.TheVariants.{Plain, Directory}
 use Rattle.acl_files.specs.Files.{PathOf, Files, Recorded, max_files}
-use Rattle.acl_files.specs.Below.{is_below}
+use Rattle.acl_names.specs.Below.{is_below}
 use Rattle.acl_files.specs.Operands.{edit_files}
 use Rattle.acl_files.specs.Edits.{KeepsPlace}
 use Rattle.acl_files.specs.Loading.{insert_record, is_directory, node_of, has_below, as_files, files_of, in_path_order}

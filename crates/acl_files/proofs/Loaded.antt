@@ -10,7 +10,7 @@ use Rattle.acl_dump.specs.declared.record.DumpRecord.{DumpRecord}
 use Rattle.acl_edit.specs.declared.node.Node.{Node}
 use Rattle.path_map.specs.Entries.{IsInOrder}
 use Rattle.acl_files.specs.Files.{PathOf, Files, holds_below}
-use Rattle.acl_files.specs.Below.{is_below}
+use Rattle.acl_names.specs.Below.{is_below}
 use Rattle.acl_files.specs.Loading.{insert_record, in_path_order, node_of, has_below, as_files, files_of}
 use Rattle.acl_files.specs.Inner.{next_below, files_from, next_file_below, file_before, files_before}
 use Rattle.acl_files.proofs.Shared.{in_order-put}
@@ -56,8 +56,8 @@ module _ (h : DumpRecord → Node) where
   next_shows pre r rs order =
       let parts : seen h (pre ++ r ∷ rs) ≡ seen h pre ++ (r.path, h r) ∷ seen h rs = map-append (λ (s : DumpRecord). (s.path, h s)) pre (r ∷ rs) in
       sym (next_seen h rs r.path)
-      ∙ known_by_next (seen h pre) (r.path, h r) (seen h rs) (subst IsInOrder parts order)
-      ∙ ap (λ es. holds_below es r.path) (sym parts)
+      ∙ known_by_next (seen h pre) (r.path, h r) (seen h rs) (subst (λ (es : List (PathOf × Node)). IsInOrder es) parts order)
+      ∙ ap (λ (es : List (PathOf × Node)). holds_below es r.path) (sym parts)
       ∙ below_seen h (pre ++ r ∷ rs) r.path
 
   by_next : (pre rs : List DumpRecord) → IsInOrder (seen h (pre ++ rs)) → files_from rs ≡ as_files (pre ++ rs) rs

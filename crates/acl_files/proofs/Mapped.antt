@@ -9,7 +9,7 @@ use Rattle.acl_names.specs.Paths.{path_cmp}
 use Rattle.acl_names.proofs.PathOrder.{path_total, exact_paths}
 use Rattle.acl_dump.specs.declared.record.DumpRecord.{DumpRecord}
 use Rattle.acl_files.specs.Files.{PathOf}
-use Rattle.acl_files.specs.Below.{is_below}
+use Rattle.acl_names.specs.Below.{is_below}
 use Rattle.acl_files.specs.Loading.{insert_record, in_path_order, node_of, has_below, files_of, record_at, loaded_at}
 use Rattle.acl_files.proofs.Loaded.{seen, put_insert}
 

@@ -1,33 +1,27 @@
 -- The nearest entry above a path, by search.
-use Rattle.std.proofs.Common.{◌≡◌, ℕ, suc, ◌-◌, ◌<◌, Bool, true, false, cond, ◌&&◌, List, [], ◌∷◌, ◌++◌, length, take, filter, Option, Some, None, Ordering, Less, Equal, Greater, IsTrue, refl, sym, ap, subst, ◌∙◌, arith}
+use Rattle.std.proofs.Common.{◌≡◌, ◌<◌, Bool, true, false, cond, List, [], ◌∷◌, length, filter, Option, Some, None, Ordering, Less, Equal, Greater, IsTrue, refl, sym, ap, subst, ◌∙◌, arith}
 use Rattle.std.specs.Prelude.{◌==◌}
 use Rattle.std.specs.Option.{option_or}
-use Rattle.std.specs.List.{AllByRecursion, list_all}
-use Rattle.std.specs.Ordering.{is_gt, is_eq, is_lt, nat_cmp}
-use Rattle.std.specs.Cmp.Lexicographic.{slice_cmp}
-use Rattle.std.specs.FinMap.{is_sorted, slice_cmp-IsAntisymmetric, nat_cmp-IsAntisymmetric}
+use Rattle.std.specs.List.{AllByRecursion}
+use Rattle.std.specs.Ordering.{is_gt, is_lt}
+use Rattle.std.specs.FinMap.{is_sorted}
 use Rattle.std.specs.FinMap.Entries.{below_all}
 use Rattle.std.proofs.lemmas.Bool.{and_parts, eqb-true}
-use Rattle.std.proofs.lemmas.Cmp.{tied_itself, nat_list_cmp_total}
-use Rattle.acl_names.specs.Paths.{path_cmp, is_component}
+use Rattle.std.proofs.lemmas.Cmp.{tied_itself}
+use Rattle.acl_names.specs.Paths.{path_cmp}
 use Rattle.acl_names.proofs.PathOrder.{path_total, exact_paths}
 use Rattle.path_map.specs.Entries.{PathOf, IsInOrder}
 use Rattle.path_map.specs.Below.{up_to}
 use Rattle.path_map.proofs.Places.{above, below}
-use Rattle.path_map.proofs.Convex.{convex, not_before}
-use Rattle.acl_files.specs.Below.{is_within, is_below, common}
+use Rattle.acl_names.proofs.Below.{convex, early_not_within, nothing_below, within_itself, within_trans}
+use Rattle.acl_names.proofs.Parents.{below_parent, common_above, common_shorter, common_within}
+use Rattle.acl_names.specs.Below.{is_within, is_below, parent, common}
 use Rattle.acl_files.specs.Walks.{last_or, nearest_above}
-use Rattle.acl_files.proofs.Selected.{within_trans}
 
 less : (o : Ordering) → is_lt o ≡ true → o ≡ Less
 less Less h = refl
 less Equal h = cc
 less Greater h = cc
-
-equal : (o : Ordering) → is_eq o ≡ true → o ≡ Equal
-equal Less h = cc
-equal Equal h = refl
-equal Greater h = cc
 
 pub clash : (b : Bool) → b ≡ true → b ≡ false → ⊥
 clash b h k = cc
@@ -35,49 +29,6 @@ clash b h k = cc
 pub false_from : (b : Bool) → (b ≡ true → ⊥) → b ≡ false
 false_from true h = absurd (h refl)
 false_from false h = refl
-
-both : (a b : Bool) → a ≡ true → b ≡ true → (a && b) ≡ true
-both a b p q = cc
-
-and_false : (b : Bool) → (b && false) ≡ false
-and_false true = refl
-and_false false = refl
-
-pub within_itself : (p : PathOf) → is_within p p ≡ true
-within_itself [] = refl
-within_itself (x ∷ p) = both _ _ (ap is_eq (tied_itself nat_list_cmp_total x)) (within_itself p)
-
-early_not_within : (top p : PathOf) → is_gt (path_cmp top p) ≡ true → is_within top p ≡ false
-early_not_within top p gt = false_from (is_within top p) (λ w. clash (is_gt (path_cmp top p)) gt (not_before top p w))
-
--- ---- a path without its last component
-
-abbrev parent : PathOf → PathOf
-parent p = take (length p - 1) p
-
-abbrev init : PathOf → PathOf
-init [] = []
-init (x ∷ []) = []
-init (x ∷ y ∷ p) = x ∷ init (y ∷ p)
-
-parent_is : (x : List ℕ) (p : PathOf) → parent (x ∷ p) ≡ init (x ∷ p)
-parent_is x [] = let e : length (x ∷ []) - 1 ≡ 0 = omega arith in ap (λ n. take n (x ∷ [])) e
-parent_is x (y ∷ p) =
-    let e : length (x ∷ y ∷ p) - 1 ≡ suc (length (y ∷ p) - 1) = omega arith in
-    ap (λ n. take n (x ∷ y ∷ p)) e ∙ ap (λ l. x ∷ l) (parent_is y p)
-
-nothing_above : (e : PathOf) → is_below e [] ≡ false
-nothing_above [] = refl
-nothing_above (x ∷ e) = refl
-
-below_init : (e : PathOf) (x : List ℕ) (p : PathOf) → is_below e (x ∷ p) ≡ is_within e (init (x ∷ p))
-below_init [] x p = refl
-below_init (a ∷ e) x [] = ap (λ b. is_eq (slice_cmp nat_cmp a x) && b) (nothing_above e) ∙ and_false (is_eq (slice_cmp nat_cmp a x))
-below_init (a ∷ e) x (y ∷ p) = ap (λ b. is_eq (slice_cmp nat_cmp a x) && b) (below_init e y p)
-
-below_parent : (e p : PathOf) → (p ≡ [] → ⊥) → is_below e p ≡ is_within e (parent p)
-below_parent e [] some = absurd (some refl)
-below_parent e (x ∷ p) some = below_init e x p ∙ ap (is_within e) (sym (parent_is x p))
 
 pub full_path : (p parts : PathOf) (b : Bool) → b ≡ (length parts == 0) → parts ≡ p → b ≡ false → p ≡ [] → ⊥
 full_path p parts b is same some root = clash b (is ∙ ap (λ (l : PathOf). length l == 0) (same ∙ root)) some
@@ -88,51 +39,6 @@ empty_path p parts b is same none = nothing p (eqb-true (length p) 0 (sym (is �
     nothing : (q : PathOf) → length q ≡ 0 → q ≡ []
     nothing [] h = refl
     nothing (x ∷ q) h = absurd (omega (arith, h))
-
-all-append : {A : Type 0} (f : A → Bool) (es fs : List A) → list_all f (es ++ fs) ≡ (list_all f es && list_all f fs)
-all-append f [] fs = refl
-all-append f (e ∷ es) fs = ap (λ b. f e && b) (all-append f es fs) ∙ assoc (f e) (list_all f es) (list_all f fs)
-  where
-    assoc : (a b c : Bool) → (a && (b && c)) ≡ ((a && b) && c)
-    assoc true b c = refl
-    assoc false b c = refl
-
--- the first names of a path are components
-pub front_valid : (names more path : PathOf) → names ++ more ≡ path → IsTrue (list_all is_component path) → list_all is_component names ≡ true
-front_valid names more path is h = (and_parts (list_all is_component names) (list_all is_component more) (sym (all-append is_component names more) ∙ ap (list_all is_component) is ∙ h)).0
-
--- ---- what two paths have in common
-
--- it is above both, or one of them
-common_within : (p q : PathOf) → is_within (common p q) p ≡ true
-common_within [] q = refl
-common_within (x ∷ p) [] = refl
-common_within (x ∷ p) (y ∷ q) = by (is_eq (slice_cmp nat_cmp x y)) (common_within p q)
-  where
-    by : (b : Bool) → is_within (common p q) p ≡ true → is_within (cond b (x ∷ common p q) []) (x ∷ p) ≡ true
-    by true more = both _ _ (ap is_eq (tied_itself nat_list_cmp_total x)) more
-    by false more = refl
-
-common_shorter : (p q : PathOf) → is_within p q ≡ false → length (common p q) < length p
-common_shorter [] q h = cc
-common_shorter (x ∷ p) [] h = omega arith
-common_shorter (x ∷ p) (y ∷ q) h = by (is_eq (slice_cmp nat_cmp x y)) h (common_shorter p q)
-  where
-    by : (b : Bool) → (b && is_within p q) ≡ false → (is_within p q ≡ false → length (common p q) < length p) → length (cond b (x ∷ common p q) []) < length (x ∷ p)
-    by true out more = let lt = more out in omega (arith, lt)
-    by false out more = omega arith
-
--- what is above both is above it, or is it
-common_above : (e p q : PathOf) → is_within e p ≡ true → is_within e q ≡ true → is_within e (common p q) ≡ true
-common_above [] p q h k = refl
-common_above (a ∷ e) [] q h k = cc
-common_above (a ∷ e) (x ∷ p) [] h k = cc
-common_above (a ∷ e) (x ∷ p) (y ∷ q) h k =
-    let in_p = and_parts (is_eq (slice_cmp nat_cmp a x)) (is_within e p) h in
-    let in_q = and_parts (is_eq (slice_cmp nat_cmp a y)) (is_within e q) k in
-    let first : a ≡ x = slice_cmp-IsAntisymmetric nat_cmp-IsAntisymmetric a x (equal _ in_p.0) in
-    let same : is_eq (slice_cmp nat_cmp x y) ≡ true = ap (λ z. is_eq (slice_cmp nat_cmp z y)) (sym first) ∙ in_q.0 in
-    ap (λ b. is_within (a ∷ e) (cond b (x ∷ common p q) [])) same ∙ both _ _ in_p.0 (common_above e p q in_p.1 in_q.1)
 
 -- ---- the last entry that is not after a path
 
@@ -248,10 +154,10 @@ root_alone {A = A} p es root = ap (λ q. nearest_above q es) root ∙ none es
   where
     none : (es : List (PathOf × A)) → nearest_above [] es ≡ []
     none [] = refl
-    none (e ∷ es) = ap (λ b. last_or [] (cond b (e ∷ those [] es) (those [] es))) (nothing_above e.0) ∙ none es
+    none (e ∷ es) = ap (λ b. last_or [] (cond b (e ∷ those [] es) (those [] es))) (nothing_below e.0) ∙ none es
 
 -- the entries above a path are those at or above its parent
-pub alike_begins : {A : Type 0} (p : PathOf) (es : List (PathOf × A)) (t : PathOf) → (p ≡ [] → ⊥) → t ≡ take (length p - 1) p → Alike p t es
+pub alike_begins : {A : Type 0} (p : PathOf) (es : List (PathOf × A)) (t : PathOf) → (p ≡ [] → ⊥) → t ≡ parent p → Alike p t es
 alike_begins {A = A} p es t some is = subst (λ q. Alike p q es) (sym is) (all es)
   where
     all : (es : List (PathOf × A)) → Alike p (parent p) es

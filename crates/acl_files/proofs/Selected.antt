@@ -1,10 +1,8 @@
 -- The files that operands in path order mean.
-use Rattle.std.proofs.Common.{◌≡◌, ◌≢◌, ℕ, suc, ◌+◌, ◌<◌, arith, length, get_or, take, drop, take-append-drop, Bool, true, false, not, cond, ◌||◌, ◌&&◌, List, [], ◌∷◌, ◌++◌, filter, map, Option, Some, None, Ordering, Less, Equal, Greater, refl, sym, ap, subst, ◌∙◌, append_assoc, true≢false}
+use Rattle.std.proofs.Common.{◌≡◌, ◌≢◌, ℕ, suc, ◌+◌, ◌<◌, arith, length, get_or, take, drop, take-append-drop, Bool, true, false, not, cond, ◌||◌, List, [], ◌∷◌, ◌++◌, filter, map, Option, Some, None, Ordering, Less, Equal, Greater, refl, sym, ap, subst, ◌∙◌, append_assoc, true≢false}
 use Rattle.std.specs.Option.{option_map_or}
 use Rattle.std.specs.List.Sorted.{IsSortedBy}
-use Rattle.std.specs.Ordering.{is_eq, is_gt, is_lt, nat_cmp, eq_by_cmp}
-use Rattle.std.specs.Cmp.Lexicographic.{slice_cmp}
-use Rattle.std.specs.FinMap.{slice_cmp-IsAntisymmetric, nat_cmp-IsAntisymmetric}
+use Rattle.std.specs.Ordering.{is_eq, is_gt, is_lt, eq_by_cmp}
 use Rattle.std.proofs.lemmas.Bool.{and_parts}
 use Rattle.std.proofs.lemmas.Cmp.{tied_itself}
 use Rattle.std.specs.Prelude.{option_map}
@@ -15,12 +13,12 @@ use Rattle.acl_names.proofs.PathOrder.{path_total, exact_paths}
 use Rattle.acl_edit.specs.declared.node.Node.{Node}
 use Rattle.path_map.specs.Below.{from}
 use Rattle.path_map.specs.Inner.{From, After}
-use Rattle.path_map.proofs.Convex.{convex, not_before}
+use Rattle.acl_names.proofs.Below.{convex, not_before, within_trans}
 use Rattle.path_map.proofs.Merges.{before_from, later_after}
 use Rattle.path_map.proofs.Places.{above, below}
 use Rattle.path_map.proofs.Ranges.{from_from, from_end}
 use Rattle.acl_files.specs.Files.{PathOf, Files, IsInOrder}
-use Rattle.acl_files.specs.Below.{is_within}
+use Rattle.acl_names.specs.Below.{is_within}
 use Rattle.acl_files.specs.Operands.{means, is_file}
 use Rattle.acl_files.specs.Sound.{holds_below}
 use Rattle.acl_files.specs.Found.{found_file, found_in, files_found}
@@ -81,19 +79,6 @@ means_convex false p e r pe er h = by (path_cmp e p) refl
     by Less is = absurd (pe (above e p is))
     by Equal is = ap is_eq is
     by Greater is = absurd (er (subst (λ z. path_cmp e z ≡ Greater) (sym (same_path p r h)) is))
-
-pub within_trans : (p q r : PathOf) → is_within p q ≡ true → is_within q r ≡ true → is_within p r ≡ true
-within_trans [] q r h k = refl
-within_trans (x ∷ p) [] r h k = absurd (true≢false (sym h))
-within_trans (x ∷ p) (y ∷ q) [] h k = absurd (true≢false (sym k))
-within_trans (x ∷ p) (y ∷ q) (z ∷ r) h k =
-    let hs = and_parts _ _ h in
-    let ks = and_parts _ _ k in
-    let same : x ≡ y = slice_cmp-IsAntisymmetric nat_cmp-IsAntisymmetric x y (equal _ hs.0) in
-    subst (λ w. (eq_by_cmp (slice_cmp nat_cmp) w z && is_within p r) ≡ true) (sym same) (both _ _ ks.0 (within_trans p q r hs.1 ks.1))
-  where
-    both : (a b : Bool) → a ≡ true → b ≡ true → (a && b) ≡ true
-    both a b p q = cc
 
 means_trans : (b : Bool) (p q r : PathOf) → means b p q ≡ true → means b q r ≡ true → means b p r ≡ true
 means_trans true p q r h k = within_trans p q r h k
@@ -336,4 +321,4 @@ none_meant b p t rest more e order is at out =
 pub next_at_end : (p : PathOf) (t rest more : Files) (e : PathOf × Node) → IsInOrder t → rest ≡ e ∷ more → IsAtEnd p t rest → next_file_below e.0 more ≡ holds_below t e.0
 next_at_end p t rest more e order is at =
     let whole : t ≡ at.seen ++ e ∷ more = at.whole ∙ ap (λ l. at.seen ++ l) is in
-    known_by_next at.seen e more (subst IsInOrder whole order) ∙ ap (λ l. holds_below l e.0) (sym whole)
+    known_by_next at.seen e more (subst IsInOrder whole order) ∙ ap (λ (l : Files). holds_below l e.0) (sym whole)

@@ -11,7 +11,7 @@ use Rattle.acl_edit.specs.declared.edit.EditFault.{EditFault}
 use Rattle.acl_edit.specs.declared.node.Node.{Node}
 use Rattle.acl_edit.specs.contracts.node.Node as node_contracts
 use Rattle.acl_files.specs.declared.edit.FileFault.{FileFault}
-use Rattle.acl_files.specs.Below.{is_below}
+use Rattle.acl_names.specs.Below.{is_below}
 use Rattle.acl_files.specs.Files.{PathOf, Files}
 use Rattle.acl_files.specs.Loading.{node_of}
 use Rattle.acl_files.specs.Edits.{and_others}

@@ -7,7 +7,6 @@ pub mod Changed
 pub mod Edits
 pub mod Restoring
 pub mod Inner
-pub mod Below
 pub mod Loading
 pub use Rattle.acl_dump.specs as acl_dump
 pub use Rattle.acl_edit.specs as acl_edit

@@ -9,7 +9,7 @@ use Rattle.acl_dump.specs.declared.record.DumpRecord.{DumpRecord}
 use Rattle.acl_edit.specs.declared.node.Node.{Node}
 use Rattle.acl_edit.specs.declared.node.Kind.TheVariants.{Plain, Directory}
 use Rattle.acl_files.specs.Files.{PathOf, Files}
-use Rattle.acl_files.specs.Below.{is_below}
+use Rattle.acl_names.specs.Below.{is_below}
 
 -- a record in its place in path order
 abbrev pub insert_record : DumpRecord → List DumpRecord → List DumpRecord

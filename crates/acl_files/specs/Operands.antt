@@ -6,7 +6,7 @@ use Rattle.std.specs.FinMap.{find}
 use Rattle.acl_names.specs.Paths.{path_cmp}
 use Rattle.acl_edit.specs.declared.node.Node.{Node}
 use Rattle.acl_files.specs.Files.{PathOf, Files}
-use Rattle.acl_files.specs.Below.{is_within}
+use Rattle.acl_names.specs.Below.{is_within}
 use Rattle.acl_files.specs.declared.fault.TreeFault.{TreeFault}
 use Rattle.acl_files.specs.declared.fault.TreeFault.TheVariants.{NoSuchFile}
 

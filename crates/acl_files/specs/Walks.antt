@@ -1,7 +1,7 @@
 -- The recorded files around a path: at it or below it, and above it.
 use Rattle.std.specs.Prelude.{List, [], ◌∷◌, map, filter}
 use Rattle.acl_files.specs.Files.{PathOf, Files}
-use Rattle.acl_files.specs.Below.{is_within, is_below}
+use Rattle.acl_names.specs.Below.{is_within, is_below}
 
 -- the paths of the files at or below a path, in path order
 abbrev pub within : PathOf → Files → List PathOf

@@ -13,6 +13,7 @@ ghost use Rattle.acl_files.specs.declared.edit.FileFault.TheVariants.{NoMemory};
 use crate::fault::TreeFault;
 use crate::files::Files;
 use crate::found::Found;
+use crate::paths::Selection;
 use crate::records::Record;
 use crate::selection::select;
 use acl_edit::{EditFault, Node};
@@ -142,20 +143,19 @@ fn edit_each<E: NodeEdit>(
 
 /// The tree with the files of a command edited, and the files whose label that changes. None is gone.
 pub fn edit_files<E: NodeEdit>(
-    tree: &Files,
     alloc: Global,
+    tree: &Files,
     changed: &mut Vec<Rc<Record>>,
-    operands: &[Path],
-    recursive: bool,
+    selection: &Selection<'_>,
     edit: &E,
 ) -> Result<Files, FileFault>
-    ensures made { IfOk result (λ new. edit_all (E.edited edit.now) recursive operands.now tree.now ≡ Ok new) }
-    ensures fault { IfErr result (λ fault. fault ≢ NoMemory → edit_all (E.edited edit.now) recursive operands.now tree.now ≡ Err fault) }
+    ensures made { IfOk result (λ new. edit_all (E.edited edit.now) selection.now.recursive selection.now.operands.now tree.now ≡ Ok new) }
+    ensures fault { IfErr result (λ fault. fault ≢ NoMemory → edit_all (E.edited edit.now) selection.now.recursive selection.now.operands.now tree.now ≡ Err fault) }
     ensures reported { IfOk result (λ new. map (λ r. r.value) changed.new.items ≡ map (λ r. r.value) changed.old.items ++ changed_between tree.now.files new.files) }
     ensures gone { IfOk result (λ new. gone_between tree.now.files new.files ≡ []) }
 {
     edit.keeps_place();
-    let files = select(tree, alloc, operands, recursive)?;
+    let files = select(alloc, tree, selection)?;
     let edits = edit_each(alloc, changed, &files, edit)?;
     let by_path = tree.files_by_path().put_all(alloc, &edits)?;
     Ok(Files::of(by_path, tree.is_loaded()))

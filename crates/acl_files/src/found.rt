@@ -1,10 +1,14 @@
 //! A file of a command, for those who list it.
 
-ghost use Rattle.std.specs.Prelude.{◌≡◌};
+ghost use Rattle.std.specs.Prelude.{◌≡◌, IfOk};
+ghost use Rattle.acl_files.specs.Found.{found_file};
+ghost use Rattle.acl_files.specs.Inner.{next_file_below};
 
+use crate::files::FilesIter;
 use crate::records::Record;
 use acl_edit::Node;
 use acl_names::Path;
+use std::alloc::AllocError;
 use std::marker::Model;
 use std::rc::Rc;
 
@@ -25,12 +29,31 @@ impl Model for Found {
     ghost view = { λ f. record { path = f.file.value.0; node = f.file.value.1; has_below = f.has_below } };
 }
 
+/// Whether the next file is below a path.
+fn is_next_below(path: &Path, rest: &FilesIter<'_>) -> bool
+    ensures { result ≡ next_file_below path.now rest.now }
+{
+    match rest.peek() {
+        Some(next) => next.path().is_below(path),
+        None => false,
+    }
+}
+
 impl Found {
     /// A file, and whether another one lies below it.
     pub fn new(file: Rc<Record>, has_below: bool) -> Found
         ensures { result ≡ record { path = file.value.0; node = file.value.1; has_below = has_below } }
     {
         Found { file, has_below }
+    }
+
+    /// A file before those that follow it in path order, with whether the next one is below it. Fails only if memory
+    /// runs out.
+    pub fn before(file: &Rc<Record>, rest: &FilesIter<'_>) -> Result<Found, AllocError>
+        ensures { IfOk result (λ found. found ≡ found_file (next_file_below file.now.value.0 rest.now) file.now.value) }
+    {
+        let has_below = is_next_below(file.path(), rest);
+        Ok(Found::new(file.clone()?, has_below))
     }
 
     /// The file, for those that share it.

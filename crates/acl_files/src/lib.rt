@@ -3,7 +3,6 @@
 #![tactic(auto)]
 
 mod above;
-mod below;
 mod edit;
 mod fault;
 mod files;
@@ -18,7 +17,7 @@ mod walks;
 
 pub use above::nearest_above;
 pub use acl_dump::{
-    DumpRecord, DumpUse, Effective, FaultKind, Form, Names, NoNames, PasswdRow, Sep, Spec,
+    DumpRecord, DumpUse, Effective, FaultKind, Form, Header, Names, NoNames, PasswdRow, Sep, Spec,
     TextFault, Want, Which, append_entry, append_header, append_id, append_line, append_list,
     append_short, read_dump, read_entries, read_id, read_perms, records_are_read_again, trim,
 };
@@ -27,14 +26,13 @@ pub use acl_entry::{
     Acl, Draft, Entry, Id, Key, Label, ListFault, NoMemory, Perm, Requests, Subject, granted,
 };
 pub use acl_names::{Name, Path, append_name, append_path, read_name, read_path, write_name};
-pub use below::is_below;
 pub use edit::{FileFault, NodeEdit, edit_files};
 pub use fault::TreeFault;
 pub use files::{Files, FilesIter};
 pub use found::Found;
 pub use laws::each_record_is_a_file;
 pub use path_map::PathMap;
-pub use paths::Paths;
+pub use paths::{Paths, Selection};
 pub use records::{Record, files_of};
 pub use restore::{DumpRecords, restore_files};
 pub use selection::{look_up, select};

@@ -1,4 +1,4 @@
-//! The operands of a command.
+//! The operands of a command, and which files they select.
 
 ghost use Rattle.std.specs.Prelude.{◌≡◌};
 
@@ -33,4 +33,11 @@ impl Paths {
     {
         &self.list
     }
+}
+
+/// Which files a command selects: its operands, with `recursive` also all files below them.
+#[derive(Clone, Copy, Debug)]
+pub struct Selection<'a> {
+    pub operands: &'a Paths,
+    pub recursive: bool,
 }

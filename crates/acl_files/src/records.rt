@@ -5,7 +5,6 @@ ghost use Rattle.acl_dump.specs.OwnPaths.{have_own_paths};
 ghost use Rattle.acl_files.specs.Loading.{node_of, files_of};
 ghost use Rattle.acl_files.specs.Inner.{next_file_below, files_from};
 
-use crate::below::is_below;
 use crate::sorting::in_path_order;
 use acl_dump::DumpRecord;
 use acl_edit::{Kind, Node};
@@ -61,7 +60,7 @@ fn next_below(path: &Path, following: &[Rc<Record>]) -> bool
     ensures { result ≡ next_file_below path.now (reverse (map (λ r. r.value) following.now)) }
 {
     match following {
-        [.., next] => is_below(path, next.path()),
+        [.., next] => next.path().is_below(path),
         [] => false,
     }
 }

@@ -124,6 +124,7 @@ impl NodeEdit for Restored<'_> {
         })
     }
 
+    /// Proof only: a directory stays one, and only directories have default lists.
     fn keeps_place(&self) {}
 }
 
@@ -144,8 +145,8 @@ fn file_at<'a>(tree: &'a Files, path: &Path) -> Option<&'a Rc<Record>>
 
 /// The files of records, in the order of the records; or the first path that is not recorded.
 fn files_of<'a>(
-    tree: &'a Files,
     alloc: Global,
+    tree: &'a Files,
     records: &'a [DumpRecord],
 ) -> Result<Vec<Restored<'a>>, TreeFault>
     ensures records { IfOk result (λ found. map (λ x. x.1) found.items ≡ records.now) }
@@ -200,8 +201,8 @@ fn restore_each(
 
 /// The tree with the files of records restored, and the files whose label that changes. None is gone.
 pub fn restore_files(
-    tree: &Files,
     alloc: Global,
+    tree: &Files,
     changed: &mut Vec<Rc<Record>>,
     records: &DumpRecords,
 ) -> Result<Files, TreeFault>
@@ -211,7 +212,7 @@ pub fn restore_files(
     ensures gone { IfOk result (λ new. gone_between tree.now.files new.files ≡ []) }
 {
     tree.is_sound();
-    let found = files_of(tree, alloc, records.as_slice())?;
+    let found = files_of(alloc, tree, records.as_slice())?;
     let sorted = in_path_order(found);
     let edits = restore_each(alloc, changed, &sorted)?;
     let by_path = tree.files_by_path().put_all(alloc, &edits)?;

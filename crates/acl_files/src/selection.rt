@@ -4,17 +4,15 @@ ghost use Rattle.std.specs.Prelude.{◌≡◌, ◌≢◌, ◌++◌, Bool, false,
 ghost use Rattle.std.specs.Option.{option_map_or};
 ghost use Rattle.acl_files.specs.Files.{PathOf};
 ghost use Rattle.acl_files.specs.Found.{files_found, found_in};
-ghost use Rattle.acl_files.specs.Inner.{Ascend, next_file_below};
+ghost use Rattle.acl_files.specs.Inner.{Ascend};
 ghost use Rattle.acl_files.specs.Operands.{means, is_file, first_missing, IsMissing};
 ghost use Rattle.acl_files.specs.declared.fault.TreeFault.TheVariants.{NoMemory};
 
-use crate::below::is_below;
 use crate::fault::TreeFault;
-use crate::files::{Files, FilesIter};
+use crate::files::Files;
 use crate::found::Found;
-use crate::paths::Paths;
+use crate::paths::{Paths, Selection};
 use acl_names::Path;
-use path_map::is_within;
 use std::alloc::{AllocError, Global};
 use std::cmp::Ordering;
 
@@ -23,7 +21,7 @@ fn means(recursive: bool, operand: &Path, path: &Path) -> bool
     ensures { result ≡ means recursive operand.now path.now }
 {
     if recursive {
-        is_within(operand, path)
+        path.is_within(operand)
     } else {
         path.order(operand) == Ordering::Equal
     }
@@ -40,30 +38,20 @@ fn is_meant(recursive: bool, operand: Option<&Path>, path: &Path) -> bool
 }
 
 /// The operands, borrowed one by one.
-fn all_operands<'a>(alloc: Global, operands: &'a [Path]) -> Result<Vec<&'a Path>, AllocError>
+fn all_operands<'a>(alloc: Global, operands: &'a Paths) -> Result<Vec<&'a Path>, AllocError>
     ensures { IfOk result (λ all. map (λ p. p.now) all.items ≡ operands.now) }
 {
-    operands.iter().collect(alloc)
+    operands.as_slice().iter().collect(alloc)
 }
 
 /// The operands in path order.
-fn in_order<'a>(alloc: Global, operands: &'a [Path]) -> Result<Vec<&'a Path>, AllocError>
+fn in_order<'a>(alloc: Global, operands: &'a Paths) -> Result<Vec<&'a Path>, AllocError>
     ensures same { IfOk result (λ sorted. (recursive : Bool) (q : PathOf) → is_file recursive (map (λ p. p.now) sorted.items) q ≡ is_file recursive operands.now q) }
     ensures sorted { IfOk result (λ sorted. Ascend (map (λ p. p.now) sorted.items)) }
 {
     let mut sorted = all_operands(alloc, operands)?;
     sorted.sort_unstable_by(|a, b| a.order(b));
     Ok(sorted)
-}
-
-/// Whether the next file is below a path.
-fn is_next_below(path: &Path, rest: &FilesIter<'_>) -> bool
-    ensures { result ≡ next_file_below path.now rest.now }
-{
-    match rest.peek() {
-        Some(next) => is_below(path, next.path()),
-        None => false,
-    }
 }
 
 /// Adds the files that one operand means.
@@ -81,8 +69,8 @@ fn push_meant(
         if !means(recursive, operand, file.path()) {
             return Ok(());
         }
-        let has_below = is_next_below(file.path(), &rest);
-        files.push(Found::new(file.clone()?, has_below))?;
+        let found = Found::before(file, &rest)?;
+        files.push(found)?;
     }
     Ok(())
 }
@@ -90,8 +78,8 @@ fn push_meant(
 /// The files that operands in path order mean. What an operand means is either all meant by the one before it,
 /// or comes after all of that.
 fn select_in_order(
-    tree: &Files,
     alloc: Global,
+    tree: &Files,
     operands: &[&Path],
     recursive: bool,
 ) -> Result<Vec<Found>, AllocError>
@@ -111,21 +99,20 @@ fn select_in_order(
     Ok(files)
 }
 
-/// The files that operands mean.
+/// The files of a selection.
 pub fn select(
-    tree: &Files,
     alloc: Global,
-    operands: &[Path],
-    recursive: bool,
+    tree: &Files,
+    selection: &Selection<'_>,
 ) -> Result<Vec<Found>, AllocError>
-    ensures { IfOk result (λ files. files.items ≡ files_found recursive operands.now tree.now.files) }
+    ensures { IfOk result (λ files. files.items ≡ files_found selection.now.recursive selection.now.operands.now tree.now.files) }
 {
-    let sorted = in_order(alloc, operands)?;
-    select_in_order(tree, alloc, &sorted, recursive)
+    let sorted = in_order(alloc, selection.operands)?;
+    select_in_order(alloc, tree, &sorted, selection.recursive)
 }
 
 /// Whether each operand is recorded; else the first that isn't.
-pub fn look_up(tree: &Files, alloc: Global, operands: &[Path]) -> Result<(), TreeFault>
+pub fn look_up(alloc: Global, tree: &Files, operands: &[Path]) -> Result<(), TreeFault>
     ensures all { OnOk result (first_missing operands.now tree.now.files ≡ None) }
     ensures reported { IfErr result (λ fault. fault ≢ NoMemory → IsMissing fault (first_missing operands.now tree.now.files)) }
 {
@@ -140,8 +127,7 @@ pub fn look_up(tree: &Files, alloc: Global, operands: &[Path]) -> Result<(), Tre
 }
 
 impl Files {
-    /// The files of a command: its operands, and with `recursive` all files below them, each once, in path
-    /// order, each with whether another recorded file is below it.
+    /// The files of a selection, each once, in path order, each with whether another recorded file is below it.
     ///
     /// # Errors
     ///
@@ -149,14 +135,13 @@ impl Files {
     pub fn selected(
         &self,
         alloc: Global,
-        paths: &Paths,
-        recursive: bool,
+        selection: &Selection<'_>,
     ) -> Result<Vec<Found>, TreeFault>
-        ensures all { IfOk result (λ files. files.items ≡ files_found recursive paths.now self.now.files) }
-        ensures there { OnOk result (first_missing paths.now self.now.files ≡ None) }
-        ensures reported { IfErr result (λ fault. fault ≢ NoMemory → IsMissing fault (first_missing paths.now self.now.files)) }
+        ensures all { IfOk result (λ files. files.items ≡ files_found selection.now.recursive selection.now.operands.now self.now.files) }
+        ensures there { OnOk result (first_missing selection.now.operands.now self.now.files ≡ None) }
+        ensures reported { IfErr result (λ fault. fault ≢ NoMemory → IsMissing fault (first_missing selection.now.operands.now self.now.files)) }
     {
-        look_up(self, alloc, paths.as_slice())?;
-        Ok(select(self, alloc, paths.as_slice(), recursive)?)
+        look_up(alloc, self, selection.operands.as_slice())?;
+        Ok(select(alloc, self, selection)?)
     }
 }

@@ -5,3 +5,6 @@ pub mod Appended
 pub mod PathText
 pub mod PathOrder
 pub mod Packs
+pub mod Below
+pub mod Parents
+pub mod Begins

@@ -7,6 +7,10 @@ use Rattle.std.specs.List.{list_any, list_all, flat_map}
 use Rattle.acl_names.specs.Pieces.{pieces, is_byte}
 use Rattle.acl_names.specs.Names.{decoded, escaped_where, is_escaped_in_paths}
 
+-- a path, by its components from the root on
+abbrev pub PathOf : Type 0
+PathOf = List (List ℕ)
+
 -- an empty component and `.` name nothing
 abbrev pub is_nothing : List ℕ → Bool
 is_nothing [] = true

@@ -1,11 +1,13 @@
 //! The components of a path, one after another, and their form in one list of bytes.
 
-ghost use Rattle.std.specs.Prelude.{◌≡◌, ◌∷◌, ◌++◌, [], ◌==◌, length, MatchOption, OnOk, IsTrue};
+ghost use Rattle.std.specs.Prelude.{◌≡◌, ◌∷◌, ◌++◌, [], ◌==◌, length, MatchOption, IfOk, OnOk, IsTrue};
+ghost use Rattle.std.specs.List.{list_all};
 ghost use Rattle.acl_names.specs.Packed.{IsPacked, unpacked};
 ghost use Rattle.acl_names.specs.Paths.{is_component, path_cmp};
+ghost use Rattle.acl_names.specs.Below.{is_within, parent, common};
 
 use crate::cut::cut;
-use std::alloc::AllocError;
+use std::alloc::{AllocError, Global};
 use std::cmp::Ordering;
 use std::marker::Model;
 
@@ -83,6 +85,58 @@ impl<'a> Components<'a> {
             Ordering::Less
         }
     }
+
+    /// Whether they begin with those of a path.
+    pub(crate) fn are_within(self, top: Components<'_>) -> bool
+        ensures { result ≡ is_within top.entry self.entry }
+    {
+        let mut parts = top;
+        let mut rest = self;
+        while let Some(part) = parts.next() {
+            let Some(first) = rest.next() else {
+                return false;
+            };
+            if part.cmp(first) != Ordering::Equal {
+                return false;
+            }
+        }
+        true
+    }
+
+    /// All but the last, in one list of bytes.
+    pub(crate) fn parent(self, alloc: Global) -> Result<Vec<u8>, AllocError>
+        requires { IsTrue (list_all is_component self) }
+        ensures packed { IfOk result (λ packed. IsPacked packed.items) }
+        ensures all { IfOk result (λ packed. unpacked packed.items ≡ parent self.entry) }
+    {
+        let mut packed = Vec::new(alloc);
+        let mut rest = self;
+        while let Some(name) = rest.next() {
+            if !rest.is_empty() {
+                pack(&mut packed, name)?;
+            }
+        }
+        Ok(packed)
+    }
+
+    /// Those that others begin with too, in one list of bytes.
+    #[tactic(auto, using(crate::proofs::Parents::valid_first, crate::proofs::Parents::valid_rest))]
+    pub(crate) fn common(self, alloc: Global, other: Components<'_>) -> Result<Vec<u8>, AllocError>
+        requires { IsTrue (list_all is_component self) }
+        ensures packed { IfOk result (λ packed. IsPacked packed.items) }
+        ensures all { IfOk result (λ packed. unpacked packed.items ≡ common self.entry other.entry) }
+    {
+        let mut packed = Vec::new(alloc);
+        let mut names = self;
+        let mut others = other;
+        while let Some(name) = names.next() {
+            match others.next() {
+                Some(against) if name.cmp(against) == Ordering::Equal => pack(&mut packed, name)?,
+                _ => break,
+            }
+        }
+        Ok(packed)
+    }
 }
 
 /// Adds a component to bytes that are components, each with a NUL byte after it.
@@ -104,4 +158,13 @@ pub(crate) fn packed_order(left: &[u8], right: &[u8]) -> Ordering
     ensures { result ≡ path_cmp (unpacked left.now) (unpacked right.now) }
 {
     left.cmp(right)
+}
+
+/// Whether components in one list of bytes begin with others: as the bytes do.
+pub(crate) fn packed_within(top: &[u8], bytes: &[u8]) -> bool
+    requires top { IsPacked top.now }
+    requires bytes { IsPacked bytes.now }
+    ensures { result ≡ is_within (unpacked top.now) (unpacked bytes.now) }
+{
+    bytes.starts_with(top)
 }

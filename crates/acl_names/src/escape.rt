@@ -1,6 +1,7 @@
 //! Bytes as they are written in names, and escapes as they are read.
 
 ghost use Rattle.std.specs.Prelude.{◌≡◌, ◌≤◌, ◌<◌, ◌++◌, length, OnOk, OnErr};
+ghost use Rattle.acl_names.specs.Appends.{AppendsWhole};
 ghost use Rattle.acl_names.specs.Names.{unit, is_octal, is_escaped_in_names, is_escaped_in_paths, byte_text};
 
 use std::alloc::AllocError;
@@ -46,8 +47,7 @@ pub(crate) fn is_escaped_in_paths(b: u8) -> bool
 
 /// Adds a byte to a text, as an escape or as it is.
 pub(crate) fn push_byte(text: &mut Vec<u8>, b: u8, is_escape: bool) -> Result<(), AllocError>
-    ensures ok { OnOk result (text.new.items ≡ text.old.items ++ byte_text is_escape b) }
-    ensures err { OnErr result (text.new.items ≡ text.old.items) }
+    ensures { AppendsWhole result text.old text.new (byte_text is_escape b) }
 {
     if is_escape {
         text.extend_from_slice(&[b'\\', b'0' + b / 64, b'0' + b / 8 % 8, b'0' + b % 8])?;

@@ -2,6 +2,7 @@
 
 ghost use Rattle.std.specs.Prelude.{◌≡◌, ◌++◌, List, ℕ, IfOk, OnOk, OnErr};
 ghost use Rattle.std.specs.Io.{StartsWith};
+ghost use Rattle.acl_names.specs.Appends.{Appends, AppendsWhole};
 ghost use Rattle.acl_names.specs.Names.{decoded, escaped};
 
 use crate::escape::{is_escaped_in_names, push_byte, unit};
@@ -83,8 +84,7 @@ pub fn write_name(alloc: Global, name: &[u8]) -> Result<Vec<u8>, AllocError>
 /// Adds the text of a user's or a group's name. Fails only if memory runs out, and then nothing is
 /// added.
 pub fn append_name(text: &mut Vec<u8>, name: &[u8]) -> Result<(), AllocError>
-    ensures ok { OnOk result (text.new.items ≡ text.old.items ++ escaped name.now) }
-    ensures err { OnErr result (text.new.items ≡ text.old.items) }
+    ensures { AppendsWhole result text.old text.new (escaped name.now) }
 {
     let before = text.len();
     if let Err(refused) = push_name(text, name) {
@@ -96,8 +96,7 @@ pub fn append_name(text: &mut Vec<u8>, name: &[u8]) -> Result<(), AllocError>
 
 /// Adds the text of a name. A part of it is left where memory runs out.
 fn push_name(text: &mut Vec<u8>, name: &[u8]) -> Result<(), AllocError>
-    ensures ok { OnOk result (text.new.items ≡ text.old.items ++ escaped name.now) }
-    ensures err { OnErr result (StartsWith text.new.items text.old.items) }
+    ensures { Appends result text.old text.new (escaped name.now) }
 {
     for b in name {
         push_byte(text, *b, is_escaped_in_names(*b))?;

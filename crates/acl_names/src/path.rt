@@ -3,10 +3,12 @@
 ghost use Rattle.std.specs.Prelude.{◌≡◌, ◌++◌, ℕ, List, Some, map, IsTrue, IfOk, OnOk, OnErr};
 ghost use Rattle.std.specs.Io.{StartsWith};
 ghost use Rattle.std.specs.List.{list_any, list_all, flat_map};
+ghost use Rattle.acl_names.specs.Appends.{Appends, AppendsWhole};
 ghost use Rattle.acl_names.specs.Names.{escaped_where, is_escaped_in_paths};
 ghost use Rattle.acl_names.specs.Paths.{is_component, is_allowed, path_from, is_nothing, is_dot_dot, is_refused, path_of, path_cmp, path_text, after_slash, components_of};
+ghost use Rattle.acl_names.specs.Below.{is_within, is_below, parent, common};
 
-use crate::components::{Components, pack, packed_order};
+use crate::components::{Components, pack, packed_order, packed_within};
 use crate::cut::first_piece;
 use crate::escape::{is_escaped_in_paths, push_byte};
 use crate::name::read_name;
@@ -96,6 +98,41 @@ impl Path {
             _ => self.components().order(other.components()),
         }
     }
+
+    /// Whether the path is another one or is below it. Allocates nothing.
+    pub fn is_within(&self, top: &Path) -> bool
+        ensures { result ≡ is_within top.now self.now }
+    {
+        match (&top.form, &self.form) {
+            (Form::Packed(front), Form::Packed(bytes)) => packed_within(front, bytes),
+            _ => self.components().are_within(top.components()),
+        }
+    }
+
+    /// Whether the path is below another one. Allocates nothing.
+    pub fn is_below(&self, top: &Path) -> bool
+        ensures { result ≡ is_below top.now self.now }
+    {
+        self.is_within(top) && !top.is_within(self)
+    }
+
+    /// The path without its last component: the root is its own parent. Fails only if memory runs out.
+    pub fn parent(&self, alloc: Global) -> Result<Path, AllocError>
+        ensures { IfOk result (λ path. path ≡ parent self.now) }
+    {
+        Ok(Path {
+            form: Form::Packed(self.components().parent(alloc)?),
+        })
+    }
+
+    /// The components with which two paths begin, as far as they are the same. Fails only if memory runs out.
+    pub fn common(&self, alloc: Global, other: &Path) -> Result<Path, AllocError>
+        ensures { IfOk result (λ path. path ≡ common self.now other.now) }
+    {
+        Ok(Path {
+            form: Form::Packed(self.components().common(alloc, other.components())?),
+        })
+    }
 }
 
 /// Whether a piece is a component. That it is made of bytes, which the definition asks too, is known of a slice.
@@ -182,8 +219,7 @@ pub fn write_path(alloc: Global, path: &Path) -> Result<Vec<u8>, AllocError>
 
 /// Adds the text of a path. Fails only if memory runs out, and then nothing is added.
 pub fn append_path(text: &mut Vec<u8>, path: &Path) -> Result<(), AllocError>
-    ensures ok { OnOk result (text.new.items ≡ text.old.items ++ path_text path.now) }
-    ensures err { OnErr result (text.new.items ≡ text.old.items) }
+    ensures { AppendsWhole result text.old text.new (path_text path.now) }
 {
     let before = text.len();
     if let Err(refused) = push_path(text, path.components()) {
@@ -195,8 +231,7 @@ pub fn append_path(text: &mut Vec<u8>, path: &Path) -> Result<(), AllocError>
 
 /// Adds the text of a path. A part of it is left where memory runs out.
 fn push_path(text: &mut Vec<u8>, components: Components<'_>) -> Result<(), AllocError>
-    ensures ok { OnOk result (text.new.items ≡ text.old.items ++ path_text components.entry) }
-    ensures err { OnErr result (StartsWith text.new.items text.old.items) }
+    ensures { Appends result text.old text.new (path_text components.entry) }
 {
     let mut others = components;
     let Some(first) = others.next() else {
@@ -204,13 +239,13 @@ fn push_path(text: &mut Vec<u8>, components: Components<'_>) -> Result<(), Alloc
         return Ok(());
     };
     push_component(text, first)?;
-    push_others(text, others)
+    push_others(text, others)?;
+    Ok(())
 }
 
 /// Adds components, each after a `/`.
 fn push_others(text: &mut Vec<u8>, components: Components<'_>) -> Result<(), AllocError>
-    ensures ok { OnOk result (text.new.items ≡ text.old.items ++ escaped_where is_escaped_in_paths (flat_map after_slash components.entry)) }
-    ensures err { OnErr result (StartsWith text.new.items text.old.items) }
+    ensures { Appends result text.old text.new (escaped_where is_escaped_in_paths (flat_map after_slash components.entry)) }
 {
     let mut others = components;
     while let Some(other) = others.next() {
@@ -222,8 +257,7 @@ fn push_others(text: &mut Vec<u8>, components: Components<'_>) -> Result<(), All
 
 /// Adds the text of a component.
 fn push_component(text: &mut Vec<u8>, component: &[u8]) -> Result<(), AllocError>
-    ensures ok { OnOk result (text.new.items ≡ text.old.items ++ escaped_where is_escaped_in_paths component.now) }
-    ensures err { OnErr result (StartsWith text.new.items text.old.items) }
+    ensures { Appends result text.old text.new (escaped_where is_escaped_in_paths component.now) }
 {
     for b in component {
         push_byte(text, *b, is_escaped_in_paths(*b))?;

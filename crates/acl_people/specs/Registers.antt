@@ -1,5 +1,5 @@
 -- The users and groups that are known: the counted rows of passwd(5) and group(5).
-use Rattle.std.specs.Prelude.{◌≡◌, ◌≢◌, ◌≤◌, ℕ, List, [], ◌∷◌, map, filter, length, slice_get, Bool, true, false, Option, option_map, Result, Ok, Err, MatchResult, if◌then◌else◌}
+use Rattle.std.specs.Prelude.{◌≡◌, ◌≤◌, ℕ, List, [], ◌∷◌, map, filter, length, slice_get, Bool, true, false, Option, option_map, Result, Ok, Err, if◌then◌else◌}
 use Rattle.std.specs.List.{list_any}
 use Rattle.std.specs.Str.{bytes_eq}
 use Rattle.std.specs.FinSet.{from_list}
@@ -7,10 +7,11 @@ use Rattle.acl_entry.specs.Person.{Person}
 use Rattle.acl_syntax.specs.declared.rows.PasswdRow.{PasswdRow}
 use Rattle.acl_syntax.specs.declared.rows.GroupRow.{GroupRow}
 use Rattle.acl_syntax.specs.declared.fault.TextFault.{TextFault}
+use Rattle.acl_syntax.specs.Naming.{Naming}
 use Rattle.acl_syntax.specs.Rows.{passwd_of, group_of, most_rows}
 use Rattle.acl_people.specs.declared.fault.LoadFault.{LoadFault}
-use Rattle.acl_people.specs.declared.fault.LoadFault.TheVariants.{AlreadyLoaded, Text, NoMemory}
-use Rattle.acl_people.specs.Rolls.{Named, AreNames}
+use Rattle.acl_people.specs.declared.fault.LoadFault.TheVariants.{AlreadyLoaded, Text}
+use Rattle.acl_people.specs.Rolls.{Named, id_named, name_shown, AreNames}
 use Rattle.acl_people.specs.Entries.{user_entry, group_entry}
 
 -- the counted rows, and which texts were loaded
@@ -31,6 +32,15 @@ users_of known = map user_entry known.users
 -- the groups' names and ids, in the order of their rows
 abbrev pub groups_of : Register → List Named
 groups_of known = map group_entry known.groups
+
+-- who is called what, by the rows that are known
+abbrev pub naming_of : Register → Naming
+naming_of known = record {
+  user_id = λ name. id_named name (users_of known);
+  group_id = λ name. id_named name (groups_of known);
+  user_name = λ id. name_shown id (users_of known);
+  group_name = λ id. name_shown id (groups_of known);
+}
 
 -- a group's row names the user
 abbrev pub names_user : List ℕ → GroupRow → Bool
@@ -67,10 +77,6 @@ abbrev pub load_group : Register → List ℕ → Result Register LoadFault
 load_group known bytes =
     if known.group_loaded then Err AlreadyLoaded
     else loaded (λ rows. record { users = known.users; groups = rows; passwd_loaded = known.passwd_loaded; group_loaded = true }) (group_of bytes)
-
--- A load gives what it is to give, or exactly the fault, unless memory ran out.
-abbrev pub Loads : {A : Type 0} → (A → Register) → Result A LoadFault → Result Register LoadFault → Type 0
-Loads view result is = MatchResult result (λ people. is ≡ Ok (view people)) (λ fault. fault ≢ NoMemory → is ≡ Err fault)
 
 -- what is true of all people: at most 65,536 users and as many groups, each name in one row
 pub record IsSound (known : Register) : Type 0 where

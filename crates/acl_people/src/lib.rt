@@ -21,5 +21,6 @@ mod users;
 
 pub use fault::LoadFault;
 pub use laws::{added_member_is_removed, added_user_is_removed, group_held_otherwise_stays};
+pub use moves::rising_ids;
 pub use people::People;
 pub use user_name::UserName;

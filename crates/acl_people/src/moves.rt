@@ -23,8 +23,8 @@ fn add_others(groups: &mut Vec<Id>, of: &Subject, but: &Subject) -> Result<(), A
     Ok(())
 }
 
-/// The ids in rising order, each once.
-fn in_order(ids: Vec<Id>) -> Result<Vec<Id>, AllocError>
+/// The ids in rising order, each once. Fails only if memory runs out.
+pub fn rising_ids(ids: Vec<Id>) -> Result<Vec<Id>, AllocError>
     ensures rising { IfOk result (λ rising. IsStrictlyIncreasing rising.items) }
     ensures same { IfOk result (λ rising. (gid : ℕ) → is_one_of gid rising.items ≡ is_one_of gid ids.items) }
 {
@@ -41,7 +41,7 @@ fn groups_of_one(alloc: Global, before: &Subject, after: &Subject) -> Result<Vec
     let mut groups = Vec::new(alloc);
     add_others(&mut groups, before, after)?;
     add_others(&mut groups, after, before)?;
-    let groups = in_order(groups)?;
+    let groups = rising_ids(groups)?;
     Ok(groups)
 }
 

@@ -1,13 +1,14 @@
 //! People: who is known by passwd(5) and group(5).
 
 ghost use Rattle.std.specs.Prelude.{◌≡◌, ◌<◌, ◌++◌, ◌∷◌, [], length, map, slice_get, true, Err, IfOk, IfSome, option_map};
-ghost use Rattle.acl_people.specs.declared.fault.LoadFault.TheVariants.{AlreadyLoaded};
+ghost use Rattle.acl_people.specs.declared.fault.LoadFault.TheVariants.{AlreadyLoaded, NoMemory};
 ghost use Rattle.std.specs.Option.{option_copied};
+ghost use Rattle.acl_syntax.specs.InTurn.{GivesUnless};
 ghost use Rattle.acl_people.specs.Rolls.{id_named, name_shown, place_of_word, IsNaming, AreCounted};
 ghost use Rattle.acl_people.specs.Entries.{user_entry};
 ghost use Rattle.acl_people.specs.Moves.{ChangesUser, LeavesUser};
 ghost use Rattle.acl_people.specs.Changes.{name_of};
-ghost use Rattle.acl_people.specs.Registers.{person, nobody, users_of, groups_of, persons, subject, IsSound, load_passwd, load_group, Loads};
+ghost use Rattle.acl_people.specs.Registers.{person, nobody, users_of, groups_of, persons, subject, IsSound, load_passwd, load_group, naming_of};
 
 use crate::fault::{LoadFault, text_fault};
 use crate::groups::Groups;
@@ -166,7 +167,7 @@ impl People {
     /// These people with the users of a passwd text. Refused where one was loaded, whatever memory there is,
     /// for the text's first fault, or if memory runs out.
     pub fn load_passwd(&self, alloc: Global, bytes: &[u8]) -> Result<People, LoadFault>
-        ensures reported { Loads (λ people. people) result (load_passwd self.now bytes.now) }
+        ensures reported { GivesUnless NoMemory (λ people. people) result (load_passwd self.now bytes.now) }
         ensures again { self.now.passwd_loaded ≡ true → result ≡ Err AlreadyLoaded }
     {
         if self.passwd_loaded {
@@ -190,7 +191,7 @@ impl People {
     /// These people with the groups of a group text. Refused where one was loaded, whatever memory there is,
     /// for the text's first fault, or if memory runs out.
     pub fn load_group(&self, alloc: Global, bytes: &[u8]) -> Result<People, LoadFault>
-        ensures reported { Loads (λ people. people) result (load_group self.now bytes.now) }
+        ensures reported { GivesUnless NoMemory (λ people. people) result (load_group self.now bytes.now) }
         ensures again { self.now.group_loaded ≡ true → result ≡ Err AlreadyLoaded }
     {
         if self.group_loaded {
@@ -307,11 +308,11 @@ impl People {
         let _groups = self.groups.roll();
     }
 
-    /// Nothing is done: the names that ids print as are found under these ids, are made of bytes, are not
-    /// empty, and are not digits alone.
+    /// Proof only: the names that ids print as are found under these ids, are made of bytes, are not empty, and are
+    /// not digits alone.
     pub fn naming_is_read_back(&self)
-        ensures users { IsNaming (λ name. id_named name (users_of self.now)) (λ id. name_shown id (users_of self.now)) }
-        ensures groups { IsNaming (λ name. id_named name (groups_of self.now)) (λ id. name_shown id (groups_of self.now)) }
+        ensures users { IsNaming (naming_of self.now).user_id (naming_of self.now).user_name }
+        ensures groups { IsNaming (naming_of self.now).group_id (naming_of self.now).group_name }
     {
         let _users = self.users.roll();
         let _groups = self.groups.roll();
@@ -319,13 +320,7 @@ impl People {
 }
 
 impl Names for People {
-    ghost user_id = { λ known name. id_named name (users_of known) };
-
-    ghost group_id = { λ known name. id_named name (groups_of known) };
-
-    ghost user_name = { λ known id. name_shown id (users_of known) };
-
-    ghost group_name = { λ known id. name_shown id (groups_of known) };
+    ghost naming = { λ known. naming_of known };
 
     fn user_id(&self, name: &[u8]) -> Option<Id> {
         self.users.roll().id_named(name)

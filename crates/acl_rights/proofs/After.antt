@@ -6,24 +6,24 @@ use Rattle.std.proofs.lemmas.List.{length-map, length-append}
 use Rattle.acl_tree.specs.acl_entry.Mentions.{AgreeOnMentions}
 use Rattle.acl_tree.specs.acl_entry.Person.{Person}
 use Rattle.acl_tree.specs.acl_entry.declared.label.Label.{Label}
-use Rattle.acl_tree.specs.acl_files.Below.{is_below}
+use Rattle.acl_tree.specs.acl_names.Below.{is_below}
 use Rattle.acl_tree.specs.acl_edit.declared.node.Node.{Node}
 use Rattle.acl_tree.specs.Files.{PathOf, Files, Recorded}
-use Rattle.acl_tree.specs.Sound.{holds_below}
 use Rattle.acl_tree.specs.Changed.{is_changed, changed_between, gone_between}
 use Rattle.acl_tree.specs.acl_people.Registers.{persons}
 use Rattle.acl_tree.specs.Reports.{StagedState, UsersMoved}
 use Rattle.acl_tree.specs.declared.user_change.UserChange.{UserChange}
 use Rattle.acl_tree.specs.declared.user_change.UserChange.TheVariants.{Unchanged, Memberships, Added, Removed}
 use Rattle.path_map.specs.Entries.{IsInOrder}
-use Rattle.acl_verdicts.specs.Subtrees.{has_below, lies_in, IsApart}
+use Rattle.path_map.specs.Below.{lies_in, holds_below}
+use Rattle.acl_verdicts.specs.Subtrees.{IsApart}
 use Rattle.acl_verdicts.specs.declared.steps.Step.{Step}
 use Rattle.acl_verdicts.specs.Ways.{Numbers, rows_in, reaches_of, AreSteps, AreNumbers, HaveRows, AreFirst, IsLonger}
 use Rattle.acl_verdicts.proofs.Reaching.{first_kept, have_more}
 use Rattle.acl_verdicts.specs.declared.ways.Ways.{Ways}
 use Rattle.acl_rights.specs.Tables.{Verdict, rows_of}
 use Rattle.acl_rights.specs.Stages.{mentions_one}
-use Rattle.acl_rights.specs.Reach.{lies_within, moves_refreshed, most_refreshed}
+use Rattle.acl_rights.specs.Reach.{moves_refreshed, most_refreshed}
 use Rattle.acl_rights.specs.declared.label_rows.LabelRows.{LabelRows}
 use Rattle.acl_rights.specs.declared.grants.Grants.{Grants}
 use Rattle.acl_rights.specs.Labels.{labelled, row_of, AreLabelled, AreJudged, AreLonger, AreShorter, AreAgain, AreChangedRows}
@@ -38,7 +38,7 @@ use Rattle.acl_rights.proofs.Goes.{moves, joins, leaves}
 use Rattle.acl_rights.proofs.Refreshing.{pairs_paths, count_lying, users_refreshed}
 use Rattle.acl_rights.proofs.Judged.{labelled_paths, numbers_in, rows_are, judged_are, changed_labelled, changed_judged, longer_labelled, longer_judged, shorter_labelled, shorter_judged, again_labelled, again_judged}
 
-pub below_paths : {A : Type 0} (es : List (PathOf × A)) (fs : Files) → map (λ (e : PathOf × A). e.0) es ≡ map (λ (e : PathOf × Node). e.0) fs → (p : PathOf) → has_below es p ≡ holds_below fs p
+pub below_paths : {A : Type 0} (es : List (PathOf × A)) (fs : Files) → map (λ (e : PathOf × A). e.0) es ≡ map (λ (e : PathOf × Node). e.0) fs → (p : PathOf) → holds_below es p ≡ holds_below fs p
 below_paths [] [] h p = refl
 below_paths [] (f ∷ fs) h p = cc
 below_paths (e ∷ es) [] h p = cc
@@ -147,7 +147,7 @@ module _ (V : Verdict) (g : Grants) (t : StagedState) (goes : GoesOn V g t) (ord
           let long = length-append g.rows.cells (map (row_of V users) h.more) in
           more (length new.cells) (have_more (length g.rows.cells) (length new.cells) g.ways.steps (omega (arith, cells, long)) goes.kept.within) (numbers_in gs new after_labelled)
 
-      pub after_walked : (tops : Numbers) → tops ≡ puts → (walked : ℕ) → walked ≡ count_by (λ (e : PathOf × ℕ). lies_in tops e.0) new.numbers → walked ≡ count_by (lies_within t.changed) gs
+      pub after_walked : (tops : Numbers) → tops ≡ puts → (walked : ℕ) → walked ≡ count_by (λ (e : PathOf × ℕ). lies_in tops e.0) new.numbers → walked ≡ count_by (λ (e : PathOf × Node). lies_in t.changed e.0) gs
       after_walked tops same walked w = w ∙ count_lying tops new.numbers t.changed gs (ap (λ (es : Numbers). map (λ (e : PathOf × ℕ). e.0) es) same ∙ puts_paths) after_paths
 
       pub after_rows : IsInOrder new.numbers → rows_in new.cells new.numbers ≡ rows_of V us gs

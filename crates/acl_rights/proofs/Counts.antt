@@ -2,16 +2,16 @@
 use Rattle.std.proofs.Common.{◌≡◌, ℕ, zero, suc, ◌+◌, ◌*◌, ◌<◌, ◌≤◌, Bool, true, false, cond, not, eqb, ◌||◌, ◌&&◌, List, [], ◌∷◌, length, map, filter, take, drop, set, Option, Some, None, Ordering, Less, Equal, Greater, ◌++◌, append_assoc, IsTrue, refl, sym, ap, subst, ◌∙◌, arith}
 use Rattle.std.specs.Prelude.{option_map, option_and_then, slice_get, count_by, if◌then◌else◌, nat_lt}
 use Rattle.std.specs.List.{list_all, list_any, sum_by, AllByRecursion, remove}
-use Rattle.std.specs.Ordering.{is_eq, is_lt, is_gt}
+use Rattle.std.specs.Ordering.{is_eq, is_lt}
 use Rattle.std.specs.FinMap.{find, is_sorted}
 use Rattle.std.specs.FinMap.Entries.{below_all}
 use Rattle.std.proofs.lemmas.Bool.{and_parts, eqb-true, eq-eqb, ltb-true, ltb-false}
 use Rattle.std.proofs.lemmas.List.Sums.{sum_by-cons}
-use Rattle.std.proofs.lemmas.Cmp.{tied_itself, nat_list_cmp_total}
+use Rattle.std.proofs.lemmas.Cmp.{tied_itself}
 use Rattle.acl_tree.specs.acl_entry.Person.{Person}
 use Rattle.acl_tree.specs.acl_names.Paths.{path_cmp}
 use Rattle.acl_tree.proofs.of_acl_names.PathOrder.{path_total, exact_paths}
-use Rattle.acl_tree.specs.acl_files.Below.{is_within, is_below}
+use Rattle.acl_tree.specs.acl_names.Below.{is_below}
 use Rattle.acl_tree.specs.Files.{PathOf}
 use Rattle.path_map.proofs.Places.{above}
 use Rattle.path_map.specs.Entries.{IsInOrder}
@@ -19,8 +19,6 @@ use Rattle.acl_rights.specs.Tables.{Rows}
 use Rattle.acl_rights.specs.Reach.{reached_from}
 use Rattle.acl_verdicts.specs.Differing.{fails_from}
 use Rattle.acl_rights.proofs.Maps.{map_values, map_filter, find-values, find-filter, same_found}
-use Rattle.acl_verdicts.proofs.Walks.{within_below, both}
-use Rattle.path_map.proofs.Convex.{not_before}
 
 pub clash : (b : Bool) → b ≡ true → b ≡ false → ⊥
 clash b h k = cc
@@ -169,21 +167,6 @@ alike_above {A = A} {B = B} f g p es fs o r h =
     by q false is = refl
 
 -- ---- rows, one by one
-
-pub within_itself : (p : PathOf) → is_within p p ≡ true
-within_itself [] = refl
-within_itself (x ∷ p) = both _ _ (ap is_eq (tied_itself nat_list_cmp_total x)) (within_itself p)
-
-pub within_cases : (q p : PathOf) → is_within q p ≡ true → is_below q p ≡ false → q ≡ p
-within_cases q p w apart = by (path_cmp q p) refl
-  where
-    late : (o : Ordering) → o ≡ Greater → is_gt o ≡ false → ⊥
-    late o h k = cc
-
-    by : (o : Ordering) → path_cmp q p ≡ o → q ≡ p
-    by Less is = absurd (clash (is_below q p) (within_below q p w is) apart)
-    by Equal is = exact_paths q p is
-    by Greater is = absurd (late (path_cmp q p) is (not_before q p w))
 
 pub some_same : (a b : ℕ) → Some a ≡ Some b → a ≡ b
 some_same a b h = cc

@@ -12,7 +12,7 @@ use Rattle.acl_tree.specs.acl_names.Paths.{path_cmp}
 use Rattle.acl_tree.proofs.of_acl_names.PathOrder.{exact_paths}
 use Rattle.std.specs.Ordering.{is_eq}
 use Rattle.acl_tree.specs.acl_edit.declared.node.Node.{Node}
-use Rattle.acl_tree.specs.acl_files.Below.{is_below}
+use Rattle.acl_tree.specs.acl_names.Below.{is_below}
 use Rattle.acl_tree.specs.Files.{PathOf, Files}
 use Rattle.acl_tree.specs.acl_people.Registers.{person, persons}
 use Rattle.acl_tree.specs.Step.{State}

@@ -4,7 +4,7 @@ use Rattle.std.specs.Prelude.{option_map, option_and_then, slice_get, count_by, 
 use Rattle.std.specs.Option.{option_map_or}
 use Rattle.std.specs.List.{sum_by, AllByRecursion}
 use Rattle.std.specs.FinMap.{find}
-use Rattle.std.proofs.lemmas.Bool.{eqb-true, eq-eqb}
+use Rattle.std.proofs.lemmas.Bool.{and_from, eqb-true, eq-eqb}
 use Rattle.std.proofs.lemmas.List.{length-map}
 use Rattle.std.proofs.lemmas.List.Sums.{sum_by-cons}
 use Rattle.acl_tree.specs.acl_entry.Check.{has}
@@ -13,7 +13,7 @@ use Rattle.acl_tree.specs.acl_entry.Person.{Person}
 use Rattle.acl_tree.specs.acl_entry.declared.label.Label.{Label}
 use Rattle.acl_tree.specs.acl_names.Paths.{path_cmp}
 use Rattle.acl_tree.specs.acl_edit.declared.node.Node.{Node}
-use Rattle.acl_tree.specs.acl_files.Below.{is_within, is_below}
+use Rattle.acl_tree.specs.acl_names.Below.{is_within, is_below}
 use Rattle.acl_tree.specs.Changed.{same_label, is_changed, changed_between, gone_between}
 use Rattle.acl_tree.specs.Files.{PathOf, Files, Recorded}
 use Rattle.acl_tree.specs.acl_people.Registers.{persons}
@@ -24,16 +24,17 @@ use Rattle.acl_tree.specs.declared.user_change.UserChange.{UserChange}
 use Rattle.acl_tree.specs.declared.user_change.UserChange.TheVariants.{Unchanged, Loaded, Memberships, Added, Removed}
 use Rattle.acl_tree.proofs.of_acl_files.Changes.{label_is_same}
 use Rattle.path_map.specs.Entries.{IsInOrder}
+use Rattle.path_map.specs.Below.{lies_in}
 use Rattle.acl_rights.specs.Tables.{Verdict, Rows, cells_of, rows_of}
 use Rattle.acl_rights.specs.Stages.{mentions_one}
-use Rattle.acl_rights.specs.Reach.{execute, passes, reach, reached_from, reached_rows, lies_within, moves_refreshed, most_refreshed}
+use Rattle.acl_rights.specs.Reach.{execute, passes, reach, reached_from, reached_rows, moves_refreshed, most_refreshed}
 use Rattle.acl_verdicts.specs.Differing.{place_before, is_as_before, is_as_in, fails_from, differing}
 use Rattle.acl_rights.specs.Kept.{GoesFrom}
 use Rattle.acl_rights.proofs.Lines.{agree, got_in, set_here}
 use Rattle.acl_rights.proofs.Reached.{reached_is, cell_reached}
 use Rattle.acl_rights.proofs.Goes.{moves, joins, leaves, old_order}
-use Rattle.acl_verdicts.proofs.Walks.{below_within, both}
-use Rattle.acl_rights.proofs.Counts.{clash, false_from, missed_most, missed_none, missed_one, any_found, any_filter, each_found, alike_above, within_itself, within_cases, some_same, long_row, sum_le, map_twice, finds, times_one, times_none, sum_parts, set_other, joined_was, left_was, person_same}
+use Rattle.acl_tree.proofs.of_acl_names.Below.{below_within, within_cases, within_itself}
+use Rattle.acl_rights.proofs.Counts.{clash, false_from, missed_most, missed_none, missed_one, any_found, any_filter, each_found, alike_above, some_same, long_row, sum_le, map_twice, finds, times_one, times_none, sum_parts, set_other, joined_was, left_was, person_same}
 
 module _ (V : Verdict) (us ws : List Person) (fs gs : Files) (fo : IsInOrder fs) (go : IsInOrder gs) where
   -- a user's answer at a file was there before
@@ -119,11 +120,11 @@ module _ (V : Verdict) (us ws : List Person) (fs gs : Files) (fo : IsInOrder fs)
 
   -- ---- files that neither changed nor lie below one that did
 
-  module _ (apart : AllByRecursion (λ e. holds_below gs e.0 ≡ false) (gone_between fs gs)) (p : PathOf) (n : Node) (here : find path_cmp p gs ≡ Some n) (out : lies_within (changed_between fs gs) (p, n) ≡ false) where
+  module _ (apart : AllByRecursion (λ e. holds_below gs e.0 ≡ false) (gone_between fs gs)) (p : PathOf) (n : Node) (here : find path_cmp p gs ≡ Some n) (out : lies_in (changed_between fs gs) p ≡ false) where
     not_changed : (q : PathOf) (m : Node) → is_within q p ≡ true → find path_cmp q gs ≡ Some m → is_changed fs (q, m) ≡ false
     not_changed q m w is =
         let none = any_found (λ e. is_changed fs e && is_within e.0 p) gs q m (sym (any_filter (λ e. is_within e.0 p) (is_changed fs) gs) ∙ out) is in
-        false_from (is_changed fs (q, m)) (λ c. clash (is_changed fs (q, m) && is_within q p) (both _ _ c w) none)
+        false_from (is_changed fs (q, m)) (λ c. clash (is_changed fs (q, m) && is_within q p) (and_from _ _ c w) none)
 
     not_gone : (q : PathOf) (m : Node) → is_within q p ≡ true → find path_cmp q gs ≡ None → find path_cmp q fs ≡ Some m → ⊥
     not_gone q m w none is =
@@ -193,21 +194,21 @@ module _ (V : Verdict) (us ws : List Person) (fs gs : Files) (fo : IsInOrder fs)
           omega (arith, first, more, even_more (length es) l)
 
   -- all users at files that changed, and others at as many as are reported
-  module _ (move : UserChange) (x : PathOf × Node → ℕ) (rest : (e : PathOf × Node) → find path_cmp e.0 gs ≡ Some e.1 → lies_within (changed_between fs gs) e ≡ false → row_missed move e ≤ x e) where
-    parts_missed : differing (place_left move) old_reached new_reached ≤ length ws * count_by (lies_within (changed_between fs gs)) gs + sum_by x gs
+  module _ (move : UserChange) (x : PathOf × Node → ℕ) (rest : (e : PathOf × Node) → find path_cmp e.0 gs ≡ Some e.1 → lies_in (changed_between fs gs) e.0 ≡ false → row_missed move e ≤ x e) where
+    parts_missed : differing (place_left move) old_reached new_reached ≤ length ws * count_by (λ (e : PathOf × Node). lies_in (changed_between fs gs) e.0) gs + sum_by x gs
     parts_missed =
         let l = length ws in
-        let c = lies_within (changed_between fs gs) in
+        let c = λ (e : PathOf × Node). lies_in (changed_between fs gs) e.0 in
         let each = rows_missed move (λ e. l * (if c e then 1 else 0) + x e) (λ e found. by e found (c e) refl) in
         omega (arith, each, sum_parts l c x gs)
       where
-        by : (e : PathOf × Node) → find path_cmp e.0 gs ≡ Some e.1 → (b : Bool) → lies_within (changed_between fs gs) e ≡ b → row_missed move e ≤ length ws * (if b then 1 else 0) + x e
+        by : (e : PathOf × Node) → find path_cmp e.0 gs ≡ Some e.1 → (b : Bool) → lies_in (changed_between fs gs) e.0 ≡ b → row_missed move e ≤ length ws * (if b then 1 else 0) + x e
         by e found true is = omega (arith, row_most move e, times_one (length ws))
         by e found false is = omega (arith, rest e found is, times_none (length ws))
 
   -- a user with the same groups keeps the answers at files that neither changed nor lie below one that did
   module _ (apart : AllByRecursion (λ e. holds_below gs e.0 ≡ false) (gone_between fs gs)) where
-    same_kept : (move : UserChange) (e : PathOf × Node) → find path_cmp e.0 gs ≡ Some e.1 → lies_within (changed_between fs gs) e ≡ false → (i : ℕ) (w : Person) → slice_get us (place_before (place_left move) i) ≡ Some w → IsKept move e i w
+    same_kept : (move : UserChange) (e : PathOf × Node) → find path_cmp e.0 gs ≡ Some e.1 → lies_in (changed_between fs gs) e.0 ≡ false → (i : ℕ) (w : Person) → slice_get us (place_before (place_left move) i) ≡ Some w → IsKept move e i w
     same_kept move e found out i w was =
         let there = was_there apart e.0 e.1 found out (find path_cmp e.0 fs) refl in
         record {
@@ -220,7 +221,7 @@ module _ (V : Verdict) (us ws : List Person) (fs gs : Files) (fo : IsInOrder fs)
 
     -- no user moved
     none_moved : (move : UserChange) → ((i : ℕ) (w : Person) → slice_get ws i ≡ Some w → slice_get us (place_before (place_left move) i) ≡ Some w)
-        → differing (place_left move) old_reached new_reached ≤ length ws * count_by (lies_within (changed_between fs gs)) gs
+        → differing (place_left move) old_reached new_reached ≤ length ws * count_by (λ (e : PathOf × Node). lies_in (changed_between fs gs) e.0) gs
     none_moved move was =
         let parts = parts_missed move (λ e. 0) (λ e found out. let n = row_none move e (λ i w is. same_kept move e found out i w (was i w is)) in omega (arith, n)) in
         omega (arith, parts, zeros gs)
@@ -231,7 +232,7 @@ module _ (V : Verdict) (us ws : List Person) (fs gs : Files) (fo : IsInOrder fs)
 
     -- one user moved, as one who wasn't there
     one_came : (move : UserChange) (j : ℕ) → ((i : ℕ) (w : Person) → slice_get ws i ≡ Some w → (i ≡ j → ⊥) → slice_get us (place_before (place_left move) i) ≡ Some w)
-        → differing (place_left move) old_reached new_reached ≤ length ws * count_by (lies_within (changed_between fs gs)) gs + length gs
+        → differing (place_left move) old_reached new_reached ≤ length ws * count_by (λ (e : PathOf × Node). lies_in (changed_between fs gs) e.0) gs + length gs
     one_came move j was =
         let parts = parts_missed move (λ e. 1) (λ e found out. row_one move j e (λ i w is other. same_kept move e found out i w (was i w is other))) in
         omega (arith, parts, ones gs)
@@ -243,11 +244,11 @@ module _ (V : Verdict) (us ws : List Person) (fs gs : Files) (fo : IsInOrder fs)
     -- one user moved, whose answers differ where a label does that mentions a group
     one_moved : (move : UserChange) (j : ℕ) (c : PathOf × Node → Bool) → ((i : ℕ) (w : Person) → slice_get ws i ≡ Some w → (i ≡ j → ⊥) → slice_get us (place_before (place_left move) i) ≡ Some w)
         → ((i : ℕ) (w : Person) (e : PathOf × Node) → slice_get ws i ≡ Some w → i ≡ j → find path_cmp e.0 gs ≡ Some e.1 → c e ≡ false → IsKept move e i w)
-        → differing (place_left move) old_reached new_reached ≤ length ws * count_by (lies_within (changed_between fs gs)) gs + count_by c gs
+        → differing (place_left move) old_reached new_reached ≤ length ws * count_by (λ (e : PathOf × Node). lies_in (changed_between fs gs) e.0) gs + count_by c gs
     one_moved move j c was here =
         parts_missed move (λ e. if c e then 1 else 0) (λ e found out. by e found out (c e) refl)
       where
-        by : (e : PathOf × Node) → find path_cmp e.0 gs ≡ Some e.1 → lies_within (changed_between fs gs) e ≡ false → (b : Bool) → c e ≡ b → row_missed move e ≤ (if b then 1 else 0)
+        by : (e : PathOf × Node) → find path_cmp e.0 gs ≡ Some e.1 → lies_in (changed_between fs gs) e.0 ≡ false → (b : Bool) → c e ≡ b → row_missed move e ≤ (if b then 1 else 0)
         by e found out true is = row_one move j e (λ i w at other. same_kept move e found out i w (was i w at other))
         by e found out false is =
             let n = row_none move e (λ i w at. pick i w at (eqb i j) refl) in omega (arith, n)
@@ -281,7 +282,7 @@ module _ (V : Verdict) (local : (u w : Person) (f : Label) → AgreeOnMentions u
   line_missed move = differing (place_left move) (reached_rows (rows_of V us fs)) (reached_rows (rows_of V ws gs))
 
   abbrev at_changed : ℕ
-  at_changed = length ws * count_by (lies_within (changed_between fs gs)) gs
+  at_changed = length ws * count_by (λ (e : PathOf × Node). lies_in (changed_between fs gs) e.0) gs
 
   line_same : t.user_change ≡ Unchanged → line_missed Unchanged ≤ at_changed + 0
   line_same is =
@@ -299,9 +300,9 @@ module _ (V : Verdict) (local : (u w : Person) (f : Label) → AgreeOnMentions u
       nothing : (l : ℕ) → 0 * l ≡ 0
       nothing l = grind arith
 
-  line_moved : (at : ℕ) (groups : List ℕ) → t.user_change ≡ Memberships at groups → line_missed (Memberships at groups) ≤ at_changed + count_by (lies_within (filter (mentions_one groups) gs)) gs
+  line_moved : (at : ℕ) (groups : List ℕ) → t.user_change ≡ Memberships at groups → line_missed (Memberships at groups) ≤ at_changed + count_by (λ (e : PathOf × Node). lies_in (filter (mentions_one groups) gs) e.0) gs
   line_moved at groups is =
-      one_moved V us ws fs gs fo go alone (Memberships at groups) at (lies_within (filter (mentions_one groups) gs)) others him
+      one_moved V us ws fs gs fo go alone (Memberships at groups) at (λ (e : PathOf × Node). lies_in (filter (mentions_one groups) gs) e.0) others him
     where
       m : MovesUser us ws at groups
       m = (moves V rows t goes at groups is).1
@@ -316,7 +317,7 @@ module _ (V : Verdict) (local : (u w : Person) (f : Label) → AgreeOnMentions u
       next_is i w got same =
           person_same m.change.after w (sym (ap (λ (l : List Person). slice_get l at) m.change.becomes ∙ set_here us at m.change.after (got_in us at m.change.before m.change.was)) ∙ ap (slice_get ws) (sym same) ∙ got)
 
-      verdicts : (w : Person) → m.change.after ≡ w → (e : PathOf × Node) → lies_within (filter (mentions_one groups) gs) e ≡ false → (q : PathOf) → is_within q e.0 ≡ true
+      verdicts : (w : Person) → m.change.after ≡ w → (e : PathOf × Node) → lies_in (filter (mentions_one groups) gs) e.0 ≡ false → (q : PathOf) → is_within q e.0 ≡ true
           → option_map (λ (n : Node). V m.change.before n.label) (find path_cmp q fs) ≡ option_map (λ (n : Node). V w n.label) (find path_cmp q gs)
       verdicts w next e out q within = ap (λ (l : Files). option_map (λ (n : Node). V m.change.before n.label) (find path_cmp q l)) files ∙ by (find path_cmp q gs) refl
         where
@@ -324,10 +325,10 @@ module _ (V : Verdict) (local : (u w : Person) (f : Label) → AgreeOnMentions u
           by None here = refl
           by (Some n) here =
               let none = any_found (λ x. mentions_one groups x && is_within x.0 e.0) gs q n (sym (any_filter (λ x. is_within x.0 e.0) (mentions_one groups) gs) ∙ out) here in
-              let unmet = false_from (mentions_one groups (q, n)) (λ c. clash (mentions_one groups (q, n) && is_within q e.0) (both _ _ c within) none) in
+              let unmet = false_from (mentions_one groups (q, n)) (λ c. clash (mentions_one groups (q, n) && is_within q e.0) (and_from _ _ c within) none) in
               ap Some (sym (local m.change.after m.change.before n.label (agree us ws at groups m n.label unmet)) ∙ ap (λ u. V u n.label) next)
 
-      him : (i : ℕ) (w : Person) (e : PathOf × Node) → slice_get ws i ≡ Some w → i ≡ at → find path_cmp e.0 gs ≡ Some e.1 → lies_within (filter (mentions_one groups) gs) e ≡ false → IsKept V us ws fs gs fo go (Memberships at groups) e i w
+      him : (i : ℕ) (w : Person) (e : PathOf × Node) → slice_get ws i ≡ Some w → i ≡ at → find path_cmp e.0 gs ≡ Some e.1 → lies_in (filter (mentions_one groups) gs) e.0 ≡ false → IsKept V us ws fs gs fo go (Memberships at groups) e i w
       him i w e got same found out =
           let there : find path_cmp e.0 fs ≡ Some e.1 = ap (find path_cmp e.0) files ∙ found in
           record {
@@ -362,6 +363,6 @@ module _ (V : Verdict) (local : (u w : Person) (f : Label) → AgreeOnMentions u
   pub line_most : differing (place_left t.user_change) (reached_rows rows) (reached_rows (rows_of V ws gs)) ≤ most_refreshed t
   line_most =
       let parts = line t.user_change refl in
-      let all : at_changed ≡ length t.state.people.users * count_by (lies_within t.changed) gs =
-      (let long = length-map t.state.people.users _ in let reported = sym goes.reports.changed in λ i. long i * count_by (lies_within (reported i)) gs) in
+      let all : at_changed ≡ length t.state.people.users * count_by (λ (e : PathOf × Node). lies_in t.changed e.0) gs =
+      (let long = length-map t.state.people.users _ in let reported = sym goes.reports.changed in λ i. long i * count_by (λ (e : PathOf × Node). lies_in (reported i) e.0) gs) in
       subst (λ (r : Rows). differing (place_left t.user_change) r (reached_rows (rows_of V ws gs)) ≤ most_refreshed t) (sym is_there) (omega (arith, parts, all))

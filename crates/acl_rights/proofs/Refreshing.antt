@@ -3,17 +3,17 @@ use Rattle.std.proofs.Common.{◌≡◌, ℕ, ◌+◌, ◌*◌, ◌^◌, ◌<◌
 use Rattle.std.specs.Prelude.{count_by}
 use Rattle.std.specs.List.{list_any}
 use Rattle.std.proofs.lemmas.List.Sums.{sum_by-cons}
-use Rattle.acl_tree.specs.acl_files.Below.{is_within}
+use Rattle.acl_tree.specs.acl_names.Below.{is_within}
 use Rattle.acl_tree.specs.acl_edit.declared.node.Node.{Node}
 use Rattle.acl_tree.specs.Files.{PathOf, Files}
 use Rattle.acl_tree.specs.Reports.{StagedState}
 use Rattle.acl_tree.specs.declared.user_change.UserChange.TheVariants.{Unchanged}
 use Rattle.acl_verdicts.specs.Ways.{Numbers}
 use Rattle.path_map.specs.Entries.{IsInOrder}
-use Rattle.path_map.specs.Below.{within}
-use Rattle.acl_verdicts.specs.Subtrees.{lies_in, covers, AreWalked}
+use Rattle.path_map.specs.Below.{within, lies_in}
+use Rattle.acl_verdicts.specs.Subtrees.{covers, AreWalked}
 use Rattle.acl_verdicts.proofs.Tops.{tops_walk}
-use Rattle.acl_rights.specs.Reach.{lies_within, moves_refreshed, most_refreshed}
+use Rattle.acl_rights.specs.Reach.{moves_refreshed, most_refreshed}
 use Rattle.acl_rights.proofs.Costs.{few_pass, times_le}
 
 pub no_length : {A : Type 0} (xs : List A) → length xs ≡ 0 → xs ≡ []
@@ -56,9 +56,9 @@ count_alike f g h (x ∷ xs) =
 
 -- how many files are at some paths or below them
 pub count_lying : {A : Type 0} (tops : List (PathOf × A)) (ns : Numbers) (others fs : Files) → map (λ (t : PathOf × A). t.0) tops ≡ map (λ (t : PathOf × Node). t.0) others → map (λ (e : PathOf × ℕ). e.0) ns ≡ map (λ (e : PathOf × Node). e.0) fs
-    → count_by (λ (e : PathOf × ℕ). lies_in tops e.0) ns ≡ count_by (lies_within others) fs
+    → count_by (λ (e : PathOf × ℕ). lies_in tops e.0) ns ≡ count_by (λ (e : PathOf × Node). lies_in others e.0) fs
 count_lying tops ns others fs same paths =
-    count_paths (lies_in tops) ns fs paths ∙ count_alike (λ (e : PathOf × Node). lies_in tops e.0) (lies_within others) (λ e. lies_paths tops others same e.0) fs
+    count_paths (lies_in tops) ns fs paths ∙ count_alike (λ (e : PathOf × Node). lies_in tops e.0) (λ (e : PathOf × Node). lies_in others e.0) (λ e. lies_paths tops others same e.0) fs
 
 pub count_most : {A : Type 0} (f : A → Bool) (xs : List A) → count_by f xs ≤ length xs
 count_most f [] = omega arith
@@ -85,18 +85,18 @@ count_none (f ∷ fs) = sum_by-cons (λ (e : PathOf × Node). 0) f fs ∙ ap (λ
 
 module _ (t : StagedState) where
   -- files change
-  pub files_refreshed : (walked users : ℕ) → t.user_change ≡ Unchanged → walked ≡ count_by (lies_within t.changed) t.state.tree.files → users ≡ length t.state.people.users → walked * users ≡ most_refreshed t
+  pub files_refreshed : (walked users : ℕ) → t.user_change ≡ Unchanged → walked ≡ count_by (λ (e : PathOf × Node). lies_in t.changed e.0) t.state.tree.files → users ≡ length t.state.people.users → walked * users ≡ most_refreshed t
   files_refreshed walked users is w u =
       (λ i. w i * u i)
-      ∙ swapped (count_by (lies_within t.changed) t.state.tree.files) (length t.state.people.users)
-      ∙ ap (λ m. length t.state.people.users * count_by (lies_within t.changed) t.state.tree.files + moves_refreshed m t.state.tree.files) (sym is)
+      ∙ swapped (count_by (λ (e : PathOf × Node). lies_in t.changed e.0) t.state.tree.files) (length t.state.people.users)
+      ∙ ap (λ m. length t.state.people.users * count_by (λ (e : PathOf × Node). lies_in t.changed e.0) t.state.tree.files + moves_refreshed m t.state.tree.files) (sym is)
     where
       swapped : (a b : ℕ) → a * b ≡ b * a + 0
       swapped a b = grind arith
 
-  pub files_fit : (walked users : ℕ) → walked ≡ count_by (lies_within t.changed) t.state.tree.files → users ≡ length t.state.people.users → length t.state.tree.files * length t.state.people.users < 2 ^ 64 → walked * users < 2 ^ 64
+  pub files_fit : (walked users : ℕ) → walked ≡ count_by (λ (e : PathOf × Node). lies_in t.changed e.0) t.state.tree.files → users ≡ length t.state.people.users → length t.state.tree.files * length t.state.people.users < 2 ^ 64 → walked * users < 2 ^ 64
   files_fit walked users w u fits =
-      let most = count_most (lies_within t.changed) t.state.tree.files in
+      let most = count_most (λ (e : PathOf × Node). lies_in t.changed e.0) t.state.tree.files in
       let le = times_le walked (length t.state.tree.files) users (omega (arith, w, most)) in
       let same = ap (λ n. length t.state.tree.files * n) u in
       omega (arith, le, same, fits)
@@ -104,8 +104,8 @@ module _ (t : StagedState) where
   -- no file changes
   pub users_refreshed : (n : ℕ) → t.changed ≡ [] → n ≡ moves_refreshed t.user_change t.state.tree.files → n ≡ most_refreshed t
   users_refreshed n none is =
-      let all : length t.state.people.users * count_by (lies_within t.changed) t.state.tree.files ≡ 0 = ap (λ (es : Files). length t.state.people.users * count_by (lies_within es) t.state.tree.files) none ∙ ap (λ k. length t.state.people.users * k) (count_none t.state.tree.files) ∙ times_none (length t.state.people.users) in
-      is ∙ plus (length t.state.people.users * count_by (lies_within t.changed) t.state.tree.files) (moves_refreshed t.user_change t.state.tree.files) all
+      let all : length t.state.people.users * count_by (λ (e : PathOf × Node). lies_in t.changed e.0) t.state.tree.files ≡ 0 = ap (λ (es : Files). length t.state.people.users * count_by (λ (e : PathOf × Node). lies_in es e.0) t.state.tree.files) none ∙ ap (λ k. length t.state.people.users * k) (count_none t.state.tree.files) ∙ times_none (length t.state.people.users) in
+      is ∙ plus (length t.state.people.users * count_by (λ (e : PathOf × Node). lies_in t.changed e.0) t.state.tree.files) (moves_refreshed t.user_change t.state.tree.files) all
     where
       times_none : (u : ℕ) → u * 0 ≡ 0
       times_none u = grind arith

@@ -1,6 +1,6 @@
 -- Search along the path: what is granted where each recorded directory above grants execute.
 use Rattle.std.specs.Prelude.{ℕ, ◌+◌, ◌*◌, ◌||◌, not, Bool, List, map, filter, length, slice_get, Option, option_map, option_and_then, count_by, if◌then◌else◌}
-use Rattle.std.specs.List.{list_any, list_all}
+use Rattle.std.specs.List.{list_all}
 use Rattle.std.specs.FinMap.{find}
 use Rattle.acl_tree.specs.acl_entry.Perms.{Perms}
 use Rattle.acl_tree.specs.acl_entry.Check.{has}
@@ -8,7 +8,7 @@ use Rattle.acl_tree.specs.acl_entry.Person.{Person}
 use Rattle.acl_tree.specs.acl_names.Paths.{path_cmp}
 use Rattle.acl_tree.specs.acl_edit.declared.node.Node.{Node}
 use Rattle.acl_tree.specs.acl_people.Registers.{persons}
-use Rattle.acl_tree.specs.acl_files.Below.{is_within, is_below}
+use Rattle.acl_tree.specs.acl_names.Below.{is_below}
 use Rattle.acl_tree.specs.Files.{PathOf, Files}
 use Rattle.acl_tree.specs.Step.{State}
 use Rattle.acl_tree.specs.Reports.{StagedState, place_left}
@@ -16,6 +16,7 @@ use Rattle.acl_tree.specs.declared.user_change.UserChange.{UserChange}
 use Rattle.acl_tree.specs.declared.user_change.UserChange.TheVariants.{Unchanged, Loaded, Memberships, Added, Removed}
 pub use Rattle.acl_verdicts.specs.Reach.{execute, can_search, passes_in, reach_cell, reached_from, reached_rows, reached_at}
 use Rattle.acl_verdicts.specs.Differing.{differing}
+use Rattle.path_map.specs.Below.{lies_in}
 use Rattle.acl_rights.specs.Tables.{Verdict, Rows, places_from}
 use Rattle.acl_rights.specs.Stages.{mentions_one}
 
@@ -48,17 +49,15 @@ files_reached V s user q = option_map (λ u. map (λ e. e.0) (filter (λ e. has 
 abbrev pub unlike : UserChange → Rows → Rows → ℕ
 unlike move old new = differing (place_left move) (reached_rows old) (reached_rows new)
 
--- the file is one of some files, or below one
-abbrev pub lies_within : Files → PathOf × Node → Bool
-lies_within tops e = list_any (λ top. is_within top.0 e.0) tops
-
 -- the most verdicts that the users' move changes, beside those of changed files
 abbrev pub moves_refreshed : UserChange → Files → ℕ
 moves_refreshed Unchanged fs = 0
 moves_refreshed Loaded fs = 0
-moves_refreshed (Memberships user groups) fs = count_by (lies_within (filter (mentions_one groups) fs)) fs
+moves_refreshed (Memberships user groups) fs = count_by (λ e. lies_in (filter (mentions_one groups) fs) e.0) fs
 moves_refreshed Added fs = length fs
 moves_refreshed (Removed user) fs = 0
 
+-- the most verdicts that a line changes: those of all users on changed files and on what is below them, and those of the
+-- users' move; the index makes exactly these again
 abbrev pub most_refreshed : StagedState → ℕ
-most_refreshed t = length t.state.people.users * count_by (lies_within t.changed) t.state.tree.files + moves_refreshed t.user_change t.state.tree.files
+most_refreshed t = length t.state.people.users * count_by (λ e. lies_in t.changed e.0) t.state.tree.files + moves_refreshed t.user_change t.state.tree.files

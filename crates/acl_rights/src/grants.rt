@@ -16,6 +16,24 @@ use acl_verdicts::{Cells, Numbered, Ways, reaches_after};
 use std::alloc::{AllocError, Global};
 use std::rc::Rc;
 
+/// How many labels and steps there may be before all are renumbered.
+#[derive(Clone, Copy)]
+pub struct MaxNumbers {
+    labels: usize,
+    steps: usize,
+}
+
+/// How many numbers may be new before all are renumbered: at most one for 16 files, and fewer where rows are long, so that
+/// rows that no file has take at most 128 bytes a file; and 1,024 more. Allocates nothing.
+fn room_for_new(rows: &LabelRows, files: usize) -> usize {
+    let users = match rows.cells.get(0) {
+        Some(cells) => cells.as_slice().len(),
+        None => 0,
+    };
+    let files_a_number = 16 + users / 128;
+    (files / files_a_number).saturating_add(1024)
+}
+
 /// For each file the numbers of its label and of its step, for each label its row of verdicts, and for each step what is
 /// reached at it.
 #[derive(Drop)]
@@ -23,8 +41,8 @@ pub struct Grants {
     pub rows: LabelRows,
     pub ways: Ways,
     pub reaches: Numbered<Cells>,
-    /// How many files there were when all were numbered.
-    pub files_numbered: usize,
+    /// How many labels and steps there may be, by what there was when all were numbered.
+    pub max_numbers: MaxNumbers,
 }
 
 impl Grants {
@@ -35,7 +53,7 @@ impl Grants {
         rows: LabelRows,
         ways: Ways,
         others: &Numbered<Cells>,
-        files_numbered: usize,
+        max_numbers: MaxNumbers,
     ) -> Result<Grants, AllocError>
         ensures rows { IfOk result (λ new. new.rows ≡ rows) }
         ensures ways { IfOk result (λ new. new.ways ≡ ways) }
@@ -47,25 +65,29 @@ impl Grants {
             rows,
             ways,
             reaches,
-            files_numbered,
+            max_numbers,
         })
     }
 
-    /// What is reached by these rows, where steps are found anew. Fails only if memory runs out.
-    pub fn of(alloc: Global, rows: LabelRows, files_numbered: usize) -> Result<Grants, AllocError>
+    /// What is reached by these rows of so many files, where steps are found anew. Fails only if memory runs out.
+    pub fn of(alloc: Global, rows: LabelRows, files: usize) -> Result<Grants, AllocError>
         ensures rows { IfOk result (λ new. new.rows ≡ rows) }
         ensures kept { IfOk result (λ new. (fs : Files) → AreLabelled fs rows → AreGrants fs new) }
     {
         let ways = Ways::of(alloc, &rows.numbers)?;
+        let room = room_for_new(&rows, files);
+        let max_numbers = MaxNumbers {
+            labels: rows.labels.len().saturating_add(room),
+            steps: ways.steps().len().saturating_add(room),
+        };
         let none = Numbered::new(alloc);
-        Grants::reached(alloc, rows, ways, &none, files_numbered)
+        Grants::reached(alloc, rows, ways, &none, max_numbers)
     }
 
-    /// Whether there are more than twice as many labels, or steps, as there were files when all were numbered, and 1,024
-    /// more. Allocates nothing.
+    /// Whether there are more labels, or steps, than there may be. Allocates nothing.
     pub fn has_many_numbers(&self) -> bool {
-        let most = self.files_numbered.saturating_mul(2).saturating_add(1024);
-        self.rows.labels.len() > most || self.ways.steps().len() > most
+        self.rows.labels.len() > self.max_numbers.labels
+            || self.ways.steps().len() > self.max_numbers.steps
     }
 
     /// What is granted on the same files, where only labels and steps that files have get numbers. Fails only if memory,

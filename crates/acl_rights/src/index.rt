@@ -86,7 +86,7 @@ impl Rows {
         self.looked
     }
 
-    /// How many verdicts along paths are new or other ones than before. Allocates nothing.
+    /// How many verdicts along paths were made again, since they may be new or other ones than before. Allocates nothing.
     pub fn refreshed(&self) -> u64
         ensures { result ≡ self.now.refreshed }
     {
@@ -105,7 +105,7 @@ impl Rows {
 
 impl<J: Judge> Index<J> {
     ghost use Rattle.acl_rights.specs.Tables.{IsWhole, cell_at, verdict_at, row_at, who_in, may_in, users_granted, files_granted};
-    ghost use Rattle.acl_rights.specs.Stages.{CanStage, most_asked, most_looked, moves_groups};
+    ghost use Rattle.acl_rights.specs.Stages.{CanStage, most_asked, most_looked, moves_looked, moves_groups};
     ghost use Rattle.acl_rights.specs.Reach.{most_refreshed, unlike, rows_along, reached_rows, reached_at, reach_at, users_reaching, files_reached};
 
     /// The table of a state: a verdict is asked for on every user and every file. Fails only if memory runs out.
@@ -145,9 +145,10 @@ impl<J: Judge> Index<J> {
         ensures whole { IfOk result (λ rows. IsWhole J.verdict_of staged.now.state rows.table) }
         ensures at_most { J.asked_of judge.new ≤ J.asked_of judge.old + most_asked staged.now }
         ensures bounded { J.asked_of judge.new ≤ J.asked_of judge.old + length staged.now.state.tree.files * length staged.now.state.people.users }
+        ensures looked { IfOk result (λ rows. rows.looked ≡ moves_looked staged.now.user_change staged.now.state.tree.files) }
         ensures looked_most { IfOk result (λ rows. rows.looked ≤ most_looked staged.now.user_change staged.now.state.tree.files) }
         ensures looked_least { IfOk result (λ rows. moves_groups staged.now.user_change ≡ true → J.asked_of judge.new ≤ J.asked_of judge.old + rows.looked) }
-        ensures refreshed_most { IfOk result (λ rows. rows.refreshed ≤ most_refreshed staged.now) }
+        ensures refreshed { IfOk result (λ rows. rows.refreshed ≡ most_refreshed staged.now) }
         ensures refreshed_least { IfOk result (λ rows. unlike staged.now.user_change self.now.rows rows.table.rows ≤ rows.refreshed) }
     {
         staged.tree().is_sound();

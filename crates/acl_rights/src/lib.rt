@@ -15,13 +15,13 @@ mod touched;
 
 pub use acl_tree::{
     Acl, Command, Draft, DumpRecord, DumpRecords, DumpUse, Edit, Effective, Entry, FaultKind,
-    FilesIter, Form, Found, Id, Key, Kind, Label, Membership, Name, Names, NewFile, NewUser,
-    NoMemory, NoNames, Node, Path, Paths, People, Perm, Record, Requests, Sep, Spec, Specs, Staged,
-    State, Subject, Table, TextFault, Tree, TreeFault, UserName, Want, Which, append_entry,
-    append_header, append_line, append_list, append_name, append_path, append_short,
-    each_file_is_edited, is_below, read_dump, read_entries, read_id, read_name, read_path,
-    read_perms, records_are_read_again, restore_of_what_is_changes_nothing, trim, write_name,
+    FilesIter, Form, Found, Header, Id, Key, Kind, Label, Membership, Name, Names, NewFile,
+    NewUser, NoMemory, NoNames, Node, Path, Paths, People, Perm, Record, Requests, Selection, Sep,
+    Spec, Specs, Staged, State, Subject, Table, TextFault, Tree, TreeFault, UserName, Want, Which,
+    append_entry, append_header, append_line, append_list, append_name, append_path, append_short,
+    each_file_is_edited, read_dump, read_entries, read_id, read_name, read_path, read_perms,
+    records_are_read_again, restore_of_what_is_changes_nothing, trim, write_name,
 };
-pub use acl_verdicts::{Judge, Posix, Subjects};
+pub use acl_verdicts::{Judge, Posix, Subjects, same_row};
 pub use file_rows::{FileRow, FileRows};
 pub use index::{Index, Rows};

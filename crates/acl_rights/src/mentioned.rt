@@ -2,8 +2,7 @@
 
 ghost use Rattle.std.specs.Prelude.{◌≡◌, ◌<◌, ◌∷◌, [], ℕ, length, IfOk, IfSome, map};
 ghost use Rattle.std.specs.Option.{option_map_or};
-ghost use Rattle.std.specs.List.Sorted.{IsStrictlyIncreasing};
-ghost use Rattle.acl_tree.specs.acl_entry.Mentions.{named_groups, is_one_of};
+ghost use Rattle.acl_tree.specs.acl_entry.Mentions.{named_groups};
 ghost use Rattle.acl_rights.specs.Inner.{same_ids, same_mentions, is_regrouped, regrouped};
 
 use acl_tree::{Entry, Id, Key, Label, Record, Tree};
@@ -76,15 +75,4 @@ pub fn regrouped(
         }
     }
     Ok(found)
-}
-
-/// The ids in rising order, each once.
-pub fn rising(ids: Vec<Id>) -> Result<Vec<Id>, AllocError>
-    ensures rising { IfOk result (λ rising. IsStrictlyIncreasing rising.items) }
-    ensures same { IfOk result (λ rising. (g : ℕ) → is_one_of g rising.items ≡ is_one_of g ids.items) }
-{
-    let mut rising = ids;
-    rising.sort()?;
-    rising.dedup();
-    Ok(rising)
 }

@@ -6,8 +6,8 @@ ghost use Rattle.acl_rights.specs.Groups.{mentions_group, set_of, mentioning};
 ghost use Rattle.acl_rights.specs.Inner.{noted_at, mentioned_group, regrouped, AreNone};
 ghost use Rattle.std.specs.BTreeMap.{keys};
 
-use crate::mentioned::{regrouped, rising};
-use acl_tree::{Id, Label, Path, Record, Tree};
+use crate::mentioned::regrouped;
+use acl_tree::{Id, Label, Path, Record, Tree, rising_ids};
 use path_map::Entry;
 use std::alloc::{AllocError, Global};
 use std::collections::BTreeMap;
@@ -41,7 +41,7 @@ fn note_label(
     ensures { OnOk result ((g : ℕ) → noted_at noted.new g ≡ noted_at noted.old g ++ (if is_one_of g (mentions label.now) then (path.now.value, tt) ∷ [] else [])) }
 {
     let entry = Rc::new(alloc, Entry::new(path.clone()?, ()))?;
-    let groups = rising(label.mentions(alloc)?)?;
+    let groups = rising_ids(label.mentions(alloc)?)?;
     for group in &groups {
         note(alloc, noted, *group, entry.clone()?)?;
     }
@@ -165,7 +165,7 @@ impl Noted {
         add_groups(&mut groups, &self.puts)?;
         add_groups(&mut groups, &self.before)?;
         add_groups(&mut groups, &self.gone)?;
-        let groups = rising(groups)?;
+        let groups = rising_ids(groups)?;
         Ok(groups)
     }
 }

@@ -1,14 +1,13 @@
 //! What is granted, and what is reached, after a line, by how the line moves the users.
 
-ghost use Rattle.std.specs.Prelude.{◌≡◌, ◌+◌, ◌*◌, ◌<◌, ◌≤◌, ◌^◌, true, [], Some, length, map, slice_get, count_by, option_map, IfOk};
+ghost use Rattle.std.specs.Prelude.{◌≡◌, ◌+◌, ◌*◌, ◌<◌, ◌≤◌, ◌^◌, true, [], Some, length, map, slice_get, count_by, IfOk};
 ghost use Rattle.path_map.specs.Entries.{IsInOrder};
-ghost use Rattle.path_map.specs.Below.{within};
+ghost use Rattle.path_map.specs.Below.{within, lies_in};
 ghost use Rattle.acl_tree.specs.acl_people.Registers.{persons};
 ghost use Rattle.acl_tree.specs.declared.user_change.UserChange.TheVariants.{Unchanged, Loaded, Memberships, Added, Removed};
-ghost use Rattle.acl_verdicts.specs.Subtrees.{lies_in, covers};
 ghost use Rattle.acl_rights.specs.Groups.{AreLists};
 ghost use Rattle.acl_rights.specs.Tables.{rows_of};
-ghost use Rattle.acl_rights.specs.Stages.{most_asked, most_looked, moves_groups};
+ghost use Rattle.acl_rights.specs.Stages.{most_asked, most_looked, moves_looked, moves_groups};
 ghost use Rattle.acl_rights.specs.Reach.{most_refreshed};
 ghost use Rattle.acl_rights.specs.Grants.{rows_at, AreGrants, GoesOn, GoesOnFrom};
 
@@ -17,13 +16,12 @@ use crate::label_rows::{AgainRows, ChangedRows, LabelRows};
 use crate::lists::{GroupLists, records};
 use crate::touched::touched_paths;
 use acl_tree::{GroupIds, Path, Staged, Subject, Tree, UserChange};
-use acl_verdicts::{Again, Judge, Numbered, reaches_after, reaches_again};
-use path_map::{PathMap, is_within};
+use acl_verdicts::{Again, Judge, Numbered, is_covered, reaches_after, reaches_again};
+use path_map::PathMap;
 use std::alloc::{AllocError, Global};
 use std::rc::Rc;
 
-/// What is granted after a line, how many labels were fetched for it, and how many verdicts along paths are new or other
-/// ones.
+/// What is granted after a line, how many labels were fetched for it, and how many verdicts along paths were made again.
 #[derive(Drop)]
 pub struct After {
     pub grants: Grants,
@@ -42,16 +40,6 @@ fn count_below(numbers: &PathMap<usize>, top: &Path) -> u64
         count += 1;
     }
     count
-}
-
-/// Whether a path is the last one whose files were counted or below it.
-fn is_covered(last: Option<&Path>, path: &Path) -> bool
-    ensures { result ≡ covers (option_map (λ p. p.now) last.entry) path.now }
-{
-    match last {
-        Some(last) => is_within(last, path),
-        None => false,
-    }
 }
 
 /// How many files are at some paths or below them, where the paths are in order.
@@ -112,7 +100,7 @@ fn after_files<J: Judge>(
             rows,
             ways,
             reaches,
-            files_numbered: grants.files_numbered,
+            max_numbers: grants.max_numbers,
         },
         looked: 0,
         refreshed: walked * staged.people().users() as u64,
@@ -196,6 +184,7 @@ fn after_move<J: Judge>(
     ensures grants { IfOk result (λ new. AreGrants staged.now.state.tree.files new.grants) }
     ensures rows { IfOk result (λ new. rows_at new.grants ≡ rows_of J.verdict_of (persons staged.now.state.people) staged.now.state.tree.files) }
     ensures at_most { J.asked_of judge.new ≤ J.asked_of judge.old + most_asked staged.now }
+    ensures looked { IfOk result (λ new. new.looked ≡ moves_looked staged.now.user_change staged.now.state.tree.files) }
     ensures looked_most { IfOk result (λ new. new.looked ≤ most_looked staged.now.user_change staged.now.state.tree.files) }
     ensures looked_least { IfOk result (λ new. J.asked_of judge.new ≤ J.asked_of judge.old + new.looked) }
     ensures refreshed { IfOk result (λ new. new.refreshed ≡ most_refreshed staged.now) }
@@ -215,7 +204,7 @@ fn after_move<J: Judge>(
             rows,
             ways,
             reaches,
-            files_numbered: grants.files_numbered,
+            max_numbers: grants.max_numbers,
         },
         looked: paths.len() as u64,
     })
@@ -247,7 +236,7 @@ fn after_join<J: Judge>(
     let none = Numbered::new(alloc);
     Ok(After {
         refreshed: rows.numbers.len() as u64,
-        grants: Grants::reached(alloc, rows, ways, &none, grants.files_numbered)?,
+        grants: Grants::reached(alloc, rows, ways, &none, grants.max_numbers)?,
         looked: 0,
     })
 }
@@ -272,7 +261,7 @@ fn after_leave<J: Judge>(
     let ways = grants.ways.share()?;
     let none = Numbered::new(alloc);
     Ok(After {
-        grants: Grants::reached(alloc, rows, ways, &none, grants.files_numbered)?,
+        grants: Grants::reached(alloc, rows, ways, &none, grants.max_numbers)?,
         looked: 0,
         refreshed: 0,
     })
@@ -294,6 +283,7 @@ pub fn after_line<J: Judge>(
     ensures grants { IfOk result (λ new. AreGrants staged.now.state.tree.files new.grants) }
     ensures rows { IfOk result (λ new. rows_at new.grants ≡ rows_of J.verdict_of (persons staged.now.state.people) staged.now.state.tree.files) }
     ensures at_most { J.asked_of judge.new ≤ J.asked_of judge.old + most_asked staged.now }
+    ensures looked { IfOk result (λ new. new.looked ≡ moves_looked staged.now.user_change staged.now.state.tree.files) }
     ensures looked_most { IfOk result (λ new. new.looked ≤ most_looked staged.now.user_change staged.now.state.tree.files) }
     ensures looked_least { IfOk result (λ new. moves_groups staged.now.user_change ≡ true → J.asked_of judge.new ≤ J.asked_of judge.old + new.looked) }
     ensures refreshed { IfOk result (λ new. new.refreshed ≡ most_refreshed staged.now) }

@@ -208,7 +208,7 @@ static NAMED: [Row; 2] = [
     Row {
         line: Line::Usermod(b"joe", b"staff"),
         asked: (0, 4),
-        looked: 5,
+        looked: 4,
         refreshed: 5,
         verdicts: &[],
         reach: &[],
@@ -342,37 +342,53 @@ static SEARCH: [Row; 1] = [Row {
     ],
 }];
 
+fn expect_none(rt: &impl Abort, wrong: Option<usize>) {
+    assert_eq!(rt; wrong, None);
+}
+
 /// Plays rows after the setup, and compares what each costs and leaves.
 pub fn after(rt: &impl Abort, alloc: Global, rows: &[Row]) -> World
     ensures { IsWhole rights result.state result.index }
 {
     let mut world = nothing(alloc).expect(rt, "memory");
-    assert_eq!(rt; first_wrong(alloc, &mut world, &SETUP), None, "the setup");
-    assert_eq!(rt; first_wrong(alloc, &mut world, rows), None, "the rows");
+    expect_none(rt, first_wrong(alloc, &mut world, &SETUP));
+    expect_none(rt, first_wrong(alloc, &mut world, rows));
     world
+}
+
+/// Plays each of some tables of rows after the setup.
+fn expect_all(rt: &impl Abort, alloc: Global, tables: &[&[Row]]) {
+    for rows in tables {
+        after(rt, alloc, rows);
+    }
 }
 
 #[test]
 fn lines_on_files_cost_what_they_change(rt: HostRuntime) {
-    after(&rt, rt.alloc(), &FILES_ALONE);
-    after(&rt, rt.alloc(), &FOUR_LABELS);
-    after(&rt, rt.alloc(), &SEARCH);
+    expect_all(&rt, rt.alloc(), &[&FILES_ALONE, &FOUR_LABELS, &SEARCH]);
 }
 
 #[test]
 fn lines_on_people_cost_what_they_change(rt: HostRuntime) {
-    after(&rt, rt.alloc(), &MEMBERSHIPS);
-    after(&rt, rt.alloc(), &PRIMARY);
-    after(&rt, rt.alloc(), &NAMED);
-    after(&rt, rt.alloc(), &COMES_AND_GOES);
-    after(&rt, rt.alloc(), &COMES_BACK);
+    expect_all(
+        &rt,
+        rt.alloc(),
+        &[&MEMBERSHIPS, &PRIMARY, &NAMED, &COMES_AND_GOES, &COMES_BACK],
+    );
+}
+
+/// An index that is made of a state asks for so many verdicts.
+fn expect_build(rt: &impl Abort, alloc: Global, world: World, asked: u64) {
+    assert!(rt; asked_by_build(alloc, &world.state) == Some(asked));
+}
+
+#[test]
+fn a_build_without_files_asks_for_nothing(rt: HostRuntime) {
+    let empty = nothing(rt.alloc()).expect(&rt, "memory");
+    expect_build(&rt, rt.alloc(), empty, 0);
 }
 
 #[test]
 fn a_build_asks_for_each_user_on_each_file(rt: HostRuntime) {
-    let alloc = rt.alloc();
-    let empty = nothing(alloc).expect(&rt, "memory");
-    assert!(rt; asked_by_build(alloc, &empty.state) == Some(0));
-    let world = after(&rt, alloc, &[]);
-    assert!(rt; asked_by_build(alloc, &world.state) == Some(15));
+    expect_build(&rt, rt.alloc(), after(&rt, rt.alloc(), &[]), 15);
 }

@@ -16,7 +16,7 @@ pub struct World {
     pub judge: Posix,
 }
 
-/// What a line costs: verdicts asked for, labels fetched, and verdicts along paths that are new or other ones.
+/// What a line costs: verdicts asked for, labels fetched, and verdicts along paths that are made again.
 #[derive(Drop)]
 pub struct Costs {
     pub asked: u64,
@@ -76,8 +76,8 @@ pub struct Verdict {
     pub byte: u8,
 }
 
-/// A line with its costs: the verdicts that it asks for, at least and at most, and at most how many labels it
-/// fetches and verdicts along paths it refreshes. Then some verdicts after it, and some along paths.
+/// A line with its costs: the verdicts that it asks for, at least and at most, and how many labels it fetches and
+/// verdicts along paths it makes again. Then some verdicts after it, and some along paths.
 pub struct Row {
     pub line: Line,
     pub asked: (u64, u64),
@@ -115,8 +115,8 @@ fn is_within(costs: &Costs, row: &Row) -> bool {
     let (least, most) = row.asked;
     least <= costs.asked
         && costs.asked <= most
-        && costs.looked <= row.looked
-        && costs.refreshed <= row.refreshed
+        && costs.looked == row.looked
+        && costs.refreshed == row.refreshed
 }
 
 /// Whether a line costs what its row expects, and leaves the verdicts of the row.

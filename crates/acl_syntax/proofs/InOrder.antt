@@ -1,9 +1,10 @@
 -- The entries of a text are read one after another, each at its number.
-use Rattle.std.proofs.Common.{◌≡◌, ℕ, ◌+◌, ◌≤◌, Bool, false, leb, List, [], ◌∷◌, ◌++◌, length, map, Option, Result, Ok, Err, refl, sym, ap, ◌∙◌, inl, inr, arith, append_assoc, append-nil, length-append}
+use Rattle.std.proofs.Common.{◌≡◌, ℕ, ◌+◌, ◌≤◌, Bool, false, leb, List, [], ◌∷◌, ◌++◌, length, map, Result, Ok, Err, refl, sym, ap, ◌∙◌, inl, inr, arith, append_assoc, append-nil, length-append}
 use Rattle.std.specs.Prelude.{◌↔◌, ◌==◌, not, filter}
 use Rattle.std.specs.List.{enumerate_from}
 use Rattle.std.proofs.lemmas.Bool.{cases_Bool, leb-false, lt-leb}
 use Rattle.acl_names.specs.Pieces.{pieces}
+use Rattle.acl_syntax.specs.Naming.{Naming}
 use Rattle.acl_syntax.specs.declared.fault.FaultKind.{FaultKind}
 use Rattle.acl_syntax.specs.declared.fault.TextFault.{TextFault}
 use Rattle.acl_syntax.specs.declared.entries.Sep.{Sep}
@@ -14,9 +15,9 @@ use Rattle.acl_syntax.specs.Blanks.{trimmed}
 use Rattle.acl_syntax.specs.Entries.{content, separator, entry_of, most_text_entries, one_more}
 use Rattle.acl_syntax.specs.Means.{AreRead}
 
-module _ (user_id group_id : List ℕ → Option ℕ) (sep : Sep) (rules : Rules) where
+module _ (naming : Naming) (sep : Sep) (rules : Rules) where
   abbrev read : ℕ × List ℕ → Result Spec FaultKind
-  read e = entry_of user_id group_id rules e.0 e.1
+  read e = entry_of naming rules e.0 e.1
 
   abbrev has_no_content : List ℕ → Bool
   has_no_content piece = length (trimmed (content sep piece)) == 0
@@ -25,7 +26,7 @@ module _ (user_id group_id : List ℕ → Option ℕ) (sep : Sep) (rules : Rules
   entries_from at ps = filter (λ e. not (length (trimmed e.1) == 0)) (enumerate_from at (map (content sep) ps))
 
   abbrev reads_specs : ℕ → List Spec → List (List ℕ) → Result (List Spec) TextFault
-  reads_specs at some ps = read_each_from (one_more user_id group_id sep rules) at some ps
+  reads_specs at some ps = read_each_from (one_more naming sep rules) at some ps
 
   -- once some entries are read, what the other pieces add
   record Adds (at : ℕ) (some : List Spec) (ps : List (List ℕ)) (out : List Spec) : Type 0 where
@@ -86,7 +87,7 @@ module _ (user_id group_id : List ℕ → Option ℕ) (sep : Sep) (rules : Rules
         | inr means ↦ reads_one at some p ps means specs (rw means at are) few (λ more rest goes room. reads_added (at + 1) more ps rest goes room)
       ]
 
-  pub read_in_order : (bytes : List ℕ) (specs : List Spec) → (read_each (one_more user_id group_id sep rules) [] (pieces (separator sep) bytes) ≡ Ok specs) ↔ AreRead user_id group_id sep rules bytes specs
+  pub read_in_order : (bytes : List ℕ) (specs : List Spec) → (read_each (one_more naming sep rules) [] (pieces (separator sep) bytes) ≡ Ok specs) ↔ AreRead naming sep rules bytes specs
   read_in_order bytes specs = (
     λ e.
         let more = added 1 [] (pieces (separator sep) bytes) specs (omega arith) e in

@@ -4,6 +4,7 @@ use Rattle.std.specs.Prelude.{◌⊎◌, ◌==◌, ◌&&◌, not, nat_le, if◌t
 use Rattle.std.proofs.lemmas.Bool.{cases_Bool, ne_eqb, le-leb, leb-true}
 use Rattle.acl_entry.specs.Keys.{is_base}
 use Rattle.acl_entry.specs.declared.key.Key.{Key}
+use Rattle.acl_syntax.specs.Naming.{Naming}
 use Rattle.acl_syntax.specs.declared.fault.FaultKind.{FaultKind}
 use Rattle.acl_syntax.specs.declared.fault.FaultKind.TheVariants as kinds
 use Rattle.acl_syntax.specs.declared.entries.Sep.{Sep}
@@ -104,13 +105,13 @@ perms-kind rules field k e =
       | inr none ↦ no_perms-kind field k (rw none at e)
     ]
 
-word-kind : (user_id group_id : List ℕ → Option ℕ) (tag : Tag) (word : List ℕ) (k : FaultKind) → key_of user_id group_id tag word ≡ Err k → (5 ≤ number k) × (number k ≤ 6)
-word-kind user_id group_id tags.User [] k e = absurd cc
-word-kind user_id group_id tags.User (b ∷ bs) k e = let same = ap number (or_fault-kind _ kinds.UnknownUser k e) in (omega (arith, same), omega (arith, same))
-word-kind user_id group_id tags.Group [] k e = absurd cc
-word-kind user_id group_id tags.Group (b ∷ bs) k e = let same = ap number (or_fault-kind _ kinds.UnknownGroup k e) in (omega (arith, same), omega (arith, same))
-word-kind user_id group_id tags.Mask word k e = absurd cc
-word-kind user_id group_id tags.Other word k e = absurd cc
+word-kind : (naming : Naming) (tag : Tag) (word : List ℕ) (k : FaultKind) → key_of naming tag word ≡ Err k → (5 ≤ number k) × (number k ≤ 6)
+word-kind naming tags.User [] k e = absurd cc
+word-kind naming tags.User (b ∷ bs) k e = let same = ap number (or_fault-kind _ kinds.UnknownUser k e) in (omega (arith, same), omega (arith, same))
+word-kind naming tags.Group [] k e = absurd cc
+word-kind naming tags.Group (b ∷ bs) k e = let same = ap number (or_fault-kind _ kinds.UnknownGroup k e) in (omega (arith, same), omega (arith, same))
+word-kind naming tags.Mask word k e = absurd cc
+word-kind naming tags.Other word k e = absurd cc
 
 base-kind : (rules : Rules) (key : Key) (k : FaultKind) → allowed_key rules key ≡ Err k → number k ≡ 7
 base-kind rules key k e =
@@ -121,58 +122,58 @@ base-kind rules key k e =
 
 -- ---- an entry
 
-module _ (user_id group_id : List ℕ → Option ℕ) (rules : Rules) (fields : Bool × List (List ℕ)) where
+module _ (naming : Naming) (rules : Rules) (fields : Bool × List (List ℕ)) where
   same_row : (a b : EntryRow) → tagged rules fields ≡ Some a → tagged rules fields ≡ Some b → b ≡ a
   same_row a b ea eb = let both : Some b ≡ Some a = sym eb ∙ ea in cc
 
-  tag_check : ReportsLowest (HasBadTag user_id group_id rules fields) (or_fault (tagged rules fields) kinds.BadTag)
-  tag_check = alone (HasBadTag user_id group_id rules fields) (or_fault (tagged rules fields) kinds.BadTag)
+  tag_check : ReportsLowest (HasBadTag naming rules fields) (or_fault (tagged rules fields) kinds.BadTag)
+  tag_check = alone (HasBadTag naming rules fields) (or_fault (tagged rules fields) kinds.BadTag)
       (λ k h. ap (λ o. or_fault o kinds.BadTag) h.no_row ∙ ap (λ j. Err j) (sym h.is))
       (λ k e. record { is = sym (or_fault-kind (tagged rules fields) kinds.BadTag k e); no_row = or_fault-none (tagged rules fields) kinds.BadTag k e })
 
   module _ (row : EntryRow) (is_row : tagged rules fields ≡ Some row) where
-    perms_check : ReportsLowest (HasBadPerms user_id group_id rules fields) (wanted_perms rules row.perms)
-    perms_check = alone (HasBadPerms user_id group_id rules fields) (wanted_perms rules row.perms)
+    perms_check : ReportsLowest (HasBadPerms naming rules fields) (wanted_perms rules row.perms)
+    perms_check = alone (HasBadPerms naming rules fields) (wanted_perms rules row.perms)
         (λ k h. ap (λ (r : EntryRow). wanted_perms rules r.perms) (same_row h.row row h.is_row is_row) ∙ h.bad)
         (λ k e. record { row = row; is_row = is_row; bad = e })
 
-    word_check : ReportsLowest (HasUnknownWord user_id group_id rules fields) (key_of user_id group_id row.tag row.word)
-    word_check = alone (HasUnknownWord user_id group_id rules fields) (key_of user_id group_id row.tag row.word)
-        (λ k h. ap (λ (r : EntryRow). key_of user_id group_id r.tag r.word) (same_row h.row row h.is_row is_row) ∙ h.unknown)
+    word_check : ReportsLowest (HasUnknownWord naming rules fields) (key_of naming row.tag row.word)
+    word_check = alone (HasUnknownWord naming rules fields) (key_of naming row.tag row.word)
+        (λ k h. ap (λ (r : EntryRow). key_of naming r.tag r.word) (same_row h.row row h.is_row is_row) ∙ h.unknown)
         (λ k e. record { row = row; is_row = is_row; unknown = e })
 
-    base_check : (key : Key) → key_of user_id group_id row.tag row.word ≡ Ok key → ReportsLowest (HasBaseKey user_id group_id rules fields) (allowed_key rules key)
-    base_check key is_key = alone (HasBaseKey user_id group_id rules fields) (allowed_key rules key)
+    base_check : (key : Key) → key_of naming row.tag row.word ≡ Ok key → ReportsLowest (HasBaseKey naming rules fields) (allowed_key rules key)
+    base_check key is_key = alone (HasBaseKey naming rules fields) (allowed_key rules key)
         (λ k h.
-        let here = ap (λ (r : EntryRow). key_of user_id group_id r.tag r.word) (same_row h.row row h.is_row is_row) ∙ h.is_key in
+        let here = ap (λ (r : EntryRow). key_of naming r.tag r.word) (same_row h.row row h.is_row is_row) ∙ h.is_key in
         let both : Ok key ≡ Ok h.key = sym is_key ∙ here in
         let same : key ≡ h.key = cc in
         ap (allowed_key rules) same ∙ h.base)
         (λ k e. record { row = row; key = key; is_row = is_row; is_key = is_key; base = e })
 
-  tag_below : (j k : FaultKind) → HasBadTag user_id group_id rules fields j → number j ≤ number k
+  tag_below : (j k : FaultKind) → HasBadTag naming rules fields j → number j ≤ number k
   tag_below j k h = omega (arith, ap number h.is, some_number k)
 
-  perms_below : (j k : FaultKind) → HasBadPerms user_id group_id rules fields j → (HasUnknownWord user_id group_id rules fields k ⊎ HasBaseKey user_id group_id rules fields k) → number j ≤ number k
+  perms_below : (j k : FaultKind) → HasBadPerms naming rules fields j → (HasUnknownWord naming rules fields k ⊎ HasBaseKey naming rules fields k) → number j ≤ number k
   perms_below j k h later =
       let low = perms-kind rules h.row.perms j h.bad in
       elim later [
-        | inl word ↦ omega (arith, low, (word-kind user_id group_id word.row.tag word.row.word k word.unknown).0)
+        | inl word ↦ omega (arith, low, (word-kind naming word.row.tag word.row.word k word.unknown).0)
         | inr base ↦ omega (arith, low, base-kind rules base.key k base.base)
       ]
 
-  word_below : (j k : FaultKind) → HasUnknownWord user_id group_id rules fields j → HasBaseKey user_id group_id rules fields k → number j ≤ number k
-  word_below j k h base = omega (arith, (word-kind user_id group_id h.row.tag h.row.word j h.unknown).1, base-kind rules base.key k base.base)
+  word_below : (j k : FaultKind) → HasUnknownWord naming rules fields j → HasBaseKey naming rules fields k → number j ≤ number k
+  word_below j k h base = omega (arith, (word-kind naming h.row.tag h.row.word j h.unknown).1, base-kind rules base.key k base.base)
 
   -- all that an entry has in itself is lower than what it has by its place
-  pub fields-kind : (k : FaultKind) → FieldsHave user_id group_id rules fields k → number k ≤ 7
+  pub fields-kind : (k : FaultKind) → FieldsHave naming rules fields k → number k ≤ 7
   fields-kind k have =
       elim have [
         | inl tag ↦ omega (arith, ap number tag.is)
         | inr later ↦ elim later [
           | inl perms ↦ omega (arith, perms-kind rules perms.row.perms k perms.bad)
           | inr last ↦ elim last [
-            | inl word ↦ omega (arith, (word-kind user_id group_id word.row.tag word.row.word k word.unknown).1)
+            | inl word ↦ omega (arith, (word-kind naming word.row.tag word.row.word k word.unknown).1)
             | inr base ↦ omega (arith, base-kind rules base.key k base.base)
           ]
         ]
@@ -183,39 +184,39 @@ pub made : {A B : Type 0} (has : FaultKind → Type 0) (r : Result A FaultKind) 
 made has (Ok x) g one = record { no_fault = λ y e k h. one.no_fault x refl k h; lowest = λ k e. absurd cc }
 made has (Err i) g one = record { no_fault = λ y e k h. absurd cc; lowest = λ k e. let same : i ≡ k = cc in one.lowest k (ap (λ j. Err j) same) }
 
-module _ (user_id group_id : List ℕ → Option ℕ) (rules : Rules) (at : ℕ) (fs : List (List ℕ)) where
+module _ (naming : Naming) (rules : Rules) (at : ℕ) (fs : List (List ℕ)) where
   abbrev spec_with : Option PermSpec → Key → Spec
   spec_with perm allowed = record { at = at; dflt = (default_of fs).0; key = allowed; perm = perm }
 
   abbrev KeyHas : FaultKind → Type 0
-  KeyHas k = HasUnknownWord user_id group_id rules (default_of fs) k ⊎ HasBaseKey user_id group_id rules (default_of fs) k
+  KeyHas k = HasUnknownWord naming rules (default_of fs) k ⊎ HasBaseKey naming rules (default_of fs) k
 
   key_step : (row : EntryRow) → tagged rules (default_of fs) ≡ Some row → (perm : Option PermSpec)
-      → ReportsLowest KeyHas (key_of user_id group_id row.tag row.word >>= (λ key. allowed_key rules key >>= (λ allowed. Ok (spec_with perm allowed))))
+      → ReportsLowest KeyHas (key_of naming row.tag row.word >>= (λ key. allowed_key rules key >>= (λ allowed. Ok (spec_with perm allowed))))
   key_step row is_row perm =
-      in_turn (HasUnknownWord user_id group_id rules (default_of fs)) (HasBaseKey user_id group_id rules (default_of fs)) (key_of user_id group_id row.tag row.word)
+      in_turn (HasUnknownWord naming rules (default_of fs)) (HasBaseKey naming rules (default_of fs)) (key_of naming row.tag row.word)
       (λ key. allowed_key rules key >>= (λ allowed. Ok (spec_with perm allowed)))
-      (word_below user_id group_id rules (default_of fs)) (word_check user_id group_id rules (default_of fs) row is_row)
-      (λ key is_key. made (HasBaseKey user_id group_id rules (default_of fs)) (allowed_key rules key) (spec_with perm) (base_check user_id group_id rules (default_of fs) row is_row key is_key))
+      (word_below naming rules (default_of fs)) (word_check naming rules (default_of fs) row is_row)
+      (λ key is_key. made (HasBaseKey naming rules (default_of fs)) (allowed_key rules key) (spec_with perm) (base_check naming rules (default_of fs) row is_row key is_key))
 
   perms_step : (row : EntryRow) → tagged rules (default_of fs) ≡ Some row
-      → ReportsLowest (λ k. HasBadPerms user_id group_id rules (default_of fs) k ⊎ KeyHas k)
-      (wanted_perms rules row.perms >>= (λ perm. key_of user_id group_id row.tag row.word >>= (λ key. allowed_key rules key >>= (λ allowed. Ok (spec_with perm allowed)))))
+      → ReportsLowest (λ k. HasBadPerms naming rules (default_of fs) k ⊎ KeyHas k)
+      (wanted_perms rules row.perms >>= (λ perm. key_of naming row.tag row.word >>= (λ key. allowed_key rules key >>= (λ allowed. Ok (spec_with perm allowed)))))
   perms_step row is_row =
-      in_turn (HasBadPerms user_id group_id rules (default_of fs)) KeyHas (wanted_perms rules row.perms)
-      (λ perm. key_of user_id group_id row.tag row.word >>= (λ key. allowed_key rules key >>= (λ allowed. Ok (spec_with perm allowed))))
-      (perms_below user_id group_id rules (default_of fs)) (perms_check user_id group_id rules (default_of fs) row is_row) (λ perm is. key_step row is_row perm)
+      in_turn (HasBadPerms naming rules (default_of fs)) KeyHas (wanted_perms rules row.perms)
+      (λ perm. key_of naming row.tag row.word >>= (λ key. allowed_key rules key >>= (λ allowed. Ok (spec_with perm allowed))))
+      (perms_below naming rules (default_of fs)) (perms_check naming rules (default_of fs) row is_row) (λ perm is. key_step row is_row perm)
 
-  fields_lowest : ReportsLowest (FieldsHave user_id group_id rules (default_of fs)) (entry_from user_id group_id rules at fs)
+  fields_lowest : ReportsLowest (FieldsHave naming rules (default_of fs)) (entry_from naming rules at fs)
   fields_lowest =
-      in_turn (HasBadTag user_id group_id rules (default_of fs)) (λ k. HasBadPerms user_id group_id rules (default_of fs) k ⊎ KeyHas k) (or_fault (tagged rules (default_of fs)) kinds.BadTag)
-      (λ row. wanted_perms rules row.perms >>= (λ perm. key_of user_id group_id row.tag row.word >>= (λ key. allowed_key rules key >>= (λ allowed. Ok (spec_with perm allowed)))))
-      (λ j k h later. tag_below user_id group_id rules (default_of fs) j k h) (tag_check user_id group_id rules (default_of fs))
+      in_turn (HasBadTag naming rules (default_of fs)) (λ k. HasBadPerms naming rules (default_of fs) k ⊎ KeyHas k) (or_fault (tagged rules (default_of fs)) kinds.BadTag)
+      (λ row. wanted_perms rules row.perms >>= (λ perm. key_of naming row.tag row.word >>= (λ key. allowed_key rules key >>= (λ allowed. Ok (spec_with perm allowed)))))
+      (λ j k h later. tag_below naming rules (default_of fs) j k h) (tag_check naming rules (default_of fs))
       (λ row is. perms_step row (or_fault-some (tagged rules (default_of fs)) kinds.BadTag row is))
 
 -- an entry by itself
-pub entry_lowest : (user_id group_id : List ℕ → Option ℕ) (rules : Rules) (at : ℕ) (entry : List ℕ) → ReportsLowest (EntryHas user_id group_id rules entry) (entry_of user_id group_id rules at entry)
-entry_lowest user_id group_id rules at entry = fields_lowest user_id group_id rules at (entry_fields entry)
+pub entry_lowest : (naming : Naming) (rules : Rules) (at : ℕ) (entry : List ℕ) → ReportsLowest (EntryHas naming rules entry) (entry_of naming rules at entry)
+entry_lowest naming rules at entry = fields_lowest naming rules at (entry_fields entry)
 
 room_lowest : (specs : List Spec) (spec : Spec) → ReportsLowest (HasNoRoom specs) (if nat_le most_text_entries (length specs) then Err kinds.TooMany else Ok (specs ++ spec ∷ []))
 room_lowest specs spec = alone (HasNoRoom specs) (if nat_le most_text_entries (length specs) then Err kinds.TooMany else Ok (specs ++ spec ∷ []))
@@ -227,17 +228,17 @@ room_lowest specs spec = alone (HasNoRoom specs) (if nat_le most_text_entries (l
     ])
 
 -- the next entry of a text
-next_lowest : (user_id group_id : List ℕ → Option ℕ) (rules : Rules) (at : ℕ) (specs : List Spec) (entry : List ℕ)
-    → ReportsLowest (NextEntryHas user_id group_id rules specs entry) (with_entry specs (entry_of user_id group_id rules at entry))
-next_lowest user_id group_id rules at specs entry =
-    in_turn (EntryHas user_id group_id rules entry) (HasNoRoom specs) (entry_of user_id group_id rules at entry)
+next_lowest : (naming : Naming) (rules : Rules) (at : ℕ) (specs : List Spec) (entry : List ℕ)
+    → ReportsLowest (NextEntryHas naming rules specs entry) (with_entry specs (entry_of naming rules at entry))
+next_lowest naming rules at specs entry =
+    in_turn (EntryHas naming rules entry) (HasNoRoom specs) (entry_of naming rules at entry)
     (λ spec. if nat_le most_text_entries (length specs) then Err kinds.TooMany else Ok (specs ++ spec ∷ []))
-    (λ j k have room. omega (arith, fields-kind user_id group_id rules (default_of (entry_fields entry)) j have, ap number room.is))
-    (entry_lowest user_id group_id rules at entry) (λ spec is. room_lowest specs spec)
+    (λ j k have room. omega (arith, fields-kind naming rules (default_of (entry_fields entry)) j have, ap number room.is))
+    (entry_lowest naming rules at entry) (λ spec is. room_lowest specs spec)
 
 -- a piece that is not empty
-pub piece_lowest : (user_id group_id : List ℕ → Option ℕ) (sep : Sep) (rules : Rules) (at : ℕ) (specs : List Spec) (piece : List ℕ) → 0 < length (trimmed (content sep piece))
-    → ReportsLowest (NextEntryHas user_id group_id rules specs (content sep piece)) (one_more user_id group_id sep rules at specs piece)
-piece_lowest user_id group_id sep rules at specs piece some =
+pub piece_lowest : (naming : Naming) (sep : Sep) (rules : Rules) (at : ℕ) (specs : List Spec) (piece : List ℕ) → 0 < length (trimmed (content sep piece))
+    → ReportsLowest (NextEntryHas naming rules specs (content sep piece)) (one_more naming sep rules at specs piece)
+piece_lowest naming sep rules at specs piece some =
     let full : (length (trimmed (content sep piece)) == 0) ≡ false = ne_eqb (length (trimmed (content sep piece))) 0 (λ zero. omega arith) in
-    rw full (next_lowest user_id group_id rules at specs (content sep piece))
+    rw full (next_lowest naming rules at specs (content sep piece))

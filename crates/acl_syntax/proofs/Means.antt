@@ -9,6 +9,7 @@ use Rattle.acl_entry.specs.declared.key.Key.{Key}
 use Rattle.acl_entry.specs.declared.key.Key.TheVariants as keys
 use Rattle.acl_entry.specs.Keys.{is_base}
 use Rattle.acl_entry.specs.Perms.{numbered}
+use Rattle.acl_syntax.specs.Naming.{Naming}
 use Rattle.acl_syntax.specs.declared.entries.Rules.{Rules}
 use Rattle.acl_syntax.specs.declared.entries.PermSpec.{PermSpec}
 use Rattle.acl_syntax.specs.declared.entries.Spec.{Spec}
@@ -225,27 +226,27 @@ tagged_is rules all fields false h = refl
 
 -- ---- whom it is for
 
-module _ (user_id group_id : List ℕ → Option ℕ) where
+module _ (naming : Naming) where
   same_key : (a b : Key) → (let r : Result Key FaultKind = Ok a in r ≡ Ok b) → a ≡ b
   same_key a b e = cc
 
-  for_user : (b : ℕ) (bs : List ℕ) (key : Key) (o : Option ℕ) → word_id user_id (b ∷ bs) ≡ o → key_of user_id group_id tags.User (b ∷ bs) ≡ Ok key → IsFor user_id group_id key tags.User (b ∷ bs)
+  for_user : (b : ℕ) (bs : List ℕ) (key : Key) (o : Option ℕ) → word_id naming.user_id (b ∷ bs) ≡ o → key_of naming tags.User (b ∷ bs) ≡ Ok key → IsFor naming key tags.User (b ∷ bs)
   for_user b bs key None is e = let read_each = rw is at e in absurd cc
   for_user b bs key (Some id) is e = let read_each = rw is at e in rw (← same_key _ key read_each) (refl, omega arith, is)
 
-  for_group : (b : ℕ) (bs : List ℕ) (key : Key) (o : Option ℕ) → word_id group_id (b ∷ bs) ≡ o → key_of user_id group_id tags.Group (b ∷ bs) ≡ Ok key → IsFor user_id group_id key tags.Group (b ∷ bs)
+  for_group : (b : ℕ) (bs : List ℕ) (key : Key) (o : Option ℕ) → word_id naming.group_id (b ∷ bs) ≡ o → key_of naming tags.Group (b ∷ bs) ≡ Ok key → IsFor naming key tags.Group (b ∷ bs)
   for_group b bs key None is e = let read_each = rw is at e in absurd cc
   for_group b bs key (Some id) is e = let read_each = rw is at e in rw (← same_key _ key read_each) (refl, omega arith, is)
 
-  is_for : (tag : Tag) (word : List ℕ) (key : Key) → key_of user_id group_id tag word ≡ Ok key → IsFor user_id group_id key tag word
+  is_for : (tag : Tag) (word : List ℕ) (key : Key) → key_of naming tag word ≡ Ok key → IsFor naming key tag word
   is_for tags.User [] key e = rw (← same_key _ key e) (refl, refl)
-  is_for tags.User (b ∷ bs) key e = for_user b bs key (word_id user_id (b ∷ bs)) refl e
+  is_for tags.User (b ∷ bs) key e = for_user b bs key (word_id naming.user_id (b ∷ bs)) refl e
   is_for tags.Group [] key e = rw (← same_key _ key e) (refl, refl)
-  is_for tags.Group (b ∷ bs) key e = for_group b bs key (word_id group_id (b ∷ bs)) refl e
+  is_for tags.Group (b ∷ bs) key e = for_group b bs key (word_id naming.group_id (b ∷ bs)) refl e
   is_for tags.Mask word key e = rw (← same_key _ key e) refl
   is_for tags.Other word key e = rw (← same_key _ key e) refl
 
-  key_from : (key : Key) (tag : Tag) (word : List ℕ) → IsFor user_id group_id key tag word → key_of user_id group_id tag word ≡ Ok key
+  key_from : (key : Key) (tag : Tag) (word : List ℕ) → IsFor naming key tag word → key_of naming tag word ≡ Ok key
   key_from keys.Owner tag word h = rw (h.0, h.1) refl
   key_from (keys.User id) tag [] h = absurd (omega (arith, h.1))
   key_from (keys.User id) tag (b ∷ bs) h = rw (h.0, h.2) refl
@@ -388,19 +389,19 @@ bound : {A B : Type 0} (r : Result A FaultKind) (f : A → Result B FaultKind) (
 bound (Ok x) f y e = record { value = x; is = refl; after = e }
 bound (Err k) f y e = absurd cc
 
-module _ (user_id group_id : List ℕ → Option ℕ) (rules : Rules) (at : ℕ) (entry : List ℕ) (spec : Spec) where
+module _ (naming : Naming) (rules : Rules) (at : ℕ) (entry : List ℕ) (spec : Spec) where
   abbrev all : List (List ℕ)
   all = entry_fields entry
 
   abbrev spec_with : Option PermSpec → Key → Spec
   spec_with perm key = record { at = at; dflt = (default_of all).0; key = key; perm = perm }
 
-  means : entry_of user_id group_id rules at entry ≡ Ok spec → Means user_id group_id rules at entry spec
+  means : entry_of naming rules at entry ≡ Ok spec → Means naming rules at entry spec
   means e =
-      let tag = bound (or_fault (tagged rules (default_of all)) kinds.BadTag) (λ row. wanted_perms rules row.perms >>= (λ perm. key_of user_id group_id row.tag row.word >>= (λ key. allowed_key rules key >>= (λ allowed. Ok (spec_with perm allowed))))) spec e in
+      let tag = bound (or_fault (tagged rules (default_of all)) kinds.BadTag) (λ row. wanted_perms rules row.perms >>= (λ perm. key_of naming row.tag row.word >>= (λ key. allowed_key rules key >>= (λ allowed. Ok (spec_with perm allowed))))) spec e in
       let row = tag.value in
-      let perms = bound (wanted_perms rules row.perms) (λ perm. key_of user_id group_id row.tag row.word >>= (λ key. allowed_key rules key >>= (λ allowed. Ok (spec_with perm allowed)))) spec tag.after in
-      let key = bound (key_of user_id group_id row.tag row.word) (λ key. allowed_key rules key >>= (λ allowed. Ok (spec_with perms.value allowed))) spec perms.after in
+      let perms = bound (wanted_perms rules row.perms) (λ perm. key_of naming row.tag row.word >>= (λ key. allowed_key rules key >>= (λ allowed. Ok (spec_with perm allowed)))) spec tag.after in
+      let key = bound (key_of naming row.tag row.word) (λ key. allowed_key rules key >>= (λ allowed. Ok (spec_with perms.value allowed))) spec perms.after in
       let base = bound (allowed_key rules key.value) (λ allowed. Ok (spec_with perms.value allowed)) spec key.after in
       let same : spec_with perms.value base.value ≡ spec = cc (base.after) in
       let allowed = base_allowed rules key.value base.value base.is in
@@ -411,19 +412,19 @@ module _ (user_id group_id : List ℕ → Option ℕ) (rules : Rules) (at : ℕ)
         of_list = split.of_list;
         row = row;
         written = is_written split.fields row split.row_is;
-        is_for = rw (← allowed.0) (is_for user_id group_id row.tag row.word key.value key.is);
+        is_for = rw (← allowed.0) (is_for naming row.tag row.word key.value key.is);
         perms = has_perms rules.takes_perms rules.takes_x row.perms perms.value perms.is;
         no_base = rw (← allowed.0) allowed.1;
       })
 
-  state : Means user_id group_id rules at entry spec → entry_of user_id group_id rules at entry ≡ Ok spec
+  state : Means naming rules at entry spec → entry_of naming rules at entry ≡ Ok spec
   state h =
       let split = split_is rules all h.fields spec.dflt h.of_list in
       let row : tagged rules (spec.dflt, h.fields) ≡ Some h.row = tagged_is rules all h.fields spec.dflt h.of_list ∙ row_from h.fields h.row.tag h.row.word h.row.perms h.written in
       let perms = perms_had rules.takes_perms rules.takes_x h.row.perms spec.perm h.perms in
-      let key = key_from user_id group_id spec.key h.row.tag h.row.word h.is_for in
+      let key = key_from naming spec.key h.row.tag h.row.word h.is_for in
       let base = allowed_from rules spec.key h.no_base in
       rw (split, row, perms, key, base) (λ i. Ok (record { at = sym h.place i; dflt = spec.dflt; key = spec.key; perm = spec.perm }))
 
-  pub means_spec : (entry_of user_id group_id rules at entry ≡ Ok spec) ↔ Means user_id group_id rules at entry spec
+  pub means_spec : (entry_of naming rules at entry ≡ Ok spec) ↔ Means naming rules at entry spec
   means_spec = (means, state)

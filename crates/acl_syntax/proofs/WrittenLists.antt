@@ -16,6 +16,7 @@ use Rattle.acl_entry.specs.declared.key.Key.{Key}
 use Rattle.acl_entry.specs.declared.key.Key.TheVariants as keys
 use Rattle.acl_entry.specs.declared.entry.Entry.{Entry}
 use Rattle.acl_names.specs.Pieces.{pieces}
+use Rattle.acl_syntax.specs.Naming.{Naming}
 use Rattle.acl_syntax.specs.declared.fault.TextFault.{TextFault}
 use Rattle.acl_syntax.specs.declared.entries.Sep.{Sep}
 use Rattle.acl_syntax.specs.declared.entries.Sep.TheVariants.{Comma, Line}
@@ -90,40 +91,40 @@ tag_some Short (keys.Group id) = omega arith
 tag_some Short keys.Mask = omega arith
 tag_some Short keys.Other = omega arith
 
-module _ (takes_default takes_x : Bool) (user_id group_id : List ℕ → Option ℕ) (user_name group_name : ℕ → Option (List ℕ)) where
+module _ (takes_default takes_x : Bool) (naming : Naming) where
   abbrev IsNamedKey : Key → Type 0
-  IsNamedKey k = IsKeyNamed user_id group_id user_name group_name k
+  IsNamedKey k = IsKeyNamed naming k
 
   -- ---- fields
 
-  pub qualifier_plain : (k : Key) → id_of k < nobody → IsNamedKey k → list_all is_plain (qualifier user_name group_name k) ≡ true
+  pub qualifier_plain : (k : Key) → id_of k < nobody → IsNamedKey k → list_all is_plain (qualifier naming k) ≡ true
   qualifier_plain keys.Owner lt named = refl
-  qualifier_plain (keys.User id) lt named = (word_again user_id id (user_name id) lt named).plain
+  qualifier_plain (keys.User id) lt named = (word_again naming.user_id id (naming.user_name id) lt named).plain
   qualifier_plain keys.OwningGroup lt named = refl
-  qualifier_plain (keys.Group id) lt named = (word_again group_id id (group_name id) lt named).plain
+  qualifier_plain (keys.Group id) lt named = (word_again naming.group_id id (naming.group_name id) lt named).plain
   qualifier_plain keys.Mask lt named = refl
   qualifier_plain keys.Other lt named = refl
 
   abbrev FromFields : ℕ → List ℕ → List ℕ → Key → Perms → Type 0
-  FromFields at tag word key p = entry_from user_id group_id (taking takes_default takes_x) at (tag ∷ word ∷ text p ∷ []) ≡ Ok (record { at = at; dflt = false; key = key; perm = Some (record { fixed = p; cond_x = false }) })
+  FromFields at tag word key p = entry_from naming (taking takes_default takes_x) at (tag ∷ word ∷ text p ∷ []) ≡ Ok (record { at = at; dflt = false; key = key; perm = Some (record { fixed = p; cond_x = false }) })
 
-  user_again : (form : Form) (at : ℕ) (w : List ℕ) (id : ℕ) → IsWordOf user_id id w → (p : Perms) → FromFields at (tag_text form (keys.User id)) w (keys.User id) p
+  user_again : (form : Form) (at : ℕ) (w : List ℕ) (id : ℕ) → IsWordOf naming.user_id id w → (p : Perms) → FromFields at (tag_text form (keys.User id)) w (keys.User id) p
   user_again form at [] id is p = absurd (omega (arith, is.some))
   user_again Long at (b ∷ bs) id is p = rw (perms_again takes_x p.read p.write p.execute, is.again) refl
   user_again Short at (b ∷ bs) id is p = rw (perms_again takes_x p.read p.write p.execute, is.again) refl
 
-  group_again : (form : Form) (at : ℕ) (w : List ℕ) (id : ℕ) → IsWordOf group_id id w → (p : Perms) → FromFields at (tag_text form (keys.Group id)) w (keys.Group id) p
+  group_again : (form : Form) (at : ℕ) (w : List ℕ) (id : ℕ) → IsWordOf naming.group_id id w → (p : Perms) → FromFields at (tag_text form (keys.Group id)) w (keys.Group id) p
   group_again form at [] id is p = absurd (omega (arith, is.some))
   group_again Long at (b ∷ bs) id is p = rw (perms_again takes_x p.read p.write p.execute, is.again) refl
   group_again Short at (b ∷ bs) id is p = rw (perms_again takes_x p.read p.write p.execute, is.again) refl
 
-  pub key_again : (form : Form) (at : ℕ) (k : Key) (p : Perms) → id_of k < nobody → IsNamedKey k → FromFields at (tag_text form k) (qualifier user_name group_name k) k p
+  pub key_again : (form : Form) (at : ℕ) (k : Key) (p : Perms) → id_of k < nobody → IsNamedKey k → FromFields at (tag_text form k) (qualifier naming k) k p
   key_again Long at keys.Owner p lt named = rw (perms_again takes_x p.read p.write p.execute) refl
   key_again Short at keys.Owner p lt named = rw (perms_again takes_x p.read p.write p.execute) refl
-  key_again form at (keys.User id) p lt named = user_again form at (id_text id (user_name id)) id (word_again user_id id (user_name id) lt named) p
+  key_again form at (keys.User id) p lt named = user_again form at (id_text id (naming.user_name id)) id (word_again naming.user_id id (naming.user_name id) lt named) p
   key_again Long at keys.OwningGroup p lt named = rw (perms_again takes_x p.read p.write p.execute) refl
   key_again Short at keys.OwningGroup p lt named = rw (perms_again takes_x p.read p.write p.execute) refl
-  key_again form at (keys.Group id) p lt named = group_again form at (id_text id (group_name id)) id (word_again group_id id (group_name id) lt named) p
+  key_again form at (keys.Group id) p lt named = group_again form at (id_text id (naming.group_name id)) id (word_again naming.group_id id (naming.group_name id) lt named) p
   key_again Long at keys.Mask p lt named = rw (perms_again takes_x p.read p.write p.execute) refl
   key_again Short at keys.Mask p lt named = rw (perms_again takes_x p.read p.write p.execute) refl
   key_again Long at keys.Other p lt named = rw (perms_again takes_x p.read p.write p.execute) refl
@@ -131,35 +132,35 @@ module _ (takes_default takes_x : Bool) (user_id group_id : List ℕ → Option 
 
   -- ---- entries
 
-  pub entry_again : (form : Form) (at : ℕ) (e : Entry) → id_of e.key < nobody → IsNamedKey e.key → entry_of user_id group_id (taking takes_default takes_x) at (entry_text user_name group_name form e) ≡ Ok (spec_of at e)
+  pub entry_again : (form : Form) (at : ℕ) (e : Entry) → id_of e.key < nobody → IsNamedKey e.key → entry_of naming (taking takes_default takes_x) at (entry_text naming form e) ≡ Ok (spec_of at e)
   entry_again form at e lt named =
-      ap (entry_from user_id group_id (taking takes_default takes_x) at) (fields_again (tag_text form e.key) (qualifier user_name group_name e.key) (text e.perm) (tag_plain form e.key) (qualifier_plain e.key lt named) (plain_text e.perm))
+      ap (entry_from naming (taking takes_default takes_x) at) (fields_again (tag_text form e.key) (qualifier naming e.key) (text e.perm) (tag_plain form e.key) (qualifier_plain e.key lt named) (plain_text e.perm))
       ∙ key_again form at e.key e.perm lt named
 
   -- a test that fails at plain bytes and at a colon fails in all of an entry
-  pub in_entry : (q : ℕ → Bool) → ((b : ℕ) → is_plain b ≡ true → q b ≡ false) → q 58 ≡ false → (form : Form) (e : Entry) → id_of e.key < nobody → IsNamedKey e.key → AllByRecursion (λ b. q b ≡ false) (entry_text user_name group_name form e)
+  pub in_entry : (q : ℕ → Bool) → ((b : ℕ) → is_plain b ≡ true → q b ≡ false) → q 58 ≡ false → (form : Form) (e : Entry) → id_of e.key < nobody → IsNamedKey e.key → AllByRecursion (λ b. q b ≡ false) (entry_text naming form e)
   in_entry q why colon form e lt named =
-      let word = qualifier user_name group_name e.key in
+      let word = qualifier naming e.key in
       all-append (λ b. q b ≡ false) (tag_text form e.key) (58 ∷ (word ++ 58 ∷ text e.perm)) (none_of is_plain q why (tag_text form e.key) (tag_plain form e.key))
       (colon, all-append (λ b. q b ≡ false) word (58 ∷ text e.perm) (none_of is_plain q why word (qualifier_plain e.key lt named)) (colon, none_of is_plain q why (text e.perm) (plain_text e.perm)))
 
-  one_from : (sep : Sep) (at : ℕ) (specs : List Spec) (piece : List ℕ) (spec : Spec) → content sep piece ≡ piece → trimmed piece ≡ piece → 0 < length piece → entry_of user_id group_id (taking takes_default takes_x) at piece ≡ Ok spec → length specs < most_text_entries
-      → one_more user_id group_id sep (taking takes_default takes_x) at specs piece ≡ Ok (specs ++ spec ∷ [])
+  one_from : (sep : Sep) (at : ℕ) (specs : List Spec) (piece : List ℕ) (spec : Spec) → content sep piece ≡ piece → trimmed piece ≡ piece → 0 < length piece → entry_of naming (taking takes_default takes_x) at piece ≡ Ok spec → length specs < most_text_entries
+      → one_more naming sep (taking takes_default takes_x) at specs piece ≡ Ok (specs ++ spec ∷ [])
   one_from sep at specs piece spec whole bare some e room =
       let full : (length piece == 0) ≡ false = ne_eqb (length piece) 0 (λ zero. omega arith) in
       let fits : leb most_text_entries (length specs) ≡ false = lt-leb most_text_entries (length specs) room in
       rw (whole, bare, full, e, fits) refl
 
-  content_again : (sep : Sep) (form : Form) (e : Entry) → id_of e.key < nobody → IsNamedKey e.key → content sep (entry_text user_name group_name form e) ≡ entry_text user_name group_name form e
+  content_again : (sep : Sep) (form : Form) (e : Entry) → id_of e.key < nobody → IsNamedKey e.key → content sep (entry_text naming form e) ≡ entry_text naming form e
   content_again Comma form e lt named = refl
-  content_again Line form e lt named = before_first_none (λ b. b == 35) (entry_text user_name group_name form e) (in_entry (λ b. b == 35) plain-hash refl form e lt named)
+  content_again Line form e lt named = before_first_none (λ b. b == 35) (entry_text naming form e) (in_entry (λ b. b == 35) plain-hash refl form e lt named)
 
-  one_again : (sep : Sep) (form : Form) (at : ℕ) (specs : List Spec) (e : Entry) → id_of e.key < nobody → IsNamedKey e.key → length specs < most_text_entries → one_more user_id group_id sep (taking takes_default takes_x) at specs (entry_text user_name group_name form e) ≡ Ok (specs ++ spec_of at e ∷ [])
+  one_again : (sep : Sep) (form : Form) (at : ℕ) (specs : List Spec) (e : Entry) → id_of e.key < nobody → IsNamedKey e.key → length specs < most_text_entries → one_more naming sep (taking takes_default takes_x) at specs (entry_text naming form e) ≡ Ok (specs ++ spec_of at e ∷ [])
   one_again sep form at specs e lt named room =
-      one_from sep at specs (entry_text user_name group_name form e) (spec_of at e)
+      one_from sep at specs (entry_text naming form e) (spec_of at e)
       (content_again sep form e lt named)
-      (trimmed_none (entry_text user_name group_name form e) (in_entry is_blank plain-blank refl form e lt named))
-      (omega (arith, tag_some form e.key, length-append (tag_text form e.key) (58 ∷ (qualifier user_name group_name e.key ++ 58 ∷ text e.perm))))
+      (trimmed_none (entry_text naming form e) (in_entry is_blank plain-blank refl form e lt named))
+      (omega (arith, tag_some form e.key, length-append (tag_text form e.key) (58 ∷ (qualifier naming e.key ++ 58 ∷ text e.perm))))
       (entry_again form at e lt named) room
 
   -- ---- lists
@@ -168,38 +169,38 @@ module _ (takes_default takes_x : Bool) (user_id group_id : List ℕ → Option 
   HasSmallIds es = AllByRecursion (λ e. id_of e.key < nobody) es
 
   abbrev reading : Sep → ℕ → List Spec → List (List ℕ) → Result (List Spec) TextFault
-  reading sep at specs ps = read_each_from (one_more user_id group_id sep (taking takes_default takes_x)) at specs ps
+  reading sep at specs ps = read_each_from (one_more naming sep (taking takes_default takes_x)) at specs ps
 
-  pub long_reads : (es : List Entry) (at : ℕ) (specs : List Spec) → HasSmallIds es → AreNamed user_id group_id user_name group_name es → length specs + length es ≤ most_text_entries
-      → reading Line at specs (pieces 10 (long user_name group_name es)) ≡ Ok (specs ++ specs_from at es)
+  pub long_reads : (es : List Entry) (at : ℕ) (specs : List Spec) → HasSmallIds es → AreNamed naming es → length specs + length es ≤ most_text_entries
+      → reading Line at specs (pieces 10 (long naming es)) ≡ Ok (specs ++ specs_from at es)
   long_reads [] at specs ids named room = ap (λ (s : List Spec). Ok s) (sym (append-nil specs))
   long_reads (e ∷ es) at specs ids named room =
-      let entry = entry_text user_name group_name Long e in
+      let entry = entry_text naming Long e in
       let first = one_again Line Long at specs e ids.0 named.0 (omega arith) in
       let rest = long_reads es (at + 1) (specs ++ spec_of at e ∷ []) ids.1 named.1 (omega (arith, length-append specs (spec_of at e ∷ []))) in
-      let cut : pieces 10 (long user_name group_name (e ∷ es)) ≡ entry ∷ pieces 10 (long user_name group_name es) =
-      ap (pieces 10) (append_assoc entry (10 ∷ []) (long user_name group_name es)) ∙ pieces_at 10 entry (long user_name group_name es) (in_entry (λ b. b == 10) plain-line refl Long e ids.0 named.0) in
+      let cut : pieces 10 (long naming (e ∷ es)) ≡ entry ∷ pieces 10 (long naming es) =
+      ap (pieces 10) (append_assoc entry (10 ∷ []) (long naming es)) ∙ pieces_at 10 entry (long naming es) (in_entry (λ b. b == 10) plain-line refl Long e ids.0 named.0) in
       ap (reading Line at specs) cut
-      ∙ (ap (λ j. at_place at j (λ more. reading Line (at + 1) more (pieces 10 (long user_name group_name es)))) first
+      ∙ (ap (λ j. at_place at j (λ more. reading Line (at + 1) more (pieces 10 (long naming es)))) first
       ∙ (rest ∙ ap (λ (s : List Spec). Ok s) (append_assoc specs (spec_of at e ∷ []) (specs_from (at + 1) es))))
 
-  others_read : (e : Entry) (es : List Entry) (at : ℕ) (specs : List Spec) → HasSmallIds (e ∷ es) → AreNamed user_id group_id user_name group_name (e ∷ es) → length specs + length (e ∷ es) ≤ most_text_entries
-      → reading Comma at specs (pieces 44 (short user_name group_name (e ∷ es))) ≡ Ok (specs ++ specs_from at (e ∷ es))
+  others_read : (e : Entry) (es : List Entry) (at : ℕ) (specs : List Spec) → HasSmallIds (e ∷ es) → AreNamed naming (e ∷ es) → length specs + length (e ∷ es) ≤ most_text_entries
+      → reading Comma at specs (pieces 44 (short naming (e ∷ es))) ≡ Ok (specs ++ specs_from at (e ∷ es))
   others_read e [] at specs ids named room =
-      let entry = entry_text user_name group_name Short e in
+      let entry = entry_text naming Short e in
       let cut : pieces 44 (entry ++ []) ≡ entry ∷ [] = ap (pieces 44) (append-nil entry) ∙ pieces_none 44 entry (in_entry (λ b. b == 44) plain-comma refl Short e ids.0 named.0) in
       ap (reading Comma at specs) cut ∙ ap (λ j. at_place at j (λ more. reading Comma (at + 1) more [])) (one_again Comma Short at specs e ids.0 named.0 (omega arith))
   others_read e (f ∷ es) at specs ids named room =
-      let entry = entry_text user_name group_name Short e in
+      let entry = entry_text naming Short e in
       let first = one_again Comma Short at specs e ids.0 named.0 (omega arith) in
       let rest = others_read f es (at + 1) (specs ++ spec_of at e ∷ []) ids.1 named.1 (omega (arith, length-append specs (spec_of at e ∷ []))) in
-      let cut : pieces 44 (short user_name group_name (e ∷ f ∷ es)) ≡ entry ∷ pieces 44 (short user_name group_name (f ∷ es)) = pieces_at 44 entry (short user_name group_name (f ∷ es)) (in_entry (λ b. b == 44) plain-comma refl Short e ids.0 named.0) in
+      let cut : pieces 44 (short naming (e ∷ f ∷ es)) ≡ entry ∷ pieces 44 (short naming (f ∷ es)) = pieces_at 44 entry (short naming (f ∷ es)) (in_entry (λ b. b == 44) plain-comma refl Short e ids.0 named.0) in
       ap (reading Comma at specs) cut
-      ∙ (ap (λ j. at_place at j (λ more. reading Comma (at + 1) more (pieces 44 (short user_name group_name (f ∷ es))))) first
+      ∙ (ap (λ j. at_place at j (λ more. reading Comma (at + 1) more (pieces 44 (short naming (f ∷ es))))) first
       ∙ (rest ∙ ap (λ (s : List Spec). Ok s) (append_assoc specs (spec_of at e ∷ []) (specs_from (at + 1) (f ∷ es)))))
 
-  pub short_reads : (es : List Entry) (at : ℕ) (specs : List Spec) → HasSmallIds es → AreNamed user_id group_id user_name group_name es → length specs + length es ≤ most_text_entries
-      → reading Comma at specs (pieces 44 (short user_name group_name es)) ≡ Ok (specs ++ specs_from at es)
+  pub short_reads : (es : List Entry) (at : ℕ) (specs : List Spec) → HasSmallIds es → AreNamed naming es → length specs + length es ≤ most_text_entries
+      → reading Comma at specs (pieces 44 (short naming es)) ≡ Ok (specs ++ specs_from at es)
   short_reads [] at specs ids named room = ap (λ (s : List Spec). Ok s) (sym (append-nil specs))
   short_reads (e ∷ es) at specs ids named room = others_read e es at specs ids named room
 
@@ -216,16 +217,16 @@ few : (m : KeyMap) → IsValid m → length (entries m) ≤ lists.most_entries
 few m valid = omega (arith, room_for (length (lists.keys (entries m))) _ valid, length-map (entries m) (λ e. e.key))
 
 -- a valid list is read as it was written, by each use that takes permissions
-module _ (user_id group_id : List ℕ → Option ℕ) (user_name group_name : ℕ → Option (List ℕ)) (m : KeyMap) (valid : IsValid m) (ids : HasIds (entries m)) (named : AreNamed user_id group_id user_name group_name (entries m)) where
+module _ (naming : Naming) (m : KeyMap) (valid : IsValid m) (ids : HasIds (entries m)) (named : AreNamed naming (entries m)) where
   small : AllByRecursion (λ e. id_of e.key < nobody) (entries m)
   small = recursion_from_All (λ (e : Entry). id_of e.key < nobody) (entries m) ids
 
-  pub long_again : (want : Want) → (rules_of want).takes_perms ≡ true → entries_of user_id group_id Line want (long user_name group_name (entries m)) ≡ Ok (specs_from 1 (entries m))
-  long_again WithPerms takes = long_reads true true user_id group_id user_name group_name (entries m) 1 [] small named (omega (arith, few m valid))
+  pub long_again : (want : Want) → (rules_of want).takes_perms ≡ true → entries_of naming Line want (long naming (entries m)) ≡ Ok (specs_from 1 (entries m))
+  long_again WithPerms takes = long_reads true true naming (entries m) 1 [] small named (omega (arith, few m valid))
   long_again WithoutPerms takes = absurd cc
-  long_again Plain takes = long_reads false false user_id group_id user_name group_name (entries m) 1 [] small named (omega (arith, few m valid))
+  long_again Plain takes = long_reads false false naming (entries m) 1 [] small named (omega (arith, few m valid))
 
-  pub short_again : (want : Want) → (rules_of want).takes_perms ≡ true → entries_of user_id group_id Comma want (short user_name group_name (entries m)) ≡ Ok (specs_from 1 (entries m))
-  short_again WithPerms takes = short_reads true true user_id group_id user_name group_name (entries m) 1 [] small named (omega (arith, few m valid))
+  pub short_again : (want : Want) → (rules_of want).takes_perms ≡ true → entries_of naming Comma want (short naming (entries m)) ≡ Ok (specs_from 1 (entries m))
+  short_again WithPerms takes = short_reads true true naming (entries m) 1 [] small named (omega (arith, few m valid))
   short_again WithoutPerms takes = absurd cc
-  short_again Plain takes = short_reads false false user_id group_id user_name group_name (entries m) 1 [] small named (omega (arith, few m valid))
+  short_again Plain takes = short_reads false false naming (entries m) 1 [] small named (omega (arith, few m valid))

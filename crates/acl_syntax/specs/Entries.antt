@@ -5,6 +5,7 @@ use Rattle.acl_entry.specs.Keys.{is_base}
 use Rattle.acl_entry.specs.declared.key.Key.{Key}
 use Rattle.acl_entry.specs.declared.key.Key.TheVariants as keys
 use Rattle.acl_names.specs.Pieces.{pieces}
+use Rattle.acl_syntax.specs.Naming.{Naming}
 use Rattle.acl_syntax.specs.declared.fault.FaultKind.{FaultKind}
 use Rattle.acl_syntax.specs.declared.fault.FaultKind.TheVariants.{BadTag, MissingPerms, UnwantedPerms, BadPerms, UnknownUser, UnknownGroup, BaseEntry, TooMany}
 use Rattle.acl_syntax.specs.declared.fault.TextFault.{TextFault}
@@ -66,13 +67,13 @@ with_entry specs entry = do
   spec ← entry
   if nat_le most_text_entries (length specs) then Err TooMany else Ok (specs ++ spec ∷ [])
 
-module _ (user_id group_id : List ℕ → Option ℕ) where
+module _ (naming : Naming) where
   -- an empty user or group word is the owner or the owning group
   abbrev pub key_of : Tag → List ℕ → Result Key FaultKind
   key_of tags.User [] = Ok keys.Owner
-  key_of tags.User (b ∷ bs) = or_fault (option_map keys.User (word_id user_id (b ∷ bs))) UnknownUser
+  key_of tags.User (b ∷ bs) = or_fault (option_map keys.User (word_id naming.user_id (b ∷ bs))) UnknownUser
   key_of tags.Group [] = Ok keys.OwningGroup
-  key_of tags.Group (b ∷ bs) = or_fault (option_map keys.Group (word_id group_id (b ∷ bs))) UnknownGroup
+  key_of tags.Group (b ∷ bs) = or_fault (option_map keys.Group (word_id naming.group_id (b ∷ bs))) UnknownGroup
   key_of tags.Mask word = Ok keys.Mask
   key_of tags.Other word = Ok keys.Other
 

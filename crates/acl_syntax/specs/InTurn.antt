@@ -1,5 +1,5 @@
 -- What a text means, piece by piece, and which fault is returned.
-use Rattle.std.specs.Prelude.{◌≡◌, ◌≢◌, ℕ, ◌+◌, List, [], ◌∷◌, ◌++◌, length, Option, Some, None, Result, Ok, Err}
+use Rattle.std.specs.Prelude.{◌≡◌, ◌≢◌, ℕ, ◌+◌, List, [], ◌∷◌, ◌++◌, length, Option, Some, None, Result, Ok, Err, MatchResult}
 use Rattle.acl_syntax.specs.declared.fault.FaultKind.{FaultKind}
 use Rattle.acl_syntax.specs.declared.fault.FaultKind.TheVariants.{NoMemory}
 use Rattle.acl_syntax.specs.declared.fault.FaultKind.TheVariants as kinds
@@ -31,16 +31,17 @@ read_each_from judge at state (p ∷ ps) = at_place at (judge at state p) (λ mo
 abbrev pub read_each : {S P : Type 0} → (ℕ → S → P → Result S FaultKind) → S → List P → Result S TextFault
 read_each judge start ps = read_each_from judge 1 start ps
 
--- the kinds of fault of one piece are looked for in their order, so the lowest is returned
+-- Goes on with the value, unless there is a fault. So faults are looked for in this order, and the first is returned; of
+-- one piece that is the order of their kinds, and the lowest.
 infixl 10 ◌>>=◌
-abbrev pub ◌>>=◌ : {A B : Type 0} → Result A FaultKind → (A → Result B FaultKind) → Result B FaultKind
+abbrev pub ◌>>=◌ : {A B F : Type 0} → Result A F → (A → Result B F) → Result B F
 (Ok x) >>= f = f x
-(Err kind) >>= f = Err kind
+(Err fault) >>= f = Err fault
 
 -- a value, or a fault
-abbrev pub or_fault : {A : Type 0} → Option A → FaultKind → Result A FaultKind
-or_fault None kind = Err kind
-or_fault (Some x) kind = Ok x
+abbrev pub or_fault : {A F : Type 0} → Option A → F → Result A F
+or_fault None fault = Err fault
+or_fault (Some x) fault = Ok x
 
 -- the first faulty piece: what is before it has no fault, and it has this one
 pub record IsFirstFault {S P : Type 0} (judge : ℕ → S → P → Result S FaultKind) (from : ℕ) (start : S) (ps : List P) (fault : TextFault) : Type 0 where
@@ -53,7 +54,11 @@ pub record IsFirstFault {S P : Type 0} (judge : ℕ → S → P → Result S Fau
   pub no_fault_before : read_each_from judge from start before ≡ Ok state
   pub faulty : judge fault.at state piece ≡ Err fault.kind
 
--- A call gives the value, seen by view, or exactly the fault, unless memory ran out.
+-- A call gives the value, seen by view, or exactly the fault, unless memory ran out, which is a fault of its own.
+abbrev pub GivesUnless : {X Y F : Type 0} → F → (X → Y) → Result X F → Result Y F → Type 0
+GivesUnless no_memory view result is = MatchResult result (λ x. is ≡ Ok (view x)) (λ fault. fault ≢ no_memory → is ≡ Err fault)
+
+-- So does a call whose fault has a kind and a place.
 abbrev pub Gives : {X Y : Type 0} → (X → Y) → Result X TextFault → Result Y TextFault → Type 0
 Gives view (Ok x) is = is ≡ Ok (view x)
 Gives view (Err fault) is = fault.kind ≢ NoMemory → is ≡ Err fault

@@ -5,6 +5,7 @@ pub mod UserNames
 pub mod Rows
 pub mod Firsts
 pub mod Seen
+pub mod Naming
 pub mod Words
 pub mod Fields
 pub mod Letters

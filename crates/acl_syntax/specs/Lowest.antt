@@ -2,6 +2,7 @@
 use Rattle.std.specs.Prelude.{◌≡◌, ℕ, ◌≤◌, ◌⊎◌, List, length, Option, Some, None, Result, Ok, Err, Bool, false}
 use Rattle.acl_entry.specs.declared.key.Key.{Key}
 use Rattle.acl_names.specs.Pieces.{pieces}
+use Rattle.acl_syntax.specs.Naming.{Naming}
 use Rattle.acl_syntax.specs.declared.fault.FaultKind.{FaultKind}
 use Rattle.acl_syntax.specs.declared.fault.FaultKind.TheVariants as kinds
 use Rattle.acl_syntax.specs.declared.entries.Rules.{Rules}
@@ -41,7 +42,7 @@ pub record ReportsLowest {A : Type 0} (has : FaultKind → Type 0) (judgement : 
 
 -- ---- what an entry may have, by the rules of its use
 
-module _ (user_id group_id : List ℕ → Option ℕ) (rules : Rules) (fields : Bool × List (List ℕ)) where
+module _ (naming : Naming) (rules : Rules) (fields : Bool × List (List ℕ)) where
   -- its fields are not those of an entry
   pub record HasBadTag (kind : FaultKind) : Type 0 where
     pub is : kind ≡ kinds.BadTag
@@ -57,22 +58,22 @@ module _ (user_id group_id : List ℕ → Option ℕ) (rules : Rules) (fields : 
   pub record HasUnknownWord (kind : FaultKind) : Type 0 where
     pub row : EntryRow
     pub is_row : tagged rules fields ≡ Some row
-    pub unknown : key_of user_id group_id row.tag row.word ≡ Err kind
+    pub unknown : key_of naming row.tag row.word ≡ Err kind
 
   -- it is a base entry, which the use refuses
   pub record HasBaseKey (kind : FaultKind) : Type 0 where
     pub row : EntryRow
     pub key : Key
     pub is_row : tagged rules fields ≡ Some row
-    pub is_key : key_of user_id group_id row.tag row.word ≡ Ok key
+    pub is_key : key_of naming row.tag row.word ≡ Ok key
     pub base : allowed_key rules key ≡ Err kind
 
   abbrev pub FieldsHave : FaultKind → Type 0
   FieldsHave kind = HasBadTag kind ⊎ (HasBadPerms kind ⊎ (HasUnknownWord kind ⊎ HasBaseKey kind))
 
 -- what an entry has in itself, wherever it is
-abbrev pub EntryHas : (user_id group_id : List ℕ → Option ℕ) → Rules → List ℕ → FaultKind → Type 0
-EntryHas user_id group_id rules entry = FieldsHave user_id group_id rules (default_of (entry_fields entry))
+abbrev pub EntryHas : Naming → Rules → List ℕ → FaultKind → Type 0
+EntryHas naming rules entry = FieldsHave naming rules (default_of (entry_fields entry))
 
 -- there are as many entries already as a text may have
 pub record HasNoRoom (specs : List Spec) (kind : FaultKind) : Type 0 where
@@ -80,8 +81,8 @@ pub record HasNoRoom (specs : List Spec) (kind : FaultKind) : Type 0 where
   pub full : most_text_entries ≤ length specs
 
 -- what the next entry of a text has
-abbrev pub NextEntryHas : (user_id group_id : List ℕ → Option ℕ) → Rules → List Spec → List ℕ → FaultKind → Type 0
-NextEntryHas user_id group_id rules specs entry kind = EntryHas user_id group_id rules entry kind ⊎ HasNoRoom specs kind
+abbrev pub NextEntryHas : Naming → Rules → List Spec → List ℕ → FaultKind → Type 0
+NextEntryHas naming rules specs entry kind = EntryHas naming rules entry kind ⊎ HasNoRoom specs kind
 
 -- ---- what a row of passwd(5) or group(5) may have
 

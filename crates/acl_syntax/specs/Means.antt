@@ -6,6 +6,7 @@ use Rattle.acl_entry.specs.declared.key.Key.TheVariants as keys
 use Rattle.acl_entry.specs.Keys.{is_base}
 use Rattle.acl_entry.specs.Perms.{numbered}
 use Rattle.acl_names.specs.Pieces.{pieces}
+use Rattle.acl_syntax.specs.Naming.{Naming}
 use Rattle.acl_syntax.specs.declared.entries.Sep.{Sep}
 use Rattle.acl_syntax.specs.declared.entries.Rules.{Rules}
 use Rattle.acl_syntax.specs.declared.entries.PermSpec.{PermSpec}
@@ -93,13 +94,13 @@ IsOfList rules all false fields = IsAccessEntry all fields
 
 -- ---- whom it is for
 
-module _ (user_id group_id : List ℕ → Option ℕ) where
+module _ (naming : Naming) where
   -- an empty name is the owner's or the owning group's; any other is that of an id
   abbrev pub IsFor : Key → Tag → List ℕ → Type 0
   IsFor keys.Owner tag word = (tag ≡ tags.User) × (word ≡ [])
-  IsFor (keys.User id) tag word = (tag ≡ tags.User) × (0 < length word) × (word_id user_id word ≡ Some id)
+  IsFor (keys.User id) tag word = (tag ≡ tags.User) × (0 < length word) × (word_id naming.user_id word ≡ Some id)
   IsFor keys.OwningGroup tag word = (tag ≡ tags.Group) × (word ≡ [])
-  IsFor (keys.Group id) tag word = (tag ≡ tags.Group) × (0 < length word) × (word_id group_id word ≡ Some id)
+  IsFor (keys.Group id) tag word = (tag ≡ tags.Group) × (0 < length word) × (word_id naming.group_id word ≡ Some id)
   IsFor keys.Mask tag word = tag ≡ tags.Mask
   IsFor keys.Other tag word = tag ≡ tags.Other
 
@@ -135,13 +136,13 @@ HasPerms false takes_x field (Some perm) = ⊥
 -- ---- an entry
 
 -- what an entry at a place means, by the rules of its use
-pub record Means (user_id group_id : List ℕ → Option ℕ) (rules : Rules) (at : ℕ) (entry : List ℕ) (spec : Spec) : Type 0 where
+pub record Means (naming : Naming) (rules : Rules) (at : ℕ) (entry : List ℕ) (spec : Spec) : Type 0 where
   pub place : spec.at ≡ at
   pub fields : List (List ℕ)
   pub of_list : IsOfList rules (entry_fields entry) spec.dflt fields
   pub row : EntryRow
   pub written : IsWritten fields row
-  pub is_for : IsFor user_id group_id spec.key row.tag row.word
+  pub is_for : IsFor naming spec.key row.tag row.word
   pub perms : HasPerms rules.takes_perms rules.takes_x row.perms spec.perm
   pub no_base : rules.takes_perms ≡ false → is_base spec.key ≡ false
 
@@ -152,6 +153,6 @@ abbrev pub numbered_entries : Sep → List ℕ → List (ℕ × List ℕ)
 numbered_entries sep bytes = filter (λ e. not (length (trimmed e.1) == 0)) (enumerate_from 1 (map (content sep) (pieces (separator sep) bytes)))
 
 -- each entry means one spec, in their order, and there are at most `most_text_entries`
-pub record AreRead (user_id group_id : List ℕ → Option ℕ) (sep : Sep) (rules : Rules) (bytes : List ℕ) (specs : List Spec) : Type 0 where
-  pub each : map (λ e. entry_of user_id group_id rules e.0 e.1) (numbered_entries sep bytes) ≡ map (λ spec. Ok spec) specs
+pub record AreRead (naming : Naming) (sep : Sep) (rules : Rules) (bytes : List ℕ) (specs : List Spec) : Type 0 where
+  pub each : map (λ e. entry_of naming rules e.0 e.1) (numbered_entries sep bytes) ≡ map (λ spec. Ok spec) specs
   pub few : length specs ≤ most_text_entries

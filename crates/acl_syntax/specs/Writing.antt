@@ -7,6 +7,7 @@ use Rattle.acl_entry.specs.declared.key.Key.TheVariants.{Owner, User, OwningGrou
 use Rattle.acl_entry.specs.declared.entry.Entry.{Entry}
 use Rattle.acl_names.specs.Pieces.{is_byte}
 use Rattle.acl_names.specs.Names.{escaped}
+use Rattle.acl_syntax.specs.Naming.{Naming}
 use Rattle.acl_syntax.specs.declared.form.Form.{Form}
 use Rattle.acl_syntax.specs.declared.form.Form.TheVariants.{Long, Short}
 use Rattle.acl_syntax.specs.declared.entries.Spec.{Spec}
@@ -32,12 +33,12 @@ abbrev pub id_text : ℕ → Option (List ℕ) → List ℕ
 id_text id None = decimal id
 id_text id (Some name) = escaped name
 
-module _ (user_name group_name : ℕ → Option (List ℕ)) where
+module _ (naming : Naming) where
   abbrev pub qualifier : Key → List ℕ
   qualifier Owner = []
-  qualifier (User id) = id_text id (user_name id)
+  qualifier (User id) = id_text id (naming.user_name id)
   qualifier OwningGroup = []
-  qualifier (Group id) = id_text id (group_name id)
+  qualifier (Group id) = id_text id (naming.group_name id)
   qualifier Mask = []
   qualifier Other = []
 
@@ -83,13 +84,13 @@ abbrev pub IsNamed : (List ℕ → Option ℕ) → ℕ → Option (List ℕ) →
 IsNamed look_up id None = Unit {0}
 IsNamed look_up id (Some name) = IsFoundAs look_up id name
 
-module _ (user_id group_id : List ℕ → Option ℕ) (user_name group_name : ℕ → Option (List ℕ)) where
+module _ (naming : Naming) where
   -- the name of a key's user or group is found again
   abbrev pub IsKeyNamed : Key → Type 0
   IsKeyNamed Owner = Unit {0}
-  IsKeyNamed (User id) = IsNamed user_id id (user_name id)
+  IsKeyNamed (User id) = IsNamed naming.user_id id (naming.user_name id)
   IsKeyNamed OwningGroup = Unit {0}
-  IsKeyNamed (Group id) = IsNamed group_id id (group_name id)
+  IsKeyNamed (Group id) = IsNamed naming.group_id id (naming.group_name id)
   IsKeyNamed Mask = Unit {0}
   IsKeyNamed Other = Unit {0}
 

@@ -62,7 +62,7 @@ fn key_of<N: Names>(
     tag: Tag,
     word: &[u8],
 ) -> Result<Key, TextFault>
-    ensures { GivesAt at (λ key. key) result (key_of (N.user_id names.now) (N.group_id names.now) tag word.now) }
+    ensures { GivesAt at (λ key. key) result (key_of (N.naming names.now) tag word.now) }
 {
     match tag {
         Tag::User if word.is_empty() => Ok(Key::Owner),
@@ -96,7 +96,7 @@ pub fn entry_of<N: Names>(
     at: usize,
     entry: &[u8],
 ) -> Result<Spec, TextFault>
-    ensures { GivesAt at (λ spec. spec) result (entry_of (N.user_id names.now) (N.group_id names.now) rules at entry.now) }
+    ensures { GivesAt at (λ spec. spec) result (entry_of (N.naming names.now) rules at entry.now) }
 {
     let (dflt, fields) = split_default(entry);
     if dflt && !rules.takes_default {
@@ -153,7 +153,7 @@ fn read_piece<N: Names>(
     at: usize,
     piece: &[u8],
 ) -> Result<(), TextFault>
-    ensures { JudgesAt at result specs.new.items (one_more (N.user_id names.now) (N.group_id names.now) sep rules at specs.old.items piece.now) }
+    ensures { JudgesAt at result specs.new.items (one_more (N.naming names.now) sep rules at specs.old.items piece.now) }
 {
     let entry = content(sep, piece);
     if trim(entry).is_empty() {
@@ -181,7 +181,7 @@ pub fn read_entries<N: Names>(
     want: Want,
     names: &N,
 ) -> Result<Vec<Spec>, TextFault>
-    ensures { Gives (λ specs. specs.items) result (entries_of (N.user_id names.now) (N.group_id names.now) sep want bytes.now) }
+    ensures { Gives (λ specs. specs.items) result (entries_of (N.naming names.now) sep want bytes.now) }
 {
     let rules = rules_of(want);
     let mut specs = Vec::new(alloc);

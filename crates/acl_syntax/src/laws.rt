@@ -2,6 +2,7 @@
 
 ghost use Rattle.std.specs.Prelude.{◌≡◌, ◌↔◌, ℕ, List, [], Option, Ok, Err, ◌<◌, false, length};
 ghost use Rattle.acl_names.specs.Pieces.{pieces};
+ghost use Rattle.acl_syntax.specs.Naming.{Naming};
 ghost use Rattle.acl_syntax.specs.declared.fault.TextFault.{TextFault};
 ghost use Rattle.acl_syntax.specs.declared.entries.Sep.{Sep};
 ghost use Rattle.acl_syntax.specs.declared.entries.Want.{Want};
@@ -32,15 +33,15 @@ pub fn group_rows_are_first_of_their_names()
 /// Proof only: an entry is read as a spec exactly where it is written as in setfacl(1) and means that spec: of which
 /// list, whom it is for, and which permissions it has, by the rules of any use.
 pub fn entry_means_what_is_read()
-    ensures { (user_id group_id : List ℕ → Option ℕ) (rules : Rules) (at : ℕ) (entry : List ℕ) (spec : Spec) →
-        (entry_of user_id group_id rules at entry ≡ Ok spec) ↔ Means user_id group_id rules at entry spec }
+    ensures { (naming : Naming) (rules : Rules) (at : ℕ) (entry : List ℕ) (spec : Spec) →
+        (entry_of naming rules at entry ≡ Ok spec) ↔ Means naming rules at entry spec }
 {}
 
 /// Proof only: a text is read as these specs exactly where they are those of its entries, one each, in their order and
 /// at their numbers, which count empty entries too, and there are at most 16,384.
 pub fn entries_are_read_in_order()
-    ensures { (user_id group_id : List ℕ → Option ℕ) (sep : Sep) (want : Want) (bytes : List ℕ) (specs : List Spec) →
-        (entries_of user_id group_id sep want bytes ≡ Ok specs) ↔ AreRead user_id group_id sep (rules_of want) bytes specs }
+    ensures { (naming : Naming) (sep : Sep) (want : Want) (bytes : List ℕ) (specs : List Spec) →
+        (entries_of naming sep want bytes ≡ Ok specs) ↔ AreRead naming sep (rules_of want) bytes specs }
 {}
 
 /// Proof only: the fault of a passwd text is the lowest kind of fault of the first line that has one.
@@ -55,24 +56,24 @@ pub fn group_fault_is_first()
 
 /// Proof only: the fault of an entry text is the lowest kind of fault of the first entry that has one.
 pub fn entries_fault_is_first()
-    ensures { (user_id group_id : List ℕ → Option ℕ) (sep : Sep) (want : Want) (bytes : List ℕ) (fault : TextFault) →
-        (entries_of user_id group_id sep want bytes ≡ Err fault)
-        ↔ IsFirstFault (one_more user_id group_id sep (rules_of want)) 1 [] (pieces (separator sep) bytes) fault }
+    ensures { (naming : Naming) (sep : Sep) (want : Want) (bytes : List ℕ) (fault : TextFault) →
+        (entries_of naming sep want bytes ≡ Err fault)
+        ↔ IsFirstFault (one_more naming sep (rules_of want)) 1 [] (pieces (separator sep) bytes) fault }
 {}
 
 /// Proof only: the fault of an entry is the lowest of the kinds that it has in itself, each looked for on its own, by
 /// the rules of any use; where it has none, the entry is read.
 pub fn entry_fault_is_lowest()
-    ensures { (user_id group_id : List ℕ → Option ℕ) (rules : Rules) (at : ℕ) (entry : List ℕ) →
-        ReportsLowest (EntryHas user_id group_id rules entry) (entry_of user_id group_id rules at entry) }
+    ensures { (naming : Naming) (rules : Rules) (at : ℕ) (entry : List ℕ) →
+        ReportsLowest (EntryHas naming rules entry) (entry_of naming rules at entry) }
 {}
 
 /// Proof only: the fault of a piece of a text that is not empty is the lowest of the kinds that its entry has in itself
 /// and by its place after as many entries as there may be; where it has none, the entry is read.
 pub fn piece_fault_is_lowest()
-    ensures { (user_id group_id : List ℕ → Option ℕ) (sep : Sep) (rules : Rules) (at : ℕ) (specs : List Spec) (piece : List ℕ) →
+    ensures { (naming : Naming) (sep : Sep) (rules : Rules) (at : ℕ) (specs : List Spec) (piece : List ℕ) →
         0 < length (trimmed (content sep piece)) →
-        ReportsLowest (NextEntryHas user_id group_id rules specs (content sep piece)) (one_more user_id group_id sep rules at specs piece) }
+        ReportsLowest (NextEntryHas naming rules specs (content sep piece)) (one_more naming sep rules at specs piece) }
 {}
 
 /// Proof only: the fault of a passwd line that is not ignored is the lowest of the kinds that it has, each looked for

@@ -1,7 +1,8 @@
 //! Who is who: names and ids of users and groups, and the words that stand for them.
 
-ghost use Rattle.std.specs.Prelude.{◌≡◌, ℕ, List, Option, None, IfOk};
+ghost use Rattle.std.specs.Prelude.{◌≡◌, IfOk};
 ghost use Rattle.std.specs.Option.{option_copied};
+ghost use Rattle.acl_syntax.specs.Naming.{Naming, no_names};
 ghost use Rattle.acl_syntax.specs.Words.{word_id};
 
 use crate::blanks::trim;
@@ -12,29 +13,23 @@ use std::alloc::{AllocError, Global};
 
 /// The users and groups that texts may name.
 pub trait Names {
-    ghost user_id: { Self → List ℕ → Option ℕ };
-
-    ghost group_id: { Self → List ℕ → Option ℕ };
-
-    ghost user_name: { Self → ℕ → Option (List ℕ) };
-
-    ghost group_name: { Self → ℕ → Option (List ℕ) };
+    ghost naming: { Self → Naming };
 
     /// The id of the user of this name. It is asked for no name of digits alone.
     fn user_id(&self, name: &[u8]) -> Option<Id>
-        ensures { result ≡ user_id self.now name.now };
+        ensures { result ≡ (naming self.now).user_id name.now };
 
     /// The id of the group of this name. It is asked for no name of digits alone.
     fn group_id(&self, name: &[u8]) -> Option<Id>
-        ensures { result ≡ group_id self.now name.now };
+        ensures { result ≡ (naming self.now).group_id name.now };
 
     /// The name that a user's id is printed as; an id without one is printed as a number.
     fn user_name(&self, id: Id) -> Option<&[u8]>
-        ensures { option_copied result ≡ user_name self.now id };
+        ensures { option_copied result ≡ (naming self.now).user_name id };
 
     /// The name that a group's id is printed as; an id without one is printed as a number.
     fn group_name(&self, id: Id) -> Option<&[u8]>
-        ensures { option_copied result ≡ group_name self.now id };
+        ensures { option_copied result ≡ (naming self.now).group_name id };
 }
 
 /// No user and no group has a name: ids are read and printed as numbers.
@@ -42,13 +37,7 @@ pub trait Names {
 pub struct NoNames;
 
 impl Names for NoNames {
-    ghost user_id = { λ _ name. None };
-
-    ghost group_id = { λ _ name. None };
-
-    ghost user_name = { λ _ id. None };
-
-    ghost group_name = { λ _ id. None };
+    ghost naming = { λ _. no_names };
 
     fn user_id(&self, _name: &[u8]) -> Option<Id> {
         None
@@ -74,7 +63,7 @@ pub fn read_user_word<N: Names>(
     word: &[u8],
     names: &N,
 ) -> Result<Option<Id>, AllocError>
-    ensures { IfOk result (λ id. id ≡ word_id (N.user_id names.now) word.now) }
+    ensures { IfOk result (λ id. id ≡ word_id (N.naming names.now).user_id word.now) }
 {
     let name = read_name(alloc, trim(word))?;
     let bytes = name.as_bytes();
@@ -91,7 +80,7 @@ pub fn read_group_word<N: Names>(
     word: &[u8],
     names: &N,
 ) -> Result<Option<Id>, AllocError>
-    ensures { IfOk result (λ id. id ≡ word_id (N.group_id names.now) word.now) }
+    ensures { IfOk result (λ id. id ≡ word_id (N.naming names.now).group_id word.now) }
 {
     let name = read_name(alloc, trim(word))?;
     let bytes = name.as_bytes();

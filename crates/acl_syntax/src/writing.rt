@@ -4,6 +4,7 @@ ghost use Rattle.std.specs.Prelude.{◌≡◌, ◌++◌, ◌∷◌, [], IfOk, On
 ghost use Rattle.std.specs.Io.{StartsWith};
 ghost use Rattle.std.specs.List.{flat_map};
 ghost use Rattle.std.specs.Option.{option_copied};
+ghost use Rattle.acl_names.specs.Appends.{Appends, AppendsWhole};
 ghost use Rattle.acl_entry.specs.Lists as lists;
 ghost use Rattle.acl_syntax.specs.declared.entries.Sep.TheVariants.{Comma, Line};
 ghost use Rattle.acl_syntax.specs.declared.entries.Want.{Want};
@@ -40,8 +41,7 @@ fn tag(form: Form, key: &Key) -> &'static [u8]
 /// Adds the name of a user or a group with escapes, or the number of its id where it has no name. Fails
 /// only if memory runs out, and then nothing is added.
 pub fn append_id(text: &mut Vec<u8>, id: Id, name: Option<&[u8]>) -> Result<(), AllocError>
-    ensures ok { OnOk result (text.new.items ≡ text.old.items ++ id_text id (option_copied name.entry)) }
-    ensures err { OnErr result (text.new.items ≡ text.old.items) }
+    ensures { AppendsWhole result text.old text.new (id_text id (option_copied name.entry)) }
 {
     match name {
         Some(name) => append_name(text, name),
@@ -54,8 +54,7 @@ pub fn append_id(text: &mut Vec<u8>, id: Id, name: Option<&[u8]>) -> Result<(), 
 
 /// Adds the name of the key's user or group, if it names one.
 fn append_qualifier<N: Names>(text: &mut Vec<u8>, key: &Key, names: &N) -> Result<(), AllocError>
-    ensures ok { OnOk result (text.new.items ≡ text.old.items ++ qualifier (N.user_name names.now) (N.group_name names.now) key.now) }
-    ensures err { OnErr result (text.new.items ≡ text.old.items) }
+    ensures { AppendsWhole result text.old text.new (qualifier (N.naming names.now) key.now) }
 {
     match key {
         Key::User(id) => append_id(text, *id, names.user_name(*id)),
@@ -71,8 +70,7 @@ fn push_entry<N: Names>(
     form: Form,
     names: &N,
 ) -> Result<(), AllocError>
-    ensures ok { OnOk result (text.new.items ≡ text.old.items ++ entry_text (N.user_name names.now) (N.group_name names.now) form entry.now) }
-    ensures err { OnErr result (StartsWith text.new.items text.old.items) }
+    ensures { Appends result text.old text.new (entry_text (N.naming names.now) form entry.now) }
 {
     text.extend_from_slice(tag(form, &entry.key))?;
     append_qualifier(text, &entry.key, names)?;
@@ -89,8 +87,7 @@ pub fn append_entry<N: Names>(
     form: Form,
     names: &N,
 ) -> Result<(), AllocError>
-    ensures ok { OnOk result (text.new.items ≡ text.old.items ++ entry_text (N.user_name names.now) (N.group_name names.now) form entry.now) }
-    ensures err { OnErr result (text.new.items ≡ text.old.items) }
+    ensures { AppendsWhole result text.old text.new (entry_text (N.naming names.now) form entry.now) }
 {
     let before = text.len();
     let added = push_entry(text, entry, form, names);
@@ -104,11 +101,11 @@ pub fn append_entry<N: Names>(
 /// that is printed is looked up as the id that it is printed for, is not empty and not digits alone.
 /// Fails only if memory runs out.
 pub fn write_long<N: Names>(alloc: Global, acl: &Acl, names: &N) -> Result<Vec<u8>, AllocError>
-    ensures text { IfOk result (λ text. text.items ≡ long (N.user_name names.now) (N.group_name names.now) (lists.entries acl.now)) }
+    ensures text { IfOk result (λ text. text.items ≡ long (N.naming names.now) (lists.entries acl.now)) }
     ensures read_again { IfOk result (λ text.
-        AreNamed (N.user_id names.now) (N.group_id names.now) (N.user_name names.now) (N.group_name names.now) (lists.entries acl.now) →
+        AreNamed (N.naming names.now) (lists.entries acl.now) →
         (want : Want) → (rules_of want).takes_perms ≡ true →
-        entries_of (N.user_id names.now) (N.group_id names.now) Line want text.items ≡ Ok (specs_from 1 (lists.entries acl.now))) }
+        entries_of (N.naming names.now) Line want text.items ≡ Ok (specs_from 1 (lists.entries acl.now))) }
 {
     let mut text = Vec::new(alloc);
     push_long(&mut text, acl.entries(), names)?;
@@ -117,7 +114,7 @@ pub fn write_long<N: Names>(alloc: Global, acl: &Acl, names: &N) -> Result<Vec<u
 
 /// Adds entries, a line each.
 fn push_long<N: Names>(text: &mut Vec<u8>, entries: &[Entry], names: &N) -> Result<(), AllocError>
-    ensures { OnOk result (text.new.items ≡ text.old.items ++ long (N.user_name names.now) (N.group_name names.now) entries.now) }
+    ensures { OnOk result (text.new.items ≡ text.old.items ++ long (N.naming names.now) entries.now) }
 {
     for entry in entries {
         append_entry(text, entry, Form::Long, names)?;
@@ -128,8 +125,7 @@ fn push_long<N: Names>(text: &mut Vec<u8>, entries: &[Entry], names: &N) -> Resu
 
 /// Adds entries, each after a comma.
 fn push_others<N: Names>(text: &mut Vec<u8>, others: &[Entry], names: &N) -> Result<(), AllocError>
-    ensures ok { OnOk result (text.new.items ≡ text.old.items ++ flat_map (after_comma (N.user_name names.now) (N.group_name names.now)) others.now) }
-    ensures err { OnErr result (StartsWith text.new.items text.old.items) }
+    ensures { Appends result text.old text.new (flat_map (after_comma (N.naming names.now)) others.now) }
 {
     for other in others {
         text.push(b',')?;
@@ -140,21 +136,20 @@ fn push_others<N: Names>(text: &mut Vec<u8>, others: &[Entry], names: &N) -> Res
 
 /// Adds entries, joined by commas. A part of them is left where memory runs out.
 fn push_short<N: Names>(text: &mut Vec<u8>, entries: &[Entry], names: &N) -> Result<(), AllocError>
-    ensures ok { OnOk result (text.new.items ≡ text.old.items ++ short (N.user_name names.now) (N.group_name names.now) entries.now) }
-    ensures err { OnErr result (StartsWith text.new.items text.old.items) }
+    ensures { Appends result text.old text.new (short (N.naming names.now) entries.now) }
 {
     let [first, others @ ..] = entries else {
         return Ok(());
     };
     append_entry(text, first, Form::Short, names)?;
-    push_others(text, others, names)
+    push_others(text, others, names)?;
+    Ok(())
 }
 
 /// Adds the short form of a list: its entries in list order, joined by commas. Fails only if memory
 /// runs out, and then nothing is added.
 pub fn append_short<N: Names>(text: &mut Vec<u8>, acl: &Acl, names: &N) -> Result<(), AllocError>
-    ensures ok { OnOk result (text.new.items ≡ text.old.items ++ short (N.user_name names.now) (N.group_name names.now) (lists.entries acl.now)) }
-    ensures err { OnErr result (text.new.items ≡ text.old.items) }
+    ensures { AppendsWhole result text.old text.new (short (N.naming names.now) (lists.entries acl.now)) }
 {
     let before = text.len();
     let added = push_short(text, acl.entries(), names);
@@ -168,11 +163,11 @@ pub fn append_short<N: Names>(text: &mut Vec<u8>, acl: &Acl, names: &N) -> Resul
 /// each name that is printed is looked up as the id that it is printed for, is not empty and not digits
 /// alone. Fails only if memory runs out.
 pub fn write_short<N: Names>(alloc: Global, acl: &Acl, names: &N) -> Result<Vec<u8>, AllocError>
-    ensures text { IfOk result (λ text. text.items ≡ short (N.user_name names.now) (N.group_name names.now) (lists.entries acl.now)) }
+    ensures text { IfOk result (λ text. text.items ≡ short (N.naming names.now) (lists.entries acl.now)) }
     ensures read_again { IfOk result (λ text.
-        AreNamed (N.user_id names.now) (N.group_id names.now) (N.user_name names.now) (N.group_name names.now) (lists.entries acl.now) →
+        AreNamed (N.naming names.now) (lists.entries acl.now) →
         (want : Want) → (rules_of want).takes_perms ≡ true →
-        entries_of (N.user_id names.now) (N.group_id names.now) Comma want text.items ≡ Ok (specs_from 1 (lists.entries acl.now))) }
+        entries_of (N.naming names.now) Comma want text.items ≡ Ok (specs_from 1 (lists.entries acl.now))) }
 {
     let mut text = Vec::new(alloc);
     push_short(&mut text, acl.entries(), names)?;

@@ -42,13 +42,12 @@ pub fn worked(rt: &impl Abort, alloc: Global) -> Known {
 }
 
 impl Names for Known {
-    ghost user_id = { λ k name. option_map (λ r. r.uid) (find (λ r. bytes_eq r.name name) k.users.items) };
-
-    ghost group_id = { λ k name. option_map (λ r. r.gid) (find (λ r. bytes_eq r.name name) k.groups.items) };
-
-    ghost user_name = { λ k id. option_map (λ r. r.name) (find (λ r. r.uid == id) k.users.items) };
-
-    ghost group_name = { λ k id. option_map (λ r. r.name) (find (λ r. r.gid == id) k.groups.items) };
+    ghost naming = { λ k. record {
+      user_id = λ name. option_map (λ r. r.uid) (find (λ r. bytes_eq r.name name) k.users.items);
+      group_id = λ name. option_map (λ r. r.gid) (find (λ r. bytes_eq r.name name) k.groups.items);
+      user_name = λ id. option_map (λ r. r.name) (find (λ r. r.uid == id) k.users.items);
+      group_name = λ id. option_map (λ r. r.name) (find (λ r. r.gid == id) k.groups.items);
+    } };
 
     fn user_id(&self, name: &[u8]) -> Option<Id> {
         match self.users.iter().find(|row| row.name.as_bytes() == name) {

@@ -100,6 +100,99 @@ fn paths_are_in_order(rt: HostRuntime) {
     }
 }
 
+/// The same path, each of its components in an allocation of its own.
+fn in_parts(rt: &impl Abort, alloc: Global, path: Path) -> Path {
+    let mut parts = Vec::new(alloc);
+    let mut rest = path.components();
+    while let Some(name) = rest.next() {
+        let part = Vec::from_slice(alloc, name).expect(rt, "memory");
+        parts.push(part).expect(rt, "memory");
+    }
+    Path::new(parts).expect(rt, "a path")
+}
+
+/// A path, and another one: whether the path is the other one or below it, and whether it is below it.
+static BELOW: [(&[u8], &[u8], bool, bool); 6] = [
+    (b"a/b", b"a", true, true),
+    (b"a", b"a", true, false),
+    (b"ab", b"a", false, false),
+    (b"a", b"a/b", false, false),
+    (b"a", b".", true, true),
+    (b".", b".", true, false),
+];
+
+fn expect_below(rt: &impl Abort, below: Path, top: Path, is_within: bool, is_below: bool) {
+    assert!(rt; below.is_within(&top) == is_within);
+    assert!(rt; below.is_below(&top) == is_below);
+}
+
+#[test]
+fn paths_below_others(rt: HostRuntime) {
+    for (below, top, is_within, is_below) in &BELOW {
+        let (below, top) = (path(&rt, rt.alloc(), below), path(&rt, rt.alloc(), top));
+        expect_below(&rt, below, top, *is_within, *is_below);
+    }
+}
+
+#[test]
+fn paths_in_parts_below_others(rt: HostRuntime) {
+    for (below, top, is_within, is_below) in &BELOW {
+        let (below, top) = (path(&rt, rt.alloc(), below), path(&rt, rt.alloc(), top));
+        let (below, top) = (
+            in_parts(&rt, rt.alloc(), below),
+            in_parts(&rt, rt.alloc(), top),
+        );
+        expect_below(&rt, below, top, *is_within, *is_below);
+    }
+}
+
+#[test]
+fn paths_in_parts_below_whole_ones(rt: HostRuntime) {
+    for (below, top, is_within, is_below) in &BELOW {
+        let (below, top) = (path(&rt, rt.alloc(), below), path(&rt, rt.alloc(), top));
+        let below = in_parts(&rt, rt.alloc(), below);
+        expect_below(&rt, below, top, *is_within, *is_below);
+    }
+}
+
+#[test]
+fn whole_paths_below_ones_in_parts(rt: HostRuntime) {
+    for (below, top, is_within, is_below) in &BELOW {
+        let (below, top) = (path(&rt, rt.alloc(), below), path(&rt, rt.alloc(), top));
+        let top = in_parts(&rt, rt.alloc(), top);
+        expect_below(&rt, below, top, *is_within, *is_below);
+    }
+}
+
+/// A path, and its parent.
+static PARENTS: [(&[u8], &[u8]); 3] = [(b"a/b/c", b"a/b"), (b"a", b"."), (b".", b".")];
+
+#[test]
+fn parents(rt: HostRuntime) {
+    for (below, want) in &PARENTS {
+        let below = path(&rt, rt.alloc(), below);
+        let parent = below.parent(rt.alloc()).expect(&rt, "memory");
+        expect_text(&rt, rt.alloc(), &parent, want);
+    }
+}
+
+/// Two paths, and what they begin with.
+static COMMON: [(&[u8], &[u8], &[u8]); 4] = [
+    (b"a/b/c", b"a/b/d", b"a/b"),
+    (b"a/b", b"a/b", b"a/b"),
+    (b"a/b", b"ab", b"."),
+    (b"a", b"a/b", b"a"),
+];
+
+#[test]
+fn beginnings_in_common(rt: HostRuntime) {
+    for (left, right, want) in &COMMON {
+        let (left, right) = (path(&rt, rt.alloc(), left), path(&rt, rt.alloc(), right));
+        let common = left.common(rt.alloc(), &right).expect(&rt, "memory");
+        expect_text(&rt, rt.alloc(), &common, want);
+    }
+}
+
 static USER_NAMES: [(&[u8], bool); 7] = [
     (b"joe", true),
     (b"7up", true),

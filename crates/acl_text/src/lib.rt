@@ -4,7 +4,7 @@
 
 pub use acl_attr::{decode_attr, encode_attr};
 pub use acl_dump::{
-    DumpRecord, DumpUse, Effective, append_header, append_list, append_record, read_dump,
+    DumpRecord, DumpUse, Effective, Header, append_header, append_list, append_record, read_dump,
 };
 pub use acl_names::{
     Components, Name, Path, append_name, append_path, read_name, read_path, write_name, write_path,

@@ -9,7 +9,8 @@ use Rattle.acl_files.specs.acl_entry.Lists.{KeyMap}
 use Rattle.acl_files.specs.acl_names.Paths.{path_cmp}
 use Rattle.acl_files.specs.acl_dump.declared.record.DumpRecord.{DumpRecord}
 use Rattle.acl_files.specs.acl_edit.Nodes.{IsSound}
-use Rattle.acl_files.specs.acl_edit.Edits.{allowed, edit, restore, ◌>>=◌}
+use Rattle.acl_files.specs.acl_syntax.InTurn.{◌>>=◌}
+use Rattle.acl_files.specs.acl_edit.Edits.{allowed, edit, restore}
 use Rattle.acl_files.specs.acl_edit.declared.node.Kind.{Kind}
 use Rattle.acl_files.specs.acl_edit.declared.node.Kind.TheVariants.{Plain, Directory}
 use Rattle.acl_files.specs.acl_edit.declared.node.Node.{Node}

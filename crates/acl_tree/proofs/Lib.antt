@@ -6,6 +6,7 @@ pub mod Unnamed
 pub mod Undone
 pub mod NewUsers
 pub mod AsItIs
+pub mod AtOnce
 pub mod MasksEach
 pub mod Reported
 pub mod Refused

@@ -2,7 +2,8 @@
 use Rattle.std.proofs.Common.{◌≡◌, Bool, true, false, List, Option, Some, Result, Ok, Err, if◌then◌else◌, refl, sym, ap, subst, ◌∙◌}
 use Rattle.std.specs.Prelude.{option_map}
 use Rattle.acl_files.specs.acl_entry.Lists.{KeyMap}
-use Rattle.acl_files.specs.acl_edit.Edits.{edit, edit_of, change, changed_access, changed_default, is_misplaced, ◌>>=◌}
+use Rattle.acl_files.specs.acl_syntax.InTurn.{◌>>=◌}
+use Rattle.acl_files.specs.acl_edit.Edits.{edit, edit_of, change, changed_access, changed_default, is_misplaced}
 use Rattle.acl_files.specs.acl_edit.Nodes.{with_lists}
 use Rattle.acl_files.specs.acl_edit.Changes.{Change}
 use Rattle.acl_files.specs.acl_edit.declared.edit.EditFault.{EditFault}

@@ -1,14 +1,12 @@
 -- A file put among others: what it changes, and that the tree stays sound.
-use Rattle.std.proofs.Common.{◌≡◌, ℕ, suc, ◌-◌, ◌<◌, ◌≤◌, arith, Bool, true, false, not, cond, eqb, ◌&&◌, ◌||◌, List, [], ◌∷◌, length, take, filter, Option, Some, None, is_some, Result, Ok, Err, if◌then◌else◌, nat_lt, ltb-false, Ordering, Less, Equal, Greater, refl, sym, ap, subst, ◌∙◌, true≢false}
+use Rattle.std.proofs.Common.{◌≡◌, ℕ, suc, ◌<◌, ◌≤◌, arith, Bool, true, false, not, cond, eqb, ◌||◌, List, [], ◌∷◌, length, filter, Option, Some, None, is_some, Result, Ok, Err, if◌then◌else◌, nat_lt, ltb-false, Ordering, Less, Equal, Greater, refl, sym, ap, subst, ◌∙◌, true≢false}
 use Rattle.std.specs.Prelude.{MatchOption}
 use Rattle.std.specs.List.{list_any}
 use Rattle.std.specs.Option.{option_map_or}
-use Rattle.std.specs.Ordering.{is_eq, nat_cmp, eq_by_cmp}
-use Rattle.std.specs.Cmp.Lexicographic.{slice_cmp}
+use Rattle.std.specs.Ordering.{is_eq, eq_by_cmp}
 use Rattle.std.specs.FinMap.{find, put}
 use Rattle.std.specs.FinMap.Entries.{by_order}
-use Rattle.std.proofs.lemmas.Bool.{and_parts, eqb-true}
-use Rattle.std.proofs.lemmas.Cmp.{tied_itself, nat_list_cmp_total}
+use Rattle.std.proofs.lemmas.Bool.{eqb-true}
 use Rattle.acl_files.specs.acl_names.Paths.{path_cmp}
 use Rattle.acl_files.proofs.of_acl_names.PathOrder.{exact_paths}
 use Rattle.acl_files.specs.acl_edit.declared.node.Node.{Node}
@@ -18,19 +16,19 @@ use Rattle.acl_files.specs.acl_edit.Nodes.{IsSound, is_directory}
 use Rattle.acl_files.specs.acl_edit.declared.node.Kind.{Kind}
 use Rattle.acl_files.specs.acl_edit.declared.node.Kind.TheVariants.{Plain, Directory}
 use Rattle.acl_files.specs.path_map.Merged.{has}
-use Rattle.acl_files.proofs.of_path_map.Convex.{not_before}
+use Rattle.acl_files.proofs.of_acl_names.Below.{below_within, not_before, not_below_itself, within_below, within_itself}
+use Rattle.acl_files.proofs.of_acl_names.Parents.{below_parent}
 use Rattle.acl_files.proofs.of_path_map.Differences.{Fail, put_passes, Leads, leads_all, has_put_all}
 use Rattle.acl_files.specs.Files.{PathOf, Files, Recorded, max_files}
-use Rattle.acl_files.specs.Below.{is_below, is_within}
+use Rattle.acl_files.specs.acl_names.Below.{is_below, is_within, parent}
 use Rattle.acl_files.specs.Changed.{same_label, is_changed, changed_between, gone_between}
-use Rattle.acl_tree.specs.Creat.{exists, parent, only_directory, directory_at, creat_in, creat_by}
+use Rattle.acl_tree.specs.Creat.{exists, only_directory, directory_at, creat_in, creat_by}
 use Rattle.acl_tree.specs.declared.command.NewFile.{NewFile}
 use Rattle.acl_files.specs.declared.fault.TreeFault.{TreeFault}
 use Rattle.acl_files.specs.declared.fault.TreeFault.TheVariants.{NotDirectory, Exists, TooMany}
 use Rattle.acl_tree.specs.Inner.{IsNewIn}
 use Rattle.acl_files.specs.Sound.{holds_below, IsPlaced, ArePlaced, IsSoundTree}
 use Rattle.acl_files.proofs.Changes.{label_itself}
-use Rattle.acl_files.proofs.Follows.{below_within, within_below, not_below_itself}
 use Rattle.acl_files.proofs.Shared.{in_order-put}
 
 -- ---- tests of lists
@@ -58,26 +56,11 @@ first_passes f test xs rest all (Some a) is h = sym (any_some test xs (f a) rest
 
 -- ---- paths
 
-parent_more : (y z : List ℕ) (p : PathOf) → parent (y ∷ z ∷ p) ≡ y ∷ parent (z ∷ p)
-parent_more y z p = ap (λ n. take n (y ∷ z ∷ p)) less
-  where
-    less : suc (suc (length p)) - 1 ≡ suc (suc (length p) - 1)
-    less = omega arith
-
 -- what is above a file is at its parent or above that
 above_parent : (q p : PathOf) → is_below q p ≡ true → is_within q (parent p) ≡ true
 above_parent [] p h = refl
 above_parent (x ∷ q) [] h = absurd (true≢false (sym h))
-above_parent (x ∷ q) (y ∷ []) h = absurd (true≢false (sym (and_parts _ _ h).1 ∙ none q))
-  where
-    none : (q : PathOf) → is_below q [] ≡ false
-    none [] = refl
-    none (z ∷ q) = refl
-above_parent (x ∷ q) (y ∷ z ∷ p) h =
-    let parts = and_parts (eq_by_cmp (slice_cmp nat_cmp) x y) (is_below q (z ∷ p)) h in
-    ap (λ r. is_within (x ∷ q) r) (parent_more y z p)
-    ∙ ap (λ b. b && is_within q (parent (z ∷ p))) parts.0
-    ∙ above_parent q (z ∷ p) parts.1
+above_parent (x ∷ q) (y ∷ p) h = sym (below_parent (x ∷ q) (y ∷ p) (λ none. cc)) ∙ h
 
 -- ---- below a path
 
@@ -124,13 +107,9 @@ absent_found : (p : PathOf) (t : Files) → exists p t ≡ false → find path_c
 absent_found p [] h = refl
 absent_found p (e ∷ t) h = by (is_within p e.0) refl (eq_by_cmp path_cmp p e.0) refl h (absent_found p t)
   where
-    itself : (p : PathOf) → is_within p p ≡ true
-    itself [] = refl
-    itself (x ∷ p) = ap (λ b. b && is_within p p) (ap is_eq (tied_itself nat_list_cmp_total x)) ∙ itself p
-
     by : (b : Bool) → is_within p e.0 ≡ b → (c : Bool) → eq_by_cmp path_cmp p e.0 ≡ c → (b || exists p t) ≡ false → (exists p t ≡ false → find path_cmp p t ≡ None) → cond c (Some e.1) (find path_cmp p t) ≡ None
     by true is c same h rest = absurd (true≢false h)
-    by false is true same h rest = absurd (true≢false (sym (subst (λ z. is_within p z ≡ true) (same_path p e.0 same) (itself p)) ∙ is))
+    by false is true same h rest = absurd (true≢false (sym (subst (λ z. is_within p z ≡ true) (same_path p e.0 same) (within_itself p)) ∙ is))
     by false is false same h rest = rest h
 
 absent_below : (p : PathOf) (t : Files) → exists p t ≡ false → holds_below t p ≡ false

@@ -10,7 +10,7 @@ use Rattle.std.specs.Ordering.{is_eq}
 use Rattle.acl_files.specs.acl_names.Paths.{path_cmp}
 use Rattle.acl_files.proofs.of_acl_names.PathOrder.{exact_paths}
 use Rattle.acl_files.proofs.of_path_map.Differences.{Leads, leads_all}
-use Rattle.acl_files.specs.Below.{is_within}
+use Rattle.acl_files.specs.acl_names.Below.{is_within, parent}
 use Rattle.acl_files.specs.acl_syntax.Ids.{is_number, id_of}
 use Rattle.acl_files.specs.acl_syntax.declared.rows.PasswdRow.{PasswdRow}
 use Rattle.acl_files.specs.acl_edit.Creation.{inherit}
@@ -27,7 +27,7 @@ use Rattle.acl_people.specs.Rolls.{Named, is_id, is_name, place_of_word}
 use Rattle.acl_tree.specs.declared.command.Command.{Command}
 use Rattle.acl_tree.specs.declared.command.Command.TheVariants.{Creat}
 use Rattle.acl_tree.specs.declared.command.NewFile.{NewFile}
-use Rattle.acl_tree.specs.Creat.{row_of, exists, parent, only_directory, creat_in, creat_by}
+use Rattle.acl_tree.specs.Creat.{row_of, exists, only_directory, creat_in, creat_by}
 use Rattle.acl_tree.specs.Step.{State, with_tree}
 use Rattle.acl_tree.specs.Refusals.{HoldsWithin, MeansNoUser, IsMissing, IsRecordedAs, Applies, rank, IsNotAfter, IsRefusedForFirst}
 use Rattle.acl_tree.proofs.Refused.{Decides, decides_err, decides_ok, refused_for_first, ranked, apart_by}

@@ -13,14 +13,14 @@ pub use Rattle.acl_files.proofs.of_path_map.Rows.{in_order-filter}
 use Rattle.acl_files.specs.declared.fault.TreeFault.{TreeFault}
 use Rattle.acl_files.specs.declared.fault.TreeFault.TheVariants.{IsDirectory}
 use Rattle.acl_files.specs.Files.{PathOf, Files, Recorded, IsInOrder}
-use Rattle.acl_files.specs.Below.{is_below, is_within}
+use Rattle.acl_files.specs.acl_names.Below.{is_below, is_within}
 use Rattle.acl_files.specs.Changed.{same_label, is_changed, changed_between, gone_between}
 use Rattle.acl_files.specs.Operands.{is_file, files_meant}
 use Rattle.acl_tree.specs.Rm.{refusal, first_refused, without_files}
 use Rattle.acl_files.specs.Sound.{holds_below, IsPlaced, ArePlaced, IsSoundTree}
 use Rattle.acl_files.proofs.Changes.{label_itself}
-use Rattle.acl_files.proofs.Follows.{below_within}
-use Rattle.acl_files.proofs.Selected.{within_trans, same_path}
+use Rattle.acl_files.proofs.of_acl_names.Below.{below_within, within_trans}
+use Rattle.acl_files.proofs.Selected.{same_path}
 
 and_true : (a b : Bool) → b ≡ true → (a && b) ≡ a
 and_true true b h = h

@@ -14,12 +14,12 @@ use Rattle.acl_tree.specs.declared.command.Command.TheVariants.{Creat, Rm}
 use Rattle.acl_tree.specs.declared.command.NewFile.{NewFile}
 use Rattle.acl_files.specs.declared.fault.TreeFault.TheVariants.{IsDirectory}
 use Rattle.acl_files.specs.Files.{PathOf, Files}
-use Rattle.acl_files.specs.Below.{is_within}
+use Rattle.acl_files.specs.acl_names.Below.{is_within}
 use Rattle.acl_tree.specs.Creat.{row_of, exists, creat}
 use Rattle.acl_files.specs.Operands.{is_file}
 use Rattle.acl_tree.specs.Rm.{refusal, first_refused, without_files, or_refused}
 use Rattle.acl_tree.specs.Step.{State, step, with_tree}
-use Rattle.acl_files.proofs.Nearest.{within_itself}
+use Rattle.acl_files.proofs.of_acl_names.Below.{within_itself}
 use Rattle.acl_files.proofs.Selected.{same_path}
 use Rattle.acl_tree.proofs.Unnamed.{only_tree, puts_by}
 

@@ -18,7 +18,8 @@ use Rattle.acl_tree.specs.declared.command.Table.TheVariants.{Passwd, Group, Dum
 use Rattle.acl_files.specs.declared.fault.TreeFault.{TreeFault}
 use Rattle.acl_files.specs.declared.fault.TreeFault.TheVariants.{Exists, TooMany, AlreadyLoaded}
 use Rattle.acl_files.specs.Files.{PathOf, Files, Recorded, IsInOrder, max_files}
-use Rattle.acl_tree.specs.Creat.{row_of, exists, parent, directory_at, creat_in, creat_by, creat}
+use Rattle.acl_files.specs.acl_names.Below.{parent}
+use Rattle.acl_tree.specs.Creat.{row_of, exists, directory_at, creat_in, creat_by, creat}
 use Rattle.acl_tree.specs.EditCommand.{edited_tree}
 use Rattle.acl_tree.specs.Accounts.{useradd, userdel}
 use Rattle.acl_tree.specs.Laws.{LeavesUnnamed}

@@ -1,5 +1,5 @@
 -- creat: a new file in a directory.
-use Rattle.std.specs.Prelude.{ℕ, List, ◌-◌, length, take, slice_get, nat_lt, Bool, if◌then◌else◌, Option, Some, None, option_and_then, Result, Ok, Err}
+use Rattle.std.specs.Prelude.{ℕ, List, length, slice_get, nat_lt, Bool, if◌then◌else◌, Option, Some, None, option_and_then, Result, Ok, Err}
 use Rattle.std.specs.List.{list_any}
 use Rattle.std.specs.FinMap.{find, put}
 use Rattle.acl_files.specs.acl_names.Paths.{path_cmp}
@@ -13,7 +13,7 @@ use Rattle.acl_tree.specs.declared.command.NewFile.{NewFile}
 use Rattle.acl_files.specs.declared.fault.TreeFault.{TreeFault}
 use Rattle.acl_files.specs.declared.fault.TreeFault.TheVariants.{NoSuchFile, NotDirectory, Exists, NoSuchUser, TooMany}
 use Rattle.acl_files.specs.Files.{PathOf, Files, Recorded, max_files}
-use Rattle.acl_files.specs.Below.{is_within}
+use Rattle.acl_files.specs.acl_names.Below.{is_within, parent}
 
 -- the row of the user that a word means
 abbrev pub row_of : Register → List ℕ → Option PasswdRow
@@ -22,10 +22,6 @@ row_of known word = option_and_then (slice_get known.users) (place_of_word word 
 -- whether a file is recorded at a path or below it
 abbrev pub exists : PathOf → Files → Bool
 exists p t = list_any (λ e. is_within p e.0) t
-
--- the path of a file's parent: the root is its own
-abbrev pub parent : PathOf → PathOf
-parent p = take (length p - 1) p
 
 abbrev pub only_directory : PathOf → Option Node → Result Node TreeFault
 only_directory p None = Err (NoSuchFile p)

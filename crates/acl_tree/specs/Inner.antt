@@ -8,19 +8,25 @@ use Rattle.acl_files.specs.acl_edit.declared.node.Kind.TheVariants.{Directory}
 use Rattle.acl_files.specs.Files.{PathOf, Files, max_files}
 use Rattle.acl_files.specs.Sound.{IsSoundTree}
 use Rattle.acl_files.specs.declared.fault.TreeFault.{TreeFault}
-use Rattle.acl_tree.specs.Creat.{exists, parent}
-use Rattle.acl_tree.specs.Step.{State, Stages}
-use Rattle.acl_tree.specs.Reports.{StagedState, Reports}
-use Rattle.acl_tree.specs.declared.user_change.UserChange.{UserChange}
+use Rattle.acl_files.specs.acl_names.Below.{parent}
+use Rattle.acl_tree.specs.Creat.{exists}
+use Rattle.acl_tree.specs.Step.{State, state_from, step, Stages}
+use Rattle.acl_tree.specs.Reports.{StagedState, Reports, users_move}
+use Rattle.acl_tree.specs.declared.borrowed_state.BorrowedState.{BorrowedState}
+use Rattle.acl_tree.specs.declared.command.Command.{Command}
 
 -- ---- a command
 
--- A call prepares the state after a step: a sound tree, with what it changes. Or it returns the step's fault.
-pub record Prepares (old : State) (is : Result State TreeFault) (move : UserChange) (result : Result StagedState TreeFault) : Type 0 where
-  pub made : Stages (λ s. s.state) result is
+-- the state that is borrowed
+abbrev pub whole : BorrowedState → State
+whole s = state_from s.tree.now s.people.now
+
+-- A call prepares the state after a command: a sound tree, with what it changes. Or it returns the command's fault.
+pub record Prepares (old : State) (command : Command) (result : Result StagedState TreeFault) : Type 0 where
+  pub made : Stages (λ s. s.state) result (step old command)
   pub sound : IfOk result (λ staged. IsSoundTree staged.state.tree)
   pub reports : IfOk result (λ staged. Reports old staged)
-  pub moved : IfOk result (λ staged. staged.user_change ≡ move)
+  pub moved : IfOk result (λ staged. staged.user_change ≡ users_move old command)
 
 -- ---- a new file
 

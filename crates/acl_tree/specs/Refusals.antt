@@ -10,7 +10,7 @@ use Rattle.acl_files.specs.acl_edit.declared.edit.EditFault.{EditFault}
 use Rattle.acl_files.specs.acl_edit.declared.node.Kind.{Kind}
 use Rattle.acl_files.specs.acl_edit.declared.node.Kind.TheVariants.{Plain, Directory}
 use Rattle.acl_files.specs.acl_edit.declared.node.Node.{Node}
-use Rattle.acl_files.specs.Below.{is_within}
+use Rattle.acl_files.specs.acl_names.Below.{is_within, parent}
 use Rattle.acl_files.specs.Files.{PathOf, Files, max_files}
 use Rattle.acl_files.specs.Operands.{is_file}
 use Rattle.acl_files.specs.Restoring.{restore_one, paths_of}
@@ -24,7 +24,6 @@ use Rattle.acl_tree.specs.declared.command.Command.TheVariants as commands
 use Rattle.acl_tree.specs.declared.command.Membership.TheVariants.{Remove}
 use Rattle.acl_tree.specs.declared.command.Table.{Table}
 use Rattle.acl_tree.specs.declared.command.Table.TheVariants.{Passwd, Group, Dump}
-use Rattle.acl_tree.specs.Creat.{parent}
 use Rattle.acl_tree.specs.EditCommand.{edit_one}
 use Rattle.acl_tree.specs.Step.{State, is_loaded, dump_records, step}
 

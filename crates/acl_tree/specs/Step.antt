@@ -1,7 +1,8 @@
 -- The whole state, and what a command makes of it.
-use Rattle.std.specs.Prelude.{◌≡◌, ◌≢◌, ℕ, List, length, Bool, true, false, nat_lt, ◌||◌, if◌then◌else◌, Option, Some, None, Result, Ok, Err, MatchResult, refl}
+use Rattle.std.specs.Prelude.{◌≡◌, ℕ, List, length, Bool, true, false, nat_lt, ◌||◌, if◌then◌else◌, Option, Some, None, Result, Ok, Err, refl}
 use Rattle.std.specs.Coded.{Coded, code_by, coded×}
 use Rattle.acl_files.specs.acl_syntax.declared.fault.TextFault.{TextFault}
+use Rattle.acl_files.specs.acl_syntax.InTurn.{GivesUnless}
 use Rattle.acl_files.specs.acl_dump.declared.record.DumpRecord.{DumpRecord}
 use Rattle.acl_files.specs.acl_dump.declared.record.DumpUse.TheVariants as uses
 use Rattle.acl_files.specs.acl_dump.Records.{dump_of}
@@ -9,14 +10,13 @@ use Rattle.acl_files.specs.acl_edit.Nodes as nodes
 use Rattle.acl_people.specs.declared.fault.LoadFault.{LoadFault}
 use Rattle.acl_people.specs.declared.fault.LoadFault.TheVariants as loads
 use Rattle.acl_people.specs.contracts.people.People as people_contracts
-use Rattle.acl_people.specs.Rolls.{id_named}
-use Rattle.acl_people.specs.Registers.{Register, nobody, users_of, groups_of, load_passwd, load_group}
+use Rattle.acl_people.specs.Registers.{Register, nobody, load_passwd, load_group, naming_of}
 use Rattle.acl_tree.specs.declared.command.Command.{Command}
 use Rattle.acl_tree.specs.declared.command.Command.TheVariants.{Load, Chmod, Edit, Restore, Creat, Rm, Gpasswd, Usermod, Useradd, Userdel}
 use Rattle.acl_tree.specs.declared.command.Table.{Table}
 use Rattle.acl_tree.specs.declared.command.Table.TheVariants.{Passwd, Group, Dump}
 use Rattle.acl_files.specs.declared.fault.TreeFault.{TreeFault}
-use Rattle.acl_files.specs.declared.fault.TreeFault.TheVariants.{NoSuchFile, TooMany, AlreadyLoaded, Text, NoMemory}
+use Rattle.acl_files.specs.declared.fault.TreeFault.TheVariants.{NoSuchFile, TooMany, AlreadyLoaded, NotMember, UidExists, TooManyUsers, Text, NoMemory}
 use Rattle.acl_files.specs.Files.{PathOf, Recorded, coded_recorded, no_files, max_files}
 use Rattle.acl_files.specs.Loading.{files_of}
 use Rattle.acl_tree.specs.Creat.{creat}
@@ -84,7 +84,7 @@ with_records s (Ok records) =
 
 -- the records of a dump, whose users and groups are looked up
 abbrev pub dump_records : Register → List ℕ → Result (List DumpRecord) TextFault
-dump_records known bytes = dump_of (λ name. id_named name (users_of known)) (λ name. id_named name (groups_of known)) uses.Load bytes
+dump_records known bytes = dump_of (naming_of known) uses.Load bytes
 
 abbrev pub load_dump : State → List ℕ → Result State TreeFault
 load_dump s bytes = with_records s (dump_records s.people bytes)
@@ -102,18 +102,30 @@ is_loaded s Passwd = s.tree.loaded || s.people.passwd_loaded
 is_loaded s Group = s.tree.loaded || s.people.group_loaded
 is_loaded s Dump = s.tree.loaded
 
--- whether a command loads such a text
-abbrev pub loads_again : State → Command → Bool
-loads_again s (Load which bytes) = is_loaded s which
-loads_again s (Chmod paths mode recursive) = false
-loads_again s (Edit paths e recursive) = false
-loads_again s (Restore records) = false
-loads_again s (Creat new) = false
-loads_again s (Rm paths recursive) = false
-loads_again s (Gpasswd user group change) = false
-loads_again s (Usermod user group) = false
-loads_again s (Useradd new) = false
-loads_again s (Userdel user) = false
+-- whether a fault of a change of the people contains no name
+abbrev pub is_nameless : TreeFault → Bool
+is_nameless NotMember = true
+is_nameless (UidExists id) = true
+is_nameless TooManyUsers = true
+is_nameless fault = false
+
+-- the fault of such a change, if it contains no name
+abbrev pub nameless : Result ChangedUser TreeFault → Option TreeFault
+nameless (Ok change) = None
+nameless (Err fault) = if is_nameless fault then Some fault else None
+
+-- the fault of a command that is found before memory is taken for anything, and takes none itself
+abbrev pub refused_at_once : State → Command → Option TreeFault
+refused_at_once s (Load which bytes) = if is_loaded s which then Some AlreadyLoaded else None
+refused_at_once s (Chmod paths mode recursive) = None
+refused_at_once s (Edit paths e recursive) = None
+refused_at_once s (Restore records) = None
+refused_at_once s (Creat new) = None
+refused_at_once s (Rm paths recursive) = None
+refused_at_once s (Gpasswd user group change) = nameless (gpasswd user group change s.people)
+refused_at_once s (Usermod user group) = None
+refused_at_once s (Useradd new) = nameless (useradd new s.people)
+refused_at_once s (Userdel user) = None
 
 -- the state after a command, or its first fault
 abbrev pub step : State → Command → Result State TreeFault
@@ -130,4 +142,4 @@ step s (Userdel user) = with_change s (userdel user s.people)
 
 -- A call stages the state after a step, or returns exactly its fault, unless memory ran out.
 abbrev pub Stages : {A : Type 0} → (A → State) → Result A TreeFault → Result State TreeFault → Type 0
-Stages view result is = MatchResult result (λ staged. is ≡ Ok (view staged)) (λ fault. fault ≢ NoMemory → is ≡ Err fault)
+Stages view result is = GivesUnless NoMemory view result is

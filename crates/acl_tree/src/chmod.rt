@@ -1,16 +1,14 @@
 //! chmod(1): a mode is put into files.
 
-ghost use Rattle.acl_tree.specs.Inner.{Prepares};
-ghost use Rattle.acl_files.specs.Operands.{first_missing};
-ghost use Rattle.acl_tree.specs.Step.{chmod_all, or_missing, state_from};
-ghost use Rattle.acl_tree.specs.declared.user_change.UserChange.TheVariants.{Unchanged};
+ghost use Rattle.acl_tree.specs.Inner.{Prepares, whole};
+ghost use Rattle.acl_tree.specs.declared.command.Command.TheVariants as commands;
 
+use crate::borrowed_state::BorrowedState;
 use crate::staged::Staged;
 use crate::user_change::UserChange;
 use acl_files::{
-    EditFault, Files, Node, NodeEdit, Path, Paths, TreeFault, chmod, edit_files, look_up,
+    EditFault, Node, NodeEdit, Path, Selection, TreeFault, chmod, edit_files, look_up,
 };
-use acl_people::People;
 use std::alloc::Global;
 
 /// The low twelve bits of a mode, to be put into a file.
@@ -31,35 +29,28 @@ impl NodeEdit for Mode {
         Ok(node)
     }
 
+    /// Proof only: a directory stays one, and only directories have default lists.
     fn keeps_place(&self) {}
 }
 
 /// Puts a mode into the files of a command.
 pub(crate) fn prepare_chmod(
-    tree: &Files,
     alloc: Global,
-    people: &People,
-    paths: &Paths,
+    state: &BorrowedState<'_>,
+    selection: &Selection<'_>,
     mode: u16,
-    recursive: bool,
 ) -> Result<Staged, TreeFault>
-    ensures { Prepares (state_from tree.now people.now) (or_missing (first_missing paths.now tree.now.files) (state_from (chmod_all recursive paths.now mode tree.now) people.now)) Unchanged result }
+    ensures { Prepares (whole state.now) (commands.Chmod selection.now.operands.now mode selection.now.recursive) result }
 {
+    let tree = state.tree;
     tree.is_sound();
-    look_up(tree, alloc, paths.as_slice())?;
+    look_up(alloc, tree, selection.operands.as_slice())?;
     let mut changed = Vec::new(alloc);
     let edit = Mode { bits: mode };
-    match edit_files(
-        tree,
-        alloc,
-        &mut changed,
-        paths.as_slice(),
-        recursive,
-        &edit,
-    ) {
+    match edit_files(alloc, tree, &mut changed, selection, &edit) {
         Ok(edited) => Ok(Staged::of(
             edited,
-            people.share()?,
+            state.people.share()?,
             changed,
             Vec::new(alloc),
             UserChange::Unchanged,

@@ -1,16 +1,17 @@
 //! creat: a new file in a directory.
 
-ghost use Rattle.std.specs.Prelude.{◌≡◌, ◌≢◌, ◌∷◌, [], None, Some, Ok, Err, IfOk, IfErr, OnErr, take, length};
+ghost use Rattle.std.specs.Prelude.{◌≡◌, ◌≢◌, ◌∷◌, [], None, Some, Ok, Err, IfOk, IfErr, OnErr};
 ghost use Rattle.std.specs.FinMap.{put};
 ghost use Rattle.acl_files.specs.acl_names.Paths.{path_cmp};
 ghost use Rattle.acl_files.specs.acl_edit.Creation.{inherit};
 ghost use Rattle.acl_files.specs.acl_edit.Nodes.{IsSound};
-ghost use Rattle.acl_tree.specs.Creat.{row_of, exists, parent, directory_at, creat_by, creat};
-ghost use Rattle.acl_tree.specs.Inner.{Prepares, IsNewIn};
-ghost use Rattle.acl_tree.specs.Step.{with_tree, state_from};
+ghost use Rattle.acl_files.specs.acl_names.Below.{parent};
+ghost use Rattle.acl_tree.specs.Creat.{row_of, exists, directory_at, creat_by};
+ghost use Rattle.acl_tree.specs.Inner.{Prepares, IsNewIn, whole};
 ghost use Rattle.acl_files.specs.declared.fault.TreeFault.TheVariants.{NoMemory, NoSuchUser};
-ghost use Rattle.acl_tree.specs.declared.user_change.UserChange.TheVariants.{Unchanged};
+ghost use Rattle.acl_tree.specs.declared.command.Command.TheVariants.{Creat};
 
+use crate::borrowed_state::BorrowedState;
 use crate::command::NewFile;
 use crate::dump::MAX_FILES;
 use crate::staged::Staged;
@@ -44,25 +45,12 @@ fn exists(tree: &Files, path: &Path) -> bool
     tree.files_by_path().within(path).next().is_some()
 }
 
-/// The path of a file's parent: the root is its own.
-fn parent_of(alloc: Global, path: &Path) -> Result<Path, AllocError>
-    ensures { IfOk result (λ p. p ≡ parent path.now) }
-{
-    let mut above = Vec::new(alloc);
-    let mut rest = path.components();
-    while let Some(component) = rest.next() {
-        above.push(Vec::from_slice(alloc, component)?)?;
-    }
-    above.pop();
-    Ok(Path::new(above).unwrap())
-}
-
 /// The directory of a new file.
-fn directory_of<'a>(tree: &'a Files, alloc: Global, path: &Path) -> Result<&'a Node, TreeFault>
+fn directory_of<'a>(alloc: Global, tree: &'a Files, path: &Path) -> Result<&'a Node, TreeFault>
     ensures found { IfOk result (λ node. directory_at (parent path.now) tree.now.files ≡ Ok node.now) }
     ensures fault { IfErr result (λ fault. fault ≢ NoMemory → directory_at (parent path.now) tree.now.files ≡ Err fault) }
 {
-    let path = parent_of(alloc, path)?;
+    let path = path.parent(alloc)?;
     match tree.get(&path) {
         None => Err(TreeFault::NoSuchFile { path }),
         Some(node) if node.kind == Kind::Directory => Ok(node),
@@ -91,8 +79,8 @@ fn node_of(
 
 /// The new file of a user.
 fn new_file(
-    tree: &Files,
     alloc: Global,
+    tree: &Files,
     new: &NewFile,
     owner: &PasswdRow,
 ) -> Result<Rc<Record>, TreeFault>
@@ -106,7 +94,7 @@ fn new_file(
             path: new.path.try_clone(alloc)?,
         });
     }
-    let directory = directory_of(tree, alloc, &new.path)?;
+    let directory = directory_of(alloc, tree, &new.path)?;
     if tree.files_by_path().len() >= MAX_FILES {
         return Err(TreeFault::TooMany);
     }
@@ -117,15 +105,15 @@ fn new_file(
 
 /// Makes a file.
 pub(crate) fn prepare_creat(
-    tree: &Files,
     alloc: Global,
-    people: &People,
+    state: &BorrowedState<'_>,
     new: &NewFile,
 ) -> Result<Staged, TreeFault>
-    ensures { Prepares (state_from tree.now people.now) (with_tree (state_from tree.now people.now) (creat new.now people.now tree.now)) Unchanged result }
+    ensures { Prepares (whole state.now) (Creat new.now) result }
 {
+    let (tree, people) = (state.tree, state.people);
     let owner = row_of(alloc, people, &new.user)?;
-    let file = new_file(tree, alloc, new, owner)?;
+    let file = new_file(alloc, tree, new, owner)?;
     let mut changed = Vec::new(alloc);
     changed.push(file)?;
     let files = tree.files_by_path().put_all(alloc, &changed)?;

@@ -2,16 +2,17 @@
 
 ghost use Rattle.std.specs.Prelude.{◌≡◌, ◌≢◌, [], true, map, IfOk};
 ghost use Rattle.acl_files.specs.Sound.{IsSoundTree};
-ghost use Rattle.acl_tree.specs.Step.{load_dump, Stages, state_from};
+ghost use Rattle.acl_tree.specs.Inner.{whole};
+ghost use Rattle.acl_tree.specs.Step.{load_dump, Stages};
 ghost use Rattle.acl_tree.specs.Reports.{Reports};
 ghost use Rattle.acl_tree.specs.declared.user_change.UserChange.TheVariants.{Unchanged};
 
+use crate::borrowed_state::BorrowedState;
 use crate::staged::Staged;
 use crate::user_change::UserChange;
 use acl_files::{
     DumpUse, FaultKind, Files, PathMap, Record, TextFault, TreeFault, files_of, read_dump,
 };
-use acl_people::People;
 use std::alloc::{AllocError, Global};
 use std::rc::Rc;
 
@@ -40,16 +41,16 @@ fn tree_of(alloc: Global, files: &[Rc<Record>]) -> Result<Files, AllocError>
 
 /// Loads the files of a dump. None is loaded yet.
 pub(crate) fn prepare_dump(
-    tree: &Files,
     alloc: Global,
-    people: &People,
+    state: &BorrowedState<'_>,
     bytes: &[u8],
 ) -> Result<Staged, TreeFault>
-    ensures made { Stages (λ s. s.state) result (load_dump (state_from tree.now people.now) bytes.now) }
+    ensures made { Stages (λ s. s.state) result (load_dump (whole state.now) bytes.now) }
     ensures sound { IfOk result (λ staged. IsSoundTree staged.state.tree) }
-    ensures reports { IfOk result (λ staged. tree.now.files ≡ [] → Reports (state_from tree.now people.now) staged) }
+    ensures reports { IfOk result (λ staged. state.now.tree.now.files ≡ [] → Reports (whole state.now) staged) }
     ensures moved { IfOk result (λ staged. staged.user_change ≡ Unchanged) }
 {
+    let people = state.people;
     let records = match read_dump(alloc, bytes, DumpUse::Load, people) {
         Ok(records) => records,
         Err(fault) => return Err(text_fault(fault)),

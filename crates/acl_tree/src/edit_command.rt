@@ -4,19 +4,18 @@ ghost use Rattle.std.specs.Prelude.{◌≡◌, ◌≢◌, Ok, Err, IfOk, IfErr};
 ghost use Rattle.acl_files.specs.Edits.{edit_all};
 ghost use Rattle.acl_files.specs.Sound.{IsSoundTree};
 ghost use Rattle.acl_files.specs.declared.edit.FileFault.TheVariants.{NoMemory};
-ghost use Rattle.acl_tree.specs.EditCommand.{edited_tree};
-ghost use Rattle.acl_tree.specs.Inner.{Prepares};
-ghost use Rattle.acl_tree.specs.Step.{with_tree, state_from};
+ghost use Rattle.acl_tree.specs.Inner.{Prepares, whole};
 ghost use Rattle.acl_tree.specs.Reports.{Reports};
+ghost use Rattle.acl_tree.specs.declared.command.Command.TheVariants as commands;
 ghost use Rattle.acl_tree.specs.declared.user_change.UserChange.TheVariants.{Unchanged};
 
+use crate::borrowed_state::BorrowedState;
 use crate::staged::Staged;
 use crate::user_change::UserChange;
 use acl_files::{
-    Edit, EditFault, FileFault, Files, Node, NodeEdit, Path, Paths, TreeFault, apply, edit_files,
+    Edit, EditFault, FileFault, Node, NodeEdit, Path, Selection, TreeFault, apply, edit_files,
     look_up,
 };
-use acl_people::People;
 use std::alloc::Global;
 
 /// One edit for each file, in a recursion or not.
@@ -35,30 +34,29 @@ impl NodeEdit for EachFile<'_> {
         apply(alloc, node, self.edit, self.recursive)
     }
 
+    /// Proof only: a directory stays one, and only directories have default lists.
     fn keeps_place(&self) {}
 }
 
 /// The state with the files of a command edited. The people stay as they are.
 fn stage_edits<E: NodeEdit>(
-    tree: &Files,
     alloc: Global,
-    people: &People,
-    operands: &[Path],
-    recursive: bool,
+    state: &BorrowedState<'_>,
+    selection: &Selection<'_>,
     edit: &E,
 ) -> Result<Staged, FileFault>
-    ensures made { IfOk result (λ staged. edit_all (E.edited edit.now) recursive operands.now tree.now ≡ Ok staged.state.tree) }
-    ensures people { IfOk result (λ staged. staged.state.people ≡ people.now) }
-    ensures fault { IfErr result (λ fault. fault ≢ NoMemory → edit_all (E.edited edit.now) recursive operands.now tree.now ≡ Err fault) }
+    ensures made { IfOk result (λ staged. edit_all (E.edited edit.now) selection.now.recursive selection.now.operands.now state.now.tree.now ≡ Ok staged.state.tree) }
+    ensures people { IfOk result (λ staged. staged.state.people ≡ state.now.people.now) }
+    ensures fault { IfErr result (λ fault. fault ≢ NoMemory → edit_all (E.edited edit.now) selection.now.recursive selection.now.operands.now state.now.tree.now ≡ Err fault) }
     ensures sound { IfOk result (λ staged. IsSoundTree staged.state.tree) }
-    ensures reports { IfOk result (λ staged. Reports (state_from tree.now people.now) staged) }
+    ensures reports { IfOk result (λ staged. Reports (whole state.now) staged) }
     ensures moved { IfOk result (λ staged. staged.user_change ≡ Unchanged) }
 {
     let mut changed = Vec::new(alloc);
-    let edited = edit_files(tree, alloc, &mut changed, operands, recursive, edit)?;
+    let edited = edit_files(alloc, state.tree, &mut changed, selection, edit)?;
     Ok(Staged::of(
         edited,
-        people.share()?,
+        state.people.share()?,
         changed,
         Vec::new(alloc),
         UserChange::Unchanged,
@@ -67,16 +65,17 @@ fn stage_edits<E: NodeEdit>(
 
 /// Edits the files of a command.
 pub(crate) fn prepare_edit(
-    tree: &Files,
     alloc: Global,
-    people: &People,
-    paths: &Paths,
+    state: &BorrowedState<'_>,
+    selection: &Selection<'_>,
     edit: &Edit,
-    recursive: bool,
 ) -> Result<Staged, TreeFault>
-    ensures { Prepares (state_from tree.now people.now) (with_tree (state_from tree.now people.now) (edited_tree recursive paths.now edit.now tree.now)) Unchanged result }
+    ensures { Prepares (whole state.now) (commands.Edit selection.now.operands.now edit.now selection.now.recursive) result }
 {
-    look_up(tree, alloc, paths.as_slice())?;
-    let each = EachFile { edit, recursive };
-    Ok(stage_edits(tree, alloc, people, paths.as_slice(), recursive, &each)?)
+    look_up(alloc, state.tree, selection.operands.as_slice())?;
+    let each = EachFile {
+        edit,
+        recursive: selection.recursive,
+    };
+    Ok(stage_edits(alloc, state, selection, &each)?)
 }

@@ -1,8 +1,8 @@
 //! The users and groups that words mean.
 
-ghost use Rattle.std.specs.Prelude.{◌≡◌, ◌≢◌, ◌<◌, length, Ok, Err, IfOk, IfErr};
+ghost use Rattle.std.specs.Prelude.{◌≡◌, ◌≢◌, ◌<◌, length, Ok, Err, IfOk, IfErr, OnErr};
 ghost use Rattle.acl_tree.specs.Memberships.{user_at, group_at};
-ghost use Rattle.acl_files.specs.declared.fault.TreeFault.TheVariants.{NoMemory};
+ghost use Rattle.acl_files.specs.declared.fault.TreeFault.TheVariants.{NoSuchUser, NoSuchGroup, NoMemory};
 
 use acl_files::{Name, TreeFault};
 use acl_people::People;
@@ -13,6 +13,7 @@ pub(crate) fn find_user(alloc: Global, people: &People, word: &Name) -> Result<u
     ensures found { IfOk result (λ user. user_at people.now word.now ≡ Ok user) }
     ensures within { IfOk result (λ user. user < length people.now.users) }
     ensures fault { IfErr result (λ fault. fault ≢ NoMemory → user_at people.now word.now ≡ Err fault) }
+    ensures unknown { OnErr result (user_at people.now word.now ≡ Err (NoSuchUser word.now)) }
 {
     match people.find_user(word.as_bytes()) {
         Some(user) => Ok(user),
@@ -27,6 +28,7 @@ pub(crate) fn find_group(alloc: Global, people: &People, word: &Name) -> Result<
     ensures found { IfOk result (λ group. group_at people.now word.now ≡ Ok group) }
     ensures within { IfOk result (λ group. group < length people.now.groups) }
     ensures fault { IfErr result (λ fault. fault ≢ NoMemory → group_at people.now word.now ≡ Err fault) }
+    ensures unknown { OnErr result (group_at people.now word.now ≡ Err (NoSuchGroup word.now)) }
 {
     match people.find_group(word.as_bytes()) {
         Some(group) => Ok(group),

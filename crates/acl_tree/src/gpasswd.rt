@@ -1,19 +1,20 @@
 //! gpasswd(1): a user joins or leaves the row of a group.
 
-ghost use Rattle.std.specs.Prelude.{◌≡◌, ◌≢◌, ◌<◌, length, Ok, Err, IfOk, IfErr};
+ghost use Rattle.std.specs.Prelude.{◌≡◌, ◌≢◌, ◌<◌, length, Ok, Err, IfOk, IfErr, IfSome};
 ghost use Rattle.acl_people.specs.Registers.{persons};
 ghost use Rattle.acl_people.specs.Moves.{ChangesUser};
-ghost use Rattle.acl_tree.specs.Inner.{Prepares};
-ghost use Rattle.acl_tree.specs.Memberships.{membership_changed, gpasswd};
-ghost use Rattle.acl_tree.specs.Step.{with_change, state_from};
-ghost use Rattle.acl_tree.specs.Reports.{change_moves};
+ghost use Rattle.acl_tree.specs.Inner.{Prepares, whole};
+ghost use Rattle.acl_tree.specs.Memberships.{membership_changed};
+ghost use Rattle.acl_tree.specs.Step.{refused_at_once};
+ghost use Rattle.acl_tree.specs.declared.command.Command.TheVariants.{Gpasswd};
 ghost use Rattle.acl_files.specs.declared.fault.TreeFault.TheVariants.{NoMemory};
 
+use crate::borrowed_state::BorrowedState;
 use crate::command::Membership;
 use crate::find_people::{find_group, find_user};
 use crate::stage_people::stage_user_change;
 use crate::staged::Staged;
-use acl_files::{Files, Name, TreeFault};
+use acl_files::{Name, TreeFault};
 use acl_people::People;
 use std::alloc::Global;
 
@@ -30,6 +31,7 @@ fn change_membership(
     ensures made { IfOk result (λ next. membership_changed user group change people.now ≡ Ok next) }
     ensures change { IfOk result (λ next. ChangesUser (persons people.now) (persons next) user) }
     ensures fault { IfErr result (λ fault. fault ≢ NoMemory → membership_changed user group change people.now ≡ Err fault) }
+    ensures at_once { IfErr (membership_changed user group change people.now) (λ fault. result ≡ Err fault) }
 {
     match change {
         Membership::Add => {
@@ -48,18 +50,19 @@ fn change_membership(
 
 /// Changes the membership of a user.
 pub(crate) fn prepare_gpasswd(
-    tree: &Files,
     alloc: Global,
-    people: &People,
+    state: &BorrowedState<'_>,
     user: &Name,
     group: &Name,
     change: Membership,
 ) -> Result<Staged, TreeFault>
-    ensures { Prepares (state_from tree.now people.now) (with_change (state_from tree.now people.now) (gpasswd user.now group.now change people.now)) (change_moves people.now (gpasswd user.now group.now change people.now)) result }
+    ensures prepares { Prepares (whole state.now) (Gpasswd user.now group.now change) result }
+    ensures at_once { IfSome (refused_at_once (whole state.now) (Gpasswd user.now group.now change)) (λ fault. result ≡ Err fault) }
 {
+    let people = state.people;
     let user = find_user(alloc, people, user)?;
     let group = find_group(alloc, people, group)?;
     let next = change_membership(alloc, people, user, group, change)?;
-    let staged = stage_user_change(tree, alloc, people, next, user)?;
+    let staged = stage_user_change(alloc, state, next, user)?;
     Ok(staged)
 }

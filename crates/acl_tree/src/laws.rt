@@ -23,7 +23,7 @@ ghost use Rattle.acl_tree.specs.declared.command.Command.TheVariants as commands
 ghost use Rattle.acl_tree.specs.declared.command.NewFile.{NewFile};
 ghost use Rattle.acl_tree.specs.declared.command.NewUser.{NewUser};
 
-/// Proof only. An edit and a restore make each of their files what the edit of that one file makes of it, and leave
+/// Proof only: an edit and a restore make each of their files what the edit of that one file makes of it, and leave
 /// every other file as it was. So the rules on the masks that a line leaves are true at each file of a recursion.
 pub fn each_file_is_edited()
     ensures edit { (recursive : Bool) (paths : List PathOf) (e : Edit) (old new : Recorded) → IsInOrder old.files → edited_tree recursive paths e old ≡ Ok new → EditsEach (edit_one e recursive) recursive paths old new }
@@ -31,19 +31,19 @@ pub fn each_file_is_edited()
     ensures masks { (recursive : Bool) (paths : List PathOf) (line : Change) (old new : Recorded) → IsInOrder old.files → edited_tree recursive paths (edit_of line) old ≡ Ok new → MasksEach line recursive paths old new }
 {}
 
-/// Proof only. What a command does not name stays as it is: at a path that is no operand, is not below one with
+/// Proof only: what a command does not name stays as it is: at a path that is no operand, is not below one with
 /// recursion, is of no record and is not the new file's, the same node is recorded as before, or none as before.
 pub fn unnamed_files_stay()
     ensures { (command : Command) (old new : State) → IsInOrder old.tree.files → step old command ≡ Ok new → LeavesUnnamed command old new }
 {}
 
-/// Proof only. A new file that is removed again leaves the state as it was: a plain file, or with recursion also
+/// Proof only: a new file that is removed again leaves the state as it was: a plain file, or with recursion also
 /// a directory.
 pub fn new_file_is_removed()
     ensures { (new : NewFile) (recursive : Bool) (old made : State) → (is_directory new.kind && not recursive) ≡ false → step old (commands.Creat new) ≡ Ok made → step made (commands.Rm (new.path ∷ []) recursive) ≡ Ok old }
 {}
 
-/// Proof only. A user that is added and removed again, under a name that no group's row has, leaves the files and
+/// Proof only: a user that is added and removed again, under a name that no group's row has, leaves the files and
 /// the rows of users and groups as they were, and the groups loaded or not. But users count as loaded from then on, so
 /// only a state in which they were loaded is the same again.
 pub fn new_user_is_removed()
@@ -51,7 +51,7 @@ pub fn new_user_is_removed()
     ensures whole { (new : NewUser) (old made : State) → is_user_name new.name ≡ true → list_any (names_user new.name) old.people.groups ≡ false → old.people.passwd_loaded ≡ true → step old (commands.Useradd new) ≡ Ok made → step made (commands.Userdel new.name) ≡ Ok old }
 {}
 
-/// Proof only. A restore of records that contain what their files are changes nothing.
+/// Proof only: a restore of records that contain what their files are changes nothing.
 pub fn restore_of_what_is_changes_nothing()
     ensures { (records : List DumpRecord) (state : State) → IsSoundTree state.tree → AllByRecursion (IsAsRecorded state.tree.files) records → step state (commands.Restore records) ≡ Ok state }
 {}

@@ -1,6 +1,7 @@
 //! The recorded files, the users and groups, and whole commands on them: each acts whole, or changes nothing.
 #![tactic(auto)]
 
+mod borrowed_state;
 mod chmod;
 mod command;
 mod creat;
@@ -25,13 +26,14 @@ mod usermod;
 
 pub use acl_files::{
     Acl, Draft, DumpRecord, DumpRecords, DumpUse, Edit, EditFault, Effective, Entry, FaultKind,
-    FilesIter, Form, Found, Id, Key, Kind, Label, ListFault, Name, Names, NoMemory, NoNames, Node,
-    Path, Paths, Perm, Record, Requests, Sep, Spec, Specs, Subject, TextFault, TreeFault, Want,
-    Which, append_entry, append_header, append_id, append_line, append_list, append_name,
-    append_path, append_short, each_record_is_a_file, granted, is_below, read_dump, read_entries,
-    read_id, read_name, read_path, read_perms, records_are_read_again, trim, write_name,
+    FilesIter, Form, Found, Header, Id, Key, Kind, Label, ListFault, Name, Names, NoMemory,
+    NoNames, Node, Path, Paths, Perm, Record, Requests, Selection, Sep, Spec, Specs, Subject,
+    TextFault, TreeFault, Want, Which, append_entry, append_header, append_id, append_line,
+    append_list, append_name, append_path, append_short, each_record_is_a_file, granted, read_dump,
+    read_entries, read_id, read_name, read_path, read_perms, records_are_read_again, trim,
+    write_name,
 };
-pub use acl_people::{People, UserName};
+pub use acl_people::{People, UserName, rising_ids};
 pub use command::{Command, Membership, NewFile, NewUser, Table};
 pub use laws::{
     each_file_is_edited, new_file_is_removed, new_user_is_removed,

@@ -2,13 +2,15 @@
 
 ghost use Rattle.std.specs.Prelude.{◌≡◌, [], true, IfOk, IfErr, OnOk, Err};
 ghost use Rattle.acl_people.specs.Registers.{Register};
-ghost use Rattle.acl_tree.specs.Step.{tree_fault, load, is_loaded, state_from};
+ghost use Rattle.acl_tree.specs.Step.{tree_fault, is_loaded, state_from};
 ghost use Rattle.acl_files.specs.declared.fault.TreeFault.TheVariants.{AlreadyLoaded, NoMemory};
-ghost use Rattle.acl_tree.specs.Inner.{Prepares};
+ghost use Rattle.acl_tree.specs.Inner.{Prepares, whole};
 ghost use Rattle.acl_files.specs.Sound.{IsSoundTree};
-ghost use Rattle.acl_tree.specs.Reports.{load_moves, Reports};
+ghost use Rattle.acl_tree.specs.Reports.{Reports};
+ghost use Rattle.acl_tree.specs.declared.command.Command.TheVariants.{Load};
 ghost use Rattle.acl_tree.specs.declared.user_change.UserChange.TheVariants.{Loaded};
 
+use crate::borrowed_state::BorrowedState;
 use crate::command::Table;
 use crate::dump::prepare_dump;
 use crate::stage_people::stage_people;
@@ -30,29 +32,29 @@ fn load_fault(fault: LoadFault) -> TreeFault
 
 /// Loads a text: users and groups before a dump, each once.
 pub(crate) fn prepare_load(
-    tree: &Files,
     alloc: Global,
-    people: &People,
+    state: &BorrowedState<'_>,
     which: Table,
     bytes: &[u8],
 ) -> Result<Staged, TreeFault>
-    ensures prepares { Prepares (state_from tree.now people.now) (load (state_from tree.now people.now) which bytes.now) (load_moves which) result }
-    ensures loaded { is_loaded (state_from tree.now people.now) which ≡ true → result ≡ Err AlreadyLoaded }
+    ensures prepares { Prepares (whole state.now) (Load which bytes.entry) result }
+    ensures loaded { is_loaded (whole state.now) which ≡ true → result ≡ Err AlreadyLoaded }
 {
+    let (tree, people) = (state.tree, state.people);
     tree.is_sound();
     if tree.is_loaded() {
         return Err(TreeFault::AlreadyLoaded);
     }
     match which {
-        Table::Passwd => with_people(tree, alloc, people.load_passwd(alloc, bytes)),
-        Table::Group => with_people(tree, alloc, people.load_group(alloc, bytes)),
-        Table::Dump => prepare_dump(tree, alloc, people, bytes),
+        Table::Passwd => with_people(alloc, tree, people.load_passwd(alloc, bytes)),
+        Table::Group => with_people(alloc, tree, people.load_group(alloc, bytes)),
+        Table::Dump => prepare_dump(alloc, state, bytes),
     }
 }
 
 fn with_people(
-    tree: &Files,
     alloc: Global,
+    tree: &Files,
     loaded: Result<People, LoadFault>,
 ) -> Result<Staged, TreeFault>
     ensures ok { IfOk loaded (λ people. IfOk result (λ staged. staged ≡ record { state = state_from tree.now people; changed = []; gone = []; user_change = Loaded })) }
@@ -64,7 +66,7 @@ fn with_people(
 {
     match loaded {
         Ok(people) => {
-            let staged = stage_people(tree, alloc, people, UserChange::Loaded)?;
+            let staged = stage_people(alloc, tree, people, UserChange::Loaded)?;
             Ok(staged)
         }
         Err(fault) => Err(load_fault(fault)),

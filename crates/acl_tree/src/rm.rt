@@ -3,22 +3,21 @@
 ghost use Rattle.std.specs.Prelude.{◌≡◌, ◌≢◌, None, Some, map, IfOk, IfErr, OnOk};
 ghost use Rattle.std.specs.FinMap.{find};
 ghost use Rattle.acl_files.specs.acl_names.Paths.{path_cmp};
-ghost use Rattle.acl_tree.specs.Inner.{Prepares};
+ghost use Rattle.acl_tree.specs.Inner.{Prepares, whole};
 ghost use Rattle.acl_files.specs.Inner.{file_of};
-ghost use Rattle.acl_tree.specs.Rm.{refusal, first_refused, rm};
-ghost use Rattle.acl_tree.specs.Step.{with_tree, state_from};
+ghost use Rattle.acl_tree.specs.Rm.{refusal, first_refused};
 ghost use Rattle.acl_files.specs.declared.fault.TreeFault.TheVariants.{NoMemory};
-ghost use Rattle.acl_tree.specs.declared.user_change.UserChange.TheVariants.{Unchanged};
+ghost use Rattle.acl_tree.specs.declared.command.Command.TheVariants.{Rm};
 
+use crate::borrowed_state::BorrowedState;
 use crate::staged::Staged;
 use crate::user_change::UserChange;
-use acl_files::{Files, Found, Kind, Path, Paths, Record, TreeFault, select};
-use acl_people::People;
+use acl_files::{Files, Found, Kind, Path, Record, Selection, TreeFault, select};
 use std::alloc::{AllocError, Global};
 use std::rc::Rc;
 
 /// Whether an operand may be removed.
-fn check_one(tree: &Files, alloc: Global, recursive: bool, path: &Path) -> Result<(), TreeFault>
+fn check_one(alloc: Global, tree: &Files, recursive: bool, path: &Path) -> Result<(), TreeFault>
     ensures ok { OnOk result (refusal recursive path.now (find path_cmp path.now tree.now.files) ≡ None) }
     ensures fault { IfErr result (λ fault. fault ≢ NoMemory → refusal recursive path.now (find path_cmp path.now tree.now.files) ≡ Some fault) }
 {
@@ -36,18 +35,13 @@ fn check_one(tree: &Files, alloc: Global, recursive: bool, path: &Path) -> Resul
 }
 
 /// Whether all operands may be removed; else the fault of the first that may not.
-fn check_all(
-    tree: &Files,
-    alloc: Global,
-    recursive: bool,
-    operands: &[Path],
-) -> Result<(), TreeFault>
-    ensures ok { OnOk result (first_refused recursive operands.now tree.now.files ≡ None) }
-    ensures fault { IfErr result (λ fault. fault ≢ NoMemory → first_refused recursive operands.now tree.now.files ≡ Some fault) }
+fn check_all(alloc: Global, tree: &Files, selection: &Selection<'_>) -> Result<(), TreeFault>
+    ensures ok { OnOk result (first_refused selection.now.recursive selection.now.operands.now tree.now.files ≡ None) }
+    ensures fault { IfErr result (λ fault. fault ≢ NoMemory → first_refused selection.now.recursive selection.now.operands.now tree.now.files ≡ Some fault) }
 {
-    let mut rest = operands;
+    let mut rest = selection.operands.as_slice();
     while let [path, more @ ..] = rest {
-        check_one(tree, alloc, recursive, path)?;
+        check_one(alloc, tree, selection.recursive, path)?;
         rest = more;
     }
     Ok(())
@@ -66,16 +60,15 @@ fn records(alloc: Global, files: &[Found]) -> Result<Vec<Rc<Record>>, AllocError
 
 /// Removes files.
 pub(crate) fn prepare_rm(
-    tree: &Files,
     alloc: Global,
-    people: &People,
-    paths: &Paths,
-    recursive: bool,
+    state: &BorrowedState<'_>,
+    selection: &Selection<'_>,
 ) -> Result<Staged, TreeFault>
-    ensures { Prepares (state_from tree.now people.now) (with_tree (state_from tree.now people.now) (rm recursive paths.now tree.now)) Unchanged result }
+    ensures { Prepares (whole state.now) (Rm selection.now.operands.now selection.now.recursive) result }
 {
-    check_all(tree, alloc, recursive, paths.as_slice())?;
-    let files = select(tree, alloc, paths.as_slice(), recursive)?;
+    let (tree, people) = (state.tree, state.people);
+    check_all(alloc, tree, selection)?;
+    let files = select(alloc, tree, selection)?;
     let gone = records(alloc, &files)?;
     let by_path = tree.files_by_path().without_all(alloc, &gone)?;
     Ok(Staged::of(

@@ -4,9 +4,11 @@ ghost use Rattle.std.specs.Prelude.{◌≡◌, [], IfOk};
 ghost use Rattle.acl_people.specs.Registers.{Register, persons};
 ghost use Rattle.acl_people.specs.Moves.{ChangesUser, moved_groups};
 ghost use Rattle.acl_files.specs.Sound.{IsSoundTree};
+ghost use Rattle.acl_tree.specs.Inner.{whole};
 ghost use Rattle.acl_tree.specs.Step.{state_from};
 ghost use Rattle.acl_tree.specs.Reports.{move_of, UsersMoved, Reports};
 
+use crate::borrowed_state::BorrowedState;
 use crate::staged::Staged;
 use crate::user_change::{GroupIds, UserChange};
 use acl_files::{Files, Id};
@@ -15,8 +17,8 @@ use std::alloc::{AllocError, Global};
 
 /// The same files with other people.
 pub(crate) fn stage_people(
-    tree: &Files,
     alloc: Global,
+    tree: &Files,
     people: People,
     user_change: UserChange,
 ) -> Result<Staged, AllocError>
@@ -50,19 +52,18 @@ fn move_of(user: usize, groups: Vec<Id>) -> UserChange
 
 /// The same files with people of whom one may have other groups.
 pub(crate) fn stage_user_change(
-    tree: &Files,
     alloc: Global,
-    people: &People,
+    state: &BorrowedState<'_>,
     next: People,
     user: usize,
 ) -> Result<Staged, AllocError>
-    requires { ChangesUser (persons people.now) (persons next) user }
-    ensures state { IfOk result (λ staged. staged.state ≡ state_from tree.now next) }
+    requires { ChangesUser (persons state.now.people.now) (persons next) user }
+    ensures state { IfOk result (λ staged. staged.state ≡ state_from state.now.tree.now next) }
     ensures sound { IfOk result (λ staged. IsSoundTree staged.state.tree) }
-    ensures reports { IfOk result (λ staged. Reports (state_from tree.now people.now) staged) }
-    ensures moved { IfOk result (λ staged. staged.user_change ≡ move_of user (moved_groups people.now next user)) }
+    ensures reports { IfOk result (λ staged. Reports (whole state.now) staged) }
+    ensures moved { IfOk result (λ staged. staged.user_change ≡ move_of user (moved_groups state.now.people.now next user)) }
 {
-    let groups = people.moved_groups(alloc, &next, user)?;
-    let staged = stage_people(tree, alloc, next, move_of(user, groups))?;
+    let groups = state.people.moved_groups(alloc, &next, user)?;
+    let staged = stage_people(alloc, state.tree, next, move_of(user, groups))?;
     Ok(staged)
 }

@@ -1,10 +1,9 @@
 //! The whole state: the recorded files, and the users and groups.
 
-ghost use Rattle.std.specs.Prelude.{◌≡◌, true, IfOk, Err};
+ghost use Rattle.std.specs.Prelude.{◌≡◌, IfOk, IfSome, Err};
 ghost use Rattle.acl_files.specs.Sound.{IsSoundTree};
-ghost use Rattle.acl_tree.specs.Step.{nothing, loads_again, step, Stages};
+ghost use Rattle.acl_tree.specs.Step.{nothing, refused_at_once, step, Stages};
 ghost use Rattle.acl_tree.specs.Reports.{users_move, Reports};
-ghost use Rattle.acl_files.specs.declared.fault.TreeFault.TheVariants.{AlreadyLoaded};
 
 use crate::command::Command;
 use crate::staged::Staged;
@@ -68,7 +67,7 @@ impl State {
     /// state stays as it is: a refused command changes nothing.
     pub fn prepare(&self, alloc: Global, command: &Command<'_>) -> Result<Staged, TreeFault>
         ensures made { Stages (λ s. s.state) result (step self.now command.now) }
-        ensures loaded { loads_again self.now command.now ≡ true → result ≡ Err AlreadyLoaded }
+        ensures at_once { IfSome (refused_at_once self.now command.now) (λ fault. result ≡ Err fault) }
         ensures sound { IfOk result (λ staged. IsSoundTree staged.state.tree) }
         ensures reports { IfOk result (λ staged. Reports self.now staged) }
         ensures moved { IfOk result (λ staged. staged.user_change ≡ users_move self.now command.now) }

@@ -1,11 +1,10 @@
 //! Commands on the whole state: each is prepared whole, or refused.
 
-ghost use Rattle.std.specs.Prelude.{◌≡◌, true, IfOk, Err};
-ghost use Rattle.acl_tree.specs.Step.{loads_again, step, Stages, state_from};
-ghost use Rattle.acl_files.specs.declared.fault.TreeFault.TheVariants.{AlreadyLoaded};
-ghost use Rattle.acl_files.specs.Sound.{IsSoundTree};
-ghost use Rattle.acl_tree.specs.Reports.{users_move, Reports};
+ghost use Rattle.std.specs.Prelude.{◌≡◌, IfSome, Err};
+ghost use Rattle.acl_tree.specs.Inner.{Prepares, whole};
+ghost use Rattle.acl_tree.specs.Step.{refused_at_once};
 
+use crate::borrowed_state::BorrowedState;
 use crate::chmod::prepare_chmod;
 use crate::command::Command;
 use crate::creat::prepare_creat;
@@ -18,45 +17,58 @@ use crate::staged::Staged;
 use crate::useradd::prepare_useradd;
 use crate::userdel::prepare_userdel;
 use crate::usermod::prepare_usermod;
-use acl_files::{Files, TreeFault};
-use acl_people::People;
+use acl_files::{Selection, TreeFault};
 use std::alloc::Global;
 
 /// The state after a command: [`crate::Tree::prepare`], by commands.
 pub(crate) fn prepare(
-    tree: &Files,
     alloc: Global,
-    people: &People,
+    state: &BorrowedState<'_>,
     command: &Command<'_>,
 ) -> Result<Staged, TreeFault>
-    ensures made { Stages (λ s. s.state) result (step (state_from tree.now people.now) command.now) }
-    ensures loaded { loads_again (state_from tree.now people.now) command.now ≡ true → result ≡ Err AlreadyLoaded }
-    ensures sound { IfOk result (λ staged. IsSoundTree staged.state.tree) }
-    ensures reports { IfOk result (λ staged. Reports (state_from tree.now people.now) staged) }
-    ensures moved { IfOk result (λ staged. staged.user_change ≡ users_move (state_from tree.now people.now) command.now) }
+    ensures prepares { Prepares (whole state.now) command.now result }
+    ensures at_once { IfSome (refused_at_once (whole state.now) command.now) (λ fault. result ≡ Err fault) }
 {
     match command {
-        Command::Load { which, bytes } => prepare_load(tree, alloc, people, *which, bytes),
+        Command::Load { which, bytes } => prepare_load(alloc, state, *which, bytes),
         Command::Chmod {
             paths,
             mode,
             recursive,
-        } => prepare_chmod(tree, alloc, people, paths, *mode, *recursive),
+        } => {
+            let selection = Selection {
+                operands: paths,
+                recursive: *recursive,
+            };
+            prepare_chmod(alloc, state, &selection, *mode)
+        }
         Command::Edit {
             paths,
             edit,
             recursive,
-        } => prepare_edit(tree, alloc, people, paths, edit, *recursive),
-        Command::Restore { records } => prepare_restore(tree, alloc, people, records),
-        Command::Creat(new) => prepare_creat(tree, alloc, people, new),
-        Command::Rm { paths, recursive } => prepare_rm(tree, alloc, people, paths, *recursive),
+        } => {
+            let selection = Selection {
+                operands: paths,
+                recursive: *recursive,
+            };
+            prepare_edit(alloc, state, &selection, edit)
+        }
+        Command::Restore { records } => prepare_restore(alloc, state, records),
+        Command::Creat(new) => prepare_creat(alloc, state, new),
+        Command::Rm { paths, recursive } => {
+            let selection = Selection {
+                operands: paths,
+                recursive: *recursive,
+            };
+            prepare_rm(alloc, state, &selection)
+        }
         Command::Gpasswd {
             user,
             group,
             change,
-        } => prepare_gpasswd(tree, alloc, people, user, group, *change),
-        Command::Usermod { user, group } => prepare_usermod(tree, alloc, people, user, group),
-        Command::Useradd(new) => prepare_useradd(tree, alloc, people, new),
-        Command::Userdel { user } => prepare_userdel(tree, alloc, people, user),
+        } => prepare_gpasswd(alloc, state, user, group, *change),
+        Command::Usermod { user, group } => prepare_usermod(alloc, state, user, group),
+        Command::Useradd(new) => prepare_useradd(alloc, state, new),
+        Command::Userdel { user } => prepare_userdel(alloc, state, user),
     }
 }

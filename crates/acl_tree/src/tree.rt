@@ -1,6 +1,6 @@
 //! The recorded files, with the commands on them and on the users and groups: each is prepared whole, or refused.
 
-ghost use Rattle.std.specs.Prelude.{◌≡◌, ◌≢◌, true, None, IfOk, IfErr, OnOk, Err};
+ghost use Rattle.std.specs.Prelude.{◌≡◌, ◌≢◌, None, IfOk, IfErr, IfSome, OnOk, Err};
 ghost use Rattle.std.specs.FinMap.{find};
 ghost use Rattle.std.specs.Option.{option_copied};
 ghost use Rattle.acl_files.specs.acl_names.Paths.{path_cmp};
@@ -9,14 +9,15 @@ ghost use Rattle.acl_files.specs.Found.{files_found};
 ghost use Rattle.acl_files.specs.Operands.{first_missing, IsMissing};
 ghost use Rattle.acl_files.specs.Sound.{IsSoundTree};
 ghost use Rattle.acl_files.specs.Walks.{within, ancestors};
-ghost use Rattle.acl_files.specs.declared.fault.TreeFault.TheVariants.{AlreadyLoaded, NoMemory};
-ghost use Rattle.acl_tree.specs.Step.{loads_again, step, Stages, state_from};
+ghost use Rattle.acl_files.specs.declared.fault.TreeFault.TheVariants.{NoMemory};
+ghost use Rattle.acl_tree.specs.Step.{refused_at_once, step, Stages, state_from};
 ghost use Rattle.acl_tree.specs.Reports.{users_move, Reports};
 
+use crate::borrowed_state::BorrowedState;
 use crate::command::Command;
 use crate::staged::Staged;
 use crate::step::prepare;
-use acl_files::{Files, FilesIter, Found, NoMemory, Node, Path, Paths, TreeFault};
+use acl_files::{Files, FilesIter, Found, NoMemory, Node, Path, Selection, TreeFault};
 use acl_people::People;
 use std::alloc::Global;
 use std::marker::Model;
@@ -100,23 +101,17 @@ impl Tree {
         self.files.ancestors(alloc, path)
     }
 
-    /// The files of a command: its operands, and with `recursive` all files below them, each once, in path
-    /// order, each with whether another recorded file is below it.
+    /// The files of a selection, each once, in path order, each with whether another recorded file is below it.
     ///
     /// # Errors
     ///
     /// `NoSuchFile` of the first operand that is not recorded, or `NoMemory`.
-    pub fn files(
-        &self,
-        alloc: Global,
-        paths: &Paths,
-        recursive: bool,
-    ) -> Result<Vec<Found>, TreeFault>
-        ensures all { IfOk result (λ files. files.items ≡ files_found recursive paths.now self.now.files) }
-        ensures there { OnOk result (first_missing paths.now self.now.files ≡ None) }
-        ensures reported { IfErr result (λ fault. fault ≢ NoMemory → IsMissing fault (first_missing paths.now self.now.files)) }
+    pub fn files(&self, alloc: Global, selection: &Selection<'_>) -> Result<Vec<Found>, TreeFault>
+        ensures all { IfOk result (λ files. files.items ≡ files_found selection.now.recursive selection.now.operands.now self.now.files) }
+        ensures there { OnOk result (first_missing selection.now.operands.now self.now.files ≡ None) }
+        ensures reported { IfErr result (λ fault. fault ≢ NoMemory → IsMissing fault (first_missing selection.now.operands.now self.now.files)) }
     {
-        self.files.selected(alloc, paths, recursive)
+        self.files.selected(alloc, selection)
     }
 
     /// Proof only: the files are in path order, each path once, and there are at most 1,048,576; there is none
@@ -135,7 +130,7 @@ impl Tree {
     ///
     /// The command's first fault, in this order:
     ///
-    /// - a load: `AlreadyLoaded`, before any look at the text and whatever memory there is; `Text` with the
+    /// - a load: `AlreadyLoaded`, before any look at the text; `Text` with the
     ///   text's first fault; `TooMany`;
     /// - a chmod, an edit, a restore: `NoSuchFile` of the first operand that is not recorded; an edit and a
     ///   restore then `Edit` of the first file in path order whose edit is refused;
@@ -145,7 +140,7 @@ impl Tree {
     /// - a useradd: `UserExists`; `UidExists`; `NoSuchGroup`; `TooManyUsers`;
     /// - a userdel: `NoSuchUser`.
     ///
-    /// Or `NoMemory`.
+    /// Or `NoMemory`, but never in place of `AlreadyLoaded`, `NotMember`, `UidExists` or `TooManyUsers`.
     pub fn prepare(
         &self,
         alloc: Global,
@@ -153,12 +148,16 @@ impl Tree {
         command: &Command<'_>,
     ) -> Result<Staged, TreeFault>
         ensures made { Stages (λ s. s.state) result (step (state_from self.now people.now) command.now) }
-        ensures loaded { loads_again (state_from self.now people.now) command.now ≡ true → result ≡ Err AlreadyLoaded }
+        ensures at_once { IfSome (refused_at_once (state_from self.now people.now) command.now) (λ fault. result ≡ Err fault) }
         ensures sound { IfOk result (λ staged. IsSoundTree staged.state.tree) }
         ensures reports { IfOk result (λ staged. Reports (state_from self.now people.now) staged) }
         ensures moved { IfOk result (λ staged. staged.user_change ≡ users_move (state_from self.now people.now) command.now) }
     {
-        prepare(&self.files, alloc, people, command)
+        let state = BorrowedState {
+            tree: &self.files,
+            people,
+        };
+        prepare(alloc, &state, command)
     }
 
     /// Puts a prepared state in place of this tree and of its people. Allocates nothing and succeeds.

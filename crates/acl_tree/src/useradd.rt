@@ -1,20 +1,21 @@
 //! useradd(8): one user more.
 
-ghost use Rattle.std.specs.Prelude.{◌≡◌, ◌≢◌, length, Ok, Err, IfOk, IfErr};
+ghost use Rattle.std.specs.Prelude.{◌≡◌, ◌≢◌, length, Ok, Err, IfOk, IfErr, IfSome};
 ghost use Rattle.acl_people.specs.Registers.{persons};
 ghost use Rattle.acl_people.specs.Moves.{JoinsUser};
 ghost use Rattle.acl_tree.specs.Accounts.{useradd};
-ghost use Rattle.acl_tree.specs.Inner.{Prepares};
-ghost use Rattle.acl_tree.specs.Step.{with_change, state_from};
+ghost use Rattle.acl_tree.specs.Inner.{Prepares, whole};
+ghost use Rattle.acl_tree.specs.Step.{nameless, refused_at_once};
 ghost use Rattle.acl_files.specs.declared.fault.TreeFault.TheVariants.{NoMemory};
-ghost use Rattle.acl_tree.specs.declared.user_change.UserChange.TheVariants.{Added};
+ghost use Rattle.acl_tree.specs.declared.command.Command.TheVariants.{Useradd};
 
+use crate::borrowed_state::BorrowedState;
 use crate::command::NewUser;
 use crate::find_people::find_group;
 use crate::stage_people::stage_people;
 use crate::staged::Staged;
 use crate::user_change::UserChange;
-use acl_files::{Files, TreeFault};
+use acl_files::TreeFault;
 use acl_people::People;
 use std::alloc::Global;
 
@@ -23,6 +24,7 @@ fn add_user(alloc: Global, people: &People, new: &NewUser) -> Result<People, Tre
     ensures made { IfOk result (λ next. useradd new.now people.now ≡ Ok (record { user = length people.now.users; people = next })) }
     ensures joins { IfOk result (λ next. JoinsUser (persons people.now) (persons next)) }
     ensures fault { IfErr result (λ fault. fault ≢ NoMemory → useradd new.now people.now ≡ Err fault) }
+    ensures at_once { IfSome (nameless (useradd new.now people.now)) (λ fault. result ≡ Err fault) }
 {
     if people.has_user_named(new.name.as_name().as_bytes()) {
         return Err(TreeFault::UserExists {
@@ -42,14 +44,14 @@ fn add_user(alloc: Global, people: &People, new: &NewUser) -> Result<People, Tre
 
 /// Adds a user.
 pub(crate) fn prepare_useradd(
-    tree: &Files,
     alloc: Global,
-    people: &People,
+    state: &BorrowedState<'_>,
     new: &NewUser,
 ) -> Result<Staged, TreeFault>
-    ensures { Prepares (state_from tree.now people.now) (with_change (state_from tree.now people.now) (useradd new.now people.now)) Added result }
+    ensures prepares { Prepares (whole state.now) (Useradd new.now) result }
+    ensures at_once { IfSome (refused_at_once (whole state.now) (Useradd new.now)) (λ fault. result ≡ Err fault) }
 {
-    let next = add_user(alloc, people, new)?;
-    let staged = stage_people(tree, alloc, next, UserChange::Added)?;
+    let next = add_user(alloc, state.people, new)?;
+    let staged = stage_people(alloc, state.tree, next, UserChange::Added)?;
     Ok(staged)
 }

@@ -1,30 +1,28 @@
 //! usermod(8): a user's primary group is another.
 
-ghost use Rattle.acl_tree.specs.Inner.{Prepares};
-ghost use Rattle.acl_tree.specs.Memberships.{usermod};
-ghost use Rattle.acl_tree.specs.Step.{with_change, state_from};
-ghost use Rattle.acl_tree.specs.Reports.{change_moves};
+ghost use Rattle.acl_tree.specs.Inner.{Prepares, whole};
+ghost use Rattle.acl_tree.specs.declared.command.Command.TheVariants.{Usermod};
 
+use crate::borrowed_state::BorrowedState;
 use crate::find_people::{find_group, find_user};
 use crate::stage_people::stage_user_change;
 use crate::staged::Staged;
-use acl_files::{Files, Name, TreeFault};
-use acl_people::People;
+use acl_files::{Name, TreeFault};
 use std::alloc::Global;
 
 /// Changes the primary group of a user.
 pub(crate) fn prepare_usermod(
-    tree: &Files,
     alloc: Global,
-    people: &People,
+    state: &BorrowedState<'_>,
     user: &Name,
     group: &Name,
 ) -> Result<Staged, TreeFault>
-    ensures { Prepares (state_from tree.now people.now) (with_change (state_from tree.now people.now) (usermod user.now group.now people.now)) (change_moves people.now (usermod user.now group.now people.now)) result }
+    ensures { Prepares (whole state.now) (Usermod user.now group.now) result }
 {
+    let people = state.people;
     let user = find_user(alloc, people, user)?;
     let group = find_group(alloc, people, group)?;
     let next = people.with_primary_group(alloc, user, group)?;
-    let staged = stage_user_change(tree, alloc, people, next, user)?;
+    let staged = stage_user_change(alloc, state, next, user)?;
     Ok(staged)
 }

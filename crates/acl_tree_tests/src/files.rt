@@ -2,7 +2,7 @@
 use crate::rows::{Line, after, command, paths};
 use crate::shown::{expect_text, listing};
 use crate::texts::{FOUR, PEOPLE};
-use acl_tree::{Found, State, append_id, append_path, each_record_is_a_file};
+use acl_tree::{Found, Selection, State, append_id, append_path, each_record_is_a_file};
 use std::alloc::Global;
 use std::process::Abort;
 
@@ -62,7 +62,11 @@ fn operands_mean_their_files_once(rt: HostRuntime) {
     let alloc = rt.alloc();
     let state = after(&rt, alloc, &[&PEOPLE, &FOUR]);
     let operands = paths(&rt, alloc, &[b"f", b"d", b"d/e"]);
-    let files = state.tree().files(alloc, &operands, true);
+    let selection = Selection {
+        operands: &operands,
+        recursive: true,
+    };
+    let files = state.tree().files(alloc, &selection);
     let text = found_text(&rt, alloc, &files.expect(&rt, "memory"));
     expect_text(&rt, text, "d 1002 above\nd/e 1002\nf 1001\n");
 }

@@ -2,24 +2,23 @@
 use Rattle.std.proofs.Common.{◌≡◌, Bool, true, false, cond, List, [], ◌∷◌, map, Option, Some, None, Ordering, Less, Equal, Greater, ◌++◌, IsTrue, refl, sym, ap, subst, ◌∙◌}
 use Rattle.std.specs.Prelude.{if◌then◌else◌}
 use Rattle.std.specs.List.{AllByRecursion}
-use Rattle.std.specs.Ordering.{is_gt, is_eq, is_lt}
+use Rattle.std.specs.Ordering.{is_gt, is_lt}
 use Rattle.std.specs.FinMap.{is_sorted}
 use Rattle.std.specs.FinMap.Entries.{below_all}
 use Rattle.std.proofs.lemmas.Bool.{and_parts}
-use Rattle.std.proofs.lemmas.Cmp.{tied_itself, nat_list_cmp_total}
 use Rattle.acl_files.specs.acl_names.Paths.{path_cmp}
 use Rattle.acl_files.proofs.of_acl_names.PathOrder.{path_total, exact_paths}
-use Rattle.acl_files.specs.Below.{is_within, is_below}
+use Rattle.acl_files.proofs.of_acl_names.Below.{below_less, below_of_within, convex, early_not_within}
+use Rattle.acl_files.specs.acl_names.Below.{is_within, is_below}
 use Rattle.acl_files.specs.Walks.{last_or, nearest_above}
 use Rattle.acl_files.proofs.Ancestors.{nearest_is_above}
 use Rattle.acl_files.proofs.Nearest.{those}
 use Rattle.path_map.specs.Entries.{PathOf, IsInOrder}
 use Rattle.path_map.specs.Below.{within}
 use Rattle.path_map.proofs.Places.{above, below}
-use Rattle.path_map.proofs.Convex.{convex, not_before}
 use Rattle.acl_verdicts.specs.Walks.{nearest_from, last_from, AllBefore}
 use Rattle.acl_verdicts.specs.Subtrees.{IsNearest}
-use Rattle.acl_verdicts.proofs.Walks.{both, below_less, below_of_within, false_from}
+use Rattle.acl_verdicts.proofs.Walks.{false_from}
 
 less : (o : Ordering) → is_lt o ≡ true → o ≡ Less
 less Less h = refl
@@ -33,10 +32,6 @@ greater Greater h = refl
 
 pub clash : (b : Bool) → b ≡ true → b ≡ false → ⊥
 clash b h k = cc
-
-pub within_itself : (p : PathOf) → is_within p p ≡ true
-within_itself [] = refl
-within_itself (x ∷ p) = both _ _ (ap is_eq (tied_itself nat_list_cmp_total x)) (within_itself p)
 
 -- ---- paths from a path on
 
@@ -59,9 +54,6 @@ all_from t e (r ∷ es) le h =
 
 pub from_not_below : (p r : PathOf) → is_gt (path_cmp p r) ≡ false → is_below r p ≡ false
 from_not_below p r le = false_from (is_below r p) (λ b. clash (is_gt (path_cmp p r)) (ap is_gt (above r p (below_less r p b))) le)
-
-pub early_not_within : (top p : PathOf) → is_gt (path_cmp top p) ≡ true → is_within top p ≡ false
-early_not_within top p gt = false_from (is_within top p) (λ w. clash (is_gt (path_cmp top p)) gt (not_before top p w))
 
 -- ---- a table in two parts: what comes before a path, and what is at it or below it, with the rest after it
 
@@ -150,10 +142,6 @@ within_root [] = refl
 within_root (r ∷ rows) = ap (λ l. r ∷ l) (within_root rows)
 
 -- ---- the nearest row above a path
-
-pub nothing_below : (e : PathOf) → is_below e [] ≡ false
-nothing_below [] = refl
-nothing_below (x ∷ e) = refl
 
 -- the last value of the last of some is theirs
 last_of_last : {A : Type 0} (o : Option A) (found es : List (PathOf × A)) → last_from o (last_or found es) ≡ last_from (last_from o found) es

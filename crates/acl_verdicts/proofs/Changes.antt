@@ -8,14 +8,16 @@ use Rattle.std.specs.FinMap.{find}
 use Rattle.std.specs.FinMap.Entries.{same_entries}
 use Rattle.acl_files.specs.acl_names.Paths.{path_cmp}
 use Rattle.acl_files.proofs.of_acl_names.PathOrder.{path_total, exact_paths}
-use Rattle.acl_files.specs.Below.{is_within, is_below}
+use Rattle.acl_files.specs.acl_names.Below.{is_within, is_below}
 use Rattle.path_map.specs.Entries.{PathOf, IsInOrder}
+use Rattle.path_map.specs.Below.{lies_in, holds_below}
 use Rattle.path_map.specs.Merged.{has, merged}
 use Rattle.path_map.proofs.Merges.{to_T}
 use Rattle.path_map.proofs.Rows.{kept, find_filter, in_order-filter, find_merged}
-use Rattle.acl_verdicts.specs.Subtrees.{lies_in, has_below, IsApart}
-use Rattle.acl_verdicts.proofs.Walks.{below_within, false_from}
-use Rattle.acl_verdicts.proofs.Begins.{clash, within_itself}
+use Rattle.acl_verdicts.specs.Subtrees.{IsApart}
+use Rattle.acl_files.proofs.of_acl_names.Below.{below_within, within_itself}
+use Rattle.acl_verdicts.proofs.Walks.{false_from}
+use Rattle.acl_verdicts.proofs.Begins.{clash}
 
 equal : (o : Ordering) → is_eq o ≡ true → o ≡ Equal
 equal Less h = cc
@@ -79,7 +81,7 @@ module _ {A W : Type 0} (es ts : List (PathOf × A)) (gs : List (PathOf × W)) (
 
   -- what is above an entry is not gone
   not_gone : (p q : PathOf) → is_some (find path_cmp p es) ≡ true → is_below q p ≡ true → has q gs ≡ false
-  not_gone p q there below = false_from (has q gs) (λ gone. found_any (λ r. is_below q r) es p there below (each_found (λ g. has_below es g ≡ false) gs q apart gone))
+  not_gone p q there below = false_from (has q gs) (λ gone. found_any (λ r. is_below q r) es p there below (each_found (λ g. holds_below es g ≡ false) gs q apart gone))
 
   -- where no top is above an entry, what is above it is as before
   pub kept_above : (p : PathOf) → is_some (find path_cmp p es) ≡ true → list_any (λ t. is_below t.0 p) ts ≡ false → (q : PathOf) → is_below q p ≡ true → find path_cmp q es ≡ find path_cmp q os

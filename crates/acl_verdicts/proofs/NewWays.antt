@@ -9,14 +9,15 @@ use Rattle.std.proofs.lemmas.List.{length-map}
 use Rattle.std.proofs.lemmas.List.Sums.{length-filter}
 use Rattle.acl_files.specs.acl_names.Paths.{path_cmp}
 use Rattle.acl_files.proofs.of_acl_names.PathOrder.{path_total, exact_paths}
-use Rattle.acl_files.specs.Below.{is_below}
+use Rattle.acl_files.specs.acl_names.Below.{is_below}
 use Rattle.path_map.specs.Entries.{PathOf, IsInOrder}
+use Rattle.path_map.specs.Below.{lies_in}
 use Rattle.path_map.specs.Merged.{has, merged}
 use Rattle.path_map.proofs.Merges.{to_T, in_order-merged}
 use Rattle.path_map.proofs.Rows.{kept, find_filter, in_order-filter, find_merged}
 use Rattle.acl_verdicts.specs.declared.steps.Step.{Step}
 use Rattle.acl_verdicts.specs.Walks.{nearest_from, nearest}
-use Rattle.acl_verdicts.specs.Subtrees.{lies_in, IsApart}
+use Rattle.acl_verdicts.specs.Subtrees.{IsApart}
 use Rattle.acl_verdicts.specs.Ways.{Numbers, Way, above_in, way_in, ways, ways_of, along, wayed, known, AreSteps, IsLonger, LeadsTo, AreBack, AreAbove}
 use Rattle.acl_verdicts.proofs.Orders.{in_order-values, in_order-back}
 use Rattle.acl_verdicts.proofs.Changes.{find-along, find_new, kept_above, has_top, own_kept, none_above, same_above}

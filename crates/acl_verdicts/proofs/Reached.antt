@@ -5,11 +5,12 @@ use Rattle.std.specs.FinMap.{is_sorted}
 use Rattle.std.specs.FinMap.Entries.{below_all}
 use Rattle.std.proofs.lemmas.Bool.{and_parts}
 use Rattle.acl_files.specs.acl_names.Paths.{path_cmp}
-use Rattle.acl_files.specs.Below.{is_below}
+use Rattle.acl_files.specs.acl_names.Below.{is_below}
 use Rattle.path_map.specs.Entries.{PathOf, IsInOrder}
 use Rattle.acl_verdicts.specs.Walks.{nearest_from, nearest, AllBefore}
 use Rattle.acl_verdicts.specs.Ways.{Numbers, Way, above_in, way_in, ways, along}
-use Rattle.acl_verdicts.proofs.Walks.{below_alike, all_before}
+use Rattle.acl_files.proofs.of_acl_names.Below.{below_alike}
+use Rattle.acl_verdicts.proofs.Walks.{all_before}
 use Rattle.acl_verdicts.proofs.Begins.{AllFrom, all_from, from_not_below}
 use Rattle.std.specs.Ordering.{is_gt}
 use Rattle.std.proofs.lemmas.Cmp.{tied_itself}

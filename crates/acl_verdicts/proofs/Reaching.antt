@@ -7,7 +7,7 @@ use Rattle.std.proofs.Math.Seq.{drop-append_seam}
 use Rattle.std.proofs.lemmas.List.{map-append, length-append}
 use Rattle.std.proofs.lemmas.Option.{slice_get_within, slice_get-map, unwrap_or-slice_get}
 use Rattle.acl_files.specs.acl_entry.Check.{has}
-use Rattle.acl_files.specs.Below.{is_below}
+use Rattle.acl_files.specs.acl_names.Below.{is_below}
 use Rattle.path_map.specs.Entries.{PathOf}
 use Rattle.acl_verdicts.specs.declared.steps.Step.{Step}
 use Rattle.acl_verdicts.specs.Reach.{execute, can_search, passes_in, reached_from, reached_rows}

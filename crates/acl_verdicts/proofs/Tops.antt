@@ -8,15 +8,15 @@ use Rattle.std.proofs.lemmas.Bool.{and_parts}
 use Rattle.std.proofs.lemmas.Cmp.{tied_itself}
 use Rattle.acl_files.specs.acl_names.Paths.{path_cmp}
 use Rattle.acl_files.proofs.of_acl_names.PathOrder.{path_total, exact_paths}
-use Rattle.acl_files.specs.Below.{is_within, is_below}
+use Rattle.acl_files.specs.acl_names.Below.{is_within, is_below}
 use Rattle.path_map.specs.Entries.{PathOf, IsInOrder}
-use Rattle.path_map.specs.Below.{within}
+use Rattle.path_map.specs.Below.{within, lies_in}
 use Rattle.path_map.specs.Merged.{has}
-use Rattle.path_map.proofs.Convex.{convex}
+use Rattle.acl_files.proofs.of_acl_names.Below.{below_within, convex, early_not_within, within_trans}
 use Rattle.acl_verdicts.specs.Walks.{AllBefore}
-use Rattle.acl_verdicts.specs.Subtrees.{lies_in, covers, AreWalked}
-use Rattle.acl_verdicts.proofs.Walks.{below_within, within_trans, false_from, all_before}
-use Rattle.acl_verdicts.proofs.Begins.{clash, AllFrom, all_from, from_not_below, early_not_within}
+use Rattle.acl_verdicts.specs.Subtrees.{covers, AreWalked}
+use Rattle.acl_verdicts.proofs.Walks.{false_from, all_before}
+use Rattle.acl_verdicts.proofs.Begins.{clash, AllFrom, all_from, from_not_below}
 use Rattle.acl_verdicts.proofs.Changes.{or_false, any_less}
 
 filter_same : {B : Type 0} (f g : PathOf → Bool) → ((p : PathOf) → f p ≡ g p) → (es : List (PathOf × B)) → filter (λ e. f e.0) es ≡ filter (λ e. g e.0) es

@@ -6,16 +6,16 @@ use Rattle.std.specs.Ordering.{is_gt}
 use Rattle.std.proofs.lemmas.List.{map-append}
 use Rattle.acl_files.specs.acl_names.Paths.{path_cmp}
 use Rattle.acl_files.proofs.of_acl_names.PathOrder.{exact_paths}
-use Rattle.acl_files.specs.Below.{is_within, is_below}
+use Rattle.acl_files.specs.acl_names.Below.{is_within, is_below}
 use Rattle.path_map.specs.Entries.{PathOf, IsInOrder}
 use Rattle.path_map.specs.Below.{within}
-use Rattle.path_map.proofs.Convex.{not_before}
+use Rattle.acl_files.proofs.of_acl_names.Below.{not_before, nothing_below, within_below}
 use Rattle.acl_verdicts.specs.declared.steps.Step.{Step}
 use Rattle.acl_verdicts.specs.Walks.{nearest, last_of, AllBefore}
 use Rattle.acl_verdicts.specs.Ways.{Numbers, Way, above_in, way_in, ways, ways_of, wayed, known, AreBack, LeadsTo, IsAbove, IsLonger, HaveRows, AreNumbers}
 use Rattle.acl_verdicts.proofs.Orders.{in_order-values}
-use Rattle.acl_verdicts.proofs.Walks.{within_below, all_before, before_front, before_end, before_take, before_more, nearest-append, take_seen}
-use Rattle.acl_verdicts.proofs.Begins.{clash, Parts, parts_of, above_last, above_within, above_before, inside_within, within_values, nothing_below, within_root}
+use Rattle.acl_verdicts.proofs.Walks.{all_before, before_front, before_end, before_take, before_more, nearest-append, take_seen}
+use Rattle.acl_verdicts.proofs.Begins.{clash, Parts, parts_of, above_last, above_within, above_before, inside_within, within_values, within_root}
 use Rattle.acl_verdicts.proofs.Along.{IsNumbered, leads_kept, wayed_kept, wayed_two, longer_itself, longer_on, numbered_longer, numbered_back, numbered_rows, numbered_way}
 use Rattle.acl_verdicts.proofs.Reached.{above_two, above_late, above_front, above_alike}
 

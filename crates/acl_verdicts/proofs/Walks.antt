@@ -2,27 +2,18 @@
 use Rattle.std.proofs.Common.{◌≡◌, ℕ, zero, suc, ◌+◌, ◌-◌, ◌<◌, ◌≤◌, Bool, true, false, ◌&&◌, List, [], ◌∷◌, length, map, take, drop, get_or, Option, Some, None, Ordering, Less, Equal, Greater, ◌++◌, append_assoc, IsTrue, refl, sym, ap, subst, ◌∙◌, arith}
 use Rattle.std.specs.Prelude.{if◌then◌else◌}
 use Rattle.std.specs.List.{list_all}
-use Rattle.std.specs.Ordering.{is_gt, is_eq, is_lt, nat_cmp, ordering_then}
-use Rattle.std.specs.Cmp.Lexicographic.{slice_cmp}
-use Rattle.std.specs.FinMap.{is_sorted, IsAntisymmetric, slice_cmp-IsAntisymmetric, nat_cmp-IsAntisymmetric}
+use Rattle.std.specs.Ordering.{is_gt, is_lt}
+use Rattle.std.specs.FinMap.{is_sorted}
 use Rattle.std.specs.FinMap.Entries.{below_all}
 use Rattle.std.proofs.lemmas.Bool.{and_parts}
 use Rattle.std.proofs.lemmas.List.{length-map, drop_more}
 use Rattle.std.proofs.lemmas.Cmp.{tied_itself}
 use Rattle.acl_files.specs.acl_names.Paths.{path_cmp}
 use Rattle.acl_files.proofs.of_acl_names.PathOrder.{path_total, exact_paths}
-use Rattle.acl_files.specs.Below.{is_within, is_below}
+use Rattle.acl_files.specs.acl_names.Below.{is_below}
+use Rattle.acl_files.proofs.of_acl_names.Below.{convex_below}
 use Rattle.path_map.specs.Entries.{PathOf, IsInOrder}
-use Rattle.path_map.proofs.Places.{above}
-use Rattle.path_map.proofs.Convex.{convex}
 use Rattle.acl_verdicts.specs.Walks.{nearest_from, nearest, last_from, last_of, lets, cut_from, AllBefore}
-
--- ---- which paths are below which
-
-equal : (o : Ordering) → is_eq o ≡ true → o ≡ Equal
-equal Less h = cc
-equal Equal h = refl
-equal Greater h = cc
 
 less : (o : Ordering) → is_lt o ≡ true → o ≡ Less
 less Less h = refl
@@ -32,60 +23,9 @@ less Greater h = cc
 pub both : (a b : Bool) → a ≡ true → b ≡ true → (a && b) ≡ true
 both a b p q = cc
 
-pub exact_names : IsAntisymmetric (slice_cmp nat_cmp)
-exact_names = slice_cmp-IsAntisymmetric nat_cmp-IsAntisymmetric
-
 pub false_from : (b : Bool) → (b ≡ true → ⊥) → b ≡ false
 false_from true h = absurd (h refl)
 false_from false h = refl
-
-alike_from : (a b : Bool) → (a ≡ true → b ≡ true) → (b ≡ true → a ≡ true) → a ≡ b
-alike_from true true f g = refl
-alike_from true false f g = sym (f refl)
-alike_from false true f g = g refl
-alike_from false false f g = refl
-
-pub below_within : (p q : PathOf) → is_below p q ≡ true → is_within p q ≡ true
-below_within [] q h = refl
-below_within (x ∷ p) [] h = h
-below_within (x ∷ p) (y ∷ q) h = let parts = and_parts (is_eq (slice_cmp nat_cmp x y)) (is_below p q) h in ap (λ b. b && is_within p q) parts.0 ∙ below_within p q parts.1
-
-pub below_less : (p q : PathOf) → is_below p q ≡ true → path_cmp p q ≡ Less
-unfolding path_cmp
-below_less [] [] h = cc
-below_less [] (y ∷ q) h = refl
-below_less (x ∷ p) [] h = cc
-below_less (x ∷ p) (y ∷ q) h = let parts = and_parts (is_eq (slice_cmp nat_cmp x y)) (is_below p q) h in ap (λ o. ordering_then o (slice_cmp (slice_cmp nat_cmp) p q)) (equal (slice_cmp nat_cmp x y) parts.0) ∙ below_less p q parts.1
-
-pub within_below : (p q : PathOf) → is_within p q ≡ true → path_cmp p q ≡ Less → is_below p q ≡ true
-unfolding path_cmp
-within_below [] [] w h = cc
-within_below [] (y ∷ q) w h = refl
-within_below (x ∷ p) [] w h = w
-within_below (x ∷ p) (y ∷ q) w h =
-    let parts = and_parts (is_eq (slice_cmp nat_cmp x y)) (is_within p q) w in
-    ap (λ b. b && is_below p q) parts.0
-    ∙ within_below p q parts.1 (ap (λ o. ordering_then o (slice_cmp (slice_cmp nat_cmp) p q)) (sym (equal (slice_cmp nat_cmp x y) parts.0)) ∙ h)
-
--- what is between a path and one below it lies below it
-pub convex_below : (p s t : PathOf) → path_cmp p s ≡ Less → path_cmp s t ≡ Less → is_below p t ≡ true → is_below p s ≡ true
-convex_below p s t ps st h = within_below p s (convex p s t (ap is_gt ps) st (below_within p t h)) ps
-
--- what lies below what lies below
-pub below_trans : (p s t : PathOf) → is_below p s ≡ true → is_below s t ≡ true → is_below p t ≡ true
-below_trans [] [] t h k = cc
-below_trans [] (y ∷ s) [] h k = cc
-below_trans [] (y ∷ s) (z ∷ t) h k = refl
-below_trans (x ∷ p) [] t h k = cc
-below_trans (x ∷ p) (y ∷ s) [] h k = cc
-below_trans (x ∷ p) (y ∷ s) (z ∷ t) h k =
-    let one = and_parts (is_eq (slice_cmp nat_cmp x y)) (is_below p s) h in
-    let two = and_parts (is_eq (slice_cmp nat_cmp y z)) (is_below s t) k in
-    both _ _ (ap (λ w. is_eq (slice_cmp nat_cmp w z)) (exact_names x y (equal (slice_cmp nat_cmp x y) one.0)) ∙ two.0) (below_trans p s t one.1 two.1)
-
--- what lies above a path is what lies above each path below it, of those that come before
-pub below_alike : (p s t : PathOf) → path_cmp p s ≡ Less → is_below s t ≡ true → is_below p s ≡ is_below p t
-below_alike p s t first h = alike_from (is_below p s) (is_below p t) (λ b. below_trans p s t b h) (convex_below p s t first (below_less s t h))
 
 -- ---- lists that come before a path
 
@@ -191,28 +131,6 @@ all-append f (e ∷ es) fs = ap (λ b. f e && b) (all-append f es fs) ∙ assoc 
     assoc : (a b c : Bool) → (a && (b && c)) ≡ ((a && b) && c)
     assoc true b c = refl
     assoc false b c = refl
-
--- ---- what lies within a top
-
-pub within_trans : (p s t : PathOf) → is_within p s ≡ true → is_within s t ≡ true → is_within p t ≡ true
-within_trans [] s t h k = refl
-within_trans (x ∷ p) [] t h k = cc
-within_trans (x ∷ p) (y ∷ s) [] h k = cc
-within_trans (x ∷ p) (y ∷ s) (z ∷ t) h k =
-    let one = and_parts (is_eq (slice_cmp nat_cmp x y)) (is_within p s) h in
-    let two = and_parts (is_eq (slice_cmp nat_cmp y z)) (is_within s t) k in
-    both _ _ (ap (λ w. is_eq (slice_cmp nat_cmp w z)) (exact_names x y (equal (slice_cmp nat_cmp x y) one.0)) ∙ two.0) (within_trans p s t one.1 two.1)
-
-pub below_of_within : (p s t : PathOf) → is_below p s ≡ true → is_within s t ≡ true → is_below p t ≡ true
-below_of_within [] [] t h k = cc
-below_of_within [] (y ∷ s) [] h k = cc
-below_of_within [] (y ∷ s) (z ∷ t) h k = refl
-below_of_within (x ∷ p) [] t h k = cc
-below_of_within (x ∷ p) (y ∷ s) [] h k = cc
-below_of_within (x ∷ p) (y ∷ s) (z ∷ t) h k =
-    let one = and_parts (is_eq (slice_cmp nat_cmp x y)) (is_below p s) h in
-    let two = and_parts (is_eq (slice_cmp nat_cmp y z)) (is_within s t) k in
-    both _ _ (ap (λ w. is_eq (slice_cmp nat_cmp w z)) (exact_names x y (equal (slice_cmp nat_cmp x y) one.0)) ∙ two.0) (below_of_within p s t one.1 two.1)
 
 -- ---- for what is kept in rows of another form
 

@@ -6,7 +6,7 @@ use Rattle.std.specs.FinMap.{find}
 use Rattle.acl_files.specs.acl_entry.Perms.{Perms}
 use Rattle.acl_files.specs.acl_entry.Check.{has}
 use Rattle.acl_files.specs.acl_names.Paths.{path_cmp}
-use Rattle.acl_files.specs.Below.{is_below}
+use Rattle.acl_files.specs.acl_names.Below.{is_below}
 use Rattle.path_map.specs.Entries.{PathOf}
 use Rattle.acl_verdicts.specs.Rows.{Rows}
 

@@ -1,21 +1,14 @@
 -- The rows at and below some paths, walked again.
 use Rattle.std.specs.Prelude.{◌≡◌, Bool, true, false, List, ◌++◌, filter, Option, None, Some}
-use Rattle.std.specs.List.{list_any, AllByRecursion}
-use Rattle.acl_files.specs.Below.{is_within, is_below}
+use Rattle.std.specs.List.{AllByRecursion}
+use Rattle.acl_files.specs.acl_names.Below.{is_within, is_below}
 use Rattle.path_map.specs.Entries.{PathOf}
+use Rattle.path_map.specs.Below.{lies_in, holds_below}
 use Rattle.acl_verdicts.specs.Walks.{nearest, last_of, AllBefore}
-
--- whether a path is one of some, or below one
-abbrev pub lies_in : {A : Type 0} → List (PathOf × A) → PathOf → Bool
-lies_in tops p = list_any (λ t. is_within t.0 p) tops
-
--- whether there is an entry below a path
-abbrev pub has_below : {A : Type 0} → List (PathOf × A) → PathOf → Bool
-has_below rows p = list_any (λ r. is_below p r.0) rows
 
 -- no entry is below one of these paths
 abbrev pub IsApart : {A B : Type 0} → List (PathOf × B) → List (PathOf × A) → Type 0
-IsApart rows gone = AllByRecursion (λ g. has_below rows g.0 ≡ false) gone
+IsApart rows gone = AllByRecursion (λ g. holds_below rows g.0 ≡ false) gone
 
 -- entries above a path, of which the last is the nearest that there is
 pub record IsNearest {A : Type 0} (p : PathOf) (rows above : List (PathOf × A)) : Type 0 where

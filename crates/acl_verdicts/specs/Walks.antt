@@ -3,7 +3,7 @@ use Rattle.std.specs.Prelude.{◌≡◌, ℕ, suc, Bool, true, List, [], ◌∷�
 use Rattle.std.specs.declared.cmp.Ordering.TheVariants.{Less}
 use Rattle.std.specs.List.{AllByRecursion}
 use Rattle.acl_files.specs.acl_names.Paths.{path_cmp}
-use Rattle.acl_files.specs.Below.{is_below}
+use Rattle.acl_files.specs.acl_names.Below.{is_below}
 use Rattle.path_map.specs.Entries.{PathOf}
 use Rattle.acl_verdicts.specs.Reach.{can_search}
 

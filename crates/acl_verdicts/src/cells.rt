@@ -24,8 +24,9 @@ impl Model for Cells {
     ghost view = { λ c. c.requests.value.items };
 }
 
-/// Whether two rows of verdicts are the same. The loop does not end early, so that it compares many at a time.
-fn are_equal(some: &[Requests], others: &[Requests]) -> bool
+/// Whether two rows of verdicts are the same, where it says so. The loop does not end early, so that it compares many at a time.
+/// Allocates nothing.
+pub fn same_row(some: &[Requests], others: &[Requests]) -> bool
     ensures { result ≡ true → some.now ≡ others.now }
 {
     if some.len() != others.len() {
@@ -65,7 +66,7 @@ impl Cells {
         ensures { IfOk result (λ cells. cells ≡ requests.items) }
     {
         if let Some(other) = other {
-            if are_equal(other.as_slice(), &requests) {
+            if same_row(other.as_slice(), &requests) {
                 let same = other.share()?;
                 return Ok(same);
             }

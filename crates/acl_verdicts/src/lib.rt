@@ -16,11 +16,11 @@ mod ways;
 
 pub use acl_subjects::Subjects;
 pub use answers::{granted_paths, granted_users};
-pub use cells::{Cells, judged, judged_at, judged_last, without};
+pub use cells::{Cells, judged, judged_at, judged_last, same_row, without};
 pub use hints::{Hints, mixed};
 pub use judge::Judge;
 pub use numbered::Numbered;
 pub use posix::Posix;
 pub use reaches::{reaches_after, reaches_again};
 pub use steps::Step;
-pub use ways::{Again, Ways};
+pub use ways::{Again, Ways, is_covered};

@@ -9,7 +9,7 @@ ghost use Rattle.acl_verdicts.specs.Ways.{Way, ways, wayed, known, AreBack, AreS
 ghost use Rattle.acl_verdicts.specs.Walks.{nearest, last_of, AllBefore};
 
 use crate::steps::{MoreSteps, Step};
-use acl_files::{Path, is_below};
+use acl_files::Path;
 use path_map::{Entry, PathMap};
 use std::alloc::{AllocError, Global};
 use std::rc::Rc;
@@ -23,7 +23,7 @@ fn depth_above<V>(stack: &[Rc<Entry<V>>], path: &Path) -> usize
 {
     let mut depth = stack.len();
     while 0 < depth {
-        if is_below(stack[depth - 1].path(), path) {
+        if path.is_below(stack[depth - 1].path()) {
             return depth;
         }
         depth -= 1;

@@ -4,15 +4,16 @@ ghost use Rattle.std.specs.Prelude.{◌≡◌, ℕ, map, filter, count_by, optio
 ghost use Rattle.std.specs.FinMap.{find};
 ghost use Rattle.acl_files.specs.acl_names.Paths.{path_cmp};
 ghost use Rattle.path_map.specs.Entries.{IsInOrder};
+ghost use Rattle.path_map.specs.Below.{lies_in};
 ghost use Rattle.path_map.specs.Merged.{merged};
-ghost use Rattle.acl_verdicts.specs.Subtrees.{lies_in, covers, IsApart};
+ghost use Rattle.acl_verdicts.specs.Subtrees.{covers, IsApart};
 ghost use Rattle.acl_verdicts.specs.Ways.{ways, wayed, known, AreBack, AreSteps, IsLonger, AreAbove, HaveRows, AreNumbers};
 
 use crate::numbered::Numbered;
 use crate::steps::{MoreSteps, Step, Steps};
 use crate::walk::{Places, add_steps, all_steps};
 use acl_files::{Path, nearest_above};
-use path_map::{Entry, PathMap, is_within};
+use path_map::{Entry, PathMap};
 use std::alloc::{AllocError, Global};
 use std::rc::Rc;
 
@@ -30,12 +31,12 @@ pub struct Again {
     pub walked: u64,
 }
 
-/// Whether a path is the last one that was walked or below it.
-fn is_covered(last: Option<&Path>, path: &Path) -> bool
+/// Whether a path is the last one whose files were walked, if there is one, or below it. Allocates nothing.
+pub fn is_covered(last: Option<&Path>, path: &Path) -> bool
     ensures { result ≡ covers (option_map (λ p. p.now) last.entry) path.now }
 {
     match last {
-        Some(last) => is_within(last, path),
+        Some(last) => path.is_within(last),
         None => false,
     }
 }

@@ -1,8 +1,9 @@
 -- How a run ends that stops in its script.
-use Rattle.std.proofs.Common.{◌≡◌, ℕ, List, Option, Result, Ok, inr, subst}
+use Rattle.std.proofs.Common.{◌≡◌, ℕ, Result, Ok, inr, subst}
 use Rattle.std.specs.Prelude.{IfSome}
 use Rattle.facl_tools.specs.acl_tree.Step.{State}
 use Rattle.facl_tools.specs.facl_script.Run.{StopsWith}
+use Rattle.facl_tools.specs.facl_script.Streams.{moment}
 use Rattle.facl_tools.specs.facl_script.declared.fault.ScriptFault.{ScriptFault}
 use Rattle.facl_tools.specs.facl_script.declared.fault.ScriptFault.TheVariants.{Read, Write, TooLong, NoMemory}
 use Rattle.facl_tools.specs.facl_words.TextWords.{line_asks}
@@ -12,22 +13,22 @@ use Rattle.facl_tools.specs.Tools.{Verdict}
 use Rattle.facl.specs.Costs.{all_pairs}
 use Rattle.facl.specs.declared.states.States.{States}
 use Rattle.facl.specs.Units.{answered, from_start}
-use Rattle.facl.specs.Runs.{EndsBy}
+use Rattle.facl.specs.Runs.{Devices, EndsBy}
 
-end_of_run : (fault : ScriptFault) (verdict : Verdict) (initial_state : Result State RunFault) (start : State) (states : States) (asked : ℕ) (remaining remaining' out out' err err' : Option (List ℕ))
-    → initial_state ≡ Ok start → IfSome remaining (λ script. StopsWith line_asks fault (answered verdict) (from_start start) script states (all_pairs start) asked remaining' out out' err err')
-    → EndsBy (run_fault_of_script fault) verdict initial_state asked remaining remaining' out out' err err'
-end_of_run Read verdict initial_state start states asked remaining remaining' out out' err err' e h = record { start = start; starts = e; states = states; stops = h }
-end_of_run Write verdict initial_state start states asked remaining remaining' out out' err err' e h = record { start = start; starts = e; states = states; stops = h }
-end_of_run TooLong verdict initial_state start states asked remaining remaining' out out' err err' e h = record { start = start; starts = e; states = states; stops = h }
-end_of_run NoMemory verdict initial_state start states asked remaining remaining' out out' err err' e h = inr (record { start = start; starts = e; states = states; stops = h })
+end_of_run : (fault : ScriptFault) (verdict : Verdict) (initial_state : Result State RunFault) (start : State) (states : States) (asked : ℕ) (old new : Devices)
+    → initial_state ≡ Ok start → IfSome old.remaining (λ script. StopsWith line_asks fault (answered verdict) script new.remaining (moment (from_start start) (all_pairs start) old.streams) (moment states asked new.streams))
+    → EndsBy (run_fault_of_script fault) verdict initial_state asked old new
+end_of_run Read verdict initial_state start states asked old new e h = record { start = start; starts = e; states = states; stops = h }
+end_of_run Write verdict initial_state start states asked old new e h = record { start = start; starts = e; states = states; stops = h }
+end_of_run TooLong verdict initial_state start states asked old new e h = record { start = start; starts = e; states = states; stops = h }
+end_of_run NoMemory verdict initial_state start states asked old new e h = inr (record { start = start; starts = e; states = states; stops = h })
 
 -- a script that stopped, of which all pairs were asked for by its start
-pub ends_by : (fault : ScriptFault) (verdict : Verdict) (initial_state : Result State RunFault) (start : State) (first states : States) (asked asked' : ℕ) (remaining remaining' out out' err err' : Option (List ℕ))
+pub ends_by : (fault : ScriptFault) (verdict : Verdict) (initial_state : Result State RunFault) (start : State) (first states : States) (asked asked' : ℕ) (old new : Devices)
     → initial_state ≡ Ok start → first ≡ from_start start → asked ≡ all_pairs start
-    → IfSome remaining (λ script. StopsWith line_asks fault (answered verdict) first script states asked asked' remaining' out out' err err')
-    → EndsBy (run_fault_of_script fault) verdict initial_state asked' remaining remaining' out out' err err'
-ends_by fault verdict initial_state start first states asked asked' remaining remaining' out out' err err' e starts pairs h =
-    end_of_run fault verdict initial_state start states asked' remaining remaining' out out' err err' e
-    (subst (λ w. IfSome remaining (λ script. StopsWith line_asks fault (answered verdict) w script states (all_pairs start) asked' remaining' out out' err err')) starts
-    (subst (λ n. IfSome remaining (λ script. StopsWith line_asks fault (answered verdict) first script states n asked' remaining' out out' err err')) pairs h))
+    → IfSome old.remaining (λ script. StopsWith line_asks fault (answered verdict) script new.remaining (moment first asked old.streams) (moment states asked' new.streams))
+    → EndsBy (run_fault_of_script fault) verdict initial_state asked' old new
+ends_by fault verdict initial_state start first states asked asked' old new e starts pairs h =
+    end_of_run fault verdict initial_state start states asked' old new e
+    (subst (λ w. IfSome old.remaining (λ script. StopsWith line_asks fault (answered verdict) script new.remaining (moment w (all_pairs start) old.streams) (moment states asked' new.streams))) starts
+    (subst (λ n. IfSome old.remaining (λ script. StopsWith line_asks fault (answered verdict) script new.remaining (moment first n old.streams) (moment states asked' new.streams))) pairs h))

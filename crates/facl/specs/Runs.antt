@@ -4,6 +4,7 @@ use Rattle.facl_tools.specs.acl_tree.Step.{State}
 use Rattle.facl_tools.specs.facl_script.Limits.{script_limit}
 use Rattle.facl_tools.specs.facl_script.Play.{session}
 use Rattle.facl_tools.specs.facl_script.Run.{StopsWith}
+use Rattle.facl_tools.specs.facl_script.Streams.{Streams, streams, moment}
 use Rattle.facl_tools.specs.facl_script.Write.{Writes}
 use Rattle.facl_tools.specs.facl_script.declared.fault.ScriptFault.{ScriptFault}
 use Rattle.facl_tools.specs.facl_script.declared.fault.ScriptFault.TheVariants as scripts
@@ -17,6 +18,14 @@ use Rattle.facl.specs.Costs.{all_pairs}
 use Rattle.facl.specs.declared.states.States.{States}
 use Rattle.facl.specs.Units.{answered, from_start}
 
+-- what the reader has left, and what the two writers hold, where it is known
+pub record Devices : Type 0 where
+  pub remaining : Option (List ℕ)
+  pub streams : Streams
+
+abbrev pub devices : (remaining out err : Option (List ℕ)) → Devices
+devices remaining out err = record { remaining = remaining; streams = streams out err }
+
 -- a line was refused
 abbrev pub has_refused : Status → Bool
 has_refused Accepted = false
@@ -24,32 +33,33 @@ has_refused Refused = true
 
 -- The whole script was answered, for some units for which memory ran out: out and err grew by what they do in turn. No
 -- more verdicts were asked for than on every user and every file at the start, and what each unit costs.
-pub record Answers (verdict : Verdict) (start : State) (script : List ℕ) (status : Status) (asked : ℕ) (out out' err err' : Option (List ℕ)) : Type 0 where
+pub record Answers (verdict : Verdict) (start : State) (script : List ℕ) (status : Status) (asked : ℕ) (old new : Streams) : Type 0 where
   pub m : ℕ → Bool
   pub within : length script ≤ script_limit
-  pub writes : Writes out out' err err' (session line_asks (answered verdict) m script (from_start start)).out (session line_asks (answered verdict) m script (from_start start)).err
+  pub writes : Writes old new (session line_asks (answered verdict) m script (from_start start)).out (session line_asks (answered verdict) m script (from_start start)).err
   pub status_is : has_refused status ≡ (session line_asks (answered verdict) m script (from_start start)).refused
   pub asks : asked ≤ all_pairs start + (session line_asks (answered verdict) m script (from_start start)).cost
 
 -- The run started at this state, and answered the whole script.
-pub record RunsTo (verdict : Verdict) (initial_state : Result State RunFault) (script : List ℕ) (status : Status) (asked : ℕ) (out out' err err' : Option (List ℕ)) : Type 0 where
+pub record RunsTo (verdict : Verdict) (initial_state : Result State RunFault) (script : List ℕ) (status : Status) (asked : ℕ) (old new : Streams) : Type 0 where
   pub start : State
   pub starts : initial_state ≡ Ok start
-  pub answers : Answers verdict start script status asked out out' err err'
+  pub answers : Answers verdict start script status asked old new
 
 -- nothing was read and nothing written
-pub record IsUntouched (remaining remaining' out out' err err' : Option (List ℕ)) : Type 0 where
-  pub reads : remaining' ≡ remaining
-  pub writes_out : out' ≡ out
-  pub writes_err : err' ≡ err
+pub record IsUntouched (old new : Devices) : Type 0 where
+  pub reads : new.remaining ≡ old.remaining
+  pub writes_out : new.streams.out ≡ old.streams.out
+  pub writes_err : new.streams.err ≡ old.streams.err
 
 -- The run started at this state, and its script stopped so: no more verdicts were asked for than on every user and
 -- every file at the start, and what each unit costs that was read.
-pub record Stops (fault : ScriptFault) (verdict : Verdict) (initial_state : Result State RunFault) (asked : ℕ) (remaining remaining' out out' err err' : Option (List ℕ)) : Type 0 where
+pub record Stops (fault : ScriptFault) (verdict : Verdict) (initial_state : Result State RunFault) (asked : ℕ) (old new : Devices) : Type 0 where
   pub start : State
   pub starts : initial_state ≡ Ok start
   pub states : States
-  pub stops : IfSome remaining (λ script. StopsWith line_asks fault (answered verdict) (from_start start) script states (all_pairs start) asked remaining' out out' err err')
+  pub stops : IfSome old.remaining (λ script. StopsWith line_asks fault (answered verdict) script new.remaining
+      (moment (from_start start) (all_pairs start) old.streams) (moment states asked new.streams))
 
 -- the most verdicts that are asked for before the script is read: on every user and every file of the state that the
 -- setup gives, and none where it gives none
@@ -58,16 +68,16 @@ most_at_start (Ok start) = all_pairs start
 most_at_start (Err fault) = 0
 
 -- memory ran out before the script was read
-pub record EndsEarly (initial_state : Result State RunFault) (asked : ℕ) (remaining remaining' out out' err err' : Option (List ℕ)) : Type 0 where
-  pub untouched : IsUntouched remaining remaining' out out' err err'
+pub record EndsEarly (initial_state : Result State RunFault) (asked : ℕ) (old new : Devices) : Type 0 where
+  pub untouched : IsUntouched old new
   pub asks : asked ≤ most_at_start initial_state
 
 -- How a run that returns a fault has ended. Before the script nothing is read or written.
-abbrev pub EndsBy : RunFault → Verdict → Result State RunFault → (asked : ℕ) (remaining remaining' out out' err err' : Option (List ℕ)) → Type 0
-EndsBy (Setup which fault) verdict initial_state asked remaining remaining' out out' err err' =
-    (initial_state ≡ Err (Setup which fault)) × (asked ≡ 0) × IsUntouched remaining remaining' out out' err err'
-EndsBy NoMemory verdict initial_state asked remaining remaining' out out' err err' =
-    EndsEarly initial_state asked remaining remaining' out out' err err' ⊎ Stops scripts.NoMemory verdict initial_state asked remaining remaining' out out' err err'
-EndsBy Read verdict initial_state asked remaining remaining' out out' err err' = Stops scripts.Read verdict initial_state asked remaining remaining' out out' err err'
-EndsBy Write verdict initial_state asked remaining remaining' out out' err err' = Stops scripts.Write verdict initial_state asked remaining remaining' out out' err err'
-EndsBy ScriptTooLong verdict initial_state asked remaining remaining' out out' err err' = Stops scripts.TooLong verdict initial_state asked remaining remaining' out out' err err'
+abbrev pub EndsBy : RunFault → Verdict → Result State RunFault → (asked : ℕ) (old new : Devices) → Type 0
+EndsBy (Setup which fault) verdict initial_state asked old new =
+    (initial_state ≡ Err (Setup which fault)) × (asked ≡ 0) × IsUntouched old new
+EndsBy NoMemory verdict initial_state asked old new =
+    EndsEarly initial_state asked old new ⊎ Stops scripts.NoMemory verdict initial_state asked old new
+EndsBy Read verdict initial_state asked old new = Stops scripts.Read verdict initial_state asked old new
+EndsBy Write verdict initial_state asked old new = Stops scripts.Write verdict initial_state asked old new
+EndsBy ScriptTooLong verdict initial_state asked old new = Stops scripts.TooLong verdict initial_state asked old new

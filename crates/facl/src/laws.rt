@@ -7,7 +7,7 @@ ghost use Rattle.facl.specs.FirstFault.{IsAnsweredByFirst};
 ghost use Rattle.facl.specs.declared.states.States.{States};
 ghost use Rattle.facl.specs.Units.{is_silent};
 
-/// Proof only. Which parts of a line are at fault is defined for each part by itself, without an order: its length, its
+/// Proof only: which parts of a line are at fault is defined for each part by itself, without an order: its length, its
 /// bytes, its quotes, its tool, the text after it, its words, and each part of what it asks for; neither a judge's
 /// verdict nor the state after the texts were loaded has a say in it. A line that is neither blank nor a comment is
 /// refused exactly if one of them is at fault, and for the first of those in one order.

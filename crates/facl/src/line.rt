@@ -1,10 +1,11 @@
 //! A line of a script: its words, its tool, its text, and what they do.
 
-ghost use Rattle.std.specs.Prelude.{◌≡◌, ℕ, List, Option, IfOk, map, string_bytes};
+ghost use Rattle.std.specs.Prelude.{◌≡◌, ℕ, List, Option, true, Err, IfOk, map, string_bytes};
 ghost use Rattle.facl_tools.specs.facl_script.Units.{UnitText};
 ghost use Rattle.facl_tools.specs.facl_script.ReadText.{IsTextFound};
 ghost use Rattle.facl_tools.specs.facl_script.ReadUnit.{IsLineFound};
 ghost use Rattle.facl_tools.specs.acl_rights.Tables.{IsWhole};
+ghost use Rattle.facl_tools.specs.facl_messages.declared.fault.LineFault.TheVariants.{LineTooLong};
 ghost use Rattle.facl_tools.specs.Replies.{Gives, IsPrepared, Replies};
 ghost use Rattle.facl_tools.specs.Tools.{tool_line};
 ghost use Rattle.facl.specs.Sessions.{loaded_state, loaded_index, states_in};
@@ -21,14 +22,15 @@ pub(crate) fn is_silent(is_too_long: bool, line: &[u8]) -> bool
     !is_too_long && has_no_words(line)
 }
 
-/// The words of a line.
+/// The words of a line. That a line is too long is returned whatever memory there is.
 pub(crate) fn words_of_line(
     alloc: Global,
     is_too_long: bool,
     line: &[u8],
 ) -> Result<Vec<String>, LineFault>
-    ensures { (content : Option (List ℕ)) → IsLineFound is_too_long line.now content
+    ensures words { (content : Option (List ℕ)) → IsLineFound is_too_long line.now content
         → Gives (λ words. map string_bytes words.items) result (words_of_line content) }
+    ensures too_long { is_too_long ≡ true → result ≡ Err LineTooLong }
 {
     if is_too_long {
         return Err(LineFault::LineTooLong);

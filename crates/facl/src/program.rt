@@ -3,8 +3,9 @@
 ghost use Rattle.std.specs.Prelude.{◌≡◌, ◌⊎◌, ℕ, true, false, IfOk, IfErr, IfSome, OnOk, Err};
 ghost use Rattle.std.specs.Io.KnownBytes.{IsAtEnd};
 ghost use Rattle.facl_tools.specs.acl_entry.Check.{rights};
+ghost use Rattle.facl_tools.specs.facl_script.Streams.{streams};
 ghost use Rattle.facl.specs.Setups.{initial_state};
-ghost use Rattle.facl.specs.Runs.{RunsTo, EndsBy};
+ghost use Rattle.facl.specs.Runs.{RunsTo, EndsBy, devices};
 
 use crate::answer::Judged;
 use crate::session::Facl;
@@ -35,10 +36,11 @@ pub fn run_judged<J: Judge, R: Feed, O: Sink, E: Sink>(
 
     ensures ok { IfOk result (λ status. IfSome (R.remaining reader.old) (λ script.
         RunsTo J.verdict_of (initial_state setup.now) script status (J.asked_of judge.new)
-        (O.contents out.old) (O.contents out.new) (E.contents err.old) (E.contents err.new))) }
+        (streams (O.contents out.old) (E.contents err.old)) (streams (O.contents out.new) (E.contents err.new)))) }
     ensures fault { IfErr result (λ fault.
-        EndsBy fault J.verdict_of (initial_state setup.now) (J.asked_of judge.new) (R.remaining reader.old) (R.remaining reader.new)
-        (O.contents out.old) (O.contents out.new) (E.contents err.old) (E.contents err.new)) }
+        EndsBy fault J.verdict_of (initial_state setup.now) (J.asked_of judge.new)
+        (devices (R.remaining reader.old) (O.contents out.old) (E.contents err.old))
+        (devices (R.remaining reader.new) (O.contents out.new) (E.contents err.new))) }
 
     // A status comes only once the reader is at its end, and where no device has failed.
     ensures end { OnOk result (IsAtEnd (R.remaining reader.new)) }
@@ -84,10 +86,11 @@ pub fn run<R: Feed, O: Sink, E: Sink>(
 
     ensures ok { IfOk result (λ status. IfSome (R.remaining reader.old) (λ script. (asked : ℕ)
         × RunsTo rights (initial_state setup.now) script status asked
-        (O.contents out.old) (O.contents out.new) (E.contents err.old) (E.contents err.new))) }
+        (streams (O.contents out.old) (E.contents err.old)) (streams (O.contents out.new) (E.contents err.new)))) }
     ensures fault { IfErr result (λ fault. (asked : ℕ)
-        × EndsBy fault rights (initial_state setup.now) asked (R.remaining reader.old) (R.remaining reader.new)
-        (O.contents out.old) (O.contents out.new) (E.contents err.old) (E.contents err.new)) }
+        × EndsBy fault rights (initial_state setup.now) asked
+        (devices (R.remaining reader.old) (O.contents out.old) (E.contents err.old))
+        (devices (R.remaining reader.new) (O.contents out.new) (E.contents err.new))) }
 
     // A status comes only once the reader is at its end, and where no device has failed.
     ensures end { OnOk result (IsAtEnd (R.remaining reader.new)) }

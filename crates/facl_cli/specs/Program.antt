@@ -2,7 +2,8 @@
 use Rattle.std.specs.Prelude.{◌≡◌, ℕ, List, Option, None, Some, ⊤}
 use Rattle.facl.specs.acl_entry.Check.{rights}
 use Rattle.facl.specs.facl_messages.declared.fault.RunFault.{RunFault}
-use Rattle.facl.specs.Runs.{EndsBy, IsUntouched, RunsTo}
+use Rattle.facl.specs.facl_script.Streams.{Streams}
+use Rattle.facl.specs.Runs.{Devices, EndsBy, IsUntouched, RunsTo}
 use Rattle.facl.specs.Setups.{initial_state}
 use Rattle.facl.specs.declared.setup.Setup.{Setup}
 use Rattle.facl.specs.declared.status.Status.{Status}
@@ -32,20 +33,20 @@ IsUnloaded bytes_of words (Run fault) = ⊥
 IsUnloaded bytes_of words NoMemory = ⊤
 
 -- The texts of the files that the words name were loaded, and then the script was answered to its end.
-pub record Ran (bytes_of : List ℕ → Bytes) (words : List (List ℕ)) (script : List ℕ) (status : Status) (out out' err err' : Option (List ℕ)) : Type 0 where
+pub record Ran (bytes_of : List ℕ → Bytes) (words : List (List ℕ)) (script : List ℕ) (status : Status) (old new : Streams) : Type 0 where
   pub setup : Setup
   pub texts : HaveTexts bytes_of words (setup_texts setup)
   pub asked : ℕ
-  pub runs : RunsTo rights (initial_state setup) script status asked out out' err err'
+  pub runs : RunsTo rights (initial_state setup) script status asked old new
 
 -- The texts of the files that the words name were there, and then the run ended by a fault.
-pub record Stopped (fault : RunFault) (bytes_of : List ℕ → Bytes) (words : List (List ℕ)) (remaining remaining' out out' err err' : Option (List ℕ)) : Type 0 where
+pub record Stopped (fault : RunFault) (bytes_of : List ℕ → Bytes) (words : List (List ℕ)) (old new : Devices) : Type 0 where
   pub setup : Setup
   pub texts : HaveTexts bytes_of words (setup_texts setup)
   pub asked : ℕ
-  pub ends : EndsBy fault rights (initial_state setup) asked remaining remaining' out out' err err'
+  pub ends : EndsBy fault rights (initial_state setup) asked old new
 
 -- how the program ends by a fault: before the run nothing is read of the script and nothing written
-abbrev pub FailsBy : ProgramFault → (List ℕ → Bytes) → List (List ℕ) → (remaining remaining' out out' err err' : Option (List ℕ)) → Type 0
-FailsBy (Run fault) bytes_of words remaining remaining' out out' err err' = Stopped fault bytes_of words remaining remaining' out out' err err'
-FailsBy fault bytes_of words remaining remaining' out out' err err' = IsUnloaded bytes_of words fault × IsUntouched remaining remaining' out out' err err'
+abbrev pub FailsBy : ProgramFault → (List ℕ → Bytes) → List (List ℕ) → (old new : Devices) → Type 0
+FailsBy (Run fault) bytes_of words old new = Stopped fault bytes_of words old new
+FailsBy fault bytes_of words old new = IsUnloaded bytes_of words fault × IsUntouched old new

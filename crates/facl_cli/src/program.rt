@@ -6,7 +6,9 @@ ghost use Rattle.std.specs.Process.{exit_status};
 ghost use Rattle.facl_cli.specs.Files.{texts_of};
 ghost use Rattle.facl_cli.specs.Lines.{IsReported, status_of};
 ghost use Rattle.facl_cli.specs.Program.{FailsBy, HaveTexts, IsUnloaded, Ran};
+ghost use Rattle.facl.specs.Runs.{devices};
 ghost use Rattle.facl.specs.facl_messages.declared.fault.RunFault.TheVariants as runs;
+ghost use Rattle.facl.specs.facl_script.Streams.{streams};
 
 use crate::args::files_named;
 use crate::fault::{ProgramFault, write_fault};
@@ -51,10 +53,11 @@ pub fn answer_words<S: Shelf, R: Feed, O: Sink, E: Sink>(
 
     ensures ok { IfOk result (λ status. IfSome (R.remaining reader.old) (λ script.
         Ran (S.bytes_of shelf.old) (map string_bytes words.now) script status
-        (O.contents out.old) (O.contents out.new) (E.contents err.old) (E.contents err.new))) }
+        (streams (O.contents out.old) (E.contents err.old)) (streams (O.contents out.new) (E.contents err.new)))) }
     ensures fault { IfErr result (λ fault.
-        FailsBy fault (S.bytes_of shelf.old) (map string_bytes words.now) (R.remaining reader.old) (R.remaining reader.new)
-        (O.contents out.old) (O.contents out.new) (E.contents err.old) (E.contents err.new)) }
+        FailsBy fault (S.bytes_of shelf.old) (map string_bytes words.now)
+        (devices (R.remaining reader.old) (O.contents out.old) (E.contents err.old))
+        (devices (R.remaining reader.new) (O.contents out.new) (E.contents err.new))) }
 
     // A status is returned only once the reader is at its end, and where no device has failed.
     ensures end { OnOk result (IsAtEnd (R.remaining reader.new)) }

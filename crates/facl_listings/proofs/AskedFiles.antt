@@ -9,7 +9,7 @@ use Rattle.std.proofs.lemmas.List.Folds.{list_any-append}
 use Rattle.acl_rights.specs.acl_names.Paths.{path_cmp}
 use Rattle.acl_rights.proofs.of_acl_names.PathOrder.{path_total, exact_paths}
 use Rattle.acl_rights.specs.acl_edit.declared.node.Node.{Node}
-use Rattle.acl_rights.specs.acl_files.Below.{is_below, is_within}
+use Rattle.acl_rights.specs.acl_names.Below.{is_below, is_within}
 use Rattle.acl_rights.specs.acl_files.Walks.{ancestors}
 use Rattle.acl_rights.specs.acl_tree.Files.{PathOf, Files}
 use Rattle.acl_rights.specs.acl_tree.Found.{found_in, files_found}

@@ -10,11 +10,11 @@ use Rattle.acl_rights.specs.acl_edit.declared.node.Node.{Node}
 use Rattle.acl_rights.specs.acl_entry.Lists.{KeyMap, entries}
 use Rattle.acl_rights.specs.acl_entry.Perms.{number}
 use Rattle.acl_rights.specs.acl_entry.declared.entry.Entry.{Entry}
-use Rattle.acl_rights.specs.acl_people.Registers.{Register}
+use Rattle.acl_rights.specs.acl_people.Registers.{Register, naming_of}
 use Rattle.acl_rights.specs.acl_tree.Files.{PathOf, Files}
 use Rattle.hex.proofs.HexLemmas.{decode_of-encode_lower}
 use Rattle.hex.specs.Hex.{IsBytes}
-use Rattle.facl_listings.specs.Again.{user_id, group_id, user_name, group_name, IsListAgain, IsReadAgain, IsAttributeAgain, AreAttributesAgain}
+use Rattle.facl_listings.specs.Again.{IsListAgain, IsReadAgain, IsAttributeAgain, AreAttributesAgain}
 
 nil_bytes : IsBytes []
 nil_bytes i = omega arith
@@ -56,7 +56,7 @@ attribute_again known acl h = record {
   list = attr_again acl h.valid h.ids;
 }
 
-default_again : (known : Register) (o : Option KeyMap) → IsListIf (user_id known) (group_id known) (user_name known) (group_name known) o → IfSome o IsAttributeAgain
+default_again : (known : Register) (o : Option KeyMap) → IsListIf (naming_of known) o → IfSome o IsAttributeAgain
 default_again known None h = tt
 default_again known (Some acl) h = attribute_again known acl h
 

@@ -135,7 +135,7 @@ pub no_files : (rows : Rows) → walked [] rows ≡ []
 no_files [] = refl
 no_files (row ∷ rows) = refl
 
-next_below : (p : PathOf) (es : Files) → has_next_below p (first es) ≡ next_file_below p es
+pub next_below : (p : PathOf) (es : Files) → has_next_below p (first es) ≡ next_file_below p es
 next_below p [] = refl
 next_below p (e ∷ es) = refl
 
@@ -150,7 +150,7 @@ walked_shown t done (e ∷ es) [] all order h = absurd (cc h)
 walked_shown t done (e ∷ es) (row ∷ rows) all order h =
     let here : row.0 ≡ e.0 = cc in
     let later : paths rows ≡ paths es = cc in
-    let is_below : has_next_below e.0 (first es) ≡ holds_below t e.0 = next_below e.0 es ∙ known_by_next done e es (subst IsInOrder all order) ∙ ap (λ l. holds_below l e.0) (sym all) in
+    let is_below : has_next_below e.0 (first es) ≡ holds_below t e.0 = next_below e.0 es ∙ known_by_next done e es (subst IsInOrder all order) ∙ ap (λ (l : Files). holds_below l e.0) (sym all) in
     let more = walked_shown t (done ++ e ∷ []) es rows (all ∙ sym (append_assoc done (e ∷ []) es)) order later in
     λ i. (here i, path_shown (found_file (is_below i) e)) ∷ more i
 

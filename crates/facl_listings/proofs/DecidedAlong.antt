@@ -12,13 +12,13 @@ use Rattle.acl_rights.specs.acl_entry.Perms.{Perms}
 use Rattle.acl_rights.specs.acl_entry.Person.{Person}
 use Rattle.acl_rights.specs.acl_names.Paths.{path_cmp}
 use Rattle.acl_rights.specs.acl_edit.declared.node.Node.{Node}
-use Rattle.acl_rights.specs.acl_files.Below.{is_below, is_within}
+use Rattle.acl_rights.specs.acl_names.Below.{is_below, is_within}
 use Rattle.acl_rights.specs.acl_tree.Files.{PathOf, Files, IsInOrder}
 use Rattle.acl_rights.specs.acl_tree.Found.{found_file}
 use Rattle.acl_rights.specs.acl_tree.Sound.{holds_below}
 use Rattle.acl_rights.specs.Reach.{execute, passes}
 use Rattle.acl_rights.proofs.of_acl_entry.Bytes.{has-byte_of}
-use Rattle.acl_rights.proofs.of_acl_files.Follows.{not_below_itself}
+use Rattle.acl_rights.proofs.of_acl_names.Below.{not_below_itself}
 use Rattle.acl_rights.proofs.of_acl_names.PathOrder.{path_total}
 use Rattle.acl_rights.proofs.of_path_map.Places.{less}
 use Rattle.facl_listings.proofs.AskedFiles.{one_path, within_is}

@@ -74,7 +74,7 @@ module _ (t rest more : Files) (paths left : List PathOf) (start text : List ℕ
   seen_more = whole_now ∙ sym (append_assoc at.seen (e ∷ []) more)
 
   file_is : found_file (next_file_below e.0 more) e ≡ found_file (holds_below t e.0) e
-  file_is = ap (λ b. found_file b e) (known_by_next at.seen e more (subst IsInOrder whole_now order) ∙ ap (λ l. holds_below l e.0) (sym whole_now))
+  file_is = ap (λ b. found_file b e) (known_by_next at.seen e more (subst IsInOrder whole_now order) ∙ ap (λ (l : Files). holds_below l e.0) (sym whole_now))
 
   -- one file more, whose line is added
   pub step_taken : (new : List PathOf) (new_text : List ℕ) (file : FoundFile) → is_first e.0 left ≡ true → new ≡ drop 1 left → file ≡ found_file (next_file_below e.0 more) e → new_text ≡ text ++ file_line file

@@ -1,11 +1,8 @@
 -- The lines of all files, by the rows of a whole table.
 use Rattle.std.proofs.Common.{◌≡◌, ℕ, zero, suc, ◌+◌, ◌<◌, ◌++◌, append_assoc, arith, false, length, take, List, [], ◌∷◌, map, Some, None, refl, sym, ap, subst, ◌∙◌}
-use Rattle.std.specs.Prelude.{option_map, slice_get}
+use Rattle.std.specs.Prelude.{slice_get}
 use Rattle.std.specs.List.{flat_map}
-use Rattle.std.specs.Option.{option_map_or}
-use Rattle.std.specs.FinMap.{find}
 use Rattle.acl_rights.specs.acl_names.Names.{escaped}
-use Rattle.acl_rights.specs.acl_names.Paths.{path_cmp}
 use Rattle.acl_rights.specs.acl_syntax.declared.rows.PasswdRow.{PasswdRow}
 use Rattle.acl_rights.specs.acl_edit.declared.node.Node.{Node}
 use Rattle.acl_rights.specs.acl_people.Registers.{person, persons}
@@ -13,12 +10,13 @@ use Rattle.acl_rights.specs.acl_tree.Files.{Files, IsInOrder}
 use Rattle.acl_rights.specs.acl_tree.Found.{FoundFile, found_file, found_in}
 use Rattle.acl_rights.specs.acl_tree.Sound.{holds_below}
 use Rattle.acl_rights.specs.acl_tree.Step.{State}
-use Rattle.acl_rights.proofs.of_acl_files.Changes.{find_it}
-use Rattle.acl_rights.specs.Tables.{Verdict, Table, IsWhole, cells_of}
-use Rattle.acl_rights.proofs.Asked.{row_is}
+use Rattle.acl_rights.proofs.of_acl_files.Follows.{known_by_next}
+use Rattle.acl_rights.specs.acl_files.path_map.Entries.{first}
+use Rattle.acl_rights.specs.Tables.{Verdict, Rows, Table, IsWhole, cells_of, rows_of}
 use Rattle.facl_listings.specs.Listings.{path_shown}
-use Rattle.facl_listings.specs.Answers.{granted, verdict_line, all_files, index_text}
-use Rattle.facl_listings.specs.Inner.{row_lines, lines_in}
+use Rattle.facl_listings.specs.Answers.{granted, verdict_line, index_text}
+use Rattle.facl_listings.specs.Inner.{row_lines, walked, has_next_below, shown_before, lines_of_walk}
+use Rattle.facl_listings.proofs.ChangeLines.{next_below}
 
 -- one more of some rows
 pub one_more : {A B : Type 0} (f : A → B) (xs : List A) (i : ℕ) (x : A) → slice_get xs i ≡ Some x → map f (take (i + 1) xs) ≡ map f (take i xs) ++ f x ∷ []
@@ -54,16 +52,19 @@ module _ (V : Verdict) (s : State) (t : Table) (whole : IsWhole V s t) (order : 
   each_user path n [] = refl
   each_user path n (row ∷ rows) = ap (λ l. verdict_line (V (person s.people.groups row) n.label) (escaped row.name) path ++ l) (each_user path n rows)
 
-  each_file : (done es : Files) → s.tree.files ≡ done ++ es → flat_map (lines_in t.rows written) (found_in s.tree.files es) ≡ flat_map file_lines (found_in s.tree.files es)
+  each_file : (done es : Files) → s.tree.files ≡ done ++ es → lines_of_walk written (walked es (rows_of V (persons s.people) es)) ≡ flat_map file_lines (found_in s.tree.files es)
   each_file done [] all = refl
   each_file done (e ∷ es) all =
-      let file : FoundFile = found_file (holds_below s.tree.files e.0) e in
-      let recorded : find path_cmp e.0 s.tree.files ≡ Some e.1 = ap (find path_cmp e.0) all ∙ find_it done e es (subst IsInOrder all order) in
-      let row : find path_cmp e.0 t.rows ≡ Some (cells_of V (persons s.people) e.1) = row_is V s t whole e.0 ∙ ap (option_map (cells_of V (persons s.people))) recorded in
-      let here : lines_in t.rows written file ≡ file_lines file = ap (λ o. option_map_or (row_lines (path_shown file) written) o []) row ∙ each_user (path_shown file) e.1 s.people.users in
+      let is_below : has_next_below e.0 (first es) ≡ holds_below s.tree.files e.0 =
+      next_below e.0 es ∙ known_by_next done e es (subst IsInOrder all order) ∙ ap (λ (l : Files). holds_below l e.0) (sym all)
+      in
+      let here : row_lines (shown_before (first es) e) written (cells_of V (persons s.people) e.1) ≡ file_lines (found_file (holds_below s.tree.files e.0) e) =
+      ap (λ b. row_lines (path_shown (found_file b e)) written (cells_of V (persons s.people) e.1)) is_below
+      ∙ each_user (path_shown (found_file (holds_below s.tree.files e.0) e)) e.1 s.people.users
+      in
       let more = each_file (done ++ e ∷ []) es (all ∙ sym (append_assoc done (e ∷ []) es)) in
       λ i. here i ++ more i
 
   -- the lines of all files
-  pub index_lines : flat_map (lines_in t.rows written) (all_files s) ≡ index_text V s
-  index_lines = each_file [] s.tree.files refl
+  pub index_lines : lines_of_walk written (walked s.tree.files t.rows) ≡ index_text V s
+  index_lines = ap (λ (rows : Rows). lines_of_walk written (walked s.tree.files rows)) whole.rows ∙ each_file [] s.tree.files refl

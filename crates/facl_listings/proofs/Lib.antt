@@ -7,7 +7,6 @@ pub mod Asked
 pub mod UserLines
 pub mod FileLines
 pub mod IndexLines
-pub mod Walk
 pub mod Deciding
 pub mod AskedFiles
 pub mod DecidedAlong

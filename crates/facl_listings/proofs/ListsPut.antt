@@ -1,6 +1,7 @@
 -- The lists of a file, put into this file, leave it as it is.
 use Rattle.std.proofs.Common.{◌≡◌, Bool, Option, Some, None, Ok, refl, sym, ap, subst, ◌∙◌}
-use Rattle.acl_rights.specs.acl_edit.Edits.{allowed, edit, put, ◌>>=◌}
+use Rattle.acl_rights.specs.acl_syntax.InTurn.{◌>>=◌}
+use Rattle.acl_rights.specs.acl_edit.Edits.{allowed, edit, put}
 use Rattle.acl_rights.specs.acl_edit.Nodes.{IsSound, with_lists}
 use Rattle.acl_rights.specs.acl_edit.declared.edit.Edit.TheVariants.{Put}
 use Rattle.acl_rights.specs.acl_edit.declared.node.Kind.{Kind}

@@ -11,7 +11,8 @@ use Rattle.acl_rights.proofs.of_acl_entry.Maps.{map_of-entries, in_order-entries
 use Rattle.acl_rights.proofs.of_acl_files.of_acl_edit.Kept.{checked_valid, default_unnamed}
 use Rattle.acl_rights.specs.acl_dump.Again.{IsListIf}
 use Rattle.acl_rights.specs.acl_edit.Changes.{Change, options}
-use Rattle.acl_rights.specs.acl_edit.Edits.{worked, access_after, default_after, checked, checked_default, changed_access, changed_default, change, ◌>>=◌}
+use Rattle.acl_rights.specs.acl_syntax.InTurn.{◌>>=◌}
+use Rattle.acl_rights.specs.acl_edit.Edits.{worked, access_after, default_after, checked, checked_default, changed_access, changed_default, change}
 use Rattle.acl_rights.specs.acl_edit.Masks.{has_mask, has_named, add_mask, recalculate, is_recalculated, takes_mask, with_mask}
 use Rattle.acl_rights.specs.acl_edit.Nodes.{IsSound, is_directory, with_lists}
 use Rattle.acl_rights.specs.acl_edit.Parts.{Part, part, is_for, is_mask, is_of_mask, names, puts}
@@ -28,14 +29,14 @@ use Rattle.acl_rights.specs.acl_entry.declared.entry.ListFault.{ListFault}
 use Rattle.acl_rights.specs.acl_entry.declared.entry.ListFault.TheVariants.{Repeated, MissingBase, MissingMask}
 use Rattle.acl_rights.specs.acl_entry.declared.key.Key.{Key}
 use Rattle.acl_rights.specs.acl_entry.declared.key.Key.TheVariants.{Owner, User, OwningGroup, Group, Mask, Other}
-use Rattle.acl_rights.specs.acl_people.Registers.{Register}
+use Rattle.acl_rights.specs.acl_people.Registers.{Register, naming_of}
 use Rattle.acl_rights.specs.acl_syntax.declared.entries.Spec.{Spec}
 use Rattle.acl_rights.specs.acl_syntax.declared.fault.Which.{Which}
 use Rattle.acl_rights.specs.acl_syntax.declared.fault.Which.TheVariants.{Access, Default}
 use Rattle.acl_rights.specs.acl_syntax.Writing.{spec_of}
 use Rattle.acl_rights.specs.acl_tree.Files.{PathOf, Files}
 use Rattle.acl_rights.specs.acl_tree.Sound.{ArePlaced}
-use Rattle.facl_listings.specs.Again.{user_id, group_id, user_name, group_name, IsReadAgain, IsShortAgain, entries_for, dacl_entries, all_entries, specs_of, AreSetAs, AreListsAgain}
+use Rattle.facl_listings.specs.Again.{IsReadAgain, IsShortAgain, entries_for, dacl_entries, all_entries, specs_of, AreSetAs, AreListsAgain}
 use Rattle.facl_listings.proofs.ListsAgain.{both_again, short_is_again}
 
 -- ---- the entries for each list
@@ -254,8 +255,8 @@ not_misplaced : (in_recursion b : Bool) → b ≡ false → (not false && not in
 not_misplaced true b h = refl
 not_misplaced false b h = h
 
-valid_dacl : (known : Register) (o : Option KeyMap) (d : KeyMap) → o ≡ Some d → IsListIf (user_id known) (group_id known) (user_name known) (group_name known) o → IsValid d
-valid_dacl known o d e is = (subst (IsListIf (user_id known) (group_id known) (user_name known) (group_name known)) e is).valid
+valid_dacl : (known : Register) (o : Option KeyMap) (d : KeyMap) → o ≡ Some d → IsListIf (naming_of known) o → IsValid d
+valid_dacl known o d e is = (subst (IsListIf (naming_of known)) e is).valid
 
 module _ (n : Node) (sound : IsSound n) (valid : IsValid n.label.acl) (valid_default : (d : KeyMap) → n.dacl ≡ Some d → IsValid d) where
   abbrev all : List Spec
@@ -295,7 +296,7 @@ module _ (n : Node) (sound : IsSound n) (valid : IsValid n.label.acl) (valid_def
 
 -- ---- all files
 
-default_short : (known : Register) (o : Option KeyMap) → IsListIf (user_id known) (group_id known) (user_name known) (group_name known) o → IfSome o (IsShortAgain known)
+default_short : (known : Register) (o : Option KeyMap) → IsListIf (naming_of known) o → IfSome o (IsShortAgain known)
 default_short known None is = tt
 default_short known (Some dacl) is = short_is_again known dacl is
 

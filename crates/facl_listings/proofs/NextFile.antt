@@ -1,12 +1,12 @@
 -- The lines of the next file of one walk, or of two.
-use Rattle.std.proofs.Common.{◌≡◌, ℕ, true, List, [], ◌∷◌, ◌++◌, Option, Some, None, append-nil, refl, sym, ap, ◌∙◌}
+use Rattle.std.proofs.Common.{◌≡◌, ℕ, ◌<◌, true, List, [], ◌∷◌, ◌++◌, length, drop, Option, Some, None, append-nil, append_assoc, arith, refl, sym, ap, ◌∙◌}
 use Rattle.std.specs.Prelude.{option_map}
 use Rattle.std.specs.List.{list_all}
 use Rattle.std.proofs.lemmas.Bool.{and_parts, eqb-true}
 use Rattle.acl_rights.specs.acl_files.path_map.Entries.{first}
 use Rattle.facl_listings.specs.declared.placed_users.PlacedUser.{PlacedUser}
 use Rattle.facl_listings.specs.Requests.{requests_granted}
-use Rattle.facl_listings.specs.Inner.{same_place, keeps_place, cell_at, lines_between, Walked, gone_lines, new_lines, kept_lines}
+use Rattle.facl_listings.specs.Inner.{same_place, keeps_place, cell_at, lines_between, Walked, gone_lines, new_lines, kept_lines, row_lines, lines_of_walk}
 use Rattle.facl_listings.proofs.Unchanged.{lines_none}
 
 abbrev Shown : Type 0
@@ -70,3 +70,25 @@ pub kept_same : (users : List PlacedUser) (before after : Walked) (old new : Sho
 kept_same users before after old new b a places row text =
     let none = kept_some users before after old new b a ∙ ap (λ r. lines_between users new.0 r new.1) row ∙ same_rows users places new.0 new.1 in
     sym (append-nil text) ∙ ap (λ l. text ++ l) (sym none)
+
+-- ---- the lines of all verdicts
+
+pub lines_over : (names : List (List ℕ)) (files : Walked) → None ≡ next_of files → lines_of_walk names files ≡ []
+lines_over names [] h = refl
+lines_over names (file ∷ files) h = absurd (cc h)
+
+pub lines_next : (names : List (List ℕ)) (files : Walked) (file : Shown) → Some file ≡ next_of files → lines_of_walk names files ≡ row_lines file.0 names file.1 ++ lines_of_walk names (drop 1 files)
+lines_next names [] file h = absurd (cc h)
+lines_next names (other ∷ files) file h = let same : other.1 ≡ file = cc in ap (λ (f : Shown). row_lines f.0 names f.1 ++ lines_of_walk names files) same
+
+pub fewer_files : (files : Walked) (file : Shown) → Some file ≡ next_of files → length (drop 1 files) < length files
+fewer_files [] file h = absurd (cc h)
+fewer_files (other ∷ files) file h = omega arith
+
+pub walk_more : (names : List (List ℕ)) (files rest : Walked) (file : Shown) (text new all : List ℕ) → Some file ≡ next_of files → rest ≡ drop 1 files → new ≡ text ++ row_lines file.0 names file.1
+    → text ++ lines_of_walk names files ≡ all → new ++ lines_of_walk names rest ≡ all
+walk_more names files rest file text new all next left pushed so_far =
+    (λ i. pushed i ++ lines_of_walk names (left i))
+    ∙ append_assoc text (row_lines file.0 names file.1) (lines_of_walk names (drop 1 files))
+    ∙ ap (λ l. text ++ l) (sym (lines_next names files file next))
+    ∙ so_far

@@ -11,7 +11,7 @@ use Rattle.acl_rights.specs.acl_edit.Nodes as nodes
 use Rattle.acl_rights.specs.acl_edit.declared.node.Kind.{Kind}
 use Rattle.acl_rights.specs.acl_edit.declared.node.Kind.TheVariants.{Plain, Directory}
 use Rattle.acl_rights.specs.acl_edit.declared.node.Node.{Node}
-use Rattle.acl_rights.specs.acl_people.Registers.{Register}
+use Rattle.acl_rights.specs.acl_people.Registers.{Register, naming_of}
 use Rattle.acl_rights.specs.acl_dump.declared.record.DumpRecord.{DumpRecord}
 use Rattle.acl_rights.specs.acl_dump.declared.record.DumpUse.{DumpUse}
 use Rattle.acl_rights.specs.acl_dump.declared.record.DumpUse.TheVariants.{Load, Restore}
@@ -20,15 +20,16 @@ use Rattle.acl_rights.specs.acl_dump.Again.{AreApart, AreFlags, IsReadable, HasH
 use Rattle.acl_rights.proofs.of_acl_dump.WrittenRecords.{dump_again}
 use Rattle.acl_rights.specs.acl_files.declared.fault.TreeFault.{TreeFault}
 use Rattle.acl_rights.specs.acl_files.declared.fault.TreeFault.TheVariants.{TooMany}
+use Rattle.acl_rights.specs.acl_syntax.Naming.{Naming}
 use Rattle.acl_rights.specs.acl_tree.Files.{PathOf, Files, IsInOrder, no_files}
-use Rattle.acl_rights.specs.acl_files.Below.{is_below}
+use Rattle.acl_rights.specs.acl_names.Below.{is_below}
 use Rattle.acl_rights.specs.acl_files.Loading.{node_of, has_below, as_files, files_of}
 use Rattle.acl_rights.specs.acl_tree.Operands.{is_file}
 use Rattle.acl_rights.specs.acl_tree.Sound.{holds_below, IsPlaced, ArePlaced}
 use Rattle.acl_rights.specs.acl_tree.Found.{FoundFile, found_in, files_found}
 use Rattle.acl_rights.specs.acl_tree.Step.{State, with_records}
 use Rattle.facl_listings.specs.Listings.{listing, plain, has_slash, flags_shown}
-use Rattle.facl_listings.specs.Again.{user_id, group_id, user_name, group_name, IsReadAgain, IsLoadedAs, listing_of, all_paths_listing, root_listing}
+use Rattle.facl_listings.specs.Again.{IsReadAgain, IsLoadedAs, listing_of, all_paths_listing, root_listing}
 use Rattle.facl_listings.proofs.Rising.{Rising, paths_of, rising, apart, in_order_already}
 
 -- the record that is printed of a file
@@ -43,9 +44,9 @@ records_of all es = map record_of (found_in all es)
 
 -- ---- the text
 
-pub printed : (user_names group_names : ℕ → Option (List ℕ)) (fs : List FoundFile) → listing user_names group_names plain fs ≡ dump_text user_names group_names (map record_of fs)
-printed user_names group_names [] = refl
-printed user_names group_names (f ∷ fs) = ap (λ (l : List ℕ). record_text user_names group_names (record_of f) ++ l) (printed user_names group_names fs)
+pub printed : (naming : Naming) (fs : List FoundFile) → listing naming plain fs ≡ dump_text naming (map record_of fs)
+printed naming [] = refl
+printed naming (f ∷ fs) = ap (λ (l : List ℕ). record_text naming (record_of f) ++ l) (printed naming fs)
 
 -- ---- all paths as operands
 
@@ -144,7 +145,7 @@ headers_printed : (dump_use : DumpUse) (f : FoundFile) → HasHeaders dump_use (
 headers_printed Load f = (refl, refl)
 headers_printed Restore f = tt
 
-pub readable : (dump_use : DumpUse) (known : Register) (all es : Files) → AllByRecursion (IsReadAgain known) es → AllByRecursion (IsReadable (user_id known) (group_id known) (user_name known) (group_name known) dump_use) (records_of all es)
+pub readable : (dump_use : DumpUse) (known : Register) (all es : Files) → AllByRecursion (IsReadAgain known) es → AllByRecursion (IsReadable (naming_of known) dump_use) (records_of all es)
 readable dump_use known all [] again = tt
 readable dump_use known all (e ∷ es) again = (
   record { path = again.0.path; headers = headers_printed dump_use (found all e); owner = again.0.owner; group = again.0.group; flags = three_flags e.1.flags again.0.flags; access = again.0.access; dacl = again.0.dacl },
@@ -156,7 +157,7 @@ few n h = grind arith
 
 -- what is printed of all files is loaded as these files
 module _ (known : Register) (es : Files) (order : IsInOrder es) (are : ArePlaced es es) (again : AllByRecursion (IsReadAgain known) es) (within : length es ≤ 1048576) where
-  dump_loaded : IsLoadedAs known (dump_text (user_name known) (group_name known) (records_of es es)) es
+  dump_loaded : IsLoadedAs known (dump_text (naming_of known) (records_of es es)) es
   dump_loaded =
       let empty : State = record { tree = no_files; people = known } in
       let after : Files → Result State TreeFault = λ files. Ok (record { tree = record { files = files; loaded = true }; people = known }) in
@@ -167,7 +168,7 @@ module _ (known : Register) (es : Files) (order : IsInOrder es) (are : ArePlaced
       ap (λ (l : List DumpRecord). as_files l l) (in_order_already read (subst (λ ps. Rising [] ps) (sym (paths_placed es es 1)) rises)) ∙ files_again known es read (below_same es es 1) 1 es are again
       in
       ap (with_records empty)
-      (dump_again Load (user_id known) (group_id known) (user_name known) (group_name known) rs (readable Load known es es again)
+      (dump_again Load (naming_of known) rs (readable Load known es es again)
       (subst (λ ps. AreApart [] ps) (sym (paths_same es es)) (apart [] (paths_of es) rises)))
       ∙ (ap (λ b. cond b (Err TooMany) (after (files_of read))) (few (length read) (subst (λ n. n ≤ 1048576) (sym (as_many es es 1)) within))
       ∙ ap after files)
@@ -175,7 +176,7 @@ module _ (known : Register) (es : Files) (order : IsInOrder es) (are : ArePlaced
   listing_loaded : (fs : List FoundFile) → fs ≡ found_in es es → IsLoadedAs known (listing_of known fs) es
   listing_loaded fs is =
       subst (λ text. IsLoadedAs known text es)
-      (sym (ap (listing_of known) is ∙ printed (user_name known) (group_name known) (found_in es es))) dump_loaded
+      (sym (ap (listing_of known) is ∙ printed (naming_of known) (found_in es es))) dump_loaded
 
   pub all_paths_loaded : IsLoadedAs known (all_paths_listing known es) es
   all_paths_loaded = listing_loaded (files_found false (paths_of es) es) (found_all es)

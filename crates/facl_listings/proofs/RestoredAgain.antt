@@ -6,7 +6,7 @@ use Rattle.acl_rights.specs.acl_dump.declared.record.DumpUse.TheVariants.{Restor
 use Rattle.acl_rights.specs.acl_dump.Again.{AreApart, IsReadable, paths, placed, dump_text, line_count}
 use Rattle.acl_rights.specs.acl_dump.Records.{dump_of}
 use Rattle.acl_rights.specs.acl_edit.declared.node.Node.{Node}
-use Rattle.acl_rights.specs.acl_people.Registers.{Register}
+use Rattle.acl_rights.specs.acl_people.Registers.{Register, naming_of}
 use Rattle.acl_rights.proofs.of_acl_tree.AsItIs.{Leads, leads_all}
 use Rattle.acl_rights.proofs.of_acl_tree.Removals.{in_order-filter}
 use Rattle.acl_rights.specs.acl_tree.declared.command.Command.TheVariants as commands
@@ -15,7 +15,7 @@ use Rattle.acl_rights.specs.acl_tree.Found.{found_in, files_found}
 use Rattle.acl_rights.specs.acl_tree.Laws.{IsAsRecorded}
 use Rattle.acl_rights.specs.acl_tree.Operands.{is_file, files_meant}
 use Rattle.acl_rights.specs.acl_tree.Step.{State, step}
-use Rattle.facl_listings.specs.Again.{user_id, group_id, user_name, group_name, IsReadAgain, listing_of, IsRestoredAsItIs}
+use Rattle.facl_listings.specs.Again.{IsReadAgain, listing_of, IsRestoredAsItIs}
 use Rattle.facl_listings.proofs.Reloaded.{record_of, found, records_of, printed, flags_again, paths_same, readable}
 use Rattle.facl_listings.proofs.Rising.{paths_of, rising, apart}
 
@@ -58,8 +58,8 @@ module _ (state : State) (recursive : Bool) (operands : List PathOf) (order : Is
   -- records are read again as they are printed, and a restore of records that contain what their files are changes
   -- nothing
   pub restored_again :
-      (AllByRecursion (IsReadable (user_id known) (group_id known) (user_name known) (group_name known) Restore) (records_of all meant) → AreApart [] (paths (records_of all meant))
-      → dump_of (user_id known) (group_id known) Restore (dump_text (user_name known) (group_name known) (records_of all meant)) ≡ Ok (placed 1 (records_of all meant)))
+      (AllByRecursion (IsReadable (naming_of known) Restore) (records_of all meant) → AreApart [] (paths (records_of all meant))
+      → dump_of (naming_of known) Restore (dump_text (naming_of known) (records_of all meant)) ≡ Ok (placed 1 (records_of all meant)))
       → ((records : List DumpRecord) → AllByRecursion (IsAsRecorded all) records → step state (commands.Restore records) ≡ Ok state)
       → IsRestoredAsItIs state (listing_of known (files_found recursive operands all))
   restored_again read same =
@@ -68,7 +68,7 @@ module _ (state : State) (recursive : Bool) (operands : List PathOf) (order : Is
       record {
         records = placed 1 rs;
         read =
-            ap (λ text. dump_of (user_id known) (group_id known) Restore text) (printed (user_name known) (group_name known) (found_in all meant))
+            ap (λ text. dump_of (naming_of known) Restore text) (printed (naming_of known) (found_in all meant))
             ∙ read (readable Restore known all meant meant_again) (subst (λ ps. AreApart [] ps) (sym (paths_same all meant)) (apart [] (paths_of meant) rises));
         same = same (placed 1 rs) (as_recorded known all meant 1 (leads_left (λ e. is_file recursive operands e.0) all all (leads_all all order)) meant_again);
       }

@@ -14,8 +14,7 @@ use Rattle.acl_rights.specs.acl_edit.Edits.{edit}
 use Rattle.acl_rights.specs.acl_edit.Nodes.{with_lists}
 use Rattle.acl_rights.specs.acl_edit.declared.edit.Edit.TheVariants as edits
 use Rattle.acl_rights.specs.acl_edit.declared.node.Node.{Node}
-use Rattle.acl_rights.specs.acl_people.Rolls.{id_named, name_shown}
-use Rattle.acl_rights.specs.acl_people.Registers.{Register, users_of, groups_of}
+use Rattle.acl_rights.specs.acl_people.Registers.{Register, naming_of}
 use Rattle.acl_rights.specs.acl_dump.declared.record.DumpRecord.{DumpRecord}
 use Rattle.acl_rights.specs.acl_dump.declared.record.DumpUse.TheVariants as uses
 use Rattle.acl_rights.specs.acl_dump.Again.{IsFound, IsList, IsListIf}
@@ -29,36 +28,23 @@ use Rattle.hex.specs.Hex.{decode_of, encode_lower}
 use Rattle.facl_listings.specs.Listings.{listing, plain}
 use Rattle.facl_listings.specs.TestListing.{lists_text}
 
--- who is called what, by the rows that are known
-abbrev pub user_id : Register → List ℕ → Option ℕ
-user_id known name = id_named name (users_of known)
-
-abbrev pub group_id : Register → List ℕ → Option ℕ
-group_id known name = id_named name (groups_of known)
-
-abbrev pub user_name : Register → ℕ → Option (List ℕ)
-user_name known id = name_shown id (users_of known)
-
-abbrev pub group_name : Register → ℕ → Option (List ℕ)
-group_name known id = name_shown id (groups_of known)
-
 -- a list whose names these people find again
 abbrev pub IsListAgain : Register → KeyMap → Type 0
-IsListAgain known acl = IsList (user_id known) (group_id known) (user_name known) (group_name known) acl
+IsListAgain known acl = IsList (naming_of known) acl
 
 -- a file that these people read as it is written: the path is one, owner and group are found again, there are three
 -- flags, and the lists are valid ones whose names are found again
 pub record IsReadAgain (known : Register) (e : PathOf × Node) : Type 0 where
   pub path : list_all is_component e.0 ≡ true
-  pub owner : IsFound (user_id known) (user_name known) e.1.label.owner
-  pub group : IsFound (group_id known) (group_name known) e.1.label.group
+  pub owner : IsFound (naming_of known).user_id (naming_of known).user_name e.1.label.owner
+  pub group : IsFound (naming_of known).group_id (naming_of known).group_name e.1.label.group
   pub flags : length e.1.flags ≡ 3
   pub access : IsListAgain known e.1.label.acl
-  pub dacl : IsListIf (user_id known) (group_id known) (user_name known) (group_name known) e.1.dacl
+  pub dacl : IsListIf (naming_of known) e.1.dacl
 
 -- what getfacl prints without options
 abbrev pub listing_of : Register → List FoundFile → List ℕ
-listing_of known files = listing (user_name known) (group_name known) plain files
+listing_of known files = listing (naming_of known) plain files
 
 -- its operands are all paths
 abbrev pub all_paths_listing : Register → Files → List ℕ
@@ -76,7 +62,7 @@ IsLoadedAs known text es =
 -- Read by these people for a restore, the text is records. Restored where it was printed, they change nothing.
 pub record IsRestoredAsItIs (state : State) (text : List ℕ) : Type 0 where
   pub records : List DumpRecord
-  pub read : dump_of (user_id state.people) (group_id state.people) uses.Restore text ≡ Ok records
+  pub read : dump_of (naming_of state.people) uses.Restore text ≡ Ok records
   pub same : step state (commands.Restore records) ≡ Ok state
 
 -- the hex digits that `attr` prints of a list are those of bytes that are read as this list
@@ -95,7 +81,7 @@ pub record AreAttributesAgain (n : Node) : Type 0 where
 -- the list that these entries make
 pub record IsShortAgain (known : Register) (acl : KeyMap) : Type 0 where
   pub valid : IsValid acl
-  pub read : entries_of (user_id known) (group_id known) Comma wants.Plain (short (user_name known) (group_name known) (entries acl)) ≡ Ok (specs_from 1 (entries acl))
+  pub read : entries_of (naming_of known) Comma wants.Plain (short (naming_of known) (entries acl)) ≡ Ok (specs_from 1 (entries acl))
 
 -- an entry of one of a file's lists, and whether that is the default list
 abbrev pub entries_for : Bool → List Entry → List (Bool × Entry)
@@ -126,5 +112,5 @@ AreSetAs specs n =
 pub record AreListsAgain (known : Register) (n : Node) : Type 0 where
   pub access : IsShortAgain known n.label.acl
   pub dacl : IfSome n.dacl (IsShortAgain known)
-  pub both : entries_of (user_id known) (group_id known) Comma wants.WithPerms (lists_text (user_name known) (group_name known) n) ≡ Ok (specs_of 1 (all_entries n))
+  pub both : entries_of (naming_of known) Comma wants.WithPerms (lists_text (naming_of known) n) ≡ Ok (specs_of 1 (all_entries n))
   pub set : AreSetAs (specs_of 1 (all_entries n)) n

@@ -2,21 +2,22 @@
 use Rattle.std.specs.Prelude.{ℕ, List, [], ◌∷◌, ◌++◌, Option, Some, None, codes}
 use Rattle.std.specs.List.{flat_map}
 use Rattle.acl_rights.specs.acl_entry.Lists.{KeyMap, entries}
+use Rattle.acl_rights.specs.acl_syntax.Naming.{Naming}
 use Rattle.acl_rights.specs.acl_syntax.Writing.{short}
 use Rattle.acl_rights.specs.acl_tree.Found.{FoundFile}
 use Rattle.facl_listings.specs.Listings.{path_shown}
 
-module _ (user_name group_name : ℕ → Option (List ℕ)) where
+module _ (naming : Naming) where
   -- a default list comes after a `/`
   abbrev pub default_part : Option KeyMap → List ℕ
   default_part None = []
-  default_part (Some dacl) = codes "/" ++ short user_name group_name (entries dacl)
+  default_part (Some dacl) = codes "/" ++ short naming (entries dacl)
 
   -- a file: its path and, in brackets, its lists in the short form
   abbrev pub chacl_line : FoundFile → List ℕ
   chacl_line file =
       path_shown file
-      ++ (codes " [" ++ (short user_name group_name (entries file.node.label.acl) ++ (default_part file.node.dacl ++ 93 ∷ 10 ∷ [])))
+      ++ (codes " [" ++ (short naming (entries file.node.label.acl) ++ (default_part file.node.dacl ++ 93 ∷ 10 ∷ [])))
 
   -- the files one after another
   abbrev pub chacl_listing : List FoundFile → List ℕ

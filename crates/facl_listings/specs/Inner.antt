@@ -20,7 +20,7 @@ use Rattle.acl_rights.specs.acl_names.Paths.{path_cmp}
 use Rattle.acl_rights.specs.acl_edit.declared.node.Node.{Node}
 use Rattle.acl_rights.specs.acl_files.Walks.{ancestors}
 use Rattle.acl_rights.specs.acl_tree.Files.{PathOf, Files}
-use Rattle.acl_rights.specs.acl_files.Below.{is_below}
+use Rattle.acl_rights.specs.acl_names.Below.{is_below}
 use Rattle.acl_rights.specs.acl_files.path_map.Entries.{first}
 use Rattle.acl_rights.specs.acl_files.path_map.Merged.{put_all}
 use Rattle.acl_rights.specs.acl_names.Names.{escaped}
@@ -92,10 +92,6 @@ in_step (p ∷ paths) (file ∷ files) = if eq_by_cmp path_cmp p file.path then 
 abbrev pub row_lines : List ℕ → List (List ℕ) → List ℕ → List ℕ
 row_lines path names cells = flat_map (λ x. verdict_line x.1 x.0 path) (zip names cells)
 
--- the lines of a file whose row is one of these
-abbrev pub lines_in : Rows → List (List ℕ) → FoundFile → List ℕ
-lines_in rows names file = option_map_or (row_lines (path_shown file) names) (find path_cmp file.path rows) []
-
 -- ---- changes
 
 -- a user's name as it is printed, and the places of the user's rows before and after
@@ -144,6 +140,10 @@ abbrev pub walked : Files → Rows → Walked
 walked es [] = []
 walked [] (row ∷ rows) = []
 walked (e ∷ es) (row ∷ rows) = (row.0, (shown_before (first es) e, row.1)) ∷ walked es rows
+
+-- the lines of files, by the verdicts on the users of these names
+abbrev pub lines_of_walk : List (List ℕ) → Walked → List ℕ
+lines_of_walk names files = flat_map (λ file. row_lines file.1.0 names file.1.1) files
 
 abbrev pub step_of : Step → List ℕ × List ℕ
 step_of step = (shown_before (option_map (λ next. next.now.value) step.next) step.file.now.value, step.requests.now)

@@ -1,9 +1,10 @@
 -- What getfacl(1) prints of files.
-use Rattle.std.specs.Prelude.{ℕ, List, [], ◌∷◌, ◌++◌, length, filter, Bool, true, false, not, ◌&&◌, ◌||◌, ◌==◌, if◌then◌else◌, Option, Some, None, is_some, is_none}
+use Rattle.std.specs.Prelude.{ℕ, List, [], ◌∷◌, ◌++◌, length, filter, Bool, false, not, ◌&&◌, ◌||◌, ◌==◌, if◌then◌else◌, Option, Some, None, is_some, is_none}
 use Rattle.std.specs.List.{list_any, flat_map}
 use Rattle.acl_rights.specs.acl_entry.Lists.{is_minimal}
 use Rattle.acl_rights.specs.acl_edit.Nodes.{is_directory}
 use Rattle.acl_rights.specs.acl_edit.declared.node.Node.{Node}
+use Rattle.acl_rights.specs.acl_syntax.Naming.{Naming, no_names}
 use Rattle.acl_rights.specs.acl_syntax.declared.fault.Which.TheVariants.{Access}
 use Rattle.acl_rights.specs.acl_dump.declared.effective.Effective.TheVariants.{WhereMasked}
 use Rattle.acl_rights.specs.acl_names.Paths.{path_text}
@@ -31,33 +32,31 @@ path_shown file = path_text file.path ++ slash_text (has_slash file)
 abbrev pub flags_shown : List Bool → Option (List Bool)
 flags_shown flags = if list_any (λ flag. flag) flags then Some flags else None
 
--- the name that an id is printed as; with numbers none is
-abbrev pub shown_name : Bool → (ℕ → Option (List ℕ)) → ℕ → Option (List ℕ)
-shown_name true name_of id = None
-shown_name false name_of id = name_of id
+-- the names that ids are printed as; with numbers none has one
+abbrev pub names_shown : Bool → Naming → Naming
+names_shown numeric naming = if numeric then no_names else naming
 
-module _ (user_name group_name : ℕ → Option (List ℕ)) where
+module _ (naming : Naming) where
   abbrev pub headers : Options → FoundFile → List ℕ
   headers options file =
       if options.omit_header then []
-      else header_text user_name group_name file.path (has_slash file) (Some file.node.label.owner) (Some file.node.label.group) (flags_shown file.node.flags)
+      else header_text naming file.path (has_slash file) (Some file.node.label.owner) (Some file.node.label.group) (flags_shown file.node.flags)
 
   abbrev pub default_entries : Options → Node → List ℕ
-  default_entries options n = if options.access_only then [] else default_text user_name group_name options.effective n.dacl
+  default_entries options n = if options.access_only then [] else default_text naming options.effective n.dacl
 
   -- a file: its headers, its access entries, its default entries, and an empty line
   abbrev pub file_text : Options → FoundFile → List ℕ
   file_text options file =
-      headers options file ++ (list_text user_name group_name options.effective Access file.node.label.acl ++ (default_entries options file.node ++ 10 ∷ []))
+      headers options file ++ (list_text naming options.effective Access file.node.label.acl ++ (default_entries options file.node ++ 10 ∷ []))
 
   -- the files one after another
   abbrev pub files_text : Options → List FoundFile → List ℕ
   files_text options files = flat_map (file_text options) (filter (is_listed options) files)
 
 -- what getfacl prints, where users and groups have these names
-abbrev pub listing : (ℕ → Option (List ℕ)) → (ℕ → Option (List ℕ)) → Options → List FoundFile → List ℕ
-listing user_name group_name options files =
-    files_text (shown_name options.numeric user_name) (shown_name options.numeric group_name) options files
+abbrev pub listing : Naming → Options → List FoundFile → List ℕ
+listing naming options files = files_text (names_shown options.numeric naming) options files
 
 -- getfacl without options
 abbrev pub plain : Options

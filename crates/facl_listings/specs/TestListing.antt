@@ -4,15 +4,16 @@ use Rattle.std.specs.List.{flat_map}
 use Rattle.acl_rights.specs.acl_entry.declared.entry.Entry.{Entry}
 use Rattle.acl_rights.specs.acl_entry.Lists.{KeyMap, entries}
 use Rattle.acl_rights.specs.acl_edit.declared.node.Node.{Node}
+use Rattle.acl_rights.specs.acl_syntax.Naming.{Naming}
 use Rattle.acl_rights.specs.acl_syntax.declared.form.Form.TheVariants.{Short}
 use Rattle.acl_rights.specs.acl_syntax.Writing.{entry_text, short}
 use Rattle.acl_rights.specs.acl_tree.Found.{FoundFile}
 use Rattle.facl_listings.specs.Listings.{path_shown}
 
-module _ (user_name group_name : ℕ → Option (List ℕ)) where
+module _ (naming : Naming) where
   -- a default entry after the access list
   abbrev pub default_entry : Entry → List ℕ
-  default_entry e = codes ",d:" ++ entry_text user_name group_name Short e
+  default_entry e = codes ",d:" ++ entry_text naming Short e
 
   abbrev pub default_entries : Option KeyMap → List ℕ
   default_entries None = []
@@ -20,7 +21,7 @@ module _ (user_name group_name : ℕ → Option (List ℕ)) where
 
   -- both lists in the short form, with commas between the entries
   abbrev pub lists_text : Node → List ℕ
-  lists_text n = short user_name group_name (entries n.label.acl) ++ default_entries n.dacl
+  lists_text n = short naming (entries n.label.acl) ++ default_entries n.dacl
 
   -- a file: its path, its lists, and a line feed
   abbrev pub file_line : FoundFile → List ℕ

@@ -1,5 +1,5 @@
 -- What `why` prints: the entries that decide on a user.
-use Rattle.std.specs.Prelude.{◌≡◌, ℕ, ◌==◌, Bool, true, if◌then◌else◌, List, [], ◌∷◌, ◌++◌, filter, Option, is_some}
+use Rattle.std.specs.Prelude.{◌≡◌, ℕ, ◌==◌, Bool, true, if◌then◌else◌, List, [], ◌∷◌, ◌++◌, filter, is_some}
 use Rattle.std.specs.List.{list_any, list_all, flat_map}
 use Rattle.std.specs.Ordering.{eq_by_cmp}
 use Rattle.std.specs.FinMap as maps
@@ -12,11 +12,12 @@ use Rattle.acl_rights.specs.acl_entry.declared.entry.Entry.{Entry}
 use Rattle.acl_rights.specs.acl_entry.declared.key.Key.TheVariants.{Owner, User, Mask, Other}
 use Rattle.acl_rights.specs.acl_entry.declared.label.Label.{Label}
 use Rattle.acl_rights.specs.acl_names.Paths.{path_cmp}
+use Rattle.acl_rights.specs.acl_syntax.Naming.{Naming}
 use Rattle.acl_rights.specs.acl_syntax.declared.fault.Which.TheVariants.{Access}
 use Rattle.acl_rights.specs.acl_dump.Writing.{file_text, entry_line}
 use Rattle.acl_rights.specs.acl_dump.declared.effective.Effective.TheVariants.{WhereMasked}
 use Rattle.acl_rights.specs.acl_edit.declared.node.Node.{Node}
-use Rattle.acl_rights.specs.acl_files.Below.{is_within}
+use Rattle.acl_rights.specs.acl_names.Below.{is_within}
 use Rattle.acl_rights.specs.acl_tree.Files.{PathOf, Files}
 use Rattle.acl_rights.specs.acl_tree.Found.{FoundFile, found_in}
 use Rattle.acl_rights.specs.Reach.{reach, execute}
@@ -45,10 +46,10 @@ is_asked along paths q = list_any (λ p. if along then is_within q p else eq_by_
 abbrev pub files_asked : Bool → List PathOf → Files → List FoundFile
 files_asked along paths t = found_in t (filter (λ e. is_asked along paths e.0) t)
 
-module _ (user_name group_name : ℕ → Option (List ℕ)) where
+module _ (naming : Naming) where
   -- the lines of the entries that decide, as getfacl prints them without options
   abbrev pub deciding_text : Person → Label → List ℕ
-  deciding_text u f = flat_map (entry_line user_name group_name WhereMasked Access (maps.get f.acl Mask)) (deciding u f)
+  deciding_text u f = flat_map (entry_line naming WhereMasked Access (maps.get f.acl Mask)) (deciding u f)
 
   -- a file: its path, the entries that decide, and an empty line
   abbrev pub why_record : Person → FoundFile → List ℕ

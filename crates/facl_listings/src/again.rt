@@ -2,9 +2,10 @@
 
 ghost use Rattle.std.specs.Prelude.{◌≡◌, length};
 ghost use Rattle.std.specs.List.{AllByRecursion};
+ghost use Rattle.acl_rights.specs.acl_people.Registers.{naming_of};
 ghost use Rattle.acl_rights.specs.acl_syntax.Writing.{IsKeyNamed};
 ghost use Rattle.acl_rights.specs.acl_dump.Again.{IsFound};
-ghost use Rattle.facl_listings.specs.Again.{user_id, group_id, user_name, group_name, IsListAgain, IsReadAgain};
+ghost use Rattle.facl_listings.specs.Again.{IsListAgain, IsReadAgain};
 
 use acl_rights::{Acl, Id, Key, People, Record, Tree};
 
@@ -17,7 +18,7 @@ fn flags_are_three(flags: [bool; 3])
 
 /// Proof only: an id is found again by what is printed for it as a user.
 fn user_is_found(people: &People, id: Id)
-    ensures { IsFound (user_id people.now) (user_name people.now) id }
+    ensures { IsFound (naming_of people.now).user_id (naming_of people.now).user_name id }
 {
     people.naming_is_read_back();
     let _number = id.number();
@@ -25,7 +26,7 @@ fn user_is_found(people: &People, id: Id)
 
 /// Proof only: an id is found again by what is printed for it as a group.
 fn group_is_found(people: &People, id: Id)
-    ensures { IsFound (group_id people.now) (group_name people.now) id }
+    ensures { IsFound (naming_of people.now).group_id (naming_of people.now).group_name id }
 {
     people.naming_is_read_back();
     let _number = id.number();
@@ -33,7 +34,7 @@ fn group_is_found(people: &People, id: Id)
 
 /// Proof only: whom an entry is for is found again by what is printed for it.
 fn key_is_found(people: &People, key: &Key)
-    ensures { IsKeyNamed (user_id people.now) (group_id people.now) (user_name people.now) (group_name people.now) key.now }
+    ensures { IsKeyNamed (naming_of people.now) key.now }
 {
     match *key {
         Key::User(id) => user_is_found(people, id),

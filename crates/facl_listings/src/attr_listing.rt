@@ -9,7 +9,7 @@ ghost use Rattle.facl_listings.specs.AttrListings.{attr_line, default_line, attr
 
 use crate::listing::has_slash;
 use acl_attr::encode_attr;
-use acl_rights::{Acl, Found, NoNames, Node, append_header};
+use acl_rights::{Acl, Found, Header, NoNames, Node, append_header};
 use std::alloc::{AllocError, Global};
 
 /// The bytes of a list as hex digits.
@@ -52,8 +52,14 @@ fn push_attributes(alloc: Global, text: &mut Vec<u8>, node: &Node) -> Result<(),
 pub(crate) fn push_path(text: &mut Vec<u8>, file: &Found) -> Result<(), AllocError>
     ensures { OnOk result (text.new.items ≡ text.old.items ++ file_text file.now.path (has_slash file.now)) }
 {
-    let slash = has_slash(file);
-    append_header(text, file.path(), slash, &None, &None, None, &NoNames)
+    let header = Header {
+        path: file.path(),
+        slash: has_slash(file),
+        owner: None,
+        group: None,
+        flags: None,
+    };
+    append_header(text, &header, &NoNames)
 }
 
 fn push_file(alloc: Global, text: &mut Vec<u8>, file: &Found) -> Result<(), AllocError>

@@ -12,7 +12,7 @@ fn push_default<N: Names>(
     names: &N,
     dacl: &Option<Acl>,
 ) -> Result<(), AllocError>
-    ensures { OnOk result (text.new.items ≡ text.old.items ++ default_part (N.user_name names.now) (N.group_name names.now) dacl.now) }
+    ensures { OnOk result (text.new.items ≡ text.old.items ++ default_part (N.naming names.now) dacl.now) }
 {
     if let Some(dacl) = dacl {
         text.extend_from_slice(b"/")?;
@@ -22,7 +22,7 @@ fn push_default<N: Names>(
 }
 
 fn push_line<N: Names>(text: &mut Vec<u8>, names: &N, file: &Found) -> Result<(), AllocError>
-    ensures { OnOk result (text.new.items ≡ text.old.items ++ chacl_line (N.user_name names.now) (N.group_name names.now) file.now) }
+    ensures { OnOk result (text.new.items ≡ text.old.items ++ chacl_line (N.naming names.now) file.now) }
 {
     push_path_shown(text, file)?;
     text.extend_from_slice(b" [")?;
@@ -34,7 +34,7 @@ fn push_line<N: Names>(text: &mut Vec<u8>, names: &N, file: &Found) -> Result<()
 }
 
 fn push_lines<N: Names>(text: &mut Vec<u8>, names: &N, files: &[Found]) -> Result<(), AllocError>
-    ensures { OnOk result (text.new.items ≡ text.old.items ++ chacl_listing (N.user_name names.now) (N.group_name names.now) files.now) }
+    ensures { OnOk result (text.new.items ≡ text.old.items ++ chacl_listing (N.naming names.now) files.now) }
 {
     for file in files {
         push_line(text, names, file)?;
@@ -50,7 +50,7 @@ pub fn write_chacl_listing<N: Names>(
     names: &N,
     files: &[Found],
 ) -> Result<Vec<u8>, AllocError>
-    ensures { IfOk result (λ text. text.items ≡ chacl_listing (N.user_name names.now) (N.group_name names.now) files.now) }
+    ensures { IfOk result (λ text. text.items ≡ chacl_listing (N.naming names.now) files.now) }
 {
     let mut text = Vec::new(alloc);
     push_lines(&mut text, names, files)?;

@@ -7,11 +7,9 @@ ghost use Rattle.facl_listings.specs.Changes.{requests_gained, after_comma, chan
 ghost use Rattle.facl_listings.specs.Inner.{cell_at, lines_between};
 
 use crate::placed_users::PlacedUser;
+use crate::requests::NUMBERS;
 use acl_rights::{Perm, Requests};
 use std::alloc::{AllocError, Global};
-
-/// The numbers of the requests other than none.
-const NUMBERS: [u8; 7] = [1, 2, 3, 4, 5, 6, 7];
 
 /// Whether a request is granted after, and was not before.
 fn is_gained(before: Requests, after: Requests, request: Perm) -> bool

@@ -3,32 +3,17 @@
 ghost use Rattle.std.specs.Prelude.{◌≡◌, ◌++◌, ◌&&◌, true, not, drop, IfOk, OnOk};
 ghost use Rattle.std.specs.List.{list_all};
 ghost use Rattle.acl_rights.specs.acl_files.path_map.Entries.{first, IsInOrder};
-ghost use Rattle.acl_rights.specs.Reach.{rows_along};
 ghost use Rattle.acl_rights.specs.Tables.{IsWhole};
 ghost use Rattle.facl_listings.specs.Changes.{changes_text};
-ghost use Rattle.facl_listings.specs.Inner.{keeps_place, step_of, walked, lines_between, lines_of_both, next_order, gone_lines, new_lines, kept_lines, next_lines, left_before, left_after};
+ghost use Rattle.facl_listings.specs.Inner.{keeps_place, step_of, lines_between, lines_of_both, next_order, gone_lines, new_lines, kept_lines, next_lines, left_before, left_after};
 
 use crate::change_lines::push_rows;
 use crate::placed_users::{PlacedUser, keep_places, users_of_both};
 use crate::row_walk::{Step, Walk};
 use crate::table::shown;
-use acl_rights::{Index, Judge, Requests, State};
+use acl_rights::{Index, Judge, Requests, State, same_row};
 use std::alloc::{AllocError, Global};
 use std::cmp::Ordering;
-
-/// Whether two rows are the same. The loop does not end early, so that it compares many verdicts at a time.
-fn are_equal(some: &[Requests], others: &[Requests]) -> bool
-    ensures { result ≡ true → some.now ≡ others.now }
-{
-    if some.len() != others.len() {
-        return false;
-    }
-    let mut is_same = true;
-    for at in 0..some.len() {
-        is_same &= some[at].bits() == others[at].bits();
-    }
-    is_same
-}
 
 /// Adds the lines of a file, with its path as it is printed.
 fn push_file(
@@ -106,7 +91,7 @@ fn push_kept(
     let Some(new) = new else {
         return Ok(());
     };
-    if keep_places && are_equal(old.requests, new.requests) {
+    if keep_places && same_row(old.requests, new.requests) {
         return Ok(());
     }
     push_file(alloc, text, users, &new, old.requests, new.requests)?;
@@ -181,17 +166,6 @@ fn push_both(
     Ok(())
 }
 
-/// A walk over the files of a state with their rows, or with what is left of these along paths.
-fn walk<'a, J: Judge>(state: &'a State, index: &'a Index<J>, along: bool) -> Walk<'a>
-    requires whole { IsWhole J.verdict_of state.now index.now }
-    ensures all { result ≡ walked state.now.tree.files (rows_along along index.now.rows) }
-    ensures order { IsInOrder result }
-    ensures tree { IsInOrder state.now.tree.files }
-{
-    state.tree().is_sound();
-    Walk::of(state.tree(), index.file_rows(along))
-}
-
 /// What `changes` prints: for each file of either state in path order, and each user of either state, a line of the
 /// requests that the user gains on it, and one of those that the user loses. With `along` those count that the user is
 /// granted who can search each recorded directory above. It is one walk over both states' files. Fails only if memory
@@ -209,8 +183,8 @@ pub fn write_changes<J: Judge>(
     ensures { IfOk result (λ text. text.items ≡ changes_text J.verdict_of along loaded.now state.now) }
 {
     let users = users_of_both(alloc, loaded.people(), state.people())?;
-    let before = walk(loaded, loaded_index, along);
-    let after = walk(state, index, along);
+    let before = Walk::of_state(loaded, loaded_index, along);
+    let after = Walk::of_state(state, index, along);
     let mut text = Vec::new(alloc);
     push_both(alloc, &mut text, &users, before, after)?;
     Ok(text)

@@ -22,7 +22,7 @@ use acl_rights::{
     restore_of_what_is_changes_nothing,
 };
 
-/// Proof only. What getfacl(1) prints without options of all files of a tree, loaded as a dump by the
+/// Proof only: what getfacl(1) prints without options of all files of a tree, loaded as a dump by the
 /// same people where no dump is loaded, gives these files back: every path, kind, owner, group, flag and
 /// list. All files are printed where the operands are all paths, and with `-R` where the root is the operand.
 pub fn listing_is_loaded_again(people: &People, tree: &Tree)
@@ -33,7 +33,7 @@ pub fn listing_is_loaded_again(people: &People, tree: &Tree)
     files_are_read_again(people, tree);
 }
 
-/// Proof only. What getfacl(1) prints without options of files of a tree, whatever operands it has, read by the
+/// Proof only: what getfacl(1) prints without options of files of a tree, whatever operands it has, read by the
 /// same people for `setfacl --restore`, changes nothing when it is restored.
 pub fn listing_is_restored_as_it_is(people: &People, tree: &Tree)
     ensures { (recursive : Bool) (paths : List PathOf) → IsRestoredAsItIs (state_from tree.now people.now) (listing_of people.now (files_found recursive paths tree.now.files)) }
@@ -44,7 +44,7 @@ pub fn listing_is_restored_as_it_is(people: &People, tree: &Tree)
     restore_of_what_is_changes_nothing();
 }
 
-/// Proof only. The check of acl(5) grants a user a request on a file exactly if one of the entries that `why` prints
+/// Proof only: the check of acl(5) grants a user a request on a file exactly if one of the entries that `why` prints
 /// contains it: of an entry of the group class what the mask leaves.
 pub fn deciding_entries_are_the_check(subject: &Subject, label: &Label)
     ensures { (q : Perms) → check subject.now label.now q ≡ some_decides subject.now label.now q }
@@ -69,7 +69,7 @@ fn lists_are_valid(tree: &Tree)
     }
 }
 
-/// Proof only. With search along the path a user is granted a request on a file exactly if, of the entries that
+/// Proof only: with search along the path a user is granted a request on a file exactly if, of the entries that
 /// `why --reach` prints for this file alone, one of the file's contains it and one of each directory's contains
 /// search.
 pub fn deciding_entries_are_the_reach(subject: &Subject, tree: &Tree)
@@ -80,7 +80,7 @@ pub fn deciding_entries_are_the_reach(subject: &Subject, tree: &Tree)
     let _subject = subject;
 }
 
-/// Proof only. `changes` prints nothing exactly where each user, by name, is granted the same requests other than none on
+/// Proof only: `changes` prints nothing exactly where each user, by name, is granted the same requests other than none on
 /// each path in both states. A user or a file that is not there is granted nothing, so one that came or went counts as
 /// unchanged where it is granted nothing.
 pub fn changes_print_all_that_differs(loaded: &State, state: &State)
@@ -91,7 +91,7 @@ pub fn changes_print_all_that_differs(loaded: &State, state: &State)
     state.tree().is_sound();
 }
 
-/// Proof only. The hex digits that `attr` prints of each list of each file are those of bytes that are read as this
+/// Proof only: the hex digits that `attr` prints of each list of each file are those of bytes that are read as this
 /// list.
 pub fn attributes_are_read_again(people: &People, tree: &Tree)
     ensures { AllByRecursion (λ file. AreAttributesAgain file.1) tree.now.files }
@@ -99,7 +99,7 @@ pub fn attributes_are_read_again(people: &People, tree: &Tree)
     files_are_read_again(people, tree);
 }
 
-/// Proof only. What `chacl -l` prints in brackets of each list of each file is read by chacl as this list's entries, in
+/// Proof only: what `chacl -l` prints in brackets of each list of each file is read by chacl as this list's entries, in
 /// their order. What `setfacl --test` prints of the lists of each file is read by `setfacl --set` as the entries of
 /// both, and they give back both lists.
 pub fn lists_are_read_again(people: &People, tree: &Tree)

@@ -7,7 +7,6 @@ mod attr_listing;
 mod chacl_listing;
 mod change_lines;
 mod changes;
-mod files;
 mod granted;
 mod laws;
 mod listing;
@@ -25,8 +24,8 @@ pub use acl_attr::decode_attr;
 pub use acl_rights::{
     Acl, Command, Draft, DumpRecord, DumpRecords, DumpUse, Edit, Effective, Entry, FaultKind,
     Found, Id, Index, Judge, Key, Kind, Label, Membership, Name, NewFile, NewUser, Path, Paths,
-    People, Perm, Posix, Record, Requests, Sep, Spec, Specs, Staged, State, Subject, Table,
-    TextFault, Tree, TreeFault, UserName, Want, Which, each_file_is_edited, read_dump,
+    People, Perm, Posix, Record, Requests, Selection, Sep, Spec, Specs, Staged, State, Subject,
+    Table, TextFault, Tree, TreeFault, UserName, Want, Which, each_file_is_edited, read_dump,
     read_entries, read_id, read_name, read_path, read_perms, trim,
 };
 pub use attr_listing::write_attributes;

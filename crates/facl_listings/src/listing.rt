@@ -2,11 +2,12 @@
 
 ghost use Rattle.std.specs.Prelude.{◌≡◌, ◌++◌, OnOk, OnErr};
 ghost use Rattle.std.specs.Io.{StartsWith};
+ghost use Rattle.acl_rights.specs.acl_names.Appends.{Appends, AppendsWhole};
 ghost use Rattle.facl_listings.specs.Listings.{has_base_alone, is_listed, has_slash, path_shown, flags_shown, headers, default_entries, file_text, files_text, listing};
 
 use crate::options::Options;
 use acl_rights::{
-    Found, Kind, Names, NoNames, Node, Which, append_header, append_list, append_path,
+    Found, Header, Kind, Names, NoNames, Node, Which, append_header, append_list, append_path,
 };
 use std::alloc::AllocError;
 
@@ -35,8 +36,7 @@ pub(crate) fn has_slash(file: &Found) -> bool
 /// Adds the path of a file, with the final `/` of a directory that nothing else shows as one. Fails only if memory
 /// runs out.
 pub fn push_path_shown(text: &mut Vec<u8>, file: &Found) -> Result<(), AllocError>
-    ensures ok { OnOk result (text.new.items ≡ text.old.items ++ path_shown file.now) }
-    ensures err { OnErr result (StartsWith text.new.items text.old.items) }
+    ensures { Appends result text.old text.new (path_shown file.now) }
 {
     append_path(text, file.path())?;
     if has_slash(file) {
@@ -62,22 +62,20 @@ fn push_headers<N: Names>(
     options: &Options,
     file: &Found,
 ) -> Result<(), AllocError>
-    ensures ok { OnOk result (text.new.items ≡ text.old.items ++ headers (N.user_name names.now) (N.group_name names.now) options.now file.now) }
-    ensures err { OnErr result (StartsWith text.new.items text.old.items) }
+    ensures { Appends result text.old text.new (headers (N.naming names.now) options.now file.now) }
 {
     if options.omit_header {
         return Ok(());
     }
     let node = file.node();
-    append_header(
-        text,
-        file.path(),
-        has_slash(file),
-        &Some(node.label.owner),
-        &Some(node.label.group),
-        flags_shown(node.flags),
-        names,
-    )
+    let header = Header {
+        path: file.path(),
+        slash: has_slash(file),
+        owner: Some(node.label.owner),
+        group: Some(node.label.group),
+        flags: flags_shown(node.flags),
+    };
+    append_header(text, &header, names)
 }
 
 fn push_default<N: Names>(
@@ -86,8 +84,7 @@ fn push_default<N: Names>(
     options: &Options,
     node: &Node,
 ) -> Result<(), AllocError>
-    ensures ok { OnOk result (text.new.items ≡ text.old.items ++ default_entries (N.user_name names.now) (N.group_name names.now) options.now node.now) }
-    ensures err { OnErr result (StartsWith text.new.items text.old.items) }
+    ensures { Appends result text.old text.new (default_entries (N.naming names.now) options.now node.now) }
 {
     match &node.dacl {
         Some(dacl) if !options.access_only => {
@@ -103,8 +100,7 @@ fn push_file<N: Names>(
     options: &Options,
     file: &Found,
 ) -> Result<(), AllocError>
-    ensures ok { OnOk result (text.new.items ≡ text.old.items ++ file_text (N.user_name names.now) (N.group_name names.now) options.now file.now) }
-    ensures err { OnErr result (StartsWith text.new.items text.old.items) }
+    ensures { Appends result text.old text.new (file_text (N.naming names.now) options.now file.now) }
 {
     push_headers(text, names, options, file)?;
     let node = file.node();
@@ -126,8 +122,7 @@ fn push_files<N: Names>(
     options: &Options,
     files: &[Found],
 ) -> Result<(), AllocError>
-    ensures ok { OnOk result (text.new.items ≡ text.old.items ++ files_text (N.user_name names.now) (N.group_name names.now) options.now files.now) }
-    ensures err { OnErr result (StartsWith text.new.items text.old.items) }
+    ensures { Appends result text.old text.new (files_text (N.naming names.now) options.now files.now) }
 {
     for file in files {
         if is_listed(options, file) {
@@ -143,8 +138,7 @@ fn push_listing<N: Names>(
     options: &Options,
     files: &[Found],
 ) -> Result<(), AllocError>
-    ensures ok { OnOk result (text.new.items ≡ text.old.items ++ listing (N.user_name names.now) (N.group_name names.now) options.now files.now) }
-    ensures err { OnErr result (StartsWith text.new.items text.old.items) }
+    ensures { Appends result text.old text.new (listing (N.naming names.now) options.now files.now) }
 {
     if options.numeric {
         push_files(text, &NoNames, options, files)
@@ -166,8 +160,7 @@ pub fn append_listing<N: Names>(
     options: &Options,
     files: &[Found],
 ) -> Result<(), AllocError>
-    ensures ok { OnOk result (text.new.items ≡ text.old.items ++ listing (N.user_name names.now) (N.group_name names.now) options.now files.now) }
-    ensures err { OnErr result (text.new.items ≡ text.old.items) }
+    ensures { AppendsWhole result text.old text.new (listing (N.naming names.now) options.now files.now) }
 {
     let before = text.len();
     if let Err(refused) = push_listing(text, names, options, files) {

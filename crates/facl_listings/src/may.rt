@@ -7,7 +7,6 @@ ghost use Rattle.acl_rights.specs.acl_tree.Found.{found_in};
 ghost use Rattle.facl_listings.specs.Answers.{file_line, may_text};
 ghost use Rattle.facl_listings.specs.Inner.{is_first, in_step};
 
-use crate::files::found_before;
 use crate::granted::paths_granted;
 use crate::listing::push_path_shown;
 use acl_rights::{Found, Index, Judge, Path, Perm, State, Tree};
@@ -42,7 +41,7 @@ fn push_files(text: &mut Vec<u8>, tree: &Tree, paths: &[Rc<Path>]) -> Result<(),
     let mut files = tree.iter();
     while let Some(file) = files.next() {
         if is_first(rest, file.path()) {
-            let found = found_before(file, &files)?;
+            let found = Found::before(file, &files)?;
             push_file(text, &found)?;
             rest = &rest[1..];
         }

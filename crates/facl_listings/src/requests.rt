@@ -2,18 +2,18 @@
 
 ghost use Rattle.std.specs.Prelude.{◌≡◌, ◌++◌, OnOk, OnErr};
 ghost use Rattle.std.specs.Io.{StartsWith};
+ghost use Rattle.acl_rights.specs.acl_names.Appends.{Appends, AppendsWhole};
 ghost use Rattle.facl_listings.specs.Requests.{request_text, requests_granted, requests_text, requests_line};
 
 use acl_rights::{Perm, Requests};
 use std::alloc::AllocError;
 
 /// The numbers of the requests other than none.
-const NUMBERS: [u8; 7] = [1, 2, 3, 4, 5, 6, 7];
+pub(crate) const NUMBERS: [u8; 7] = [1, 2, 3, 4, 5, 6, 7];
 
 /// Adds a request that is granted, after a space where it is not the first.
 fn push_request(text: &mut Vec<u8>, request: Perm, is_first: bool) -> Result<(), AllocError>
-    ensures ok { OnOk result (text.new.items ≡ text.old.items ++ request_text is_first request) }
-    ensures err { OnErr result (StartsWith text.new.items text.old.items) }
+    ensures { Appends result text.old text.new (request_text is_first request) }
 {
     if !is_first {
         text.push(b' ')?;
@@ -23,8 +23,7 @@ fn push_request(text: &mut Vec<u8>, request: Perm, is_first: bool) -> Result<(),
 }
 
 fn push_requests(text: &mut Vec<u8>, granted: Requests) -> Result<(), AllocError>
-    ensures ok { OnOk result (text.new.items ≡ text.old.items ++ requests_text (requests_granted granted)) }
-    ensures err { OnErr result (StartsWith text.new.items text.old.items) }
+    ensures { Appends result text.old text.new (requests_text (requests_granted granted)) }
 {
     let mut is_first = true;
     for number in &NUMBERS {
@@ -42,8 +41,7 @@ fn push_requests(text: &mut Vec<u8>, granted: Requests) -> Result<(), AllocError
 }
 
 fn push_line(text: &mut Vec<u8>, granted: Requests) -> Result<(), AllocError>
-    ensures ok { OnOk result (text.new.items ≡ text.old.items ++ requests_line granted) }
-    ensures err { OnErr result (StartsWith text.new.items text.old.items) }
+    ensures { Appends result text.old text.new (requests_line granted) }
 {
     push_requests(text, granted)?;
     text.push(b'\n')?;
@@ -57,8 +55,7 @@ fn push_line(text: &mut Vec<u8>, granted: Requests) -> Result<(), AllocError>
 ///
 /// Fails only if memory runs out; then nothing is added.
 pub fn append_requests(text: &mut Vec<u8>, granted: Requests) -> Result<(), AllocError>
-    ensures ok { OnOk result (text.new.items ≡ text.old.items ++ requests_line granted) }
-    ensures err { OnErr result (text.new.items ≡ text.old.items) }
+    ensures { AppendsWhole result text.old text.new (requests_line granted) }
 {
     let before = text.len();
     if let Err(refused) = push_line(text, granted) {

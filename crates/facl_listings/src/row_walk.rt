@@ -1,12 +1,13 @@
 //! A walk over all files of a state, each with its row of verdicts.
 
 ghost use Rattle.std.specs.Prelude.{◌≡◌, IfOk, drop, option_map};
-ghost use Rattle.acl_rights.specs.acl_files.path_map.Entries.{first};
+ghost use Rattle.acl_rights.specs.acl_files.path_map.Entries.{first, IsInOrder};
 ghost use Rattle.acl_rights.specs.acl_tree.Found.{found_file};
+ghost use Rattle.acl_rights.specs.Reach.{rows_along};
+ghost use Rattle.acl_rights.specs.Tables.{IsWhole};
 ghost use Rattle.facl_listings.specs.Inner.{has_next_below, walked, step_of};
 
-use crate::files::is_above;
-use acl_rights::{FileRows, FilesIter, Found, Path, Record, Requests, Tree};
+use acl_rights::{FileRows, FilesIter, Found, Index, Judge, Path, Record, Requests, State, Tree};
 use std::alloc::AllocError;
 use std::marker::Model;
 use std::rc::Rc;
@@ -17,6 +18,16 @@ pub(crate) struct Step<'a> {
     pub file: &'a Rc<Record>,
     pub next: Option<&'a Rc<Record>>,
     pub requests: &'a [Requests],
+}
+
+/// Whether a file, if there is one, is below a path.
+fn is_above(path: &Path, next: Option<&Rc<Record>>) -> bool
+    ensures { result ≡ has_next_below path.now (option_map (λ next. next.now.value) next.entry) }
+{
+    match next {
+        Some(next) => next.path().is_below(path),
+        None => false,
+    }
 }
 
 impl<'a> Step<'a> {
@@ -53,6 +64,17 @@ impl<'a> Walk<'a> {
             files: tree.iter(),
             rows,
         }
+    }
+
+    /// The files of a state with their rows, or with what is left of these along paths.
+    pub fn of_state<J: Judge>(state: &'a State, index: &'a Index<J>, along: bool) -> Walk<'a>
+        requires whole { IsWhole J.verdict_of state.now index.now }
+        ensures all { result ≡ walked state.now.tree.files (rows_along along index.now.rows) }
+        ensures order { IsInOrder result }
+        ensures tree { IsInOrder state.now.tree.files }
+    {
+        state.tree().is_sound();
+        Walk::of(state.tree(), index.file_rows(along))
     }
 
     /// The path of the next file.

@@ -1,17 +1,15 @@
 //! The tool `index`: what each user may do with each file.
 
 ghost use Rattle.std.specs.Prelude.{◌≡◌, ◌++◌, map, IfOk, OnOk};
-ghost use Rattle.std.specs.List.{flat_map};
 ghost use Rattle.acl_rights.specs.acl_names.Names.{escaped};
 ghost use Rattle.acl_rights.specs.Tables.{IsWhole};
-ghost use Rattle.acl_rights.specs.acl_tree.Found.{found_in};
 ghost use Rattle.facl_listings.specs.Listings.{path_shown};
 ghost use Rattle.facl_listings.specs.Answers.{hex_digits, verdict_line, index_text};
-ghost use Rattle.facl_listings.specs.Inner.{row_lines, lines_in};
+ghost use Rattle.facl_listings.specs.Inner.{row_lines, lines_of_walk, step_of};
 
-use crate::files::found_before;
 use crate::listing::push_path_shown;
-use acl_rights::{Found, Index, Judge, People, Requests, State, Tree, write_name};
+use crate::row_walk::{Step, Walk};
+use acl_rights::{Found, Index, Judge, People, Requests, State, write_name};
 use std::alloc::{AllocError, Global};
 
 const DIGITS: [u8; 16] = *b"0123456789abcdef";
@@ -71,36 +69,33 @@ pub(crate) fn shown(alloc: Global, file: &Found) -> Result<Vec<u8>, AllocError>
     Ok(path)
 }
 
-fn push_file<J: Judge>(
+/// Adds the lines of a file.
+fn push_file(
     alloc: Global,
     text: &mut Vec<u8>,
-    index: &Index<J>,
     names: &[Vec<u8>],
-    file: &Found,
+    file: &Step<'_>,
 ) -> Result<(), AllocError>
-    ensures { OnOk result (text.new.items ≡ text.old.items ++ lines_in index.now.rows (map (λ n. n.items) names.now) file.now) }
+    ensures { OnOk result (text.new.items ≡ text.old.items ++ row_lines (step_of file.now).0 (map (λ n. n.items) names.now) (step_of file.now).1) }
 {
-    if let Some(row) = index.row(file.path()) {
-        let path = shown(alloc, file)?;
-        push_row(text, names, row, &path)?;
-    }
+    let found = file.found()?;
+    let path = shown(alloc, &found)?;
+    push_row(text, names, file.requests, &path)?;
     Ok(())
 }
 
-fn push_files<J: Judge>(
+/// Adds the lines of the files of a walk.
+fn push_files(
     alloc: Global,
     text: &mut Vec<u8>,
-    index: &Index<J>,
     names: &[Vec<u8>],
-    tree: &Tree,
+    files: Walk<'_>,
 ) -> Result<(), AllocError>
-    ensures { OnOk result (text.new.items ≡ text.old.items ++ flat_map (lines_in index.now.rows (map (λ n. n.items) names.now)) (found_in tree.now.files tree.now.files)) }
+    ensures { OnOk result (text.new.items ≡ text.old.items ++ lines_of_walk (map (λ n. n.items) names.now) files.entry) }
 {
-    tree.is_sound();
-    let mut files = tree.iter();
-    while let Some(file) = files.next() {
-        let found = found_before(file, &files)?;
-        push_file(alloc, text, index, names, &found)?;
+    let mut rest = files;
+    while let Some(file) = rest.next() {
+        push_file(alloc, text, names, &file)?;
     }
     Ok(())
 }
@@ -129,8 +124,8 @@ pub fn write_index<J: Judge>(
     ensures { IfOk result (λ text. text.items ≡ index_text J.verdict_of state.now) }
 {
     let names = written_names(alloc, state.people())?;
-    state.tree().is_sound();
     let mut text = Vec::new(alloc);
-    push_files(alloc, &mut text, index, &names, state.tree())?;
+    let files = Walk::of_state(state, index, false);
+    push_files(alloc, &mut text, &names, files)?;
     Ok(text)
 }

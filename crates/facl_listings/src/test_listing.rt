@@ -3,6 +3,7 @@
 ghost use Rattle.std.specs.Prelude.{◌≡◌, ◌++◌, ◌∷◌, [], OnOk, OnErr, codes};
 ghost use Rattle.std.specs.Io.{StartsWith};
 ghost use Rattle.std.specs.List.{flat_map};
+ghost use Rattle.acl_rights.specs.acl_names.Appends.{Appends, AppendsWhole};
 ghost use Rattle.facl_listings.specs.TestListing.{default_entry, default_entries, lists_text, file_line, test_listing};
 
 use crate::listing::push_path_shown;
@@ -14,11 +15,11 @@ fn push_default_entry<N: Names>(
     names: &N,
     entry: &Entry,
 ) -> Result<(), AllocError>
-    ensures ok { OnOk result (text.new.items ≡ text.old.items ++ default_entry (N.user_name names.now) (N.group_name names.now) entry.now) }
-    ensures err { OnErr result (StartsWith text.new.items text.old.items) }
+    ensures { Appends result text.old text.new (default_entry (N.naming names.now) entry.now) }
 {
     text.extend_from_slice(b",d:")?;
-    append_entry(text, entry, Form::Short, names)
+    append_entry(text, entry, Form::Short, names)?;
+    Ok(())
 }
 
 fn push_default_entries<N: Names>(
@@ -26,8 +27,7 @@ fn push_default_entries<N: Names>(
     names: &N,
     entries: &[Entry],
 ) -> Result<(), AllocError>
-    ensures ok { OnOk result (text.new.items ≡ text.old.items ++ flat_map (default_entry (N.user_name names.now) (N.group_name names.now)) entries.now) }
-    ensures err { OnErr result (StartsWith text.new.items text.old.items) }
+    ensures { Appends result text.old text.new (flat_map (default_entry (N.naming names.now)) entries.now) }
 {
     for entry in entries {
         push_default_entry(text, names, entry)?;
@@ -40,8 +40,7 @@ fn push_default<N: Names>(
     names: &N,
     dacl: &Option<Acl>,
 ) -> Result<(), AllocError>
-    ensures ok { OnOk result (text.new.items ≡ text.old.items ++ default_entries (N.user_name names.now) (N.group_name names.now) dacl.now) }
-    ensures err { OnErr result (StartsWith text.new.items text.old.items) }
+    ensures { Appends result text.old text.new (default_entries (N.naming names.now) dacl.now) }
 {
     match dacl {
         Some(dacl) => push_default_entries(text, names, dacl.entries()),
@@ -50,17 +49,16 @@ fn push_default<N: Names>(
 }
 
 fn push_lists<N: Names>(text: &mut Vec<u8>, names: &N, node: &Node) -> Result<(), AllocError>
-    ensures ok { OnOk result (text.new.items ≡ text.old.items ++ lists_text (N.user_name names.now) (N.group_name names.now) node.now) }
-    ensures err { OnErr result (StartsWith text.new.items text.old.items) }
+    ensures { Appends result text.old text.new (lists_text (N.naming names.now) node.now) }
 {
     append_short(text, &node.label.acl, names)?;
-    push_default(text, names, &node.dacl)
+    push_default(text, names, &node.dacl)?;
+    Ok(())
 }
 
 /// Adds what comes after a path.
 fn push_lists_of<N: Names>(text: &mut Vec<u8>, names: &N, node: &Node) -> Result<(), AllocError>
-    ensures ok { OnOk result (text.new.items ≡ text.old.items ++ (codes ": " ++ (lists_text (N.user_name names.now) (N.group_name names.now) node.now ++ 10 ∷ []))) }
-    ensures err { OnErr result (StartsWith text.new.items text.old.items) }
+    ensures { Appends result text.old text.new (codes ": " ++ (lists_text (N.naming names.now) node.now ++ 10 ∷ [])) }
 {
     text.extend_from_slice(b": ")?;
     push_lists(text, names, node)?;
@@ -69,16 +67,15 @@ fn push_lists_of<N: Names>(text: &mut Vec<u8>, names: &N, node: &Node) -> Result
 }
 
 fn push_file<N: Names>(text: &mut Vec<u8>, names: &N, file: &Found) -> Result<(), AllocError>
-    ensures ok { OnOk result (text.new.items ≡ text.old.items ++ file_line (N.user_name names.now) (N.group_name names.now) file.now) }
-    ensures err { OnErr result (StartsWith text.new.items text.old.items) }
+    ensures { Appends result text.old text.new (file_line (N.naming names.now) file.now) }
 {
     push_path_shown(text, file)?;
-    push_lists_of(text, names, file.node())
+    push_lists_of(text, names, file.node())?;
+    Ok(())
 }
 
 fn push_files<N: Names>(text: &mut Vec<u8>, names: &N, files: &[Found]) -> Result<(), AllocError>
-    ensures ok { OnOk result (text.new.items ≡ text.old.items ++ test_listing (N.user_name names.now) (N.group_name names.now) files.now) }
-    ensures err { OnErr result (StartsWith text.new.items text.old.items) }
+    ensures { Appends result text.old text.new (test_listing (N.naming names.now) files.now) }
 {
     for file in files {
         push_file(text, names, file)?;
@@ -98,8 +95,7 @@ pub fn append_test_listing<N: Names>(
     names: &N,
     files: &[Found],
 ) -> Result<(), AllocError>
-    ensures ok { OnOk result (text.new.items ≡ text.old.items ++ test_listing (N.user_name names.now) (N.group_name names.now) files.now) }
-    ensures err { OnErr result (text.new.items ≡ text.old.items) }
+    ensures { AppendsWhole result text.old text.new (test_listing (N.naming names.now) files.now) }
 {
     let before = text.len();
     if let Err(refused) = push_files(text, names, files) {

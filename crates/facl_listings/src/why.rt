@@ -15,8 +15,8 @@ ghost use Rattle.facl_listings.specs.Why.{deciding_text, files_asked, why_record
 
 use crate::attr_listing::push_path;
 use acl_rights::{
-    Effective, Entry, Found, Id, Key, Label, Names, Path, Paths, Subject, Tree, TreeFault, Which,
-    append_line,
+    Effective, Entry, Found, Id, Key, Label, Names, Path, Paths, Selection, Subject, Tree,
+    TreeFault, Which, append_line,
 };
 use std::alloc::{AllocError, Global};
 use std::cmp::Ordering;
@@ -78,7 +78,7 @@ fn push_deciding<N: Names>(
     subject: &Subject,
     label: &Label,
 ) -> Result<(), AllocError>
-    ensures { OnOk result (text.new.items ≡ text.old.items ++ deciding_text (N.user_name names.now) (N.group_name names.now) subject.now label.now) }
+    ensures { OnOk result (text.new.items ≡ text.old.items ++ deciding_text (N.naming names.now) subject.now label.now) }
 {
     let sole = sole_key(subject, label);
     let mask = label.acl.get(Key::Mask);
@@ -104,7 +104,7 @@ fn push_record<N: Names>(
     subject: &Subject,
     file: &Found,
 ) -> Result<(), AllocError>
-    ensures { OnOk result (text.new.items ≡ text.old.items ++ why_record (N.user_name names.now) (N.group_name names.now) subject.now file.now) }
+    ensures { OnOk result (text.new.items ≡ text.old.items ++ why_record (N.naming names.now) subject.now file.now) }
 {
     push_path(text, file)?;
     push_deciding(text, names, subject, &file.node().label)?;
@@ -119,7 +119,7 @@ fn push_records<N: Names>(
     subject: &Subject,
     files: &[Found],
 ) -> Result<(), AllocError>
-    ensures { OnOk result (text.new.items ≡ text.old.items ++ why_text (N.user_name names.now) (N.group_name names.now) subject.now files.now) }
+    ensures { OnOk result (text.new.items ≡ text.old.items ++ why_text (N.naming names.now) subject.now files.now) }
 {
     for file in files {
         push_record(text, names, subject, file)?;
@@ -136,7 +136,7 @@ pub fn write_why<N: Names>(
     subject: &Subject,
     files: &[Found],
 ) -> Result<Vec<u8>, AllocError>
-    ensures { IfOk result (λ text. text.items ≡ why_text (N.user_name names.now) (N.group_name names.now) subject.now files.now) }
+    ensures { IfOk result (λ text. text.items ≡ why_text (N.naming names.now) subject.now files.now) }
 {
     let mut text = Vec::new(alloc);
     push_records(&mut text, names, subject, files)?;
@@ -193,6 +193,10 @@ pub fn files_asked(
 {
     tree.is_sound();
     let asked = asked_paths(alloc, tree, paths, along)?;
-    let files = tree.files(alloc, &asked, false)?;
+    let selection = Selection {
+        operands: &asked,
+        recursive: false,
+    };
+    let files = tree.files(alloc, &selection)?;
     Ok(files)
 }

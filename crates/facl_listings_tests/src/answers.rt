@@ -1,7 +1,7 @@
 //! What the tools answer on one state, line after line.
 
-use crate::asked::{after, can, index, may, who, why};
-use acl_rights_tests::{Line, nothing};
+use crate::asked::{Question, Row, expect_rows};
+use acl_rights_tests::Line;
 use facl_listings::Table;
 
 const PASSWD: &[u8] = b"lisa:x:1001:50:Lisa:/home/lisa:/bin/sh\n\
@@ -34,63 +34,128 @@ const WRITE: u8 = 2;
 
 const READ_AND_SEARCH: u8 = 5;
 
+static ALONE: [Row; 6] = [
+    Row {
+        lines: &[],
+        question: Question::Index,
+        along: false,
+        answer: Some(INDEX),
+    },
+    Row {
+        lines: &[],
+        question: Question::Who(WRITE, b"pub"),
+        along: false,
+        answer: Some(b"ann\n"),
+    },
+    Row {
+        lines: &[],
+        question: Question::May(b"joe", READ_AND_SEARCH),
+        along: false,
+        answer: Some(b".\npub/\nrun\n"),
+    },
+    Row {
+        lines: &[],
+        question: Question::Who(0, b"f"),
+        along: false,
+        answer: Some(b"lisa\njoe\nann\n"),
+    },
+    Row {
+        lines: &[],
+        question: Question::Who(READ, b"gone"),
+        along: false,
+        answer: None,
+    },
+    Row {
+        lines: &[],
+        question: Question::May(b"bob", READ),
+        along: false,
+        answer: None,
+    },
+];
+
+static ALONG: [Row; 6] = [
+    Row {
+        lines: &[],
+        question: Question::May(b"joe", READ_AND_SEARCH),
+        along: true,
+        answer: Some(b".\npub/\nrun\n"),
+    },
+    Row {
+        lines: &[Line::Chmod(0o754, b".")],
+        question: Question::Can(b"joe", b"pub"),
+        along: true,
+        answer: Some(b"\x00"),
+    },
+    Row {
+        lines: &[Line::Chmod(0o754, b".")],
+        question: Question::Can(b"joe", b"pub"),
+        along: false,
+        answer: Some(b"\x33"),
+    },
+    Row {
+        lines: &[Line::Chmod(0o754, b".")],
+        question: Question::Who(READ, b"run"),
+        along: true,
+        answer: Some(b"lisa\n"),
+    },
+    Row {
+        lines: &[Line::Chmod(0o754, b".")],
+        question: Question::May(b"ann", WRITE),
+        along: true,
+        answer: Some(b""),
+    },
+    Row {
+        lines: &[Line::Chmod(0o754, b".")],
+        question: Question::May(b"joe", READ),
+        along: true,
+        answer: Some(b".\n"),
+    },
+];
+
+static NAMES: [Row; 1] = [Row {
+    lines: &[Line::Useradd(b"al #1", 7, b"staff")],
+    question: Question::Who(READ, b"f"),
+    along: false,
+    answer: Some(b"lisa\nal\\040\\0431\n"),
+}];
+
+static WHY: [Row; 3] = [
+    Row {
+        lines: &[],
+        question: Question::Why(b"ann", b"pub"),
+        along: false,
+        answer: Some(b"# file: pub/\nuser::rwx\n\n"),
+    },
+    Row {
+        lines: &[Line::Chmod(0o705, b"pub")],
+        question: Question::Why(b"joe", b"pub"),
+        along: true,
+        answer: Some(b"# file: .\nother::r-x\n\n# file: pub/\ngroup::r-x\t\t\t#effective:---\n\n"),
+    },
+    Row {
+        lines: &[Line::Chmod(0o705, b"pub")],
+        question: Question::Why(b"joe", b"gone"),
+        along: true,
+        answer: None,
+    },
+];
+
 #[test]
 fn answers_are_of_the_lists_alone(rt: HostRuntime) {
-    let alloc = rt.alloc();
-    let mut world = nothing(alloc).expect(&rt, "memory");
-    assert!(rt; after(alloc, &mut world, &SETUP));
-    let table = index(alloc, &world).expect(&rt, "a table");
-    assert_eq!(rt; table.as_slice(), INDEX);
-    let writers = who(alloc, &world, WRITE, b"pub", false).expect(&rt, "pub");
-    assert_eq!(rt; writers.as_slice(), b"ann\n".as_slice());
-    let files = may(alloc, &world, b"joe", READ_AND_SEARCH, false).expect(&rt, "joe");
-    assert_eq!(rt; files.as_slice(), b".\npub/\nrun\n".as_slice());
-    let all = who(alloc, &world, 0, b"f", false).expect(&rt, "f");
-    assert_eq!(rt; all.as_slice(), b"lisa\njoe\nann\n".as_slice());
-    assert!(rt; who(alloc, &world, READ, b"gone", false).is_none());
-    assert!(rt; may(alloc, &world, b"bob", READ, false).is_none());
+    expect_rows(&rt, rt.alloc(), &SETUP, &ALONE);
 }
 
 #[test]
 fn answers_are_of_the_way_too(rt: HostRuntime) {
-    let alloc = rt.alloc();
-    let mut world = nothing(alloc).expect(&rt, "memory");
-    assert!(rt; after(alloc, &mut world, &SETUP));
-    let files = may(alloc, &world, b"joe", READ_AND_SEARCH, true).expect(&rt, "joe");
-    assert_eq!(rt; files.as_slice(), b".\npub/\nrun\n".as_slice());
-    assert!(rt; after(alloc, &mut world, &[Line::Chmod(0o754, b".")]));
-    assert_eq!(rt; can(alloc, &world, b"joe", b"pub", true), Some(0x00));
-    assert_eq!(rt; can(alloc, &world, b"joe", b"pub", false), Some(0x33));
-    let readers = who(alloc, &world, READ, b"run", true).expect(&rt, "run");
-    assert_eq!(rt; readers.as_slice(), b"lisa\n".as_slice());
-    let none = may(alloc, &world, b"ann", WRITE, true).expect(&rt, "ann");
-    assert_eq!(rt; none.as_slice(), b"".as_slice());
-    let root = may(alloc, &world, b"joe", READ, true).expect(&rt, "joe");
-    assert_eq!(rt; root.as_slice(), b".\n".as_slice());
+    expect_rows(&rt, rt.alloc(), &SETUP, &ALONG);
 }
 
 #[test]
 fn names_are_of_the_rows(rt: HostRuntime) {
-    let alloc = rt.alloc();
-    let mut world = nothing(alloc).expect(&rt, "memory");
-    assert!(rt; after(alloc, &mut world, &SETUP));
-    assert!(rt; after(alloc, &mut world, &[Line::Useradd(b"al #1", 7, b"staff")]));
-    let readers = who(alloc, &world, READ, b"f", false).expect(&rt, "f");
-    assert_eq!(rt; readers.as_slice(), b"lisa\nal\\040\\0431\n".as_slice());
+    expect_rows(&rt, rt.alloc(), &SETUP, &NAMES);
 }
 
 #[test]
 fn entries_that_decide(rt: HostRuntime) {
-    let alloc = rt.alloc();
-    let mut world = nothing(alloc).expect(&rt, "memory");
-    assert!(rt; after(alloc, &mut world, &SETUP));
-    let owner = why(alloc, &world, b"ann", b"pub", false).expect(&rt, "pub");
-    assert_eq!(rt; owner.as_slice(), b"# file: pub/\nuser::rwx\n\n".as_slice());
-    assert!(rt; after(alloc, &mut world, &[Line::Chmod(0o705, b"pub")]));
-    let group = why(alloc, &world, b"joe", b"pub", true).expect(&rt, "pub");
-    assert_eq!(rt;
-        group.as_slice(),
-        b"# file: .\nother::r-x\n\n# file: pub/\ngroup::r-x\t\t\t#effective:---\n\n".as_slice()
-    );
-    assert!(rt; why(alloc, &world, b"joe", b"gone", true).is_none());
+    expect_rows(&rt, rt.alloc(), &SETUP, &WHY);
 }

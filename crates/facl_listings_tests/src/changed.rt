@@ -1,7 +1,7 @@
 //! What `changes` prints between two states.
 
-use crate::asked::{after, changes};
-use acl_rights_tests::{Line, nothing};
+use crate::asked::{Question, Row, expect_rows};
+use acl_rights_tests::Line;
 use facl_listings::Table;
 
 const PASSWD: &[u8] = b"lisa:x:1001:50:Lisa:/home/lisa:/bin/sh\n\
@@ -34,51 +34,64 @@ al\\040\\0431 gains r-- f\n\
 al\\040\\0431 gains --x,r--,r-x pub/\njoe loses --x,r--,r-x pub/\n\
 lisa loses --x,-w-,-wx,r--,r-x,rw-,rwx run\nann loses --x,r--,r-x run\njoe loses --x,r--,r-x run\n";
 
-static MOVES: [Line; 3] = [
-    Line::Userdel(b"joe"),
-    Line::Useradd(b"al #1", 7, b"staff"),
-    Line::Rm(b"run"),
+static BACK: [Row; 3] = [
+    Row {
+        lines: &[],
+        question: Question::Changes,
+        along: true,
+        answer: Some(b""),
+    },
+    Row {
+        lines: &[Line::Chmod(0o404, b"f")],
+        question: Question::Changes,
+        along: false,
+        answer: Some(OPENED),
+    },
+    Row {
+        lines: &[Line::Chmod(0o404, b"f"), Line::Chmod(0o640, b"f")],
+        question: Question::Changes,
+        along: false,
+        answer: Some(b""),
+    },
 ];
+
+static ALONG: [Row; 2] = [
+    Row {
+        lines: &[Line::Chmod(0o754, b".")],
+        question: Question::Changes,
+        along: false,
+        answer: Some(CLOSED),
+    },
+    Row {
+        lines: &[Line::Chmod(0o754, b".")],
+        question: Question::Changes,
+        along: true,
+        answer: Some(CLOSED_BELOW),
+    },
+];
+
+static MOVES: [Row; 1] = [Row {
+    lines: &[
+        Line::Userdel(b"joe"),
+        Line::Useradd(b"al #1", 7, b"staff"),
+        Line::Rm(b"run"),
+    ],
+    question: Question::Changes,
+    along: false,
+    answer: Some(CAME_AND_WENT),
+}];
 
 #[test]
 fn of_a_list_and_back(rt: HostRuntime) {
-    let alloc = rt.alloc();
-    let mut loaded = nothing(alloc).expect(&rt, "memory");
-    assert!(rt; after(alloc, &mut loaded, &SETUP));
-    let mut world = nothing(alloc).expect(&rt, "memory");
-    assert!(rt; after(alloc, &mut world, &SETUP));
-    let same = changes(alloc, &loaded, &world, true).expect(&rt, "memory");
-    assert_eq!(rt; same.as_slice(), b"".as_slice());
-    assert!(rt; after(alloc, &mut world, &[Line::Chmod(0o404, b"f")]));
-    let opened = changes(alloc, &loaded, &world, false).expect(&rt, "memory");
-    assert_eq!(rt; opened.as_slice(), OPENED);
-    assert!(rt; after(alloc, &mut world, &[Line::Chmod(0o640, b"f")]));
-    let back = changes(alloc, &loaded, &world, false).expect(&rt, "memory");
-    assert_eq!(rt; back.as_slice(), b"".as_slice());
+    expect_rows(&rt, rt.alloc(), &SETUP, &BACK);
 }
 
 #[test]
 fn along_paths(rt: HostRuntime) {
-    let alloc = rt.alloc();
-    let mut loaded = nothing(alloc).expect(&rt, "memory");
-    assert!(rt; after(alloc, &mut loaded, &SETUP));
-    let mut world = nothing(alloc).expect(&rt, "memory");
-    assert!(rt; after(alloc, &mut world, &SETUP));
-    assert!(rt; after(alloc, &mut world, &[Line::Chmod(0o754, b".")]));
-    let alone = changes(alloc, &loaded, &world, false).expect(&rt, "memory");
-    assert_eq!(rt; alone.as_slice(), CLOSED);
-    let reached = changes(alloc, &loaded, &world, true).expect(&rt, "memory");
-    assert_eq!(rt; reached.as_slice(), CLOSED_BELOW);
+    expect_rows(&rt, rt.alloc(), &SETUP, &ALONG);
 }
 
 #[test]
 fn of_users_and_files_that_came_and_went(rt: HostRuntime) {
-    let alloc = rt.alloc();
-    let mut loaded = nothing(alloc).expect(&rt, "memory");
-    assert!(rt; after(alloc, &mut loaded, &SETUP));
-    let mut world = nothing(alloc).expect(&rt, "memory");
-    assert!(rt; after(alloc, &mut world, &SETUP));
-    assert!(rt; after(alloc, &mut world, &MOVES));
-    let moved = changes(alloc, &loaded, &world, false).expect(&rt, "memory");
-    assert_eq!(rt; moved.as_slice(), CAME_AND_WENT);
+    expect_rows(&rt, rt.alloc(), &SETUP, &MOVES);
 }

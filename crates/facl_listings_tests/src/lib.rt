@@ -5,6 +5,7 @@
 
 #[cfg(test)]
 mod answers;
+#[cfg(test)]
 mod asked;
 #[cfg(test)]
 mod changed;
@@ -14,5 +15,3 @@ mod listings;
 mod made;
 #[cfg(test)]
 mod requests;
-
-pub use asked::{after, can, changes, index, may, who, why};

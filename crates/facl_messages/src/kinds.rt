@@ -2,6 +2,7 @@
 
 ghost use Rattle.std.specs.Prelude.{◌≡◌, ◌++◌, OnOk, OnErr};
 ghost use Rattle.std.specs.Io.{StartsWith};
+ghost use Rattle.acl_tree.specs.acl_names.Appends.{Appends};
 ghost use Rattle.facl_messages.specs.Texts.{is_of_whole_list, kind_text, list_name, list_text, source_name, text_fault_text};
 
 use crate::fault::Source;
@@ -24,17 +25,16 @@ pub(crate) fn push_file_list(
     which: Which,
     fault: &ListFault,
 ) -> Result<(), AllocError>
-    ensures ok { OnOk result (text.new.items ≡ text.old.items ++ (list_name which ++ list_text fault.now)) }
-    ensures err { OnErr result (StartsWith text.new.items text.old.items) }
+    ensures { Appends result text.old text.new (list_name which ++ list_text fault.now) }
 {
     text.extend_from_slice(list_name(which))?;
-    push_list_fault(text, fault)
+    push_list_fault(text, fault)?;
+    Ok(())
 }
 
 /// Adds the text of what is wrong with a piece of text.
 pub(crate) fn push_kind(text: &mut Vec<u8>, kind: &FaultKind) -> Result<(), AllocError>
-    ensures ok { OnOk result (text.new.items ≡ text.old.items ++ kind_text kind.now) }
-    ensures err { OnErr result (StartsWith text.new.items text.old.items) }
+    ensures { Appends result text.old text.new (kind_text kind.now) }
 {
     match kind {
         FaultKind::BadTag => text.extend_from_slice(b"bad tag"),
@@ -84,11 +84,11 @@ pub(crate) fn push_text_fault(
     source: Source,
     fault: &TextFault,
 ) -> Result<(), AllocError>
-    ensures ok { OnOk result (text.new.items ≡ text.old.items ++ text_fault_text source fault.now) }
-    ensures err { OnErr result (StartsWith text.new.items text.old.items) }
+    ensures { Appends result text.old text.new (text_fault_text source fault.now) }
 {
     if !is_of_whole_list(fault) {
         push_numbered(text, source_name(source), fault.at, b": ")?;
     }
-    push_kind(text, &fault.kind)
+    push_kind(text, &fault.kind)?;
+    Ok(())
 }

@@ -2,6 +2,7 @@
 
 ghost use Rattle.std.specs.Prelude.{◌≡◌, ◌++◌, OnOk, OnErr, codes, decimal};
 ghost use Rattle.std.specs.Io.{StartsWith};
+ghost use Rattle.acl_tree.specs.acl_names.Appends.{Appends};
 ghost use Rattle.acl_tree.specs.acl_syntax.declared.form.Form.TheVariants.{Long};
 ghost use Rattle.acl_tree.specs.acl_syntax.Writing.{tag_text};
 ghost use Rattle.facl_messages.specs.Texts.{list_text};
@@ -17,13 +18,13 @@ pub(crate) fn push_numbered(
     number: usize,
     after: &[u8],
 ) -> Result<(), AllocError>
-    ensures ok { OnOk result (text.new.items ≡ text.old.items ++ (before.now ++ decimal number ++ after.now)) }
-    ensures err { OnErr result (StartsWith text.new.items text.old.items) }
+    ensures { Appends result text.old text.new (before.now ++ decimal number ++ after.now) }
 {
     let mut buffer = Buffer::new();
     text.extend_from_slice(before)?;
     text.extend_from_slice(buffer.format(number).as_bytes())?;
-    text.extend_from_slice(after)
+    text.extend_from_slice(after)?;
+    Ok(())
 }
 
 fn missing_base(key: &Key) -> &'static [u8]
@@ -39,8 +40,7 @@ fn missing_base(key: &Key) -> &'static [u8]
 
 /// Adds the text of a list's fault.
 pub(crate) fn push_list_fault(text: &mut Vec<u8>, fault: &ListFault) -> Result<(), AllocError>
-    ensures ok { OnOk result (text.new.items ≡ text.old.items ++ list_text fault.now) }
-    ensures err { OnErr result (StartsWith text.new.items text.old.items) }
+    ensures { Appends result text.old text.new (list_text fault.now) }
 {
     match fault {
         ListFault::Repeated { at } => push_numbered(text, b"entry ", *at, b" is repeated"),

@@ -2,6 +2,7 @@
 
 ghost use Rattle.std.specs.Prelude.{◌≡◌, ◌++◌, OnOk, OnErr};
 ghost use Rattle.std.specs.Io.{StartsWith};
+ghost use Rattle.acl_tree.specs.acl_names.Appends.{Appends};
 ghost use Rattle.facl_messages.specs.Messages.{head, line_text, message, numbered, reporter, warning};
 
 use crate::fault::LineFault;
@@ -30,8 +31,7 @@ fn reporter<'a>(tool: &'a [u8], fault: &LineFault) -> &'a [u8]
 
 /// Adds the text of why a line is refused.
 fn push_line_fault(text: &mut Vec<u8>, fault: &LineFault) -> Result<(), AllocError>
-    ensures ok { OnOk result (text.new.items ≡ text.old.items ++ line_text fault.now) }
-    ensures err { OnErr result (StartsWith text.new.items text.old.items) }
+    ensures { Appends result text.old text.new (line_text fault.now) }
 {
     match fault {
         LineFault::LineTooLong => text.extend_from_slice(b"line too long"),
@@ -52,23 +52,23 @@ fn push_line_fault(text: &mut Vec<u8>, fault: &LineFault) -> Result<(), AllocErr
 
 /// Adds `line N: ` for the line with this number.
 fn push_number(text: &mut Vec<u8>, number: u64) -> Result<(), AllocError>
-    ensures ok { OnOk result (text.new.items ≡ text.old.items ++ numbered number) }
-    ensures err { OnErr result (StartsWith text.new.items text.old.items) }
+    ensures { Appends result text.old text.new (numbered number) }
 {
     let mut buffer = Buffer::new();
     text.extend_from_slice(b"line ")?;
     text.extend_from_slice(buffer.format(number).as_bytes())?;
-    text.extend_from_slice(b": ")
+    text.extend_from_slice(b": ")?;
+    Ok(())
 }
 
 /// Adds `line N: TOOL: `.
 fn push_head(text: &mut Vec<u8>, number: u64, reported_by: &[u8]) -> Result<(), AllocError>
-    ensures ok { OnOk result (text.new.items ≡ text.old.items ++ head number reported_by.now) }
-    ensures err { OnErr result (StartsWith text.new.items text.old.items) }
+    ensures { Appends result text.old text.new (head number reported_by.now) }
 {
     push_number(text, number)?;
     text.extend_from_slice(reported_by)?;
-    text.extend_from_slice(b": ")
+    text.extend_from_slice(b": ")?;
+    Ok(())
 }
 
 /// Adds the message of a line that is refused: `line N: TOOL: TEXT` and a line feed. TOOL is the line's first
@@ -81,21 +81,21 @@ pub fn append_message(
     tool: &[u8],
     fault: &LineFault,
 ) -> Result<(), AllocError>
-    ensures ok { OnOk result (text.new.items ≡ text.old.items ++ message number tool.now fault.now) }
-    ensures err { OnErr result (StartsWith text.new.items text.old.items) }
+    ensures { Appends result text.old text.new (message number tool.now fault.now) }
 {
     push_head(text, number, reporter(tool, fault))?;
     push_line_fault(text, fault)?;
-    text.extend_from_slice(b"\n")
+    text.extend_from_slice(b"\n")?;
+    Ok(())
 }
 
 /// Adds the warning that a line of setfacl(1) dropped default entries, and a line feed. Fails only if memory runs
 /// out, and what was there before is still there then.
 #[tactic(auto, unfolding(crate::specs::Messages::warning))]
 pub fn append_warning(text: &mut Vec<u8>, number: u64) -> Result<(), AllocError>
-    ensures ok { OnOk result (text.new.items ≡ text.old.items ++ warning number) }
-    ensures err { OnErr result (StartsWith text.new.items text.old.items) }
+    ensures { Appends result text.old text.new (warning number) }
 {
     push_head(text, number, b"setfacl")?;
-    text.extend_from_slice(b"warning: default entries dropped\n")
+    text.extend_from_slice(b"warning: default entries dropped\n")?;
+    Ok(())
 }

@@ -2,6 +2,7 @@
 
 ghost use Rattle.std.specs.Prelude.{◌≡◌, ◌++◌, OnOk, OnErr};
 ghost use Rattle.std.specs.Io.{StartsWith};
+ghost use Rattle.acl_tree.specs.acl_names.Appends.{Appends};
 ghost use Rattle.facl_messages.specs.Messages.{run_fault_text, setup_text, table_name};
 
 use crate::fault::RunFault;
@@ -20,20 +21,19 @@ fn table_name(which: Table) -> &'static [u8]
 }
 
 fn push_setup(text: &mut Vec<u8>, which: Table, fault: &TreeFault) -> Result<(), AllocError>
-    ensures ok { OnOk result (text.new.items ≡ text.old.items ++ setup_text which fault.now) }
-    ensures err { OnErr result (StartsWith text.new.items text.old.items) }
+    ensures { Appends result text.old text.new (setup_text which fault.now) }
 {
     text.extend_from_slice(b"setup: ")?;
     text.extend_from_slice(table_name(which))?;
     text.extend_from_slice(b": ")?;
-    push_tree_fault(text, fault)
+    push_tree_fault(text, fault)?;
+    Ok(())
 }
 
 /// Adds what the program prints after `facl: ` of a run that ended early, without a line feed. Fails only if
 /// memory runs out, and then what was before is kept.
 pub fn append_run_fault(text: &mut Vec<u8>, fault: &RunFault) -> Result<(), AllocError>
-    ensures ok { OnOk result (text.new.items ≡ text.old.items ++ run_fault_text fault.now) }
-    ensures err { OnErr result (StartsWith text.new.items text.old.items) }
+    ensures { Appends result text.old text.new (run_fault_text fault.now) }
 {
     match fault {
         RunFault::Read => text.extend_from_slice(b"read fault"),

@@ -2,6 +2,7 @@
 
 ghost use Rattle.std.specs.Prelude.{◌≡◌, ◌++◌, OnOk, OnErr, codes, decimal};
 ghost use Rattle.std.specs.Io.{StartsWith};
+ghost use Rattle.acl_tree.specs.acl_names.Appends.{Appends};
 ghost use Rattle.acl_tree.specs.acl_names.Names.{escaped};
 ghost use Rattle.acl_tree.specs.acl_names.Paths.{path_text};
 ghost use Rattle.facl_messages.specs.declared.fault.Source.TheVariants.{TextLine};
@@ -15,35 +16,34 @@ use std::alloc::AllocError;
 
 /// Adds a path, and what is wrong with it.
 fn push_of_path(text: &mut Vec<u8>, path: &Path, fault: &[u8]) -> Result<(), AllocError>
-    ensures ok { OnOk result (text.new.items ≡ text.old.items ++ (path_text path.now ++ fault.now)) }
-    ensures err { OnErr result (StartsWith text.new.items text.old.items) }
+    ensures { Appends result text.old text.new (path_text path.now ++ fault.now) }
 {
     append_path(text, path)?;
-    text.extend_from_slice(fault)
+    text.extend_from_slice(fault)?;
+    Ok(())
 }
 
 /// Adds a name, and what is wrong with it.
 fn push_of_name(text: &mut Vec<u8>, name: &Name, fault: &[u8]) -> Result<(), AllocError>
-    ensures ok { OnOk result (text.new.items ≡ text.old.items ++ (escaped name.now ++ fault.now)) }
-    ensures err { OnErr result (StartsWith text.new.items text.old.items) }
+    ensures { Appends result text.old text.new (escaped name.now ++ fault.now) }
 {
     append_name(text, name.as_bytes())?;
-    text.extend_from_slice(fault)
+    text.extend_from_slice(fault)?;
+    Ok(())
 }
 
 /// Adds the text of a fault in a text that is loaded.
 fn push_in_text(text: &mut Vec<u8>, fault: &TextFault) -> Result<(), AllocError>
-    ensures ok { OnOk result (text.new.items ≡ text.old.items ++ placed TextLine fault.now) }
-    ensures err { OnErr result (StartsWith text.new.items text.old.items) }
+    ensures { Appends result text.old text.new (placed TextLine fault.now) }
 {
     push_numbered(text, b"text line ", fault.at, b": ")?;
-    push_kind(text, &fault.kind)
+    push_kind(text, &fault.kind)?;
+    Ok(())
 }
 
 /// Adds the text of why a file is not edited.
 fn push_edit_fault(text: &mut Vec<u8>, fault: &EditFault) -> Result<(), AllocError>
-    ensures ok { OnOk result (text.new.items ≡ text.old.items ++ edit_text fault.now) }
-    ensures err { OnErr result (StartsWith text.new.items text.old.items) }
+    ensures { Appends result text.old text.new (edit_text fault.now) }
 {
     match fault {
         EditFault::DefaultOnFile => {
@@ -56,27 +56,26 @@ fn push_edit_fault(text: &mut Vec<u8>, fault: &EditFault) -> Result<(), AllocErr
 
 /// Adds a path, and why its file is not edited.
 fn push_edit_of(text: &mut Vec<u8>, path: &Path, fault: &EditFault) -> Result<(), AllocError>
-    ensures ok { OnOk result (text.new.items ≡ text.old.items ++ (path_text path.now ++ codes ": " ++ edit_text fault.now)) }
-    ensures err { OnErr result (StartsWith text.new.items text.old.items) }
+    ensures { Appends result text.old text.new (path_text path.now ++ codes ": " ++ edit_text fault.now) }
 {
     push_of_path(text, path, b": ")?;
-    push_edit_fault(text, fault)
+    push_edit_fault(text, fault)?;
+    Ok(())
 }
 
 /// Adds the text of an id that another user has.
 fn push_of_id(text: &mut Vec<u8>, id: Id) -> Result<(), AllocError>
-    ensures ok { OnOk result (text.new.items ≡ text.old.items ++ (decimal id ++ codes ": user id in use")) }
-    ensures err { OnErr result (StartsWith text.new.items text.old.items) }
+    ensures { Appends result text.old text.new (decimal id ++ codes ": user id in use") }
 {
     let mut buffer = Buffer::new();
     text.extend_from_slice(buffer.format(id.number()).as_bytes())?;
-    text.extend_from_slice(b": user id in use")
+    text.extend_from_slice(b": user id in use")?;
+    Ok(())
 }
 
 /// Adds the text of why a command is refused.
 pub(crate) fn push_tree_fault(text: &mut Vec<u8>, fault: &TreeFault) -> Result<(), AllocError>
-    ensures ok { OnOk result (text.new.items ≡ text.old.items ++ tree_text fault.now) }
-    ensures err { OnErr result (StartsWith text.new.items text.old.items) }
+    ensures { Appends result text.old text.new (tree_text fault.now) }
 {
     match fault {
         TreeFault::NoSuchFile { path } => push_of_path(text, path, b": no such file"),

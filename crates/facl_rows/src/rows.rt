@@ -14,7 +14,8 @@ pub struct Row {
     pub status: Status,
 }
 
-/// Runs each script, and compares all that it prints.
+/// Runs each script, and compares all that it prints. Of the first row that differs its name is printed, with what it
+/// prints and what it has to.
 pub fn check(rt: &(impl Abort + AllocGlobal), rows: &[Row]) -> Result<(), Fail> {
     for row in rows {
         let mut out = Vec::new(rt.alloc());
@@ -26,11 +27,18 @@ pub fn check(rt: &(impl Abort + AllocGlobal), rows: &[Row]) -> Result<(), Fail> 
             &mut StdSink::new(&mut out),
             &mut StdSink::new(&mut err),
         );
-        let printed = (status.ok(), out.as_slice(), err.as_slice());
+        let got = (status.ok(), out.as_slice(), err.as_slice());
+        let want = (Some(row.status), row.out, row.err);
         assert!(rt;
-            printed == (Some(row.status), row.out, row.err),
-            "{}",
-            row.name
+            got == want,
+            "{}\n got {:?} \"{}\" \"{}\"\nwant {:?} \"{}\" \"{}\"",
+            row.name,
+            got.0,
+            got.1.escape_ascii(),
+            got.2.escape_ascii(),
+            want.0,
+            want.1.escape_ascii(),
+            want.2.escape_ascii()
         );
     }
     Ok(())

@@ -16,6 +16,7 @@ use Rattle.facl_script.specs.Lines.{lines_of}
 use Rattle.facl_script.specs.Units.{ScriptUnit, outside, cut, units_of, full_units, HasNoUnit}
 use Rattle.facl_script.specs.ReadUnit.{IsNextUnit}
 use Rattle.facl_script.specs.Play.{Answer, joined, play, session}
+use Rattle.facl_script.specs.Streams.{Streams, Moment}
 use Rattle.facl_script.specs.Write.{Writes}
 use Rattle.facl_script.specs.Run.{Gives, Breaks, Ends, IsAnswered, StopsWith}
 use Rattle.facl_script.proofs.Progress.{Progress}
@@ -34,56 +35,56 @@ pub Keeps-refl : (a : Option (List ℕ)) → Keeps a a
 Keeps-refl None = tt
 Keeps-refl (Some x) = refl
 
-pub gives_same : {S : Type 0} (a b : Answer S) (state : S) (spent spent' : ℕ) (o o' e e' : Option (List ℕ)) → a ≡ b → Gives a state spent spent' o o' e e' → Gives b state spent spent' o o' e e'
-gives_same a b state spent spent' o o' e e' h g = subst (λ (x : Answer _). Gives x state spent spent' o o' e e') h g
+pub gives_same : {S : Type 0} (a b : Answer S) (old new : Moment S) → a ≡ b → Gives a old new → Gives b old new
+gives_same a b old new h g = subst (λ (x : Answer _). Gives x old new) h g
 
 pending_short : (s : Source) → length (pending s) ≤ chunk_limit
 pending_short s = omega (arith, s.in_chunk, length-take (s.end - s.start) (drop s.start s.chunk))
 
-units_answered : {S : Type 0} (asks : List ℕ → Bool) (answered : Bool → ScriptUnit → S → Answer S) (start state : S) (spent spent' : ℕ) (o o' e e' : Option (List ℕ)) (taken : List ℕ) (number : ℕ) (answer_so_far : Answer S) → Progress asks answered start taken number false answer_so_far
-    → (tail : List ℕ) → HasNoUnit asks tail → Gives answer_so_far state spent spent' o o' e e' → IsAnswered answered start (full_units (units_of asks (taken ++ tail))) state spent spent' o o' e e'
-units_answered asks answered start state spent spent' o o' e e' taken number answer_so_far p tail none g =
-    record { m = p.m; gives = gives_same answer_so_far _ state spent spent' o o' e e' (sym (full_answer asks answered start taken number answer_so_far p tail none)) g }
+units_answered : {S : Type 0} (asks : List ℕ → Bool) (answered : Bool → ScriptUnit → S → Answer S) (old new : Moment S) (taken : List ℕ) (number : ℕ) (answer_so_far : Answer S) → Progress asks answered old.state taken number false answer_so_far
+    → (tail : List ℕ) → HasNoUnit asks tail → Gives answer_so_far old new → IsAnswered answered (full_units (units_of asks (taken ++ tail))) old new
+units_answered asks answered old new taken number answer_so_far p tail none g =
+    record { m = p.m; gives = gives_same answer_so_far _ old new (sym (full_answer asks answered old.state taken number answer_so_far p tail none)) g }
 
-stops_known : {S : Type 0} (asks : List ℕ → Bool) (answered : Bool → ScriptUnit → S → Answer S) (start state : S) (spent spent' : ℕ) (fault : ScriptFault) (script : List ℕ) (r o o' e e' : Option (List ℕ)) (s : Source) (failed : Bool)
-    (taken : List ℕ) (number : ℕ) (answer_so_far : Answer S) → Progress asks answered start taken number false answer_so_far → (tail : List ℕ) → HasNoUnit asks tail
-    → StopsAfter fault (Some script) s r failed (taken ++ tail) → taken_count s ≡ length (taken ++ tail) → Gives answer_so_far state spent spent' o o' e e' → StopsWith asks fault answered start script state spent spent' r o o' e e'
-stops_known asks answered start state spent spent' Read script r o o' e e' s failed taken number answer_so_far p tail none stop count g =
-    (taken ++ tail, stop.0, units_answered asks answered start state spent spent' o o' e e' taken number answer_so_far p tail none g)
-stops_known asks answered start state spent spent' TooLong script None o o' e e' s failed taken number answer_so_far p tail none stop count g = absurd stop.0.2
-stops_known asks answered start state spent spent' TooLong script (Some rest) o o' e e' s failed taken number answer_so_far p tail none stop count g =
+stops_known : {S : Type 0} (asks : List ℕ → Bool) (answered : Bool → ScriptUnit → S → Answer S) (old new : Moment S) (fault : ScriptFault) (script : List ℕ) (r : Option (List ℕ)) (s : Source) (failed : Bool)
+    (taken : List ℕ) (number : ℕ) (answer_so_far : Answer S) → Progress asks answered old.state taken number false answer_so_far → (tail : List ℕ) → HasNoUnit asks tail
+    → StopsAfter fault (Some script) s r failed (taken ++ tail) → taken_count s ≡ length (taken ++ tail) → Gives answer_so_far old new → StopsWith asks fault answered script r old new
+stops_known asks answered old new Read script r s failed taken number answer_so_far p tail none stop count g =
+    (taken ++ tail, stop.0, units_answered asks answered old new taken number answer_so_far p tail none g)
+stops_known asks answered old new TooLong script None s failed taken number answer_so_far p tail none stop count g = absurd stop.0.2
+stops_known asks answered old new TooLong script (Some rest) s failed taken number answer_so_far p tail none stop count g =
     let more = stop.0.0 in
     let all : script ≡ (taken ++ tail) ++ (more ++ rest) = stop.0.2 ∙ append_assoc (taken ++ tail) more rest in
     let len : length (taken ++ tail) ≡ script_limit = sym count ∙ stop.2 in
     let front : take script_limit script ≡ taken ++ tail = ap (λ l. take script_limit l) all ∙ ap (λ n. take n ((taken ++ tail) ++ (more ++ rest))) (sym len) ∙ take-append_seam (taken ++ tail) (more ++ rest) in
-    (more, stop.0.1, rw front stop.0.2, omega (arith, len, stop.0.1, ap length all, length-append (taken ++ tail) (more ++ rest), length-append more rest), rw front (units_answered asks answered start state spent spent' o o' e e' taken number answer_so_far p tail none g))
-stops_known asks answered start state spent spent' NoMemory script None o o' e e' s failed taken number answer_so_far p tail none stop count g = absurd stop
-stops_known asks answered start state spent spent' NoMemory script (Some rest) o o' e e' s failed taken number answer_so_far p tail none stop count g =
-    (taken ++ tail, pending s, stop ∙ sym (append_assoc (taken ++ tail) (pending s) rest), pending_short s, units_answered asks answered start state spent spent' o o' e e' taken number answer_so_far p tail none g)
-stops_known asks answered start state spent spent' Write script r o o' e e' s failed taken number answer_so_far p tail none stop count g = absurd stop
+    (more, stop.0.1, rw front stop.0.2, omega (arith, len, stop.0.1, ap length all, length-append (taken ++ tail) (more ++ rest), length-append more rest), rw front (units_answered asks answered old new taken number answer_so_far p tail none g))
+stops_known asks answered old new NoMemory script None s failed taken number answer_so_far p tail none stop count g = absurd stop
+stops_known asks answered old new NoMemory script (Some rest) s failed taken number answer_so_far p tail none stop count g =
+    (taken ++ tail, pending s, stop ∙ sym (append_assoc (taken ++ tail) (pending s) rest), pending_short s, units_answered asks answered old new taken number answer_so_far p tail none g)
+stops_known asks answered old new Write script r s failed taken number answer_so_far p tail none stop count g = absurd stop
 
 -- the source stopped: what was written is the answer to the units done
-pub stops_reading : {S : Type 0} (asks : List ℕ → Bool) (answered : Bool → ScriptUnit → S → Answer S) (start state : S) (spent spent' : ℕ) (fault : ScriptFault) (a mid r o o' e e' : Option (List ℕ)) (s : Script) (failed : Bool)
-    (taken : List ℕ) (number : ℕ) (answer_so_far : Answer S) → Progress asks answered start taken number false answer_so_far → (tail : List ℕ) → HasNoUnit asks tail
-    → Consumes a mid taken → ScriptStopsAfter fault mid s r failed tail → script_taken s ≡ length taken + length tail → Gives answer_so_far state spent spent' o o' e e' → IfSome a (λ script. StopsWith asks fault answered start script state spent spent' r o o' e e')
-stops_reading asks answered start state spent spent' fault None mid r o o' e e' s failed taken number answer_so_far p tail none c stop count g = tt
-stops_reading asks answered start state spent spent' fault (Some script) mid r o o' e e' s failed taken number answer_so_far p tail none c stop count g =
-    stops_known asks answered start state spent spent' fault script r o o' e e' s.source failed taken number answer_so_far p tail none (stops_later fault s.source (Some script) mid r failed taken tail c stop) (omega (arith, count, length-append taken tail)) g
+pub stops_reading : {S : Type 0} (asks : List ℕ → Bool) (answered : Bool → ScriptUnit → S → Answer S) (old new : Moment S) (fault : ScriptFault) (a mid r : Option (List ℕ)) (s : Script) (failed : Bool)
+    (taken : List ℕ) (number : ℕ) (answer_so_far : Answer S) → Progress asks answered old.state taken number false answer_so_far → (tail : List ℕ) → HasNoUnit asks tail
+    → Consumes a mid taken → ScriptStopsAfter fault mid s r failed tail → script_taken s ≡ length taken + length tail → Gives answer_so_far old new → IfSome a (λ script. StopsWith asks fault answered script r old new)
+stops_reading asks answered old new fault None mid r s failed taken number answer_so_far p tail none c stop count g = tt
+stops_reading asks answered old new fault (Some script) mid r s failed taken number answer_so_far p tail none c stop count g =
+    stops_known asks answered old new fault script r s.source failed taken number answer_so_far p tail none (stops_later fault s.source (Some script) mid r failed taken tail c stop) (omega (arith, count, length-append taken tail)) g
 
-pub Writes-joined : (o o' o'' e e' e'' : Option (List ℕ)) (a_out a_err b_out b_err : List ℕ) → Writes o o' e e' a_out a_err → Writes o' o'' e' e'' b_out b_err → Writes o o'' e e'' (a_out ++ b_out) (a_err ++ b_err)
-Writes-joined o o' o'' e e' e'' a_out a_err b_out b_err v w = record {
-  out_grows = Appends-trans o o' o'' a_out b_out v.out_grows w.out_grows;
-  err_grows = Appends-trans e e' e'' a_err b_err v.err_grows w.err_grows;
+pub Writes-joined : (old mid new : Streams) (a_out a_err b_out b_err : List ℕ) → Writes old mid a_out a_err → Writes mid new b_out b_err → Writes old new (a_out ++ b_out) (a_err ++ b_err)
+Writes-joined old mid new a_out a_err b_out b_err v w = record {
+  out_grows = Appends-trans old.out mid.out new.out a_out b_out v.out_grows w.out_grows;
+  err_grows = Appends-trans old.err mid.err new.err a_err b_err v.err_grows w.err_grows;
 }
 
-fails_known : {S : Type 0} (asks : List ℕ → Bool) (answered : Bool → ScriptUnit → S → Answer S) (start state state' : S) (spent spent' spent'' : ℕ) (script : List ℕ) (r : Option (List ℕ)) (s : Script) (o o' o'' e e' e'' : Option (List ℕ)) (taken : List ℕ) (number number' : ℕ) (answer_so_far : Answer S)
-    → Progress asks answered start taken number false answer_so_far → (before : Option (List ℕ)) (old new : ℕ) (piece : List ℕ) (u : ScriptUnit) → IsNextUnit asks before (script_left s r) old new number number' piece u
-    → Consumes (Some script) (script_left s r) (taken ++ piece) → Gives answer_so_far state spent spent' o o' e e' → (ran_out : Bool) → Breaks (answered ran_out u answer_so_far.state) state' spent' spent'' o' o'' e' e''
-    → StopsWith asks Write answered start script state' spent spent'' r o o'' e e''
-fails_known asks answered start state state' spent spent' spent'' script None s o o' o'' e e' e'' taken number number' answer_so_far p before old new piece u next c g ran_out h = absurd c
-fails_known asks answered start state state' spent spent' spent'' script (Some rest) s o o' o'' e e' e'' taken number number' answer_so_far p before old new piece u next c g ran_out h =
+fails_known : {S : Type 0} (asks : List ℕ → Bool) (answered : Bool → ScriptUnit → S → Answer S) (old mid new : Moment S) (script : List ℕ) (r : Option (List ℕ)) (s : Script) (taken : List ℕ) (number number' : ℕ) (answer_so_far : Answer S)
+    → Progress asks answered old.state taken number false answer_so_far → (before : Option (List ℕ)) (old_count new_count : ℕ) (piece : List ℕ) (u : ScriptUnit) → IsNextUnit asks before (script_left s r) old_count new_count number number' piece u
+    → Consumes (Some script) (script_left s r) (taken ++ piece) → Gives answer_so_far old mid → (ran_out : Bool) → Breaks (answered ran_out u mid.state) mid new
+    → StopsWith asks Write answered script r old new
+fails_known asks answered old mid new script None s taken number number' answer_so_far p before old_count new_count piece u next c g ran_out h = absurd c
+fails_known asks answered old mid new script (Some rest) s taken number number' answer_so_far p before old_count new_count piece u next c g ran_out h =
     let m = updated number ran_out p.m in
-    let played : play answered m p.done start ≡ answer_so_far = p.plays m (updated_agrees number ran_out p.m) in
+    let played : play answered m p.done old.state ≡ answer_so_far = p.plays m (updated_agrees number ran_out p.m) in
     let left : List ℕ = pending s.source ++ rest in
     let wanted : m u.number ≡ ran_out = ap m next.numbered ∙ updated_at number ran_out p.m in
     record {
@@ -91,44 +92,41 @@ fails_known asks answered start state state' spent spent' spent'' script (Some r
       before = p.done;
       unit = u;
       after = cut asks outside number' (lines_of left);
-      units = ap (units_of asks) c ∙ next_splits asks answered start taken number number' answer_so_far p before (Some left) old new piece u next left next.last ∙ append_assoc p.done (u ∷ []) (cut asks outside number' (lines_of left));
+      units = ap (units_of asks) c ∙ next_splits asks answered old.state taken number number' answer_so_far p before (Some left) old_count new_count piece u next left next.last ∙ append_assoc p.done (u ∷ []) (cut asks outside number' (lines_of left));
       read = taken ++ piece;
       pending = pending s.source;
       consumes = c ∙ sym (append_assoc (taken ++ piece) (pending s.source) rest);
       near = pending_short s.source;
-      units_read = sym (ap (units_of asks) (append-nil (taken ++ piece))) ∙ next_splits asks answered start taken number number' answer_so_far p before (Some left) old new piece u next [] (λ f. refl) ∙ append-nil (p.done ++ u ∷ []);
-      out_now = o';
-      err_now = e';
-      spent_now = spent';
-      spends_so_far = rw played g.spends;
-      answer_so_far = rw played g.writes;
-      breaks = rw (played, wanted) h;
+      units_read = sym (ap (units_of asks) (append-nil (taken ++ piece))) ∙ next_splits asks answered old.state taken number number' answer_so_far p before (Some left) old_count new_count piece u next [] (λ f. refl) ∙ append-nil (p.done ++ u ∷ []);
+      now = mid;
+      answer_so_far = rw played g;
+      breaks = rw wanted h;
     }
 
 -- a writer failed in the midst of the unit that was found
-pub fails_writing : {S : Type 0} (asks : List ℕ → Bool) (answered : Bool → ScriptUnit → S → Answer S) (start state state' : S) (spent spent' spent'' : ℕ) (a r : Option (List ℕ)) (s : Script) (o o' o'' e e' e'' : Option (List ℕ)) (taken : List ℕ) (number number' : ℕ) (answer_so_far : Answer S)
-    → Progress asks answered start taken number false answer_so_far → (before : Option (List ℕ)) (old new : ℕ) (piece : List ℕ) (u : ScriptUnit) → IsNextUnit asks before (script_left s r) old new number number' piece u
-    → Consumes a (script_left s r) (taken ++ piece) → Gives answer_so_far state spent spent' o o' e e' → (ran_out : Bool) → Breaks (answered ran_out u answer_so_far.state) state' spent' spent'' o' o'' e' e''
-    → IfSome a (λ script. StopsWith asks Write answered start script state' spent spent'' r o o'' e e'')
-fails_writing asks answered start state state' spent spent' spent'' None r s o o' o'' e e' e'' taken number number' answer_so_far p before old new piece u next c g ran_out h = tt
-fails_writing asks answered start state state' spent spent' spent'' (Some script) r s o o' o'' e e' e'' taken number number' answer_so_far p before old new piece u next c g ran_out h =
-    fails_known asks answered start state state' spent spent' spent'' script r s o o' o'' e e' e'' taken number number' answer_so_far p before old new piece u next c g ran_out h
+pub fails_writing : {S : Type 0} (asks : List ℕ → Bool) (answered : Bool → ScriptUnit → S → Answer S) (old mid new : Moment S) (a r : Option (List ℕ)) (s : Script) (taken : List ℕ) (number number' : ℕ) (answer_so_far : Answer S)
+    → Progress asks answered old.state taken number false answer_so_far → (before : Option (List ℕ)) (old_count new_count : ℕ) (piece : List ℕ) (u : ScriptUnit) → IsNextUnit asks before (script_left s r) old_count new_count number number' piece u
+    → Consumes a (script_left s r) (taken ++ piece) → Gives answer_so_far old mid → (ran_out : Bool) → Breaks (answered ran_out u mid.state) mid new
+    → IfSome a (λ script. StopsWith asks Write answered script r old new)
+fails_writing asks answered old mid new None r s taken number number' answer_so_far p before old_count new_count piece u next c g ran_out h = tt
+fails_writing asks answered old mid new (Some script) r s taken number number' answer_so_far p before old_count new_count piece u next c g ran_out h =
+    fails_known asks answered old mid new script r s taken number number' answer_so_far p before old_count new_count piece u next c g ran_out h
 
 -- nothing is left
-pub ends_here : {S : Type 0} (asks : List ℕ → Bool) (answered : Bool → ScriptUnit → S → Answer S) (start state : S) (spent spent' : ℕ) (a mid after o o' e e' : Option (List ℕ)) (taken : List ℕ) (number : ℕ) (over : Bool) (answer_so_far : Answer S)
-    → Progress asks answered start taken number over answer_so_far → Consumes a mid taken → Keeps mid after → IsAtEnd after → length taken ≤ script_limit → Gives answer_so_far state spent spent' o o' e e' → (refused : Bool) → refused ≡ answer_so_far.refused
-    → IfSome a (λ script. Ends asks answered start script refused state spent spent' o o' e e')
-ends_here asks answered start state spent spent' None mid after o o' e e' taken number over answer_so_far p c k last short g refused same = tt
-ends_here asks answered start state spent spent' (Some script) None after o o' e e' taken number over answer_so_far p c k last short g refused same = absurd c
-ends_here asks answered start state spent spent' (Some script) (Some x) None o o' e e' taken number over answer_so_far p c k last short g refused same = absurd k
-ends_here asks answered start state spent spent' (Some script) (Some x) (Some y) o o' e e' taken number over answer_so_far p c k last short g refused same =
+pub ends_here : {S : Type 0} (asks : List ℕ → Bool) (answered : Bool → ScriptUnit → S → Answer S) (old new : Moment S) (a mid after : Option (List ℕ)) (taken : List ℕ) (number : ℕ) (over : Bool) (answer_so_far : Answer S)
+    → Progress asks answered old.state taken number over answer_so_far → Consumes a mid taken → Keeps mid after → IsAtEnd after → length taken ≤ script_limit → Gives answer_so_far old new → (refused : Bool) → refused ≡ answer_so_far.refused
+    → IfSome a (λ script. Ends asks answered script refused old new)
+ends_here asks answered old new None mid after taken number over answer_so_far p c k last short g refused same = tt
+ends_here asks answered old new (Some script) None after taken number over answer_so_far p c k last short g refused same = absurd c
+ends_here asks answered old new (Some script) (Some x) None taken number over answer_so_far p c k last short g refused same = absurd k
+ends_here asks answered old new (Some script) (Some x) (Some y) taken number over answer_so_far p c k last short g refused same =
     let all : script ≡ taken ++ [] = c ∙ ap (λ l. taken ++ l) (sym k ∙ last) in
     let units : units_of asks script ≡ p.done = ap (units_of asks) all ∙ p.splits [] (λ e. refl) ∙ append-nil p.done in
-    let played : session asks answered p.m script start ≡ answer_so_far = ap (λ us. play answered p.m us start) units ∙ p.plays p.m (λ j lt. refl) in
+    let played : session asks answered p.m script old.state ≡ answer_so_far = ap (λ us. play answered p.m us old.state) units ∙ p.plays p.m (λ j lt. refl) in
     record {
       m = p.m;
       within = omega (arith, short, ap length (all ∙ append-nil taken));
-      gives = gives_same answer_so_far _ state spent spent' o o' e e' (sym played) g;
+      gives = gives_same answer_so_far _ old new (sym played) g;
       refused_is = same ∙ ap (λ (z : Answer _). z.refused) (sym played);
     }
 
@@ -165,11 +163,8 @@ not_full true h = sym h
 not_full false h = refl
 
 -- one unit was answered at a state
-abbrev pub GivesAt : {S : Type 0} → (Bool → ScriptUnit → S → Answer S) → ScriptUnit → S → S → Bool → (spent spent' : ℕ) (o o' e e' : Option (List ℕ)) → Type 0
-GivesAt answered unit old new refused spent spent' o o' e e' = (ran_out : Bool) × Gives (answered ran_out unit old) new spent spent' o o' e e' × (refused ≡ (answered ran_out unit old).refused)
+abbrev pub GivesAt : {S : Type 0} → (Bool → ScriptUnit → S → Answer S) → ScriptUnit → S → Bool → (old new : Moment S) → Type 0
+GivesAt answered unit state refused old new = (ran_out : Bool) × Gives (answered ran_out unit state) old new × (refused ≡ (answered ran_out unit state).refused)
 
-abbrev pub BreaksAt : {S : Type 0} → (Bool → ScriptUnit → S → Answer S) → ScriptUnit → S → S → (spent spent' : ℕ) (o o' e e' : Option (List ℕ)) → Type 0
-BreaksAt answered unit old new spent spent' o o' e e' = (ran_out : Bool) × Breaks (answered ran_out unit old) new spent spent' o o' e e'
-
-pub Gives-joined : {S : Type 0} (a b : Answer S) (state state' : S) (spent spent' spent'' : ℕ) (o o' o'' e e' e'' : Option (List ℕ)) → Gives a state spent spent' o o' e e' → Gives b state' spent' spent'' o' o'' e' e'' → Gives (joined a b) state' spent spent'' o o'' e e''
-Gives-joined a b state state' spent spent' spent'' o o' o'' e e' e'' v w = record { spends = omega (arith, v.spends, w.spends); writes = Writes-joined o o' o'' e e' e'' a.out a.err b.out b.err v.writes w.writes; state_is = w.state_is }
+pub Gives-joined : {S : Type 0} (a b : Answer S) (old mid new : Moment S) → Gives a old mid → Gives b mid new → Gives (joined a b) old new
+Gives-joined a b old mid new v w = record { spends = omega (arith, v.spends, w.spends); writes = Writes-joined old.streams mid.streams new.streams a.out a.err b.out b.err v.writes w.writes; state_is = w.state_is }

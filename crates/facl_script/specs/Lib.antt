@@ -11,6 +11,7 @@ pub mod Pieces
 pub mod ReadText
 pub mod Script
 pub mod ReadUnit
+pub mod Streams
 pub mod Write
 pub mod Play
 pub mod Run

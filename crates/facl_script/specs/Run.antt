@@ -6,6 +6,7 @@ use Rattle.facl_script.specs.declared.fault.ScriptFault.TheVariants.{Read, Write
 use Rattle.facl_script.specs.Limits.{script_limit, chunk_limit}
 use Rattle.facl_script.specs.Units.{ScriptUnit, units_of, full_units}
 use Rattle.facl_script.specs.Play.{Answer, play, session}
+use Rattle.facl_script.specs.Streams.{Moment}
 use Rattle.facl_script.specs.Write.{Writes, WritesPart}
 
 -- this is the answer: the state now, what is to be written, and whether the unit is refused; no more was spent than it may cost
@@ -16,32 +17,32 @@ pub record IsAnswer {S : Type 0} (a : Answer S) (state : S) (spent spent' : ℕ)
   pub err_is : to_err ≡ a.err
   pub refused_is : refused ≡ a.refused
 
--- the answer was given: both writers grew by it, and this is the state now
-pub record Gives {S : Type 0} (a : Answer S) (state : S) (spent spent' : ℕ) (out out' err err' : Option (List ℕ)) : Type 0 where
-  pub writes : Writes out out' err err' a.out a.err
-  pub state_is : state ≡ a.state
-  pub spends : spent' ≤ spent + a.cost
+-- The answer was given: both writers grew by it, and its state is the new one.
+pub record Gives {S : Type 0} (a : Answer S) (old new : Moment S) : Type 0 where
+  pub writes : Writes old.streams new.streams a.out a.err
+  pub state_is : new.state ≡ a.state
+  pub spends : new.spent ≤ old.spent + a.cost
 
 -- a writer failed in the midst of the answer
-pub record Breaks {S : Type 0} (a : Answer S) (state : S) (spent spent' : ℕ) (out out' err err' : Option (List ℕ)) : Type 0 where
-  pub writes : WritesPart out out' err err' a.out a.err
-  pub state_is : state ≡ a.state
-  pub spends : spent' ≤ spent + a.cost
+pub record Breaks {S : Type 0} (a : Answer S) (old new : Moment S) : Type 0 where
+  pub writes : WritesPart old.streams new.streams a.out a.err
+  pub state_is : new.state ≡ a.state
+  pub spends : new.spent ≤ old.spent + a.cost
 
 -- The whole script was answered. It was within the limit.
-pub record Ends {S : Type 0} (asks : List ℕ → Bool) (answered : Bool → ScriptUnit → S → Answer S) (start : S) (script : List ℕ) (refused : Bool) (state : S) (spent spent' : ℕ) (out out' err err' : Option (List ℕ)) : Type 0 where
+pub record Ends {S : Type 0} (asks : List ℕ → Bool) (answered : Bool → ScriptUnit → S → Answer S) (script : List ℕ) (refused : Bool) (old new : Moment S) : Type 0 where
   pub m : ℕ → Bool
   pub within : length script ≤ script_limit
-  pub gives : Gives (session asks answered m script start) state spent spent' out out' err err'
-  pub refused_is : refused ≡ (session asks answered m script start).refused
+  pub gives : Gives (session asks answered m script old.state) old new
+  pub refused_is : refused ≡ (session asks answered m script old.state).refused
 
 -- These units were answered, and no other.
-pub record IsAnswered {S : Type 0} (answered : Bool → ScriptUnit → S → Answer S) (start : S) (units : List ScriptUnit) (state : S) (spent spent' : ℕ) (out out' err err' : Option (List ℕ)) : Type 0 where
+pub record IsAnswered {S : Type 0} (answered : Bool → ScriptUnit → S → Answer S) (units : List ScriptUnit) (old new : Moment S) : Type 0 where
   pub m : ℕ → Bool
-  pub gives : Gives (play answered m units start) state spent spent' out out' err err'
+  pub gives : Gives (play answered m units old.state) old new
 
 -- All units before one were answered, and a writer failed in the midst of that one. Past it, at most a chunk was read.
-pub record FailsAt {S : Type 0} (asks : List ℕ → Bool) (answered : Bool → ScriptUnit → S → Answer S) (start : S) (script : List ℕ) (state : S) (spent spent' : ℕ) (remaining out out' err err' : Option (List ℕ)) : Type 0 where
+pub record FailsAt {S : Type 0} (asks : List ℕ → Bool) (answered : Bool → ScriptUnit → S → Answer S) (script : List ℕ) (remaining : Option (List ℕ)) (old new : Moment S) : Type 0 where
   pub m : ℕ → Bool
   pub before : List ScriptUnit
   pub unit : ScriptUnit
@@ -52,22 +53,19 @@ pub record FailsAt {S : Type 0} (asks : List ℕ → Bool) (answered : Bool → 
   pub consumes : Consumes (Some script) remaining (read ++ pending)
   pub near : length pending ≤ chunk_limit
   pub units_read : units_of asks read ≡ before ++ unit ∷ []
-  pub out_now : Option (List ℕ)
-  pub err_now : Option (List ℕ)
-  pub spent_now : ℕ
-  pub spends_so_far : spent_now ≤ spent + (play answered m before start).cost
-  pub answer_so_far : Writes out out_now err err_now (play answered m before start).out (play answered m before start).err
-  pub breaks : Breaks (answered (m unit.number) unit (play answered m before start).state) state spent_now spent' out_now out' err_now err'
+  pub now : Moment S
+  pub answer_so_far : Gives (play answered m before old.state) old now
+  pub breaks : Breaks (answered (m unit.number) unit now.state) now new
 
 -- The run over a script stopped with this fault: what the reader has left, and what was answered by then.
-abbrev pub StopsWith : {S : Type 0} → (List ℕ → Bool) → ScriptFault → (Bool → ScriptUnit → S → Answer S) → S → List ℕ → S → (spent spent' : ℕ) (remaining out out' err err' : Option (List ℕ)) → Type 0
+abbrev pub StopsWith : {S : Type 0} → (List ℕ → Bool) → ScriptFault → (Bool → ScriptUnit → S → Answer S) → (script : List ℕ) (remaining : Option (List ℕ)) (old new : Moment S) → Type 0
 -- the units whose last LF was read
-StopsWith asks Read answered start script state spent spent' remaining out out' err err' =
-    (read : List ℕ) × Consumes (Some script) remaining read × IsAnswered answered start (full_units (units_of asks read)) state spent spent' out out' err err'
+StopsWith asks Read answered script remaining old new =
+    (read : List ℕ) × Consumes (Some script) remaining read × IsAnswered answered (full_units (units_of asks read)) old new
 -- the units whose last LF is within the limit, past which one byte was read
-StopsWith asks TooLong answered start script state spent spent' remaining out out' err err' =
-    (more : List ℕ) × (length more ≡ 1) × Consumes (Some script) remaining (take script_limit script ++ more) × (script_limit < length script) × IsAnswered answered start (full_units (units_of asks (take script_limit script))) state spent spent' out out' err err'
+StopsWith asks TooLong answered script remaining old new =
+    (more : List ℕ) × (length more ≡ 1) × Consumes (Some script) remaining (take script_limit script ++ more) × (script_limit < length script) × IsAnswered answered (full_units (units_of asks (take script_limit script))) old new
 -- the units whose last LF came before the line that found no room; past what was looked at then, at most a chunk was read
-StopsWith asks NoMemory answered start script state spent spent' remaining out out' err err' =
-    (read : List ℕ) × (pending : List ℕ) × Consumes (Some script) remaining (read ++ pending) × (length pending ≤ chunk_limit) × IsAnswered answered start (full_units (units_of asks read)) state spent spent' out out' err err'
-StopsWith asks Write answered start script state spent spent' remaining out out' err err' = FailsAt asks answered start script state spent spent' remaining out out' err err'
+StopsWith asks NoMemory answered script remaining old new =
+    (read : List ℕ) × (pending : List ℕ) × Consumes (Some script) remaining (read ++ pending) × (length pending ≤ chunk_limit) × IsAnswered answered (full_units (units_of asks read)) old new
+StopsWith asks Write answered script remaining old new = FailsAt asks answered script remaining old new

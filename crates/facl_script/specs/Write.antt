@@ -1,11 +1,12 @@
 -- What is written of a unit's answer.
-use Rattle.std.specs.Prelude.{◌≡◌, ◌<◌, ℕ, List, [], ◌⊎◌, length, take, Option}
+use Rattle.std.specs.Prelude.{◌≡◌, ◌<◌, ℕ, List, [], ◌⊎◌, length, take}
 use Rattle.std.specs.Io.KnownBytes.{Appends}
+use Rattle.facl_script.specs.Streams.{Streams}
 
 -- both writers grow by their part
-pub record Writes (out out' err err' : Option (List ℕ)) (to_out to_err : List ℕ) : Type 0 where
-  pub out_grows : Appends out out' to_out
-  pub err_grows : Appends err err' to_err
+pub record Writes (old new : Streams) (to_out to_err : List ℕ) : Type 0 where
+  pub out_grows : Appends old.out new.out to_out
+  pub err_grows : Appends old.err new.err to_err
 
 -- A proper beginning of what is to be written. No byte of err comes before all of out.
 abbrev pub IsPart : (part_out part_err to_out to_err : List ℕ) → Type 0
@@ -14,8 +15,8 @@ IsPart part_out part_err to_out to_err =
     ⊎ ((n : ℕ) × (n < length to_err) × (part_out ≡ to_out) × (part_err ≡ take n to_err))
 
 -- both writers grow by a proper beginning of what was to be written
-pub record WritesPart (out out' err err' : Option (List ℕ)) (to_out to_err : List ℕ) : Type 0 where
+pub record WritesPart (old new : Streams) (to_out to_err : List ℕ) : Type 0 where
   pub part_out : List ℕ
   pub part_err : List ℕ
   pub part : IsPart part_out part_err to_out to_err
-  pub writes : Writes out out' err err' part_out part_err
+  pub writes : Writes old new part_out part_err

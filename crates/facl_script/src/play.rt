@@ -6,6 +6,7 @@ ghost use Rattle.facl_script.specs.ReadUnit.{IsUnitFound};
 ghost use Rattle.facl_script.specs.Script.{line_held, text_held};
 ghost use Rattle.facl_script.specs.Play.{Answer};
 ghost use Rattle.facl_script.specs.Limits.{script_limit};
+ghost use Rattle.facl_script.specs.Streams.{streams, moment};
 ghost use Rattle.facl_script.specs.Run.{IsAnswer, Gives, Breaks, Ends, StopsWith};
 
 use crate::devices::{Feed, Sink};
@@ -82,17 +83,17 @@ fn answer_unit<S: Session, O: Sink, E: Sink>(
     ensures ok { IfOk result (λ refused. (u : ScriptUnit)
         → IsUnitFound S.asks unit.now (line_held script.now) (text_held script.now) u
         → (ran_out : Bool)
-        × Gives (S.answered ran_out u (S.state session.old)) (S.state session.new)
-        (S.spent session.old) (S.spent session.new)
-        (O.contents out.old) (O.contents out.new) (E.contents err.old) (E.contents err.new)
+        × Gives (S.answered ran_out u (S.state session.old))
+        (moment (S.state session.old) (S.spent session.old) (streams (O.contents out.old) (E.contents err.old)))
+        (moment (S.state session.new) (S.spent session.new) (streams (O.contents out.new) (E.contents err.new)))
         × (refused ≡ (S.answered ran_out u (S.state session.old)).refused)) }
     ensures works { OnOk result ((O.has_failed out.new ≡ false) × (E.has_failed err.new ≡ false)) }
     ensures part { OnErr result ((u : ScriptUnit)
         → IsUnitFound S.asks unit.now (line_held script.now) (text_held script.now) u
         → (ran_out : Bool)
-        × Breaks (S.answered ran_out u (S.state session.old)) (S.state session.new)
-        (S.spent session.old) (S.spent session.new)
-        (O.contents out.old) (O.contents out.new) (E.contents err.old) (E.contents err.new)) }
+        × Breaks (S.answered ran_out u (S.state session.old))
+        (moment (S.state session.old) (S.spent session.old) (streams (O.contents out.old) (E.contents err.old)))
+        (moment (S.state session.new) (S.spent session.new) (streams (O.contents out.new) (E.contents err.new)))) }
     ensures failed { OnErr result ((O.has_failed out.new ≡ true) ⊎ (E.has_failed err.new ≡ true)) }
     ensures which { IfErr result (λ e. e ≡ ScriptFault.Write) }
     ensures ready { (n : ℕ) → unit.now.number < n → n ≤ script_limit + 1 → S.is_ready n session.new }
@@ -121,13 +122,13 @@ pub fn run_session<S: Session, R: Feed, O: Sink, E: Sink>(
     requires err { E.has_failed err.old ≡ false }
 
     ensures ok { IfOk result (λ refused. IfSome (R.remaining reader.old) (λ script.
-        Ends S.asks S.answered (S.state session.old) script refused (S.state session.new)
-        (S.spent session.old) (S.spent session.new)
-        (O.contents out.old) (O.contents out.new) (E.contents err.old) (E.contents err.new))) }
+        Ends S.asks S.answered script refused
+        (moment (S.state session.old) (S.spent session.old) (streams (O.contents out.old) (E.contents err.old)))
+        (moment (S.state session.new) (S.spent session.new) (streams (O.contents out.new) (E.contents err.new))))) }
     ensures fault { IfErr result (λ fault. IfSome (R.remaining reader.old) (λ script.
-        StopsWith S.asks fault S.answered (S.state session.old) script (S.state session.new)
-        (S.spent session.old) (S.spent session.new) (R.remaining reader.new)
-        (O.contents out.old) (O.contents out.new) (E.contents err.old) (E.contents err.new))) }
+        StopsWith S.asks fault S.answered script (R.remaining reader.new)
+        (moment (S.state session.old) (S.spent session.old) (streams (O.contents out.old) (E.contents err.old)))
+        (moment (S.state session.new) (S.spent session.new) (streams (O.contents out.new) (E.contents err.new))))) }
 
     // An answer comes only once the reader is at its end.
     ensures end { OnOk result (IsAtEnd (R.remaining reader.new)) }

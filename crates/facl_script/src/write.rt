@@ -2,6 +2,7 @@
 ghost use Rattle.std.specs.Prelude.{◌≡◌, ◌⊎◌, true, false, IfErr, OnOk, OnErr};
 ghost use Rattle.std.specs.Io.KnownBytes.{Appends};
 ghost use Rattle.facl_script.specs.Devices.{AppendsPart};
+ghost use Rattle.facl_script.specs.Streams.{streams};
 ghost use Rattle.facl_script.specs.Write.{Writes, WritesPart};
 
 use crate::devices::Sink;
@@ -38,11 +39,11 @@ pub fn write_answer<O: Sink, E: Sink>(
     requires out_works { O.has_failed out.old ≡ false }
     requires err_works { E.has_failed err.old ≡ false }
     ensures ok { OnOk result (Writes
-        (O.contents out.old) (O.contents out.new) (E.contents err.old) (E.contents err.new)
+        (streams (O.contents out.old) (E.contents err.old)) (streams (O.contents out.new) (E.contents err.new))
         to_out.now to_err.now) }
     ensures works { OnOk result ((O.has_failed out.new ≡ false) × (E.has_failed err.new ≡ false)) }
     ensures part { OnErr result (WritesPart
-        (O.contents out.old) (O.contents out.new) (E.contents err.old) (E.contents err.new)
+        (streams (O.contents out.old) (E.contents err.old)) (streams (O.contents out.new) (E.contents err.new))
         to_out.now to_err.now) }
     ensures failed { OnErr result ((O.has_failed out.new ≡ true) ⊎ (E.has_failed err.new ≡ true)) }
     ensures which { IfErr result (λ e. e ≡ ScriptFault.Write) }

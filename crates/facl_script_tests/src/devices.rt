@@ -1,4 +1,5 @@
-//! Readers and writers that fail.
+//! Readers and writers that fail, or that look at each other.
+use std::cell::Cell;
 use std::io;
 use std::io::{ErrorKind, Read, Write};
 
@@ -66,6 +67,60 @@ impl Read for RecoveringReader<'_> {
             return Ok(0);
         }
         self.bytes.read(&mut buf[..1])
+    }
+}
+
+/// Gives its bytes one at a time, or a line at a time. At each read it notes how many bytes it gave before, and how many
+/// a writer had taken by then.
+#[derive(Drop)]
+pub struct WatchingReader<'a> {
+    pub bytes: &'a [u8],
+    pub given: usize,
+    pub gives_lines: bool,
+    pub written: &'a Cell<usize>,
+    pub seen: Vec<(usize, usize)>,
+}
+
+/// How many bytes the first line has, with its LF.
+fn line_length(bytes: &[u8]) -> usize {
+    for (at, byte) in bytes.iter().enumerate() {
+        if *byte == b'\n' {
+            return at.saturating_add(1);
+        }
+    }
+    bytes.len()
+}
+
+impl Read for WatchingReader<'_> {
+    fn read(&mut self, buf: &mut [u8]) -> io::Result<usize> {
+        self.seen.push((self.given, self.written.get()))?;
+        let most = if self.gives_lines {
+            line_length(self.bytes)
+        } else {
+            1
+        };
+        let most = most.min(buf.len());
+        let n = self.bytes.read(&mut buf[..most])?;
+        self.given = self.given.saturating_add(n);
+        Ok(n)
+    }
+}
+
+/// Takes all bytes, and counts them where a reader can look.
+#[derive(Drop)]
+pub struct WatchedWriter<'a> {
+    pub written: &'a Cell<usize>,
+}
+
+impl Write for WatchedWriter<'_> {
+    fn write(&mut self, buf: &[u8]) -> io::Result<usize> {
+        self.written
+            .set(self.written.get().saturating_add(buf.len()));
+        Ok(buf.len())
+    }
+
+    fn flush(&mut self) -> io::Result<()> {
+        Ok(())
     }
 }
 

@@ -1,11 +1,14 @@
 //! Tests of whole runs.
-use crate::devices::{CommentReader, EndingReader, FailingReader, FailingWriter};
+use crate::devices::{
+    CommentReader, EndingReader, FailingReader, FailingWriter, WatchedWriter, WatchingReader,
+};
 use crate::echo::Echo;
 use crate::ran::{echo, expect_echo};
 use facl_script::{
     Feed, SCRIPT_LIMIT, ScriptFault, Sink, StdFeed, StdSink, run_session, write_answer, write_whole,
 };
 use std::alloc::Global;
+use std::cell::Cell;
 use std::process::Abort;
 
 /// Lines that are given back, two with a text; a comment; an open quote, which the session gives back too; a text without end.
@@ -145,6 +148,35 @@ fn stops_where_the_reader_fails(rt: HostRuntime) {
     for given in 0..SCRIPT.len() + 1 {
         expect_reader_fails(&rt, rt.alloc(), given);
     }
+}
+
+/// What was written by each read: the answers to the units that were given in full, and no more.
+fn expect_written(rt: &impl Abort, seen: &[(usize, usize)]) {
+    assert!(rt; !seen.is_empty());
+    for (given, written) in seen {
+        assert_eq!(rt; *written, answer_so_far(*given), "at {given}");
+    }
+}
+
+fn expect_answers_before_reads(rt: &impl Abort, alloc: Global, gives_lines: bool) {
+    let written = Cell::new(0);
+    let mut reader = WatchingReader {
+        bytes: SCRIPT,
+        given: 0,
+        gives_lines,
+        written: &written,
+        seen: Vec::new(alloc),
+    };
+    let out = WatchedWriter { written: &written };
+    let found = echo(alloc, &mut reader, out, Vec::new(alloc));
+    assert_eq!(rt; found, Ok(true));
+    expect_written(rt, &reader.seen);
+}
+
+#[test]
+fn answers_each_unit_before_the_next_read(rt: HostRuntime) {
+    expect_answers_before_reads(&rt, rt.alloc(), false);
+    expect_answers_before_reads(&rt, rt.alloc(), true);
 }
 
 /// Adds a line of so many `#`, after and before other bytes.

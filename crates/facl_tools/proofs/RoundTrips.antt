@@ -10,7 +10,7 @@ use Rattle.facl_listings.specs.acl_edit.Nodes.{IsSound}
 use Rattle.facl_listings.specs.acl_edit.declared.node.Node.{Node}
 use Rattle.facl_listings.specs.acl_entry.Lists.{KeyMap, entries, map_of}
 use Rattle.facl_listings.specs.acl_entry.declared.entry.Entry as entry
-use Rattle.facl_listings.specs.acl_people.Registers.{Register}
+use Rattle.facl_listings.specs.acl_people.Registers.{Register, naming_of}
 use Rattle.facl_listings.specs.acl_syntax.InTurn.{of_list}
 use Rattle.facl_listings.specs.acl_syntax.Writing.{short, specs_from}
 use Rattle.facl_listings.specs.acl_syntax.declared.entries.Spec.{Spec}
@@ -19,7 +19,7 @@ use Rattle.facl_listings.specs.acl_syntax.declared.fault.Which.{Which}
 use Rattle.facl_listings.specs.acl_syntax.declared.fault.Which.TheVariants.{Access, Default}
 use Rattle.facl_listings.specs.acl_tree.Files.{PathOf, Files}
 use Rattle.facl_listings.specs.acl_tree.Sound.{ArePlaced}
-use Rattle.facl_listings.specs.Again.{user_name, group_name, IsAttributeAgain, AreAttributesAgain, IsShortAgain, AreListsAgain, all_entries, specs_of}
+use Rattle.facl_listings.specs.Again.{IsAttributeAgain, AreAttributesAgain, IsShortAgain, AreListsAgain, all_entries, specs_of}
 use Rattle.facl_listings.specs.ChaclListings.{default_part}
 use Rattle.facl_listings.specs.Listings.{path_shown}
 use Rattle.facl_listings.specs.TestListing.{lists_text}
@@ -45,7 +45,7 @@ entries_again at (e ∷ es) = ap (λ (l : List entry.Entry). e ∷ l) (entries_a
 
 module _ (known : Register) where
   abbrev printed : KeyMap → Text
-  printed acl = short (user_name known) (group_name known) (entries acl)
+  printed acl = short (naming_of known) (entries acl)
 
   list_again : (source : Source) (which : Which) (acl : KeyMap) → IsShortAgain known acl → list_of known source which (printed acl) ≡ Ok acl
   unfolding list_of
@@ -55,7 +55,7 @@ module _ (known : Register) where
       ∙ (ap (λ f. option_map_or (λ f. Err (line_fault_of_text source (record { kind = of_list which f; at = 0 }))) f (Ok (map_of (entries acl)))) is.valid
       ∙ ap (λ m. Ok m) (map_of-entries acl)))
 
-  default_shown : (dacl : Option KeyMap) → default_part (user_name known) (group_name known) dacl ≡ after_slash (option_map printed dacl)
+  default_shown : (dacl : Option KeyMap) → default_part (naming_of known) dacl ≡ after_slash (option_map printed dacl)
   default_shown None = refl
   default_shown (Some dacl) = refl
 
@@ -84,7 +84,7 @@ module _ (known : Register) where
 
   read_by_set : (e : PathOf × Node) → AreListsAgain known e.1 → IsReadBySet known e
   read_by_set e is = record {
-    lists = lists_text (user_name known) (group_name known) e.1;
+    lists = lists_text (naming_of known) e.1;
     entries = only_set (specs_of 1 (all_entries e.1));
     line = λ has_below. refl;
     read = λ files text. ap (λ (r : Result (List Spec) TextFault). after (at_source Entry r) (λ specs. Ok (only_set specs))) is.both;

@@ -1,17 +1,17 @@
 -- The files of a command are recorded after it too.
-use Rattle.std.proofs.Common.{◌≡◌, Bool, true, false, ◌||◌, ◌&&◌, cond, List, [], ◌∷◌, Option, Some, None, Result, Ok, Err, refl, ap, ◌∙◌}
+use Rattle.std.proofs.Common.{◌≡◌, Bool, true, false, ◌||◌, cond, List, [], ◌∷◌, Option, Some, None, Result, Ok, Err, refl, ap, ◌∙◌}
 use Rattle.std.specs.Prelude.{is_some, option_map}
 use Rattle.std.specs.List.{AllByRecursion}
 use Rattle.std.specs.Ordering.{is_eq}
 use Rattle.std.specs.FinMap.{find}
-use Rattle.std.proofs.lemmas.Cmp.{tied_itself, nat_list_cmp_total}
+use Rattle.std.proofs.lemmas.Cmp.{tied_itself}
 use Rattle.facl_listings.specs.acl_names.Paths.{path_cmp}
 use Rattle.facl_listings.proofs.of_acl_names.PathOrder.{path_total}
 use Rattle.facl_listings.specs.acl_dump.declared.record.DumpRecord.{DumpRecord}
 use Rattle.facl_listings.specs.acl_edit.declared.edit.Edit.{Edit}
 use Rattle.facl_listings.specs.acl_edit.declared.edit.EditFault.{EditFault}
 use Rattle.facl_listings.specs.acl_edit.declared.node.Node.{Node}
-use Rattle.facl_listings.specs.acl_files.Below.{is_within}
+use Rattle.facl_listings.proofs.of_acl_names.Below.{within_itself}
 use Rattle.facl_listings.specs.acl_tree.EditCommand.{edit_one, edited_tree}
 use Rattle.facl_listings.specs.acl_files.Edits.{edit_all, unless_missing}
 use Rattle.facl_listings.specs.acl_tree.Files.{PathOf, Recorded, IsInOrder}
@@ -35,10 +35,6 @@ ok_or a (Err fault) = a
 
 pub ok_is : {A : Type 0} (a b : A) → ◌≡◌ {A = Result A LineFault} (Ok a) (Ok b) → a ≡ b
 ok_is a b h = ap (ok_or a) h
-
-within_itself : (p : PathOf) → is_within p p ≡ true
-within_itself [] = refl
-within_itself (x ∷ p) = ap (λ o. is_eq o && is_within p p) (tied_itself nat_list_cmp_total x) ∙ within_itself p
 
 means_itself : (recursive : Bool) (p : PathOf) → means recursive p p ≡ true
 means_itself true p = within_itself p

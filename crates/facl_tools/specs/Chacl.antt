@@ -2,8 +2,7 @@
 use Rattle.std.specs.Prelude.{ℕ, ◌+◌, List, [], ◌∷◌, Bool, true, false, if◌then◌else◌, nat_le, codes, Option, Some, None, Result}
 use Rattle.facl_listings.specs.acl_edit.declared.edit.Edit.TheVariants.{Put, Flatten}
 use Rattle.facl_listings.specs.acl_syntax.declared.fault.Which.TheVariants.{Access, Default}
-use Rattle.facl_listings.specs.acl_people.Registers.{Register, users_of, groups_of}
-use Rattle.facl_listings.specs.acl_people.Rolls.{name_shown}
+use Rattle.facl_listings.specs.acl_people.Registers.{Register, naming_of}
 use Rattle.facl_listings.specs.acl_tree.Found.{FoundFile, files_found}
 use Rattle.facl_listings.specs.acl_tree.Operands.{first_missing}
 use Rattle.facl_listings.specs.acl_tree.Step.{State}
@@ -45,42 +44,44 @@ tasks_given w = one_if (has row w (codes "b")) + one_if (has row w (codes "d"))
     + one_if (has row w (codes "R")) + one_if (has row w (codes "D"))
     + one_if (has row w (codes "B")) + one_if (has row w (codes "l"))
 
--- the line of a task on these files
-abbrev pub line_with : Task → Bool → List Text → Option ChaclLine
-line_with task recursive words =
-    and_then (files_of words) (λ files. Some (record { task = task; recursive = recursive; files = files }))
+-- a task on these files
+abbrev pub on_files : Task → List Text → Option (Task × List Text)
+on_files task words = and_then (files_of words) (λ files. Some (task, files))
 
 -- an access list is put into the files that come after it
-abbrev pub read_access : Bool → List Text → Option ChaclLine
-read_access recursive [] = None
-read_access recursive (access ∷ files) = line_with (tasks.PutAccess access) recursive files
+abbrev pub read_access : List Text → Option (Task × List Text)
+read_access [] = None
+read_access (access ∷ files) = on_files (tasks.PutAccess access) files
 
 -- a default list
-abbrev pub read_default : Bool → List Text → Option ChaclLine
-read_default recursive [] = None
-read_default recursive (default_text ∷ files) = line_with (tasks.PutDefault default_text) recursive files
+abbrev pub read_default : List Text → Option (Task × List Text)
+read_default [] = None
+read_default (default_text ∷ files) = on_files (tasks.PutDefault default_text) files
 
 -- both
-abbrev pub read_both : Bool → List Text → Option ChaclLine
-read_both recursive [] = None
-read_both recursive (access ∷ []) = None
-read_both recursive (access ∷ default_text ∷ files) = line_with (tasks.PutBoth access default_text) recursive files
+abbrev pub read_both : List Text → Option (Task × List Text)
+read_both [] = None
+read_both (access ∷ []) = None
+read_both (access ∷ default_text ∷ files) = on_files (tasks.PutBoth access default_text) files
 
--- the line of the flag that selects what is done
-abbrev pub line_of : Words → Bool → List Text → Option ChaclLine
-line_of w recursive operands =
-    if has row w (codes "b") then read_both recursive operands
-    else if has row w (codes "d") then read_default recursive operands
-    else if has row w (codes "R") then line_with tasks.RemoveAccess recursive operands
-    else if has row w (codes "D") then line_with tasks.RemoveDefault recursive operands
-    else if has row w (codes "B") then line_with tasks.RemoveBoth recursive operands
-    else if has row w (codes "l") then line_with tasks.List recursive operands
-    else read_access recursive operands
+-- the task of the flag that selects what is done
+abbrev pub task_of : Words → List Text → Option (Task × List Text)
+task_of w operands =
+    if has row w (codes "b") then read_both operands
+    else if has row w (codes "d") then read_default operands
+    else if has row w (codes "R") then on_files tasks.RemoveAccess operands
+    else if has row w (codes "D") then on_files tasks.RemoveDefault operands
+    else if has row w (codes "B") then on_files tasks.RemoveBoth operands
+    else if has row w (codes "l") then on_files tasks.List operands
+    else read_access operands
 
 -- the line that words give, unless they are usage: at most one thing is done, and a file is given after the lists
 abbrev pub read : Words → Option ChaclLine
 read w =
-    if nat_le (tasks_given w) 1 then line_of w (has row w (codes "r")) (operands_from row w (codes "word")) else None
+    if nat_le (tasks_given w) 1
+    then and_then (task_of w (operands_from row w (codes "word")))
+    (λ found. Some (record { task = found.0; recursive = has row w (codes "r"); files = found.1 }))
+    else None
 
 -- an access list is put into files
 abbrev pub put_access : State → Bool → Text → List Text → Result Reply LineFault
@@ -101,7 +102,7 @@ put_both s recursive text default_text files =
 
 -- ids print as the names that these people have
 abbrev pub named_listing : Register → List FoundFile → List ℕ
-named_listing known files = chacl_listing (λ id. name_shown id (users_of known)) (λ id. name_shown id (groups_of known)) files
+named_listing known files = chacl_listing (naming_of known) files
 
 -- the lists of files are printed
 abbrev pub list_files : State → Bool → List Text → Result Reply LineFault

@@ -2,8 +2,7 @@
 use Rattle.std.specs.Prelude.{ℕ, List, [], ◌∷◌, Bool, true, false, codes, Option, None, Some, Result}
 use Rattle.facl_listings.specs.acl_dump.declared.effective.Effective.{Effective}
 use Rattle.facl_listings.specs.acl_dump.declared.effective.Effective.TheVariants.{WhereMasked, Always, Never}
-use Rattle.facl_listings.specs.acl_people.Registers.{Register, users_of, groups_of}
-use Rattle.facl_listings.specs.acl_people.Rolls.{name_shown}
+use Rattle.facl_listings.specs.acl_people.Registers.{Register, naming_of}
 use Rattle.facl_listings.specs.acl_tree.Found.{FoundFile, files_found}
 use Rattle.facl_listings.specs.acl_tree.Operands.{first_missing}
 use Rattle.facl_listings.specs.acl_tree.Step.{State}
@@ -57,7 +56,7 @@ read w =
 
 -- ids print as the names that these people have
 abbrev pub named_listing : Register → Options → List FoundFile → List ℕ
-named_listing known options files = listing (λ id. name_shown id (users_of known)) (λ id. name_shown id (groups_of known)) options files
+named_listing known options files = listing (naming_of known) options files
 
 -- the files are listed
 abbrev pub answered : State → GetfaclLine → Result Reply LineFault

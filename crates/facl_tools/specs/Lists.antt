@@ -11,8 +11,7 @@ use Rattle.facl_listings.specs.acl_syntax.declared.entries.Spec.{Spec}
 use Rattle.facl_listings.specs.acl_syntax.declared.entries.Want.TheVariants.{Plain}
 use Rattle.facl_listings.specs.acl_syntax.declared.fault.TextFault.{TextFault}
 use Rattle.facl_listings.specs.acl_syntax.declared.fault.Which.{Which}
-use Rattle.facl_listings.specs.acl_people.Registers.{Register, users_of, groups_of}
-use Rattle.facl_listings.specs.acl_people.Rolls.{id_named}
+use Rattle.facl_listings.specs.acl_people.Registers.{Register, naming_of}
 use Rattle.facl_messages.specs.facl_words.Forms.{Text}
 use Rattle.facl_messages.specs.Faults.{line_fault_of_text}
 use Rattle.facl_messages.specs.declared.fault.LineFault.{LineFault}
@@ -34,7 +33,7 @@ list_from source which es = option_map_or (λ f. Err (line_fault_of_text source 
 
 abbrev pub specs_of : Register → Source → Text → Result (List Spec) LineFault
 specs_of known source text =
-    text_or_fault source (entries_of (λ name. id_named name (users_of known)) (λ name. id_named name (groups_of known)) Comma Plain text)
+    text_or_fault source (entries_of (naming_of known) Comma Plain text)
 
 -- the list that a text names: entries with permissions, with a comma between each two
 unfoldable pub list_of : Register → Source → Which → Text → Result KeyMap LineFault

@@ -1,6 +1,7 @@
 -- What is answered to a line: a reply, or the line's first fault.
 use Rattle.std.specs.Option.{option_map_or}
 use Rattle.std.specs.Prelude.{◌≡◌, ◌≢◌, ℕ, Bool, false, List, [], Option, None, Some, IfSome, Result, Ok, Err, MatchResult}
+use Rattle.facl_listings.specs.acl_syntax.InTurn.{GivesUnless}
 use Rattle.facl_listings.specs.acl_tree.Sound.{IsSoundTree}
 use Rattle.facl_listings.specs.acl_tree.Step.{State, step}
 use Rattle.facl_listings.specs.acl_tree.Reports.{StagedState, Reports, users_move}
@@ -65,7 +66,7 @@ IsPrepared s staged = IfSome staged (λ new. Reports s new × IsSoundTree new.st
 
 -- A call gives what is to be given, or returns exactly the fault, unless memory ran out.
 abbrev pub Gives : {A B : Type 0} → (A → B) → Result A LineFault → Result B LineFault → Type 0
-Gives view result is = MatchResult result (λ a. is ≡ Ok (view a)) (λ fault. fault ≢ NoMemory → is ≡ Err fault)
+Gives view result is = GivesUnless NoMemory view result is
 
 -- A call gives the effect of a line whose reply at a state is this, with its state prepared; or returns exactly the
 -- fault, unless memory ran out.

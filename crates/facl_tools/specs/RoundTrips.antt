@@ -5,12 +5,11 @@ use Rattle.facl_listings.specs.acl_edit.Nodes.{with_lists}
 use Rattle.facl_listings.specs.acl_edit.declared.edit.Edit.TheVariants.{Put}
 use Rattle.facl_listings.specs.acl_edit.declared.node.Node.{Node}
 use Rattle.facl_listings.specs.acl_entry.Lists.{KeyMap}
-use Rattle.facl_listings.specs.acl_people.Registers.{Register}
+use Rattle.facl_listings.specs.acl_people.Registers.{Register, naming_of}
 use Rattle.facl_listings.specs.acl_syntax.declared.fault.Which.{Which}
 use Rattle.facl_listings.specs.acl_syntax.declared.fault.Which.TheVariants.{Access, Default}
 use Rattle.facl_listings.specs.acl_tree.Files.{PathOf}
 use Rattle.facl_listings.specs.acl_tree.Found.{FoundFile}
-use Rattle.facl_listings.specs.Again.{user_name, group_name}
 use Rattle.facl_listings.specs.AttrListings.{attr_line}
 use Rattle.facl_listings.specs.ChaclListings.{chacl_line}
 use Rattle.facl_listings.specs.Listings.{path_shown}
@@ -40,7 +39,7 @@ after_slash (Some text) = codes "/" ++ text
 pub record IsReadByChacl (known : Register) (e : PathOf × Node) : Type 0 where
   pub access_text : Text
   pub default_text : Option Text
-  pub line : (has_below : Bool) → chacl_line (user_name known) (group_name known) (listed e has_below)
+  pub line : (has_below : Bool) → chacl_line (naming_of known) (listed e has_below)
       ≡ path_shown (listed e has_below) ++ (codes " [" ++ (access_text ++ (after_slash default_text ++ 93 ∷ 10 ∷ [])))
   pub access : list_of known Entry Access access_text ≡ Ok e.1.label.acl
   pub dacl : option_map (list_of known DefaultEntry Default) default_text ≡ option_map Ok e.1.dacl
@@ -87,7 +86,7 @@ set_line text files = record {
 pub record IsReadBySet (known : Register) (e : PathOf × Node) : Type 0 where
   pub lists : Text
   pub entries : Given
-  pub line : (has_below : Bool) → file_line (user_name known) (group_name known) (listed e has_below)
+  pub line : (has_below : Bool) → file_line (naming_of known) (listed e has_below)
       ≡ path_shown (listed e has_below) ++ (codes ": " ++ (lists ++ 10 ∷ []))
   pub read : (files : List Text) (text : List ℕ) → given known (set_line lists files) text ≡ Ok entries
   pub set : (files : List Text) (m : Node) (in_recursion : Bool) → m.kind ≡ e.1.kind → (e.1.dacl ≡ None → m.dacl ≡ None)

@@ -15,8 +15,7 @@ use Rattle.facl_listings.specs.acl_dump.declared.record.DumpRecord.{DumpRecord}
 use Rattle.facl_listings.specs.acl_dump.declared.record.DumpUse.TheVariants as uses
 use Rattle.facl_listings.specs.acl_edit.declared.edit.Edit.{Edit as FileEdit}
 use Rattle.facl_listings.specs.acl_edit.declared.edit.Edit.TheVariants as edits
-use Rattle.facl_listings.specs.acl_people.Registers.{Register, users_of, groups_of}
-use Rattle.facl_listings.specs.acl_people.Rolls.{id_named, name_shown}
+use Rattle.facl_listings.specs.acl_people.Registers.{Register, naming_of}
 use Rattle.facl_listings.specs.acl_tree.Files.{Files}
 use Rattle.facl_listings.specs.acl_tree.Found.{FoundFile, files_found}
 use Rattle.facl_listings.specs.acl_tree.Restoring.{paths_of}
@@ -49,7 +48,7 @@ at_source source (Err fault) = Err (line_fault_of_text source fault)
 -- the entries of a text
 abbrev pub entries_in : Register → Want → Sep → List ℕ → Result (List Spec) LineFault
 entries_in known want sep text =
-    at_source Entry (entries_of (λ name. id_named name (users_of known)) (λ name. id_named name (groups_of known)) sep want text)
+    at_source Entry (entries_of (naming_of known) sep want text)
 
 -- the entries of an option, if it is given: in a word they are separated by commas, in the text after the line each has
 -- a line
@@ -104,7 +103,7 @@ command_files (Userdel user) files = []
 
 -- ids print as the names that these people have
 abbrev pub named_test_listing : Register → List FoundFile → List ℕ
-named_test_listing known files = test_listing (λ id. name_shown id (users_of known)) (λ id. name_shown id (groups_of known)) files
+named_test_listing known files = test_listing (naming_of known) files
 
 -- what `--test` prints of a command, from the files after it
 abbrev pub tested : Command → State → List ℕ
@@ -144,7 +143,7 @@ change_line s line text =
 
 -- the records of a dump, of which none needs an owner or a group
 unfoldable pub records_or_fault : Register → List ℕ → Result (List DumpRecord) LineFault
-records_or_fault known text = at_source TextLine (dump_of (λ name. id_named name (users_of known)) (λ name. id_named name (groups_of known)) uses.Restore text)
+records_or_fault known text = at_source TextLine (dump_of (naming_of known) uses.Restore text)
 
 abbrev pub restore_line : State → Bool → List ℕ → Result Reply LineFault
 restore_line s test text = after (records_or_fault s.people text) (λ records. done_or_tested test s (Restore records))

@@ -7,7 +7,7 @@ ghost use Rattle.facl_tools.specs.Replies.{Replies};
 use crate::effect::Effect;
 use crate::operands::paths_of;
 use crate::rows::one;
-use facl_listings::{State, write_attributes};
+use facl_listings::{Selection, State, write_attributes};
 use facl_messages::{LineFault, LineFiles, LineRows, OperandRow, Words};
 use std::alloc::Global;
 
@@ -38,7 +38,11 @@ pub(crate) fn answer(alloc: Global, state: &State, line: AttrLine<'_>) -> Result
     ensures { Replies state.now result (answered state.now line.entry) }
 {
     let paths = paths_of(alloc, line.files.as_slice())?;
-    let files = state.tree().files(alloc, &paths, false)?;
+    let selection = Selection {
+        operands: &paths,
+        recursive: false,
+    };
+    let files = state.tree().files(alloc, &selection)?;
     let out = write_attributes(alloc, &files)?;
     Ok(Effect::prints(out))
 }

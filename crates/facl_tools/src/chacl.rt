@@ -1,15 +1,15 @@
 //! The tool chacl(1).
 
 ghost use Rattle.std.specs.Prelude.{◌≡◌};
-ghost use Rattle.facl_tools.specs.Chacl.{answered, line_of, line_with, list_files, put_access, put_both, put_default, read, read_access, read_both, read_default, tasks_given};
+ghost use Rattle.facl_tools.specs.Chacl.{answered, list_files, on_files, put_access, put_both, put_default, read, read_access, read_both, read_default, task_of, tasks_given};
 ghost use Rattle.facl_tools.specs.Replies.{Replies};
 
-use crate::edits::edit_files;
+use crate::edits::{NamedFiles, edit_files};
 use crate::effect::Effect;
 use crate::lists::list_of;
 use crate::operands::paths_of;
 use crate::rows::{by_letter, some};
-use facl_listings::{Edit, State, Which, write_chacl_listing};
+use facl_listings::{Edit, Selection, State, Which, write_chacl_listing};
 use facl_messages::{
     LineFault, LineFiles, LineRows, LineWord, OperandRow, Source, SwitchRow, Word, Words,
 };
@@ -70,43 +70,39 @@ fn tasks_given(words: &Words) -> usize
         + usize::from(words.has(&ROW, "l"))
 }
 
-/// The line of a task on these files.
-fn line_with<'a>(task: Task<'a>, recursive: bool, words: &'a [Word]) -> Option<ChaclLine<'a>>
-    ensures { result ≡ line_with task.entry recursive words.now }
+/// A task on these files.
+fn on_files<'a>(task: Task<'a>, words: &'a [Word]) -> Option<(Task<'a>, LineFiles<'a>)>
+    ensures { result ≡ on_files task.entry words.now }
 {
     let files = LineFiles::of(words)?;
-    Some(ChaclLine {
-        task,
-        recursive,
-        files,
-    })
+    Some((task, files))
 }
 
-/// The line that puts an access list into the files after it.
-fn read_access(recursive: bool, words: &[Word]) -> Option<ChaclLine<'_>>
-    ensures { result ≡ read_access recursive words.now }
+/// An access list is put into the files after it.
+fn read_access(words: &[Word]) -> Option<(Task<'_>, LineFiles<'_>)>
+    ensures { result ≡ read_access words.now }
 {
     let [access, files @ ..] = words else {
         return None;
     };
     let task = Task::PutAccess(LineWord::new(access.as_bytes()));
-    line_with(task, recursive, files)
+    on_files(task, files)
 }
 
-/// The line that puts a default list.
-fn read_default(recursive: bool, words: &[Word]) -> Option<ChaclLine<'_>>
-    ensures { result ≡ read_default recursive words.now }
+/// A default list is put.
+fn read_default(words: &[Word]) -> Option<(Task<'_>, LineFiles<'_>)>
+    ensures { result ≡ read_default words.now }
 {
     let [default, files @ ..] = words else {
         return None;
     };
     let task = Task::PutDefault(LineWord::new(default.as_bytes()));
-    line_with(task, recursive, files)
+    on_files(task, files)
 }
 
-/// The line that puts both.
-fn read_both(recursive: bool, words: &[Word]) -> Option<ChaclLine<'_>>
-    ensures { result ≡ read_both recursive words.now }
+/// Both are put.
+fn read_both(words: &[Word]) -> Option<(Task<'_>, LineFiles<'_>)>
+    ensures { result ≡ read_both words.now }
 {
     let [access, default, files @ ..] = words else {
         return None;
@@ -115,27 +111,27 @@ fn read_both(recursive: bool, words: &[Word]) -> Option<ChaclLine<'_>>
         LineWord::new(access.as_bytes()),
         LineWord::new(default.as_bytes()),
     );
-    line_with(task, recursive, files)
+    on_files(task, files)
 }
 
-/// The line of the flag that selects what is done.
-fn line_of<'a>(words: &Words, recursive: bool, operands: &'a [Word]) -> Option<ChaclLine<'a>>
-    ensures { result ≡ line_of words.now recursive operands.now }
+/// The task of the flag that selects what is done.
+fn task_of<'a>(words: &Words, operands: &'a [Word]) -> Option<(Task<'a>, LineFiles<'a>)>
+    ensures { result ≡ task_of words.now operands.now }
 {
     if words.has(&ROW, "b") {
-        read_both(recursive, operands)
+        read_both(operands)
     } else if words.has(&ROW, "d") {
-        read_default(recursive, operands)
+        read_default(operands)
     } else if words.has(&ROW, "R") {
-        line_with(Task::RemoveAccess, recursive, operands)
+        on_files(Task::RemoveAccess, operands)
     } else if words.has(&ROW, "D") {
-        line_with(Task::RemoveDefault, recursive, operands)
+        on_files(Task::RemoveDefault, operands)
     } else if words.has(&ROW, "B") {
-        line_with(Task::RemoveBoth, recursive, operands)
+        on_files(Task::RemoveBoth, operands)
     } else if words.has(&ROW, "l") {
-        line_with(Task::List, recursive, operands)
+        on_files(Task::List, operands)
     } else {
-        read_access(recursive, operands)
+        read_access(operands)
     }
 }
 
@@ -145,7 +141,12 @@ pub(crate) fn read(words: &Words) -> Option<ChaclLine<'_>>
 {
     if tasks_given(words) <= 1 {
         let operands = words.operands_from(&ROW, "word");
-        line_of(words, words.has(&ROW, "r"), operands)
+        let (task, files) = task_of(words, operands)?;
+        Some(ChaclLine {
+            task,
+            recursive: words.has(&ROW, "r"),
+            files,
+        })
     } else {
         None
     }
@@ -154,11 +155,10 @@ pub(crate) fn read(words: &Words) -> Option<ChaclLine<'_>>
 fn put_access(
     alloc: Global,
     state: &State,
-    recursive: bool,
+    files: &NamedFiles<'_>,
     text: &[u8],
-    files: &[Word],
 ) -> Result<Effect, LineFault>
-    ensures { Replies state.now result (put_access state.now recursive text.now files.now) }
+    ensures { Replies state.now result (put_access state.now files.now.recursive text.now files.now.words.now) }
 {
     let people = state.people();
     let access = list_of(alloc, people, Source::Entry, Which::Access, text)?;
@@ -166,17 +166,16 @@ fn put_access(
         access: Some(access),
         dacl: None,
     };
-    edit_files(alloc, state, recursive, edit, files)
+    edit_files(alloc, state, files, edit)
 }
 
 fn put_default(
     alloc: Global,
     state: &State,
-    recursive: bool,
+    files: &NamedFiles<'_>,
     text: &[u8],
-    files: &[Word],
 ) -> Result<Effect, LineFault>
-    ensures { Replies state.now result (put_default state.now recursive text.now files.now) }
+    ensures { Replies state.now result (put_default state.now files.now.recursive text.now files.now.words.now) }
 {
     let people = state.people();
     let dacl = list_of(alloc, people, Source::DefaultEntry, Which::Default, text)?;
@@ -184,19 +183,18 @@ fn put_default(
         access: None,
         dacl: Some(dacl),
     };
-    edit_files(alloc, state, recursive, edit, files)
+    edit_files(alloc, state, files, edit)
 }
 
 /// Puts an access list and a default list, read in this order.
 fn put_both(
     alloc: Global,
     state: &State,
-    recursive: bool,
+    files: &NamedFiles<'_>,
     text: &[u8],
     default_text: &[u8],
-    files: &[Word],
 ) -> Result<Effect, LineFault>
-    ensures { Replies state.now result (put_both state.now recursive text.now default_text.now files.now) }
+    ensures { Replies state.now result (put_both state.now files.now.recursive text.now default_text.now files.now.words.now) }
 {
     let people = state.people();
     let access = list_of(alloc, people, Source::Entry, Which::Access, text)?;
@@ -211,20 +209,19 @@ fn put_both(
         access: Some(access),
         dacl: Some(dacl),
     };
-    edit_files(alloc, state, recursive, edit, files)
+    edit_files(alloc, state, files, edit)
 }
 
 /// Prints the lists of files.
-fn list_files(
-    alloc: Global,
-    state: &State,
-    recursive: bool,
-    words: &[Word],
-) -> Result<Effect, LineFault>
-    ensures { Replies state.now result (list_files state.now recursive words.now) }
+fn list_files(alloc: Global, state: &State, files: &NamedFiles<'_>) -> Result<Effect, LineFault>
+    ensures { Replies state.now result (list_files state.now files.now.recursive files.now.words.now) }
 {
-    let paths = paths_of(alloc, words)?;
-    let files = state.tree().files(alloc, &paths, recursive)?;
+    let paths = paths_of(alloc, files.words)?;
+    let selection = Selection {
+        operands: &paths,
+        recursive: files.recursive,
+    };
+    let files = state.tree().files(alloc, &selection)?;
     let out = write_chacl_listing(alloc, state.people(), &files)?;
     Ok(Effect::prints(out))
 }
@@ -238,28 +235,21 @@ pub(crate) fn answer(alloc: Global, state: &State, line: ChaclLine<'_>) -> Resul
         recursive,
         files,
     } = line;
-    let files = files.as_slice();
+    let files = NamedFiles {
+        words: files.as_slice(),
+        recursive,
+    };
     let (access, dacl) = match task {
-        Task::PutAccess(text) => {
-            return put_access(alloc, state, recursive, text.as_bytes(), files);
-        }
-        Task::PutDefault(text) => {
-            return put_default(alloc, state, recursive, text.as_bytes(), files);
-        }
+        Task::PutAccess(text) => return put_access(alloc, state, &files, text.as_bytes()),
+        Task::PutDefault(text) => return put_default(alloc, state, &files, text.as_bytes()),
         Task::PutBoth(access, default) => {
             let (access, default) = (access.as_bytes(), default.as_bytes());
-            return put_both(alloc, state, recursive, access, default, files);
+            return put_both(alloc, state, &files, access, default);
         }
-        Task::List => return list_files(alloc, state, recursive, files),
+        Task::List => return list_files(alloc, state, &files),
         Task::RemoveAccess => (true, false),
         Task::RemoveDefault => (false, true),
         Task::RemoveBoth => (true, true),
     };
-    edit_files(
-        alloc,
-        state,
-        recursive,
-        Edit::Flatten { access, dacl },
-        files,
-    )
+    edit_files(alloc, state, &files, Edit::Flatten { access, dacl })
 }

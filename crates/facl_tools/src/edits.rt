@@ -10,21 +10,27 @@ use facl_listings::{Command, Edit, State};
 use facl_messages::{LineFault, Word};
 use std::alloc::Global;
 
-/// Edits the files that words name, with `recursive` also all below them.
+/// The FILEs of a line, with `recursive` also all files below them.
+#[derive(Clone, Copy)]
+pub(crate) struct NamedFiles<'a> {
+    pub(crate) words: &'a [Word],
+    pub(crate) recursive: bool,
+}
+
+/// Edits the files of a line.
 pub(crate) fn edit_files(
     alloc: Global,
     state: &State,
-    recursive: bool,
+    files: &NamedFiles<'_>,
     edit: Edit,
-    files: &[Word],
 ) -> Result<Effect, LineFault>
-    ensures { Replies state.now result (edited state.now recursive edit files.now) }
+    ensures { Replies state.now result (edited state.now files.now.recursive edit files.now.words.now) }
 {
-    let paths = paths_of(alloc, files)?;
+    let paths = paths_of(alloc, files.words)?;
     let command = Command::Edit {
         paths,
         edit,
-        recursive,
+        recursive: files.recursive,
     };
     prepare(alloc, state, &command)
 }

@@ -7,7 +7,7 @@ ghost use Rattle.facl_tools.specs.Replies.{Replies};
 use crate::effect::Effect;
 use crate::operands::paths_of;
 use crate::rows::{both, some};
-use facl_listings::{Effective, Options, State, append_listing};
+use facl_listings::{Effective, Options, Selection, State, append_listing};
 use facl_messages::{LineFault, LineFiles, LineRows, OperandRow, SwitchRow, Words};
 use std::alloc::Global;
 
@@ -78,7 +78,11 @@ pub(crate) fn answer(
     ensures { Replies state.now result (answered state.now line.entry) }
 {
     let paths = paths_of(alloc, line.files.as_slice())?;
-    let files = state.tree().files(alloc, &paths, line.recursive)?;
+    let selection = Selection {
+        operands: &paths,
+        recursive: line.recursive,
+    };
+    let files = state.tree().files(alloc, &selection)?;
     let mut out = Vec::new(alloc);
     append_listing(&mut out, state.people(), &line.options, &files)?;
     Ok(Effect::prints(out))

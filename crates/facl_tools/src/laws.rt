@@ -7,7 +7,7 @@ ghost use Rattle.facl_tools.specs.Firsts.{IsRefusedForFirst};
 ghost use Rattle.facl_tools.specs.Tools.{Verdict, answered};
 ghost use Rattle.facl_tools.specs.declared.tools.ToolLine.{ToolLine};
 
-/// Proof only. Which parts of a line are at fault is defined for each part by itself, without an order. A line is
+/// Proof only: which parts of a line are at fault is defined for each part by itself, without an order. A line is
 /// refused exactly if one of its parts is at fault, and for the first of those in one order: its texts, an entry that
 /// is both removed and modified, its operands by their places, the user that it names, the files that it looks at, and
 /// what it does. Neither a judge's verdict nor the state after the texts were loaded has a say in it.

@@ -6,7 +6,7 @@ ghost use Rattle.facl_tools.specs.RoundTrips.{AreReadBySetattr, IsReadByChacl, I
 
 use facl_listings::{People, Tree, attributes_are_read_again, lists_are_read_again};
 
-/// Proof only. What `chacl -l` prints in brackets of each file is read by chacl as the same lists, and put into the file
+/// Proof only: what `chacl -l` prints in brackets of each file is read by chacl as the same lists, and put into the file
 /// they change nothing.
 pub fn chacl_reads_what_it_lists(people: &People, tree: &Tree)
     ensures { AllByRecursion (IsReadByChacl people.now) tree.now.files }
@@ -15,7 +15,7 @@ pub fn chacl_reads_what_it_lists(people: &People, tree: &Tree)
     lists_are_read_again(people, tree);
 }
 
-/// Proof only. Each line `NAME=0xHEX` that `attr` prints of a file is read by `setattr` as the same list, and put into the
+/// Proof only: each line `NAME=0xHEX` that `attr` prints of a file is read by `setattr` as the same list, and put into the
 /// file it changes nothing.
 pub fn setattr_reads_what_attr_prints(people: &People, tree: &Tree)
     ensures { AllByRecursion (λ file. AreReadBySetattr file.1) tree.now.files }
@@ -24,7 +24,7 @@ pub fn setattr_reads_what_attr_prints(people: &People, tree: &Tree)
     attributes_are_read_again(people, tree);
 }
 
-/// Proof only. What `setfacl --test` prints of the lists of each file is read by `setfacl --set` as entries that give the
+/// Proof only: what `setfacl --test` prints of the lists of each file is read by `setfacl --set` as entries that give the
 /// same lists.
 pub fn set_reads_what_test_prints(people: &People, tree: &Tree)
     ensures { AllByRecursion (IsReadBySet people.now) tree.now.files }

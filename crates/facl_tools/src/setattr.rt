@@ -4,7 +4,7 @@ ghost use Rattle.std.specs.Prelude.{◌≡◌, option_map};
 ghost use Rattle.facl_tools.specs.Replies.{Gives, Replies};
 ghost use Rattle.facl_tools.specs.Setattr.{answered, attribute_of, bytes_of, digits_of, list_of, put_of, read, rest_of};
 
-use crate::edits::edit_files;
+use crate::edits::{NamedFiles, edit_files};
 use crate::effect::Effect;
 use crate::rows::one;
 use facl_listings::{Acl, Edit, FaultKind, State, TextFault, Which, decode_attr};
@@ -143,5 +143,9 @@ pub(crate) fn answer(
 {
     let acl = list_of(alloc, line.attribute.digits.as_bytes())?;
     let edit = put_of(line.attribute.which, acl);
-    edit_files(alloc, state, false, edit, line.files.as_slice())
+    let files = NamedFiles {
+        words: line.files.as_slice(),
+        recursive: false,
+    };
+    edit_files(alloc, state, &files, edit)
 }

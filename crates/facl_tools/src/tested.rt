@@ -11,8 +11,8 @@ ghost use Rattle.facl_listings.specs.acl_tree.Step.{step};
 use crate::change::prepare;
 use crate::effect::Effect;
 use facl_listings::{
-    Command, DumpRecord, DumpRecords, Found, Path, Paths, Staged, State, Tree, append_test_listing,
-    each_file_is_edited,
+    Command, DumpRecord, DumpRecords, Found, Path, Paths, Selection, Staged, State, Tree,
+    append_test_listing, each_file_is_edited,
 };
 use facl_messages::LineFault;
 use std::alloc::{AllocError, Global};
@@ -29,16 +29,11 @@ fn paths_of(alloc: Global, records: &[DumpRecord]) -> Result<Vec<Path>, AllocErr
 }
 
 /// The files of operands that are recorded.
-fn files_of(
-    alloc: Global,
-    tree: &Tree,
-    paths: &Paths,
-    recursive: bool,
-) -> Result<Vec<Found>, LineFault>
-    requires { first_missing paths.now tree.now.files ≡ None }
-    ensures { Gives (λ files. files.items) result (Ok (files_found recursive paths.now tree.now.files)) }
+fn files_of(alloc: Global, tree: &Tree, selection: &Selection<'_>) -> Result<Vec<Found>, LineFault>
+    requires { first_missing selection.now.operands.now tree.now.files ≡ None }
+    ensures { Gives (λ files. files.items) result (Ok (files_found selection.now.recursive selection.now.operands.now tree.now.files)) }
 {
-    Ok(tree.files(alloc, paths, recursive)?)
+    Ok(tree.files(alloc, selection)?)
 }
 
 /// The files of records that are recorded.
@@ -51,7 +46,11 @@ fn files_of_records(
     ensures { Gives (λ files. files.items) result (Ok (files_found false (paths_of records.now) tree.now.files)) }
 {
     let paths = Paths::new(paths_of(alloc, records.as_slice())?);
-    files_of(alloc, tree, &paths, false)
+    let selection = Selection {
+        operands: &paths,
+        recursive: false,
+    };
+    files_of(alloc, tree, &selection)
 }
 
 /// The files of a command, as they are after it.
@@ -71,7 +70,13 @@ fn files_after(
             paths,
             recursive,
             ..
-        } => files_of(alloc, staged.tree(), paths, *recursive),
+        } => {
+            let selection = Selection {
+                operands: paths,
+                recursive: *recursive,
+            };
+            files_of(alloc, staged.tree(), &selection)
+        }
         Command::Restore { records } => files_of_records(alloc, staged.tree(), records),
         Command::Load { .. }
         | Command::Chmod { .. }

@@ -4,7 +4,6 @@ pub mod Chunks
 pub mod Merges
 pub mod Joined
 pub mod Sorted
-pub mod Convex
 pub mod Ranges
 pub mod UpTo
 pub mod Edits

@@ -8,12 +8,13 @@ use Rattle.std.proofs.lemmas.Bool.{and_parts}
 use Rattle.acl_names.specs.Paths.{path_cmp}
 use Rattle.acl_names.proofs.PathOrder.{path_total, exact_paths}
 use Rattle.path_map.specs.Entries.{PathOf, IsInOrder}
-use Rattle.path_map.specs.Below.{is_within, within, from}
+use Rattle.acl_names.specs.Below.{is_within}
+use Rattle.path_map.specs.Below.{within, from}
 use Rattle.path_map.specs.Inner.{IsStart, IsCountUpTo, BeginsBy, BeginsAfter, Before, From, After}
 use Rattle.path_map.proofs.Places.{above, below_later}
 use Rattle.path_map.proofs.Chunks.{around, in_order-right, rest_after}
 use Rattle.path_map.proofs.Merges.{before_first, before_later, before_start, from_start, later_after, from_T, to_T}
-use Rattle.path_map.proofs.Convex.{convex, not_before}
+use Rattle.acl_names.proofs.Below.{convex, not_before}
 
 not_gt : (o : Ordering) → o ≢ Greater → not (is_gt o) ≡ true
 not_gt Less h = refl

@@ -1,20 +1,22 @@
--- Which paths are below which, and the entries from a path on.
-use Rattle.std.specs.Prelude.{List, [], ◌∷◌, Bool, true, false, not, ◌&&◌, filter, Option, Some, None, if◌then◌else◌}
+-- The entries from a path on, and which paths have entries at them or below them.
+use Rattle.std.specs.Prelude.{List, [], ◌∷◌, Bool, not, filter, Option, Some, None, if◌then◌else◌}
+use Rattle.std.specs.List.{list_any}
 use Rattle.std.specs.Option.{option_or}
-use Rattle.std.specs.Ordering.{nat_cmp, eq_by_cmp, is_gt, is_lt}
-use Rattle.std.specs.Cmp.Lexicographic.{slice_cmp}
-use Rattle.acl_names.specs.Paths.{path_cmp}
-use Rattle.path_map.specs.Entries.{PathOf}
-
--- the path p is q, or q is below it
-abbrev pub is_within : PathOf → PathOf → Bool
-is_within [] q = true
-is_within (x ∷ p) [] = false
-is_within (x ∷ p) (y ∷ q) = eq_by_cmp (slice_cmp nat_cmp) x y && is_within p q
+use Rattle.std.specs.Ordering.{is_gt, is_lt}
+use Rattle.acl_names.specs.Paths.{PathOf, path_cmp}
+use Rattle.acl_names.specs.Below.{is_within, is_below}
 
 -- the entries at or below a path
 abbrev pub within : {V : Type 0} → PathOf → List (PathOf × V) → List (PathOf × V)
 within p es = filter (λ e. is_within p e.0) es
+
+-- whether a path is one of some, or below one
+abbrev pub lies_in : {V : Type 0} → List (PathOf × V) → PathOf → Bool
+lies_in tops p = list_any (λ t. is_within t.0 p) tops
+
+-- whether there is an entry below a path
+abbrev pub holds_below : {V : Type 0} → List (PathOf × V) → PathOf → Bool
+holds_below es p = list_any (λ e. is_below p e.0) es
 
 -- the entries that are not before a path
 abbrev pub from : {V : Type 0} → PathOf → List (PathOf × V) → List (PathOf × V)

@@ -1,10 +1,8 @@
 -- The entries of a map: paths with values, in path order.
-use Rattle.std.specs.Prelude.{ℕ, List, [], ◌∷◌, Option, Some, None, IsTrue}
+use Rattle.std.specs.Prelude.{List, [], ◌∷◌, Option, Some, None, IsTrue}
 use Rattle.std.specs.FinMap.{is_sorted}
 use Rattle.acl_names.specs.Paths.{path_cmp}
-
-abbrev pub PathOf : Type 0
-PathOf = List (List ℕ)
+pub use Rattle.acl_names.specs.Paths.{PathOf}
 
 -- the paths rise
 abbrev pub IsInOrder : {V : Type 0} → List (PathOf × V) → Type 0

@@ -1,7 +1,6 @@
 //! A persistent map from paths to values, in path order: a map and its copies share what did not change.
 #![tactic(auto)]
 
-mod below;
 mod branch;
 mod chunk;
 mod entry;
@@ -13,7 +12,6 @@ mod pieces;
 mod place;
 mod within;
 
-pub use below::is_within;
 pub use entry::Entry;
 pub use iter::Entries;
 pub use map::PathMap;

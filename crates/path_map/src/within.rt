@@ -3,7 +3,6 @@
 ghost use Rattle.std.specs.Prelude.{◌≡◌, ◌∷◌, [], MatchOption, option_map};
 ghost use Rattle.path_map.specs.Below.{from, within, up_to};
 
-use crate::below::is_within;
 use crate::entry::Entry;
 use crate::iter::Entries;
 use crate::map::PathMap;
@@ -40,7 +39,7 @@ impl<'a, V> Within<'a, V> {
         let Some(entry) = self.rest.next() else {
             return None;
         };
-        if !is_within(self.top, entry.path()) {
+        if !entry.path().is_within(self.top) {
             return None;
         }
         Some(entry)

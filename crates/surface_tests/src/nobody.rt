@@ -1,6 +1,6 @@
 //! A naming of the user's own.
 
-ghost use Rattle.std.specs.Prelude.{None};
+ghost use Rattle.acl_text.specs.acl_syntax.Naming.{no_names};
 
 use acl_entry::Id;
 use acl_text::Names;
@@ -9,13 +9,7 @@ use acl_text::Names;
 pub struct Nobody;
 
 impl Names for Nobody {
-    ghost user_id = { λ _ name. None };
-
-    ghost group_id = { λ _ name. None };
-
-    ghost user_name = { λ _ id. None };
-
-    ghost group_name = { λ _ id. None };
+    ghost naming = { λ _. no_names };
 
     fn user_id(&self, _name: &[u8]) -> Option<Id> {
         None

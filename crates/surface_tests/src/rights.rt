@@ -28,7 +28,7 @@ fn costs(rt: HostRuntime) {
         looked,
         refreshed,
     } = followed(&rt, rt.alloc());
-    assert!(rt; asked == 2 && looked == 2 && refreshed <= 2);
+    assert!(rt; asked == 2 && looked == 2 && refreshed == 2);
 }
 
 /// The index after joe joined adm.

@@ -3,8 +3,8 @@ use Rattle.std.specs.Prelude.{codes}
 use Rattle.acl_dump.specs.Writing.{flags_text}
 use Rattle.acl_dump.proofs.header.push_flags.Goals as goal
 
-pub returns-clause-ok : goal.returns-clause-ok
-returns-clause-ok c =
+pub returns : goal.returns
+returns c =
     let old = c.args.text.now.items in
     let line = codes "# flags: " in
     let written : List ℕ = c.marks.result in

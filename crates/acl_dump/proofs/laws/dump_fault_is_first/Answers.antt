@@ -3,4 +3,4 @@ use Rattle.acl_dump.proofs.DumpFaults.{reported_is_first, first_is_reported}
 use Rattle.acl_dump.proofs.laws.dump_fault_is_first.Goals as goal
 
 pub returns : goal.returns
-returns c = λ user_id group_id dump_use bytes fault. (reported_is_first user_id group_id dump_use (lines_of bytes) fault, first_is_reported user_id group_id dump_use (lines_of bytes) fault)
+returns c = λ naming dump_use bytes fault. (reported_is_first naming dump_use (lines_of bytes) fault, first_is_reported naming dump_use (lines_of bytes) fault)

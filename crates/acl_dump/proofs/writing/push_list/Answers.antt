@@ -5,8 +5,8 @@ use Rattle.acl_names.proofs.Appended.{still_begins}
 use Rattle.acl_dump.specs.Writing.{entry_line}
 use Rattle.acl_dump.proofs.writing.push_list.Goals as goal
 
-pub returns-in_err-append_line-clause-err : goal.returns-in_err-append_line-clause-err
-returns-in_err-append_line-clause-err g c =
-    let shown_text = flat_map (entry_line (g.N.Names.user_name c.args.names.now) (g.N.Names.group_name c.args.names.now) c.args.how c.args.which c.args.mask.now) (take c.loop-entry.entry-index c.args.entries.now) in
-    let begins = still_begins c.args.text.now.items shown_text c.loop-entry.text.items c.append_line.new.text.items c.loop-entry.invariant c.in_err-append_line.ensures.err in
+pub returns-in_err-append_line : goal.returns-in_err-append_line
+returns-in_err-append_line g c =
+    let shown_text = flat_map (entry_line (g.N.Names.naming c.args.names.now) c.args.how c.args.which c.args.mask.now) (take c.loop-entry.entry-index c.args.entries.now) in
+    let begins = still_begins c.args.text.now.items shown_text c.loop-entry.text.items c.append_line.new.text.items c.loop-entry.invariant c.in_err-append_line.ensures in
     grind (arith, common_steps, begins)

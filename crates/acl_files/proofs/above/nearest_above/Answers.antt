@@ -1,5 +1,5 @@
 use Rattle.std.proofs.Common.{◌≡◌, ◌<◌, ◌++◌, ◌∷◌, [], true, false, length, map, ap, sym, subst, ◌∙◌}
-use Rattle.acl_files.specs.Below.{is_within, common}
+use Rattle.acl_names.specs.Below.{is_within, common}
 use Rattle.acl_files.proofs.Nearest.{Alike, full_path, empty_path, root_alone, alike_begins, alike_found, alike_ends, alike_on, alike_shorter}
 use Rattle.acl_files.proofs.above.nearest_above.Goals as goal
 

@@ -15,23 +15,23 @@ use Rattle.acl_files.proofs.edit.edit_files.Goals as goal
 pub put_all-requires : goal.put_all-requires
 put_all-requires g c =
     let t : Files = c.args.tree.now.files in
-    let meant : Files = files_meant c.args.recursive c.args.operands.now t in
+    let meant : Files = files_meant c.args.selection.now.recursive c.args.selection.now.operands.now t in
     let seen : map file_of c.deref.result.now ≡ meant = ap (λ l. map file_of l) (c.deref.ensures.value ∙ c.in_ok-files.ensures) ∙ files_seen t meant in
     let ns : Files = map (λ r. r.value) c.in_ok-edits.edits.items in
     let made : edit_each (g.E.NodeEdit.edited c.args.edit.now) meant ≡ Ok ns = ap (λ es. edit_each (g.E.NodeEdit.edited c.args.edit.now) es) (sym seen) ∙ c.in_ok-edits.ensures.made in
-    subst IsInOrder (sym (ap (λ l. map (λ r. r.value) l) c.deref-2.ensures.value)) (in_order-edits (g.E.NodeEdit.edited c.args.edit.now) c.args.recursive c.args.operands.now t ns c.files_by_path.ensures.sound.order made)
+    subst IsInOrder (sym (ap (λ l. map (λ r. r.value) l) c.deref-2.ensures.value)) (in_order-edits (g.E.NodeEdit.edited c.args.edit.now) c.args.selection.now.recursive c.args.selection.now.operands.now t ns c.files_by_path.ensures.sound.order made)
 
 pub of-requires : goal.of-requires
 of-requires g c =
     let t : Files = c.args.tree.now.files in
     let edit = g.E.NodeEdit.edited c.args.edit.now in
-    let test = is_file c.args.recursive c.args.operands.now in
-    let meant : Files = files_meant c.args.recursive c.args.operands.now t in
+    let test = is_file c.args.selection.now.recursive c.args.selection.now.operands.now in
+    let meant : Files = files_meant c.args.selection.now.recursive c.args.selection.now.operands.now t in
     let seen : map file_of c.deref.result.now ≡ meant = ap (λ l. map file_of l) (c.deref.ensures.value ∙ c.in_ok-files.ensures) ∙ files_seen t meant in
     let ns : Files = map (λ r. r.value) c.in_ok-edits.edits.items in
     let made : edit_each edit meant ≡ Ok ns = ap (λ es. edit_each edit es) (sym seen) ∙ c.in_ok-edits.ensures.made in
     let new : c.in_ok-by_path.by_path ≡ edit_files test (node_after edit) t =
-    c.in_ok-by_path.ensures ∙ (λ i. put_all (map (λ r. r.value) (c.deref-2.ensures.value i)) (c.files_by_path.ensures.all i)) ∙ put_edits edit c.args.recursive c.args.operands.now t ns c.files_by_path.ensures.sound.order made
+    c.in_ok-by_path.ensures ∙ (λ i. put_all (map (λ r. r.value) (c.deref-2.ensures.value i)) (c.files_by_path.ensures.all i)) ∙ put_edits edit c.args.selection.now.recursive c.args.selection.now.operands.now t ns c.files_by_path.ensures.sound.order made
     in
     subst (λ (t : Recorded). IsSoundTree t) (λ i. record { files = sym new i; loaded = sym c.is_loaded.ensures i })
     (edited_sound test (node_after edit) (keeps_after edit c.keeps_place.ensures) c.args.tree.now c.files_by_path.ensures.sound)
@@ -40,7 +40,7 @@ pub returns-clause-made : goal.returns-clause-made
 returns-clause-made g c =
     let t : Files = c.args.tree.now.files in
     let edit = g.E.NodeEdit.edited c.args.edit.now in
-    let meant : Files = files_meant c.args.recursive c.args.operands.now t in
+    let meant : Files = files_meant c.args.selection.now.recursive c.args.selection.now.operands.now t in
     let seen : map file_of c.deref.result.now ≡ meant = ap (λ l. map file_of l) (c.deref.ensures.value ∙ c.in_ok-files.ensures) ∙ files_seen t meant in
     let ns : Files = map (λ r. r.value) c.in_ok-edits.edits.items in
     let made : edit_each edit meant ≡ Ok ns = ap (λ es. edit_each edit es) (sym seen) ∙ c.in_ok-edits.ensures.made in
@@ -53,13 +53,13 @@ pub returns-clause-reported : goal.returns-clause-reported
 returns-clause-reported g c =
     let t : Files = c.args.tree.now.files in
     let edit = g.E.NodeEdit.edited c.args.edit.now in
-    let test = is_file c.args.recursive c.args.operands.now in
-    let meant : Files = files_meant c.args.recursive c.args.operands.now t in
+    let test = is_file c.args.selection.now.recursive c.args.selection.now.operands.now in
+    let meant : Files = files_meant c.args.selection.now.recursive c.args.selection.now.operands.now t in
     let seen : map file_of c.deref.result.now ≡ meant = ap (λ l. map file_of l) (c.deref.ensures.value ∙ c.in_ok-files.ensures) ∙ files_seen t meant in
     let ns : Files = map (λ r. r.value) c.in_ok-edits.edits.items in
     let made : edit_each edit meant ≡ Ok ns = ap (λ es. edit_each edit es) (sym seen) ∙ c.in_ok-edits.ensures.made in
     let new : c.in_ok-by_path.by_path ≡ edit_files test (node_after edit) t =
-    c.in_ok-by_path.ensures ∙ (λ i. put_all (map (λ r. r.value) (c.deref-2.ensures.value i)) (c.files_by_path.ensures.all i)) ∙ put_edits edit c.args.recursive c.args.operands.now t ns c.files_by_path.ensures.sound.order made
+    c.in_ok-by_path.ensures ∙ (λ i. put_all (map (λ r. r.value) (c.deref-2.ensures.value i)) (c.files_by_path.ensures.all i)) ∙ put_edits edit c.args.selection.now.recursive c.args.selection.now.operands.now t ns c.files_by_path.ensures.sound.order made
     in
     c.in_ok-edits.ensures.reported
     ∙ ap (λ l. map (λ r. r.value) c.args.changed.now.items ++ l)
@@ -72,20 +72,20 @@ pub returns-clause-gone : goal.returns-clause-gone
 returns-clause-gone g c =
     let t : Files = c.args.tree.now.files in
     let edit = g.E.NodeEdit.edited c.args.edit.now in
-    let test = is_file c.args.recursive c.args.operands.now in
-    let meant : Files = files_meant c.args.recursive c.args.operands.now t in
+    let test = is_file c.args.selection.now.recursive c.args.selection.now.operands.now in
+    let meant : Files = files_meant c.args.selection.now.recursive c.args.selection.now.operands.now t in
     let seen : map file_of c.deref.result.now ≡ meant = ap (λ l. map file_of l) (c.deref.ensures.value ∙ c.in_ok-files.ensures) ∙ files_seen t meant in
     let ns : Files = map (λ r. r.value) c.in_ok-edits.edits.items in
     let made : edit_each edit meant ≡ Ok ns = ap (λ es. edit_each edit es) (sym seen) ∙ c.in_ok-edits.ensures.made in
     let new : c.in_ok-by_path.by_path ≡ edit_files test (node_after edit) t =
-    c.in_ok-by_path.ensures ∙ (λ i. put_all (map (λ r. r.value) (c.deref-2.ensures.value i)) (c.files_by_path.ensures.all i)) ∙ put_edits edit c.args.recursive c.args.operands.now t ns c.files_by_path.ensures.sound.order made
+    c.in_ok-by_path.ensures ∙ (λ i. put_all (map (λ r. r.value) (c.deref-2.ensures.value i)) (c.files_by_path.ensures.all i)) ∙ put_edits edit c.args.selection.now.recursive c.args.selection.now.operands.now t ns c.files_by_path.ensures.sound.order made
     in
     ap (λ es. gone_between t es) (ap (λ (t : Recorded). t.files) c.of.ensures ∙ new) ∙ gone-edited test (node_after edit) t c.files_by_path.ensures.sound.order
 
 pub returns-in_err-edits-clause-fault : goal.returns-in_err-edits-clause-fault
 returns-in_err-edits-clause-fault g c =
     let edit = g.E.NodeEdit.edited c.args.edit.now in
-    let meant : Files = files_meant c.args.recursive c.args.operands.now c.args.tree.now.files in
+    let meant : Files = files_meant c.args.selection.now.recursive c.args.selection.now.operands.now c.args.tree.now.files in
     let seen : map file_of c.deref.result.now ≡ meant = ap (λ l. map file_of l) (c.deref.ensures.value ∙ c.in_ok-files.ensures) ∙ files_seen c.args.tree.now.files meant in
     let p = err_from_is_err_and c.from_residual-in_err-edits.result c.from_residual-in_err-edits.ensures.1 in
     rw (p.1, p.2) (λ some. ap (λ r. with_edits c.args.tree.now r) (ap (λ es. edit_each edit es) (sym seen) ∙ c.in_err-edits.ensures.fault some))

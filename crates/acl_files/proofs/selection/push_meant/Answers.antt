@@ -5,7 +5,6 @@ use Rattle.acl_files.specs.Files.{PathOf, Files}
 use Rattle.acl_files.specs.Operands.{means}
 use Rattle.acl_files.specs.Sound.{holds_below}
 use Rattle.acl_files.specs.Found.{found_file, found_in}
-use Rattle.acl_files.specs.Inner.{next_file_below}
 use Rattle.acl_files.proofs.Selected.{IsAtEnd, end_begins, end_more, meant_from, none_meant, next_at_end}
 use Rattle.acl_files.proofs.selection.push_meant.Goals as goal
 
@@ -40,13 +39,8 @@ loop-file-preserved c =
     let in_it : means c.args.recursive p e.0 ≡ true =
     ap (λ q. means c.args.recursive p q) (sym (c.path.ensures ∙ ap (λ e. e.0) c.deref.ensures)) ∙ sym c.means.ensures ∙ c.if-not-means.false
     in
-    let reported : c.is_next_below-has_below.result ≡ holds_below t e.0 =
-    c.is_next_below-has_below.ensures
-    ∙ ap (λ q. next_file_below q more) (c.path-in-Some.ensures ∙ ap (λ e. e.0) c.deref-in-Some.ensures)
-    ∙ next_at_end p t c.loop-file.rest more e c.is_sound.ensures.order c.in-Some.ensures.steps c.loop-file.invariant.at_end
-    in
-    let pushed : c.new.result ≡ found_file (holds_below t e.0) e =
-    c.new.ensures ∙ (λ i. found_file (reported i) (c.in_ok-clone.ensures.cases i))
+    let pushed : c.in_ok-found.found ≡ found_file (holds_below t e.0) e =
+    c.in_ok-found.ensures ∙ ap (λ b. found_file b e) (next_at_end p t c.loop-file.rest more e c.is_sound.ensures.order c.in-Some.ensures.steps c.loop-file.invariant.at_end)
     in
     let after : Files = filter (λ e. means c.args.recursive p e.0) more in
     record {

@@ -75,7 +75,7 @@ returns-clause-grants g c =
     let t = c.args.staged.now in
     let order = subst (λ (r : Recorded). IsInOrder r.files) c.tree.ensures c.is_sound.ensures.order in
     let ways = c.in_ok-again.again.ways in
-    grants_made c.in_ok-new.new.rows ways (record { rows = c.in_ok-new.new.rows; ways = ways; reaches = c.in_ok-reaches.reaches; files_numbered = c.args.grants.now.files_numbered }) refl refl (c.in_ok-reaches.ensures ∙ ap (λ (ss : List Step). reaches_of c.in_ok-new.new.rows.cells ss) c.steps.ensures) t.state.tree.files
+    grants_made c.in_ok-new.new.rows ways (record { rows = c.in_ok-new.new.rows; ways = ways; reaches = c.in_ok-reaches.reaches; max_numbers = c.args.grants.now.max_numbers }) refl refl (c.in_ok-reaches.ensures ∙ ap (λ (ss : List Step). reaches_of c.in_ok-new.new.rows.cells ss) c.steps.ensures) t.state.tree.files
     (after_labelled V c.args.grants.now t c.requires.goes c.is_in_order.ensures order c.requires.moved
     (map (λ r. r.value) c.changed.result.now) (map (λ r. r.value) c.gone-gone.result.now) c.changed.ensures c.gone-gone.ensures c.all_subjects-users.result.now (c.all_subjects-users.ensures ∙ ap persons c.people.ensures)
     c.in_ok-new.new.rows (map (λ e. e.value) c.in_ok-new.new.puts.items) c.in_ok-new.ensures.rows)

@@ -1,4 +1,5 @@
 use Rattle.std.proofs.Common.{◌≤◌, ℕ, Bool, false, List, map, filter, length, get_or, refl, sym, ap, subst, ◌∙◌, arith}
+use Rattle.std.proofs.lemmas.List.Sums.{length-filter}
 use Rattle.path_map.specs.Entries.{IsInOrder}
 use Rattle.acl_tree.specs.acl_edit.declared.node.Node.{Node}
 use Rattle.acl_tree.specs.Files.{PathOf, Recorded, max_files}
@@ -6,7 +7,7 @@ use Rattle.acl_tree.specs.declared.user_change.UserChange.{UserChange}
 use Rattle.acl_verdicts.specs.Ways.{reaches_of}
 use Rattle.acl_verdicts.specs.declared.steps.Step.{Step}
 use Rattle.acl_verdicts.specs.declared.ways.Ways.{Ways}
-use Rattle.acl_rights.specs.Stages.{mentions_one, most_looked}
+use Rattle.acl_rights.specs.Stages.{mentions_one, moves_looked, most_looked}
 use Rattle.acl_rights.proofs.Maps.{same_length}
 use Rattle.acl_rights.proofs.Costs.{moved_cost}
 use Rattle.acl_rights.proofs.Listed.{looked_le}
@@ -92,7 +93,7 @@ returns-clause-grants g c =
     let paths = ap (map (λ p. p.value)) c.deref-paths.ensures.value ∙ c.in_ok-paths.ensures t.state.tree.files order c.requires.lists ∙ ap (λ (ids : List ℕ). map (λ (e : PathOf × Node). e.0) (filter (mentions_one ids) t.state.tree.files)) c.as_slice.ensures in
     let rows = c.in_ok-again.again.rows in
     let ways = c.in_ok-ways.ways in
-    grants_kept rows ways c.args.grants.now (record { rows = rows; ways = ways; reaches = c.in_ok-reaches.reaches; files_numbered = c.args.grants.now.files_numbered }) refl refl
+    grants_kept rows ways c.args.grants.now (record { rows = rows; ways = ways; reaches = c.in_ok-reaches.reaches; max_numbers = c.args.grants.now.max_numbers }) refl refl
     (c.in_ok-reaches.ensures ∙ ap (λ (ss : List Step). reaches_of rows.cells ss) c.steps.ensures) c.in_ok-ways.ensures
     c.requires.goes.goes.state.tree.files t.state.tree.files c.requires.goes.kept (moved_labelled V c.args.grants.now t c.requires.goes c.is_in_order.ensures order g.met.J.Judge.local c.args.at c.args.groups.now c.requires.moved c.moved_user-user.result.now c.moved_user-user.ensures (map (λ p. p.value) c.deref-paths.result.now) paths rows c.in_ok-again.ensures.rows) c.in_ok-again.ensures.rows.numbers c.in_ok-again.ensures.rows.labels
 
@@ -113,6 +114,18 @@ returns-clause-rows g c =
     let touched = filter (mentions_one c.args.groups.now) t.state.tree.files in
     let paths = ap (map (λ p. p.value)) c.deref-paths.ensures.value ∙ c.in_ok-paths.ensures t.state.tree.files order c.requires.lists ∙ ap (λ (ids : List ℕ). map (λ (e : PathOf × Node). e.0) (filter (mentions_one ids) t.state.tree.files)) c.as_slice.ensures in
     moved_rows V c.args.grants.now t c.requires.goes c.is_in_order.ensures order g.met.J.Judge.local c.args.at c.args.groups.now c.requires.moved c.moved_user-user.result.now c.moved_user-user.ensures (map (λ p. p.value) c.deref-paths.result.now) paths c.in_ok-again.again.rows c.in_ok-again.ensures.rows (subst IsInOrder (sym c.in_ok-again.ensures.rows.numbers) c.is_in_order.ensures)
+
+pub returns-clause-looked : goal.returns-clause-looked
+returns-clause-looked g c =
+    let V = g.J.Judge.verdict_of in
+    let t = c.args.staged.now in
+    let order = subst (λ (r : Recorded). IsInOrder r.files) c.tree.ensures c.is_sound.ensures.order in
+    let touched = filter (mentions_one c.args.groups.now) t.state.tree.files in
+    let paths = ap (map (λ p. p.value)) c.deref-paths.ensures.value ∙ c.in_ok-paths.ensures t.state.tree.files order c.requires.lists ∙ ap (λ (ids : List ℕ). map (λ (e : PathOf × Node). e.0) (filter (mentions_one ids) t.state.tree.files)) c.as_slice.ensures in
+    let long = same_length (λ p. p.value) (λ (e : PathOf × Node). e.0) c.deref-paths.result.now touched paths in
+    let counted = length-filter (mentions_one c.args.groups.now) t.state.tree.files in
+    let is = ap (λ (m : UserChange). moves_looked m t.state.tree.files) c.requires.moved in
+    omega (arith, long, counted, is)
 
 pub returns-clause-looked_most : goal.returns-clause-looked_most
 returns-clause-looked_most g c =

@@ -1,5 +1,5 @@
 use Rattle.std.proofs.Common.{length, ap, arith}
-use Rattle.acl_tree.specs.acl_files.Below.{is_within}
+use Rattle.acl_tree.specs.acl_names.Below.{is_within}
 use Rattle.acl_rights.proofs.Costs.{few_pass}
 use Rattle.acl_rights.proofs.stage.count_below.Goals as goal
 

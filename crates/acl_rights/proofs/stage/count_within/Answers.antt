@@ -2,8 +2,8 @@ use Rattle.std.proofs.Common.{◌++◌, ℕ, List, [], None, Some, length, map, 
 use Rattle.std.specs.Prelude.{option_map}
 use Rattle.std.proofs.lemmas.List.Sums.{length-filter}
 use Rattle.path_map.specs.Entries.{PathOf}
-use Rattle.path_map.specs.Below.{within}
-use Rattle.acl_verdicts.specs.Subtrees.{lies_in, covers, AreWalked}
+use Rattle.path_map.specs.Below.{within, lies_in}
+use Rattle.acl_verdicts.specs.Subtrees.{covers, AreWalked}
 use Rattle.acl_verdicts.proofs.Tops.{tops_begin, tops_skip, tops_end}
 use Rattle.acl_rights.proofs.Refreshing.{no_length, count_walked}
 use Rattle.acl_rights.proofs.stage.count_within.Goals as goal

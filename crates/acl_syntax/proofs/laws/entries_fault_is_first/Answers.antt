@@ -5,7 +5,7 @@ use Rattle.acl_syntax.proofs.Judging.{fault_is_first, first_is_fault}
 use Rattle.acl_syntax.proofs.laws.entries_fault_is_first.Goals as goal
 
 pub returns : goal.returns
-returns c = λ user_id group_id sep want bytes fault. (
-  fault_is_first (one_more user_id group_id sep (rules_of want)) 1 [] (pieces (separator sep) bytes) fault,
-  first_is_fault (one_more user_id group_id sep (rules_of want)) 1 [] (pieces (separator sep) bytes) fault,
+returns c = λ naming sep want bytes fault. (
+  fault_is_first (one_more naming sep (rules_of want)) 1 [] (pieces (separator sep) bytes) fault,
+  first_is_fault (one_more naming sep (rules_of want)) 1 [] (pieces (separator sep) bytes) fault,
 )

@@ -3,4 +3,4 @@ use Rattle.acl_syntax.specs.Writing.{long}
 use Rattle.acl_syntax.proofs.writing.push_long.Given as goal
 
 abbrev pub invariant-loop-entry : goal.invariant-loop-entry
-invariant-loop-entry g l = l.text.items ≡ l.initial.text.items ++ long (g.N.Names.user_name l.names) (g.N.Names.group_name l.names) (take l.entry-index l.entries)
+invariant-loop-entry g l = l.text.items ≡ l.initial.text.items ++ long (g.N.Names.naming l.names) (take l.entry-index l.entries)

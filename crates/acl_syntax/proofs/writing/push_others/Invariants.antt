@@ -4,4 +4,4 @@ use Rattle.acl_syntax.specs.Writing.{after_comma}
 use Rattle.acl_syntax.proofs.writing.push_others.Given as goal
 
 abbrev pub invariant-loop-other : goal.invariant-loop-other
-invariant-loop-other g l = l.text.items ≡ l.initial.text.items ++ flat_map (after_comma (g.N.Names.user_name l.names) (g.N.Names.group_name l.names)) (take l.other-index l.others)
+invariant-loop-other g l = l.text.items ≡ l.initial.text.items ++ flat_map (after_comma (g.N.Names.naming l.names)) (take l.other-index l.others)

@@ -5,4 +5,4 @@ pub returns-clause-read_again : goal.returns-clause-read_again
 returns-clause-read_again g c = λ named want takes.
     rw (c.in_ok-push_long.ensures, c.new-text.ensures.items, c.entries.ensures.all)
     (let ids = rw c.entries.ensures.all at c.entries.ensures.ids in
-    long_again (g.N.Names.user_id c.args.names.now) (g.N.Names.group_id c.args.names.now) (g.N.Names.user_name c.args.names.now) (g.N.Names.group_name c.args.names.now) c.args.acl.now c.entries.ensures.valid ids named want takes)
+    long_again (g.N.Names.naming c.args.names.now) c.args.acl.now c.entries.ensures.valid ids named want takes)

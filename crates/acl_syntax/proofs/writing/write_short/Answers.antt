@@ -3,6 +3,6 @@ use Rattle.acl_syntax.proofs.writing.write_short.Goals as goal
 
 pub returns-clause-read_again : goal.returns-clause-read_again
 returns-clause-read_again g c = λ named want takes.
-    rw (c.in_ok-push_short.ensures.ok, c.new-text.ensures.items, c.entries.ensures.all)
+    rw (c.in_ok-push_short.ensures, c.new-text.ensures.items, c.entries.ensures.all)
     (let ids = rw c.entries.ensures.all at c.entries.ensures.ids in
-    short_again (g.N.Names.user_id c.args.names.now) (g.N.Names.group_id c.args.names.now) (g.N.Names.user_name c.args.names.now) (g.N.Names.group_name c.args.names.now) c.args.acl.now c.entries.ensures.valid ids named want takes)
+    short_again (g.N.Names.naming c.args.names.now) c.args.acl.now c.entries.ensures.valid ids named want takes)

@@ -1,7 +1,7 @@
 use Rattle.std.proofs.Common.{ap, ◌∙◌}
 use Rattle.acl_files.specs.path_map.Below.{within}
 use Rattle.acl_files.specs.Files.{Files}
-use Rattle.acl_files.specs.Below.{is_within}
+use Rattle.acl_files.specs.acl_names.Below.{is_within}
 use Rattle.acl_tree.proofs.NewFiles.{first_passes}
 use Rattle.acl_tree.proofs.creat.exists.Goals as goal
 

@@ -13,7 +13,7 @@ tree_of-requires c =
 
 pub returns-clause-reports : goal.returns-clause-reports
 returns-clause-reports c = λ none.
-    let old : State = record { tree = c.args.tree.now; people = c.args.people.now } in
+    let old : State = record { tree = c.args.state.now.tree.now; people = c.args.state.now.people.now } in
     reported_load old c.of.result none
     (ap (λ s. s.changed) c.of.ensures.all ∙ sym (ap (λ s. s.state.tree.files) c.of.ensures.all ∙ ap (λ t. t.files) c.in_ok-loaded.ensures ∙ ap (λ l. map (λ r. r.value) l) c.deref.ensures.value))
     (ap (λ s. s.gone) c.of.ensures.all ∙ ap (λ l. map (λ r. r.value) l) c.new.ensures.items)

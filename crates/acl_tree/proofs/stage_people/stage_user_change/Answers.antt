@@ -6,8 +6,8 @@ use Rattle.acl_tree.proofs.stage_people.stage_user_change.Goals as goal
 
 pub returns-clause-reports : goal.returns-clause-reports
 returns-clause-reports c =
-    let tree = c.args.tree.now in
-    let known = c.args.people.now in
+    let tree = c.args.state.now.tree.now in
+    let known = c.args.state.now.people.now in
     c.in_ok-staged.ensures.reports known
     (subst (λ m. UsersMoved (state_from tree known) (state_from tree c.args.next) m) (sym c.move_of.ensures)
     (user_moved tree known c.args.next c.args.user c.in_ok-groups.groups.items c.in_ok-groups.ensures.moved c.in_ok-groups.ensures.none))

@@ -1,5 +1,5 @@
 use Rattle.std.proofs.Common.{arith, ◌∙◌, sym, ap}
-use Rattle.acl_files.specs.Below.{is_below}
+use Rattle.acl_files.specs.acl_names.Below.{is_below}
 use Rattle.acl_verdicts.proofs.Walks.{shrink_step, top_step, none_left}
 use Rattle.acl_verdicts.proofs.walk.depth_above.Goals as goal
 

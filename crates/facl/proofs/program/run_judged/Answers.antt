@@ -1,7 +1,7 @@
 use Rattle.std.proofs.Common.{rules, ◌∙◌, ℕ, sym, ap, subst}
 use Rattle.std.proofs.lemmas.Result.{err_from_is_err_and}
 use Rattle.facl_tools.specs.facl_messages.Faults.{run_fault_of_script}
-use Rattle.facl.specs.Runs.{EndsBy}
+use Rattle.facl.specs.Runs.{EndsBy, devices}
 use Rattle.facl.specs.Sessions.{states_of}
 use Rattle.facl.specs.Setups.{initial_state}
 use Rattle.facl.proofs.Ending.{ends_by}
@@ -12,10 +12,10 @@ returns-in_err-is_refused-clause-fault g c =
     let V = g.J.Judge.verdict_of in
     let p = err_from_is_err_and c.from_residual-in_err-is_refused.result c.from_residual-in_err-is_refused.ensures.1 in
     let asked = g.J.Judge.asked_of c.run_session.new.session.judge.now in
-    let ends = ends_by c.in_err-is_refused.field-0.0 V (initial_state c.args.setup.now) c.in_ok-state.state (states_of c.in_ok-session.session) (states_of c.run_session.new.session.session) _ asked
-    (g.R.Feed.remaining c.args.reader.now) (g.R.Feed.remaining c.run_session.new.reader) (g.O.Sink.contents c.args.out.now) (g.O.Sink.contents c.run_session.new.out)
-    (g.E.Sink.contents c.args.err.now) (g.E.Sink.contents c.run_session.new.err) c.in_ok-state.ensures c.in_ok-session.ensures.state c.in_ok-session.ensures.asked c.in_err-is_refused.ensures.fault in
+    let old = devices (g.R.Feed.remaining c.args.reader.now) (g.O.Sink.contents c.args.out.now) (g.E.Sink.contents c.args.err.now) in
+    let new = devices (g.R.Feed.remaining c.run_session.new.reader) (g.O.Sink.contents c.run_session.new.out) (g.E.Sink.contents c.run_session.new.err) in
+    let ends = ends_by c.in_err-is_refused.field-0.0 V (initial_state c.args.setup.now) c.in_ok-state.state (states_of c.in_ok-session.session) (states_of c.run_session.new.session.session) _ asked old new
+    c.in_ok-state.ensures c.in_ok-session.ensures.state c.in_ok-session.ensures.asked c.in_err-is_refused.ensures.fault in
     rw (p.1, p.2)
-    (subst (λ (n : ℕ). EndsBy (run_fault_of_script c.in_err-is_refused.field-0.0) V (initial_state c.args.setup.now) n
-    (g.R.Feed.remaining c.args.reader.now) (g.R.Feed.remaining c.run_session.new.reader) (g.O.Sink.contents c.args.out.now) (g.O.Sink.contents c.run_session.new.out)
-    (g.E.Sink.contents c.args.err.now) (g.E.Sink.contents c.run_session.new.err)) (ap g.J.Judge.asked_of (sym c.drop-judged.ensures ∙ search rules)) ends)
+    (subst (λ (n : ℕ). EndsBy (run_fault_of_script c.in_err-is_refused.field-0.0) V (initial_state c.args.setup.now) n old new)
+    (ap g.J.Judge.asked_of (sym c.drop-judged.ensures ∙ search rules)) ends)

@@ -4,8 +4,8 @@ use Rattle.acl_rights.specs.acl_names.Paths.{is_component}
 use Rattle.acl_rights.specs.acl_dump.Again.{IsListIf}
 use Rattle.acl_rights.specs.acl_edit.declared.node.Node.{Node}
 use Rattle.acl_rights.specs.acl_tree.Files.{PathOf}
-use Rattle.acl_rights.specs.acl_people.Registers.{Register}
-use Rattle.facl_listings.specs.Again.{user_id, group_id, user_name, group_name, IsReadAgain}
+use Rattle.acl_rights.specs.acl_people.Registers.{Register, naming_of}
+use Rattle.facl_listings.specs.Again.{IsReadAgain}
 use Rattle.facl_listings.proofs.again.file_is_read_again.Goals as goal
 
 pub returns-in-Some : goal.returns-in-Some
@@ -15,8 +15,8 @@ returns-in-Some c =
     let n : Node = c.value-node.result.now in
     let path : list_all is_component p ≡ true = c.components-components.ensures.valid in
     let three : length n.flags ≡ 3 = c.flags_are_three.ensures in
-    let dacl : IsListIf (user_id known) (group_id known) (user_name known) (group_name known) n.dacl =
-    subst (IsListIf (user_id known) (group_id known) (user_name known) (group_name known)) (sym c.in-Some.is) c.list_is_read_again-in-Some.ensures
+    let dacl : IsListIf (naming_of known) n.dacl =
+    subst (IsListIf (naming_of known)) (sym c.in-Some.is) c.list_is_read_again-in-Some.ensures
     in
     let here : IsReadAgain known (p, n) = record { path = path; owner = c.user_is_found.ensures; group = c.group_is_found.ensures; flags = three; access = c.list_is_read_again.ensures; dacl = dacl } in
     subst (λ (q : PathOf). IsReadAgain known (q, c.args.file.now.1)) c.path.ensures

@@ -3,4 +3,4 @@ use Rattle.facl_listings.specs.ChaclListings.{chacl_listing}
 use Rattle.facl_listings.proofs.chacl_listing.push_lines.Given as goal
 
 abbrev pub invariant-loop-file : goal.invariant-loop-file
-invariant-loop-file g l = l.text.items ≡ l.initial.text.items ++ chacl_listing (g.N.Names.user_name l.names) (g.N.Names.group_name l.names) (take l.file-index l.files)
+invariant-loop-file g l = l.text.items ≡ l.initial.text.items ++ chacl_listing (g.N.Names.naming l.names) (take l.file-index l.files)

@@ -1,7 +1,7 @@
 use Rattle.acl_rights.specs.acl_dump.declared.record.DumpUse.TheVariants.{Restore}
+use Rattle.acl_rights.specs.acl_people.Registers.{naming_of}
 use Rattle.acl_rights.specs.acl_tree.Operands.{files_meant}
 use Rattle.acl_rights.specs.acl_tree.Step.{State, state_from}
-use Rattle.facl_listings.specs.Again.{user_id, group_id, user_name, group_name}
 use Rattle.facl_listings.proofs.Reloaded.{records_of}
 use Rattle.facl_listings.proofs.RestoredAgain.{restored_again}
 use Rattle.facl_listings.proofs.laws.listing_is_restored_as_it_is.Goals as goal
@@ -12,5 +12,5 @@ returns c = λ recursive paths.
     let state : State = state_from c.args.tree.now known in
     let all = c.args.tree.now.files in
     restored_again state recursive paths c.is_sound.ensures.order c.files_are_read_again.ensures
-    (c.records_are_read_again.ensures (user_id known) (group_id known) (user_name known) (group_name known) Restore (records_of all (files_meant recursive paths all)))
+    (c.records_are_read_again.ensures (naming_of known) Restore (records_of all (files_meant recursive paths all)))
     (λ records. c.restore_of_what_is_changes_nothing.ensures records state c.is_sound.ensures)

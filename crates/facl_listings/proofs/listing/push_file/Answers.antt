@@ -9,12 +9,11 @@ use Rattle.facl_listings.proofs.listing.push_file.Goals as goal
 two_parts : (a b c s t : List ℕ) → s ≡ a ++ b → t ≡ s ++ c → t ≡ a ++ (b ++ c)
 two_parts a b c s t first second = second ∙ (ap (λ (l : List ℕ). l ++ c) first ∙ append_assoc a b c)
 
-pub returns-in_err-push_default-clause-err : goal.returns-in_err-push_default-clause-err
-returns-in_err-push_default-clause-err g c =
-    let user_name = g.N.Names.user_name c.args.names.now in
-    let group_name = g.N.Names.group_name c.args.names.now in
-    let head = headers user_name group_name c.args.options.now c.args.file.now in
-    let list = list_text user_name group_name c.args.options.now.effective Access c.node-node.result.now.label.acl in
-    let parts = two_parts c.args.text.now.items head list c.push_headers.new.text.items c.append_list.new.text.items c.in_ok-push_headers.ensures.ok c.in_ok-append_list.ensures.ok in
-    let begins = still_begins c.args.text.now.items (head ++ list) c.append_list.new.text.items c.push_default.new.text.items parts c.in_err-push_default.ensures.err in
+pub returns-in_err-push_default : goal.returns-in_err-push_default
+returns-in_err-push_default g c =
+    let naming = g.N.Names.naming c.args.names.now in
+    let head = headers naming c.args.options.now c.args.file.now in
+    let list = list_text naming c.args.options.now.effective Access c.node-node.result.now.label.acl in
+    let parts = two_parts c.args.text.now.items head list c.push_headers.new.text.items c.append_list.new.text.items c.in_ok-push_headers.ensures c.in_ok-append_list.ensures in
+    let begins = still_begins c.args.text.now.items (head ++ list) c.append_list.new.text.items c.push_default.new.text.items parts c.in_err-push_default.ensures in
     grind (arith, common_steps, begins)

@@ -4,8 +4,8 @@ use Rattle.acl_rights.proofs.of_acl_names.Appended.{still_begins}
 use Rattle.facl_listings.specs.Listings.{files_text}
 use Rattle.facl_listings.proofs.listing.push_files.Goals as goal
 
-pub returns-in_err-push_file-clause-err : goal.returns-in_err-push_file-clause-err
-returns-in_err-push_file-clause-err g c =
-    let shown_text = files_text (g.N.Names.user_name c.args.names.now) (g.N.Names.group_name c.args.names.now) c.args.options.now (take c.loop-file.file-index c.args.files.now) in
-    let begins = still_begins c.args.text.now.items shown_text c.loop-file.text.items c.push_file.new.text.items c.loop-file.invariant c.in_err-push_file.ensures.err in
+pub returns-in_err-push_file : goal.returns-in_err-push_file
+returns-in_err-push_file g c =
+    let shown_text = files_text (g.N.Names.naming c.args.names.now) c.args.options.now (take c.loop-file.file-index c.args.files.now) in
+    let begins = still_begins c.args.text.now.items shown_text c.loop-file.text.items c.push_file.new.text.items c.loop-file.invariant c.in_err-push_file.ensures in
     grind (arith, common_steps, begins)

@@ -10,10 +10,10 @@ use Rattle.facl_listings.proofs.requests.push_requests.Goals.{in-Some+then-has+i
 abbrev numbers : List ℕ
 numbers = 1 ∷ 2 ∷ 3 ∷ 4 ∷ 5 ∷ 6 ∷ 7 ∷ []
 
-pub returns-in_err-push_request-clause-err : goal.returns-in_err-push_request-clause-err
-returns-in_err-push_request-clause-err c =
+pub returns-in_err-push_request : goal.returns-in_err-push_request
+returns-in_err-push_request c =
     let shown_text = spaced (among c.args.granted (take c.loop-number.number-index numbers)) in
-    let begins = still_begins c.args.text.now.items shown_text c.loop-number.text.items c.push_request.new.text.items c.loop-number.invariant.text c.in_err-push_request.ensures.err in
+    let begins = still_begins c.args.text.now.items shown_text c.loop-number.text.items c.push_request.new.text.items c.loop-number.invariant.text c.in_err-push_request.ensures in
     grind (arith, common_steps, begins)
 
 pub loop-number-preserved : goal.loop-number-preserved
@@ -27,7 +27,7 @@ loop-number-preserved c =
           let more = one_granted granted numbers i c.loop-number-test.true (ap (has granted) (sym is) ∙ (sym w.has.ensures ∙ w.if-has.true)) in
           record {
             text = text_step c.args.text.now.items c.loop-number.text.items c.match-from_number.text.items before (among granted (take (i + 1) numbers)) (numbered (get_or numbers i 0)) w.in-Some.request c.loop-number.is_first
-                (ap (λ t. t.items) w.text-is ∙ w.in_ok-push_request.ensures.ok) c.loop-number.invariant.text c.loop-number.invariant.first is more;
+                (ap (λ t. t.items) w.text-is ∙ w.in_ok-push_request.ensures) c.loop-number.invariant.text c.loop-number.invariant.first is more;
             first = w.is_first-is ∙ sym (ap is_empty more ∙ not_empty before (numbered (get_or numbers i 0)));
           }
       | in-Some+else-has w ↦

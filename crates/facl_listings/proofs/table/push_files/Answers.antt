@@ -1,9 +1,18 @@
-use Rattle.std.proofs.Common.{map}
-use Rattle.facl_listings.specs.Inner.{lines_in}
-use Rattle.facl_listings.proofs.Walk.{written_more}
+use Rattle.std.proofs.Common.{◌<◌, ◌++◌, append-nil, length, map, sym, ap, subst, ◌∙◌}
+use Rattle.facl_listings.specs.Inner.{Walked, step_of}
+use Rattle.facl_listings.proofs.NextFile.{fewer_files, lines_over, walk_more}
 use Rattle.facl_listings.proofs.table.push_files.Goals as goal
 
 pub loop-file-preserved : goal.loop-file-preserved
-loop-file-preserved g c =
-    written_more (lines_in c.args.index.now.rows (map (λ n. n.items) c.args.names.now)) c.args.tree.now.files c.loop-file.files c.next.new.self c.in-Some.file.now.value
-    c.args.text.now.items c.loop-file.text.items c.push_file.new.text.items c.in_ok-found.found c.is_sound.ensures.order c.in-Some.ensures.steps c.in_ok-found.ensures c.in_ok-push_file.ensures c.loop-file.invariant
+loop-file-preserved c =
+    walk_more (map (λ n. n.items) c.args.names.now) c.loop-file.rest c.next.new.self (step_of c.in-Some.file) c.loop-file.text.items c.push_file.new.text.items _
+    c.in-Some.ensures.first c.in-Some.ensures.rest c.in_ok-push_file.ensures c.loop-file.invariant
+
+pub loop-file-smaller : goal.loop-file-smaller
+loop-file-smaller c = subst (λ (left : Walked). length left < length c.loop-file.rest) (sym c.in-Some.ensures.rest) (fewer_files c.loop-file.rest (step_of c.in-Some.file) c.in-Some.ensures.first)
+
+pub returns : goal.returns
+returns c =
+    sym (append-nil c.loop-file.text.items)
+    ∙ ap (λ l. c.loop-file.text.items ++ l) (sym (lines_over (map (λ n. n.items) c.args.names.now) c.loop-file.rest c.in_default.ensures.first))
+    ∙ c.loop-file.invariant

@@ -5,8 +5,8 @@ use Rattle.acl_rights.proofs.of_acl_names.Appended.{still_begins}
 use Rattle.facl_listings.specs.TestListing.{default_entry}
 use Rattle.facl_listings.proofs.test_listing.push_default_entries.Goals as goal
 
-pub returns-in_err-push_default_entry-clause-err : goal.returns-in_err-push_default_entry-clause-err
-returns-in_err-push_default_entry-clause-err g c =
-    let shown_text = flat_map (default_entry (g.N.Names.user_name c.args.names.now) (g.N.Names.group_name c.args.names.now)) (take c.loop-entry.entry-index c.args.entries.now) in
-    let begins = still_begins c.args.text.now.items shown_text c.loop-entry.text.items c.push_default_entry.new.text.items c.loop-entry.invariant c.in_err-push_default_entry.ensures.err in
+pub returns-in_err-push_default_entry : goal.returns-in_err-push_default_entry
+returns-in_err-push_default_entry g c =
+    let shown_text = flat_map (default_entry (g.N.Names.naming c.args.names.now)) (take c.loop-entry.entry-index c.args.entries.now) in
+    let begins = still_begins c.args.text.now.items shown_text c.loop-entry.text.items c.push_default_entry.new.text.items c.loop-entry.invariant c.in_err-push_default_entry.ensures in
     grind (arith, common_steps, begins)

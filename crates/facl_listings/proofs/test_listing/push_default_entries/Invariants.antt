@@ -4,4 +4,4 @@ use Rattle.facl_listings.specs.TestListing.{default_entry}
 use Rattle.facl_listings.proofs.test_listing.push_default_entries.Given as goal
 
 abbrev pub invariant-loop-entry : goal.invariant-loop-entry
-invariant-loop-entry g l = l.text.items ≡ l.initial.text.items ++ flat_map (default_entry (g.N.Names.user_name l.names) (g.N.Names.group_name l.names)) (take l.entry-index l.entries)
+invariant-loop-entry g l = l.text.items ≡ l.initial.text.items ++ flat_map (default_entry (g.N.Names.naming l.names)) (take l.entry-index l.entries)

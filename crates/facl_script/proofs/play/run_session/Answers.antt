@@ -4,9 +4,10 @@ use Rattle.std.proofs.lemmas.Result.{err_from_is_err_and}
 use Rattle.facl_script.specs.Source.{pending}
 use Rattle.facl_script.specs.Script.{script_left, next_number, is_over}
 use Rattle.facl_script.specs.Play.{quiet, joined}
+use Rattle.facl_script.specs.Streams.{streams, moment}
 use Rattle.facl_script.proofs.Progress.{Progress}
 use Rattle.facl_script.proofs.ProgressLemmas.{begins, goes_on}
-use Rattle.facl_script.proofs.RunEnds.{left_consumes, ends_here, at_end, reader_ended, not_over, stops_reading, fails_writing, none_of, not_end, not_full, Gives-joined, GivesAt, BreaksAt}
+use Rattle.facl_script.proofs.RunEnds.{left_consumes, ends_here, at_end, reader_ended, not_over, stops_reading, fails_writing, none_of, not_end, not_full, Gives-joined, GivesAt}
 use Rattle.facl_script.proofs.play.run_session.Goals as goal
 
 pub loop-script-init : goal.loop-script-init
@@ -35,8 +36,9 @@ returns-clause-ok g c =
     let same : is_over c.loop-script.script ≡ true → after ≡ before =
     λ e. ap (λ s. script_left s (g.R.Feed.remaining c.next_unit.new.reader)) (c.in_ok-unit.ensures.over e).1 ∙ ap (λ r. script_left c.loop-script.script (g.R.Feed.remaining r)) (c.in_ok-unit.ensures.over e).2 in
     let ended = at_end (is_over c.loop-script.script) before after (λ e. (same e, inv.last e)) (λ e. ((found e).0, (found e).1)) in
-    ends_here g.S.Session.asks g.S.Session.answered (g.S.Session.state c.args.session.now) (g.S.Session.state c.loop-script.session) (g.S.Session.spent c.args.session.now) (g.S.Session.spent c.loop-script.session) (g.R.Feed.remaining c.args.reader.now) before after
-    (g.O.Sink.contents c.args.out.now) (g.O.Sink.contents c.loop-script.out) (g.E.Sink.contents c.args.err.now) (g.E.Sink.contents c.loop-script.err)
+    let old = moment (g.S.Session.state c.args.session.now) (g.S.Session.spent c.args.session.now) (streams (g.O.Sink.contents c.args.out.now) (g.E.Sink.contents c.args.err.now)) in
+    let new = moment (g.S.Session.state c.loop-script.session) (g.S.Session.spent c.loop-script.session) (streams (g.O.Sink.contents c.loop-script.out) (g.E.Sink.contents c.loop-script.err)) in
+    ends_here g.S.Session.asks g.S.Session.answered old new (g.R.Feed.remaining c.args.reader.now) before after
     inv.taken (next_number c.loop-script.script) (is_over c.loop-script.script) inv.answer_so_far inv.progress inv.consumes ended.0 ended.1
     (omega (arith, inv.count, c.loop-script.script.source.within)) inv.gives c.loop-script.is_refused inv.refused
 
@@ -60,10 +62,11 @@ returns-in_err-unit-clause-fault g c =
     let number = next_number c.loop-script.script in
     let going = not_over (is_over c.loop-script.script) (λ e. let o = (c.in_err-unit.ensures.over e).0 in cc) in
     let progress = subst (λ (b : Bool). Progress g.S.Session.asks g.S.Session.answered start inv.taken number b inv.answer_so_far) going inv.progress in
+    let old = moment (g.S.Session.state c.args.session.now) (g.S.Session.spent c.args.session.now) (streams (g.O.Sink.contents c.args.out.now) (g.E.Sink.contents c.args.err.now)) in
+    let new = moment (g.S.Session.state c.loop-script.session) (g.S.Session.spent c.loop-script.session) (streams (g.O.Sink.contents c.loop-script.out) (g.E.Sink.contents c.loop-script.err)) in
     rw (p.1, p.2)
-    (stops_reading g.S.Session.asks g.S.Session.answered start (g.S.Session.state c.loop-script.session) (g.S.Session.spent c.args.session.now) (g.S.Session.spent c.loop-script.session) c.in_err-unit.field-0.0
+    (stops_reading g.S.Session.asks g.S.Session.answered old new c.in_err-unit.field-0.0
     (g.R.Feed.remaining c.args.reader.now) (script_left c.loop-script.script (g.R.Feed.remaining c.loop-script.reader)) (g.R.Feed.remaining c.next_unit.new.reader)
-    (g.O.Sink.contents c.args.out.now) (g.O.Sink.contents c.loop-script.out) (g.E.Sink.contents c.args.err.now) (g.E.Sink.contents c.loop-script.err)
     c.next_unit.new.self (g.R.Feed.has_failed c.next_unit.new.reader) inv.taken number inv.answer_so_far progress h.0 h.1 inv.consumes h.2 (omega (arith, h.3, inv.count)) inv.gives)
 
 pub answer_unit-requires-clause-ready : goal.answer_unit-requires-clause-ready
@@ -87,14 +90,12 @@ returns-in_err-is_refused-clause-fault g c =
     let before = script_left c.loop-script.script (g.R.Feed.remaining c.loop-script.reader) in
     let after = script_left c.next_unit.new.self (g.R.Feed.remaining c.next_unit.new.reader) in
     let a = g.R.Feed.remaining c.args.reader.now in
-    let h = subst (λ s. BreaksAt g.S.Session.answered unit s (g.S.Session.state c.answer_unit.new.session) (g.S.Session.spent c.loop-script.session) (g.S.Session.spent c.answer_unit.new.session) (g.O.Sink.contents c.loop-script.out) (g.O.Sink.contents c.answer_unit.new.out) (g.E.Sink.contents c.loop-script.err) (g.E.Sink.contents c.answer_unit.new.err)) inv.gives.state_is
-    (c.in_err-is_refused.ensures.part unit found.3) in
+    let old = moment (g.S.Session.state c.args.session.now) (g.S.Session.spent c.args.session.now) (streams (g.O.Sink.contents c.args.out.now) (g.E.Sink.contents c.args.err.now)) in
+    let now = moment (g.S.Session.state c.loop-script.session) (g.S.Session.spent c.loop-script.session) (streams (g.O.Sink.contents c.loop-script.out) (g.E.Sink.contents c.loop-script.err)) in
+    let new = moment (g.S.Session.state c.answer_unit.new.session) (g.S.Session.spent c.answer_unit.new.session) (streams (g.O.Sink.contents c.answer_unit.new.out) (g.E.Sink.contents c.answer_unit.new.err)) in
+    let h = c.in_err-is_refused.ensures.part unit found.3 in
     rw (p.1, p.2, c.in_err-is_refused.ensures.which)
-    (fails_writing g.S.Session.asks g.S.Session.answered start (g.S.Session.state c.loop-script.session) (g.S.Session.state c.answer_unit.new.session)
-    (g.S.Session.spent c.args.session.now) (g.S.Session.spent c.loop-script.session) (g.S.Session.spent c.answer_unit.new.session)
-    a (g.R.Feed.remaining c.next_unit.new.reader) c.next_unit.new.self
-    (g.O.Sink.contents c.args.out.now) (g.O.Sink.contents c.loop-script.out) (g.O.Sink.contents c.answer_unit.new.out)
-    (g.E.Sink.contents c.args.err.now) (g.E.Sink.contents c.loop-script.err) (g.E.Sink.contents c.answer_unit.new.err)
+    (fails_writing g.S.Session.asks g.S.Session.answered old now new a (g.R.Feed.remaining c.next_unit.new.reader) c.next_unit.new.self
     inv.taken number (next_number c.next_unit.new.self) inv.answer_so_far progress before _ _ piece unit found.2
     (Consumes-trans a before after inv.taken piece inv.consumes found.2.consumes) inv.gives h.0 h.1)
 
@@ -111,8 +112,10 @@ loop-script-preserved g c =
     let next = found.2 in
     let before = script_left c.loop-script.script (g.R.Feed.remaining c.loop-script.reader) in
     let after = script_left c.next_unit.new.self (g.R.Feed.remaining c.next_unit.new.reader) in
-    let h = subst (λ s. GivesAt g.S.Session.answered unit s (g.S.Session.state c.answer_unit.new.session) c.in_ok-is_refused.field-0 (g.S.Session.spent c.loop-script.session) (g.S.Session.spent c.answer_unit.new.session) (g.O.Sink.contents c.loop-script.out) (g.O.Sink.contents c.answer_unit.new.out) (g.E.Sink.contents c.loop-script.err) (g.E.Sink.contents c.answer_unit.new.err)) inv.gives.state_is
-    (c.in_ok-is_refused.ensures.ok unit found.3) in
+    let old = moment (g.S.Session.state c.args.session.now) (g.S.Session.spent c.args.session.now) (streams (g.O.Sink.contents c.args.out.now) (g.E.Sink.contents c.args.err.now)) in
+    let now = moment (g.S.Session.state c.loop-script.session) (g.S.Session.spent c.loop-script.session) (streams (g.O.Sink.contents c.loop-script.out) (g.E.Sink.contents c.loop-script.err)) in
+    let new = moment (g.S.Session.state c.answer_unit.new.session) (g.S.Session.spent c.answer_unit.new.session) (streams (g.O.Sink.contents c.answer_unit.new.out) (g.E.Sink.contents c.answer_unit.new.err)) in
+    let h = subst (λ s. GivesAt g.S.Session.answered unit s c.in_ok-is_refused.field-0 now new) inv.gives.state_is (c.in_ok-is_refused.ensures.ok unit found.3) in
     let ends : is_over c.next_unit.new.self ≡ not unit.is_full = (rw c.in-Some.is at c.in_ok-unit.ensures.ends) ∙ ap not (sym found.3.full) in
     let answer_so_far = joined inv.answer_so_far (g.S.Session.answered h.0 unit inv.answer_so_far.state) in
     record {
@@ -125,10 +128,7 @@ loop-script-preserved g c =
       consumes = Consumes-trans (g.R.Feed.remaining c.args.reader.now) before after inv.taken piece inv.consumes next.consumes;
       last = λ e. next.last (not_full unit.is_full (sym ends ∙ e));
       ready = c.answer_unit.ensures.ready (next_number c.next_unit.new.self) (omega (arith, found.3.number, next.numbered, next.grows)) (omega (arith, c.next_unit.new.self.counted, c.next_unit.new.self.source.within));
-      gives = Gives-joined inv.answer_so_far (g.S.Session.answered h.0 unit inv.answer_so_far.state) (g.S.Session.state c.loop-script.session) (g.S.Session.state c.answer_unit.new.session)
-          (g.S.Session.spent c.args.session.now) (g.S.Session.spent c.loop-script.session) (g.S.Session.spent c.answer_unit.new.session)
-          (g.O.Sink.contents c.args.out.now) (g.O.Sink.contents c.loop-script.out) (g.O.Sink.contents c.answer_unit.new.out)
-          (g.E.Sink.contents c.args.err.now) (g.E.Sink.contents c.loop-script.err) (g.E.Sink.contents c.answer_unit.new.err) inv.gives h.1;
+      gives = Gives-joined inv.answer_so_far (g.S.Session.answered h.0 unit inv.answer_so_far.state) old now new inv.gives h.1;
       refused = rw (inv.refused, h.2) refl;
       count = omega (arith, next.count, inv.count, length-append inv.taken piece);
       held = c.answer_unit.ensures.held ∙ inv.held;

@@ -7,6 +7,6 @@ use Rattle.facl.proofs.session.Facl.answer_line.Goals as goal
 
 pub returns-in-Err-clause-answer : goal.returns-in-Err-clause-answer
 returns-in-Err-clause-answer g c = λ u found.
-    let content = subst (λ r. Gives (λ words. map string_bytes words.items) r (words_of_line u.line)) c.in-Err.is (c.words_of_line.ensures u.line found.line_is) in
+    let content = subst (λ r. Gives (λ words. map string_bytes words.items) r (words_of_line u.line)) c.in-Err.is (c.words_of_line.ensures.words u.line found.line_is) in
     refused_line g.J.Judge.verdict_of u (ran_out_of_memory c.refuse.new.self) c.args.unit.now.number c.in-Err.fault (states_of c.args.self.now) c.refuse.new.self
     found.number c.refuse.ensures.memory content c.refuse.ensures.answer
