@@ -210,6 +210,18 @@ def chain(folder, directories):
     ]
 
 
+def in_the_way(folder, names):
+    """one path of so many names, of which no directory is recorded, and a file `!` beside each of them"""
+    write_people(folder)
+    beside = [b"/".join([b"a"] * k + [b"!"]) for k in range(1, names)]
+    deep = b"/".join([b"a"] * names)
+    write_text(folder, "dump", [record(b".", FOLDER), *map(record, beside), record(deep)])
+    return [
+        step("chmod", [b"chmod 600 " + deep, b"chmod 644 " + deep] * 5),
+        step("why --reach", [b"why --reach u2 " + deep] * 10),
+    ]
+
+
 def escaped_path(k):
     """A name of 20 bytes that are all escaped, as a text has it."""
     return b"".join((b"\\134", b"\\012")[k >> bit & 1] for bit in range(20))
@@ -421,6 +433,7 @@ SHAPES = [
     Shape(escaped_names, 100_000, 1_000_000),
     Shape(deep_path, 4_000, 32_000),
     Shape(chain, 2_000, 12_000, growth=2),
+    Shape(in_the_way, 2_000, 8_000, growth=2),
     Shape(everybody_everywhere, 16_384, 65_536),
     Shape(repeated_rows, 200_000, 4_000_000),
     Shape(groups_mentioned, 32_768, 65_536),

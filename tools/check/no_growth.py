@@ -34,6 +34,8 @@ CALLS = [
     "acl_entry::acl::Acl::set_mode_entries",
     "acl_entry::draft::Draft::finish",
     "acl_files::files::Files::get",
+    "acl_names::path::Path::is_below",
+    "acl_names::path::Path::is_within",
     "acl_names::path::Path::new",
     "acl_names::path::Path::order",
     "acl_people::group::Group::names_user",
@@ -45,7 +47,6 @@ CALLS = [
     "acl_verdicts::posix::PosixJudge::verdict",
     "facl::world::World::begin_again",
     "facl_words::text_words::is_text_word",
-    "path_map::below::is_within",
     "path_map::map::PathMap::from",
 ]
 ANSWER, COMMIT = "facl::session::Facl::", "acl_tree::staged::Staged::into_parts"
