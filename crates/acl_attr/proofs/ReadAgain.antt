@@ -14,8 +14,8 @@ use Rattle.std.specs.Cmp.{nat_cmp_is}
 use Rattle.acl_entry.specs.declared.entry.Entry.{Entry}
 use Rattle.acl_entry.specs.declared.entry.ListFault.{ListFault}
 use Rattle.acl_entry.specs.declared.entry.ListFault.TheVariants.{TooLong}
-use Rattle.acl_entry.specs.declared.key.Key.{Key}
-use Rattle.acl_entry.specs.declared.key.Key.TheVariants.{Owner, User, OwningGroup, Group, Mask, Other}
+use Rattle.acl_entry.specs.declared.entry.Key.{Key}
+use Rattle.acl_entry.specs.declared.entry.Key.TheVariants.{Owner, User, OwningGroup, Group, Mask, Other}
 use Rattle.acl_entry.specs.Ids.{nobody}
 use Rattle.acl_entry.specs.Keys.{key_cmp, rank, id_of}
 use Rattle.acl_entry.specs.Lists.{KeyMap, IsInOrder, IsValid, HasIds, keys, pairs, map_of, entries, fault, most_entries}

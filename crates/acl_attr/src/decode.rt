@@ -44,6 +44,7 @@ fn has_head(bytes: &[u8]) -> bool
     bytes.len() >= HEAD_BYTES && LittleEndian::read_u32(bytes) == VERSION
 }
 
+/// The fault of the entry at a place.
 fn bad_attr(at: usize) -> TextFault
     ensures { result ≡ bad_attr at }
 {

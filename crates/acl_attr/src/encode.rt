@@ -2,7 +2,6 @@
 
 ghost use Rattle.std.specs.Prelude.{◌≡◌, ◌++◌, IfOk, OnOk, Ok};
 ghost use Rattle.std.specs.List.{flat_map};
-ghost use Rattle.acl_entry.specs.Lists as lists;
 ghost use Rattle.acl_attr.specs.Attr.{entry_bytes, attr_bytes, attr_of};
 
 use crate::fields::{ENTRY_BYTES, HEAD_BYTES, VERSION, tag_of, written_id};
@@ -10,6 +9,7 @@ use acl_entry::{Acl, Entry};
 use byteorder::{ByteOrder, LittleEndian};
 use std::alloc::{AllocError, Global};
 
+/// The eight bytes of an entry.
 fn entry_bytes(entry: &Entry) -> [u8; ENTRY_BYTES]
     ensures { result ≡ entry_bytes entry.now }
 {
@@ -20,6 +20,7 @@ fn entry_bytes(entry: &Entry) -> [u8; ENTRY_BYTES]
     bytes
 }
 
+/// Adds the bytes of entries.
 fn push_entries(bytes: &mut Vec<u8>, entries: &[Entry]) -> Result<(), AllocError>
     ensures { OnOk result (bytes.new.items ≡ bytes.old.items ++ flat_map entry_bytes entries.now) }
 {

@@ -1,6 +1,6 @@
 //! The numbers of an attribute.
 
-ghost use Rattle.std.specs.Prelude.{◌≡◌, ◌<◌, ◌^◌, IfSome};
+ghost use Rattle.std.specs.Prelude.{◌≡◌, ◌<◌};
 ghost use Rattle.acl_attr.specs.Attr.{tag_of, key_of, written_id};
 
 use acl_entry::{Id, Key, NOBODY};

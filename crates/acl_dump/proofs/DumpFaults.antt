@@ -9,7 +9,7 @@ use Rattle.acl_syntax.specs.InTurn.{at_place, ◌>>=◌, or_fault}
 use Rattle.acl_names.specs.Paths.{path_of}
 use Rattle.acl_dump.specs.declared.record.DumpUse.{DumpUse}
 use Rattle.acl_dump.specs.declared.record.DumpRecord.{DumpRecord}
-use Rattle.acl_dump.specs.declared.draft.Draft.{Draft}
+use Rattle.acl_dump.specs.declared.draft.RecordDraft.{RecordDraft}
 use Rattle.acl_dump.specs.declared.item.Item.{Item}
 use Rattle.acl_dump.specs.declared.item.Item.TheVariants.{Owner, OwningGroup, Flags, Entry}
 use Rattle.acl_dump.specs.Groups.{in_turn, streamed}
@@ -20,16 +20,16 @@ use Rattle.acl_dump.proofs.Streams.{streamed_by_groups}
 use Rattle.acl_dump.proofs.FirstFaults.{InPiece, InWhole, InLater, cases_Result, reported_found, group_reported, later_reported}
 
 module _ (naming : Naming) where
-  abbrev line : Option Draft → Numbered → Result (Option Draft) TextFault
+  abbrev line : Option RecordDraft → Numbered → Result (Option RecordDraft) TextFault
   line draft l = line_in naming draft l
 
   -- before the first record there is no content
-  no_item : (at : ℕ) (r : Result (Option Item) FaultKind) (d : Option Draft) → at_place at (r >>= (λ item. add item None)) (λ new. Ok new) ≡ Ok d → d ≡ None
+  no_item : (at : ℕ) (r : Result (Option Item) FaultKind) (d : Option RecordDraft) → at_place at (r >>= (λ item. add item None)) (λ new. Ok new) ≡ Ok d → d ≡ None
   no_item at (Err kind) d e = absurd cc
   no_item at (Ok None) d e = cc
   no_item at (Ok (Some item)) d e = absurd cc
 
-  none_added : (ls : List Numbered) (d : Option Draft) → added naming None ls ≡ Ok d → d ≡ None
+  none_added : (ls : List Numbered) (d : Option RecordDraft) → added naming None ls ≡ Ok d → d ≡ None
   none_added [] d e = cc
   none_added (l ∷ ls) d e =
       elim (cases_Result (line None l)) [
@@ -40,15 +40,15 @@ module _ (naming : Naming) where
       ]
 
   -- the open record begins at this place
-  abbrev IsAtLine : ℕ → Option Draft → Type 0
+  abbrev IsAtLine : ℕ → Option RecordDraft → Type 0
   IsAtLine at None = Unit {0}
   IsAtLine at (Some d) = d.at ≡ at
 
-  headed_at : (at : ℕ) (b : Bool) (new : Draft) (d : Option Draft) → new.at ≡ at → ((if b then Ok new else Err BadHeader) >>= (λ x. Ok (Some x))) ≡ Ok d → IsAtLine at d
+  headed_at : (at : ℕ) (b : Bool) (new : RecordDraft) (d : Option RecordDraft) → new.at ≡ at → ((if b then Ok new else Err BadHeader) >>= (λ x. Ok (Some x))) ≡ Ok d → IsAtLine at d
   headed_at at true new d is e = let same : Some new ≡ d = cc in subst (IsAtLine at) same is
   headed_at at false new d is e = absurd cc
 
-  item_at : (at : ℕ) (item : Option Item) (old d : Option Draft) → IsAtLine at old → add item old ≡ Ok d → IsAtLine at d
+  item_at : (at : ℕ) (item : Option Item) (old d : Option RecordDraft) → IsAtLine at old → add item old ≡ Ok d → IsAtLine at d
   item_at at None old d is_at e = let same : old ≡ d = cc in subst (IsAtLine at) same is_at
   item_at at (Some x) None d is_at e = absurd cc
   item_at at (Some (Owner id)) (Some old) d is_at e = headed_at at (may_head old.owner old) (record old { owner = Some id }) d is_at e
@@ -57,17 +57,17 @@ module _ (naming : Naming) where
   item_at at (Some (Entry true entry)) (Some old) d is_at e = let same : Some (with_entry true entry old) ≡ d = cc in subst (IsAtLine at) same is_at
   item_at at (Some (Entry false entry)) (Some old) d is_at e = let same : Some (with_entry false entry old) ≡ d = cc in subst (IsAtLine at) same is_at
 
-  judged_at : (at n : ℕ) (r : Result (Option Item) FaultKind) (old d : Option Draft) → IsAtLine at old → at_place n (r >>= (λ item. add item old)) (λ new. Ok new) ≡ Ok d → IsAtLine at d
+  judged_at : (at n : ℕ) (r : Result (Option Item) FaultKind) (old d : Option RecordDraft) → IsAtLine at old → at_place n (r >>= (λ item. add item old)) (λ new. Ok new) ≡ Ok d → IsAtLine at d
   judged_at at n (Err kind) old d is_at e = absurd cc
   judged_at at n (Ok item) old d is_at e =
       elim (cases_Result (add item old)) [
         | inl fine ↦
-            let same : fine.0 ≡ d = cc (sym (ap (λ j. at_place n j (λ new. let r : Result (Option Draft) TextFault = Ok new in r)) fine.1) ∙ e) in
+            let same : fine.0 ≡ d = cc (sym (ap (λ j. at_place n j (λ new. let r : Result (Option RecordDraft) TextFault = Ok new in r)) fine.1) ∙ e) in
             subst (IsAtLine at) same (item_at at item old fine.0 is_at fine.1)
-        | inr bad ↦ absurd (cc (sym (ap (λ j. at_place n j (λ new. let r : Result (Option Draft) TextFault = Ok new in r)) bad.1) ∙ e))
+        | inr bad ↦ absurd (cc (sym (ap (λ j. at_place n j (λ new. let r : Result (Option RecordDraft) TextFault = Ok new in r)) bad.1) ∙ e))
       ]
 
-  added_at : (at : ℕ) (ls : List Numbered) (old d : Option Draft) → IsAtLine at old → added naming old ls ≡ Ok d → IsAtLine at d
+  added_at : (at : ℕ) (ls : List Numbered) (old d : Option RecordDraft) → IsAtLine at old → added naming old ls ≡ Ok d → IsAtLine at d
   added_at at [] old d is_at e = let same : old ≡ d = cc in subst (IsAtLine at) same is_at
   added_at at (l ∷ ls) old d is_at e =
       elim (cases_Result (line old l)) [
@@ -75,30 +75,30 @@ module _ (naming : Naming) where
         | inr bad ↦ absurd (cc (sym (ap (λ r. r >>= (λ more. in_turn line more ls)) bad.1) ∙ e))
       ]
 
-  abbrev draft_of : ℕ → List ℕ → List (List ℕ) → Draft
+  abbrev draft_of : ℕ → List ℕ → List (List ℕ) → RecordDraft
   draft_of at name path = record { at = at; path = path; slash = ends_in_slash name; owner = None; group = None; flags = None; access = []; dacl = [] }
 
-  abbrev new_draft : List DumpRecord → ℕ → List ℕ → List (List ℕ) → Result Draft FaultKind
+  abbrev new_draft : List DumpRecord → ℕ → List ℕ → List (List ℕ) → Result RecordDraft FaultKind
   new_draft records at name path = if is_repeated records path then Err RepeatedFile else Ok (draft_of at name path)
 
   module _ (dump_use : DumpUse) where
-    abbrev stream : List DumpRecord → Option Draft → List Numbered → Result (List DumpRecord) TextFault
+    abbrev stream : List DumpRecord → Option RecordDraft → List Numbered → Result (List DumpRecord) TextFault
     stream records draft ls = streamed begins open_record line (close dump_use) records draft ls
 
     by_stream : (ls : List Numbered) → stream [] None ls ≡ records_in naming dump_use ls
     by_stream ls = streamed_by_groups begins open_record line (close dump_use) [] None ls
 
-    of_piece : (draft : Option Draft) (ls : List Numbered) (fault : TextFault) → InPiece begins open_record line (close dump_use) draft ls fault → IsOfALine naming draft ls fault
+    of_piece : (draft : Option RecordDraft) (ls : List Numbered) (fault : TextFault) → InPiece begins open_record line (close dump_use) draft ls fault → IsOfALine naming draft ls fault
     of_piece draft ls fault w = record { before = w.before; line = w.piece; after = w.after; parts = w.parts; same_record = w.same_group; begins_none = w.begins_none; so_far = w.so_far; no_fault_before = w.no_fault_before; faulty = w.faulty }
 
-    to_piece : (draft : Option Draft) (ls : List Numbered) (fault : TextFault) → IsOfALine naming draft ls fault → InPiece begins open_record line (close dump_use) draft ls fault
+    to_piece : (draft : Option RecordDraft) (ls : List Numbered) (fault : TextFault) → IsOfALine naming draft ls fault → InPiece begins open_record line (close dump_use) draft ls fault
     to_piece draft ls fault w = record { before = w.before; piece = w.line; after = w.after; parts = w.parts; same_group = w.same_record; begins_none = w.begins_none; so_far = w.so_far; no_fault_before = w.no_fault_before; faulty = w.faulty }
 
     -- an open record keeps its place
-    opened_at : (records : List DumpRecord) (l : Numbered) (d : Option Draft) → open_record records l ≡ Ok d → IsAtLine l.0 d
+    opened_at : (records : List DumpRecord) (l : Numbered) (d : Option RecordDraft) → open_record records l ≡ Ok d → IsAtLine l.0 d
     opened_at records l d e = from_value (content_of l.1).1 d e
       where
-        from_path : (bytes : List ℕ) (o : Option (List (List ℕ))) (d : Option Draft) → at_place l.0 (or_fault o BadPath >>= new_draft records l.0 bytes) (λ draft. Ok (Some draft)) ≡ Ok d → IsAtLine l.0 d
+        from_path : (bytes : List ℕ) (o : Option (List (List ℕ))) (d : Option RecordDraft) → at_place l.0 (or_fault o BadPath >>= new_draft records l.0 bytes) (λ draft. Ok (Some draft)) ≡ Ok d → IsAtLine l.0 d
         from_path bytes None d e = absurd cc
         from_path bytes (Some path) d e = by (is_repeated records path) e
           where
@@ -106,11 +106,11 @@ module _ (naming : Naming) where
             by true e = absurd cc
             by false e = let same : Some (draft_of l.0 bytes path) ≡ d = cc in subst (IsAtLine l.0) same refl
 
-        from_value : (value : List ℕ) (d : Option Draft) → at_place l.0 (opened_draft records l.0 value) (λ draft. Ok (Some draft)) ≡ Ok d → IsAtLine l.0 d
+        from_value : (value : List ℕ) (d : Option RecordDraft) → at_place l.0 (opened_draft records l.0 value) (λ draft. Ok (Some draft)) ≡ Ok d → IsAtLine l.0 d
         from_value [] d e = absurd cc
         from_value (b ∷ bs) d e = from_path (b ∷ bs) (path_of (b ∷ bs)) d e
 
-    whole_at : (at : ℕ) (records : List DumpRecord) (d : Option Draft) (fault : TextFault) → IsAtLine at d → close dump_use records d ≡ Err fault → fault.at ≡ at
+    whole_at : (at : ℕ) (records : List DumpRecord) (d : Option RecordDraft) (fault : TextFault) → IsAtLine at d → close dump_use records d ≡ Err fault → fault.at ≡ at
     whole_at at records None fault is_at e = absurd cc
     whole_at at records (Some d) fault is_at e = by (record_of dump_use d) e ∙ is_at
       where
@@ -118,7 +118,7 @@ module _ (naming : Naming) where
         by (Ok x) e = absurd cc
         by (Err kind) e = let same : record { kind = kind; at = d.at } ≡ fault = cc in sym (ap (λ (f : TextFault). f.at) same)
 
-    of_group : (at : ℕ) (records : List DumpRecord) (draft : Option Draft) (ls : List Numbered) (fault : TextFault) → IsAtLine at draft
+    of_group : (at : ℕ) (records : List DumpRecord) (draft : Option RecordDraft) (ls : List Numbered) (fault : TextFault) → IsAtLine at draft
         → InPiece begins open_record line (close dump_use) draft ls fault ⊎ InWhole begins open_record line (close dump_use) records draft ls fault → IsOfTheRecord naming dump_use at records draft ls fault
     of_group at records draft ls fault is_at found =
         elim found [
@@ -126,7 +126,7 @@ module _ (naming : Naming) where
           | inr w ↦ inr (record { place = whole_at at records w.so_far fault (added_at at w.others draft w.so_far is_at w.no_faulty_piece) w.faulty; others = w.others; after = w.after; parts = w.parts; same_record = w.same_group; ended = w.ends; so_far = w.so_far; no_faulty_line = w.no_faulty_piece; faulty = w.faulty })
         ]
 
-    to_group : (at : ℕ) (records : List DumpRecord) (draft : Option Draft) (ls : List Numbered) (fault : TextFault)
+    to_group : (at : ℕ) (records : List DumpRecord) (draft : Option RecordDraft) (ls : List Numbered) (fault : TextFault)
         → IsOfTheRecord naming dump_use at records draft ls fault → InPiece begins open_record line (close dump_use) draft ls fault ⊎ InWhole begins open_record line (close dump_use) records draft ls fault
     to_group at records draft ls fault found =
         elim found [

@@ -19,7 +19,7 @@ use Rattle.acl_syntax.specs.Lowest.{number, ReportsLowest, EntryHas}
 use Rattle.acl_syntax.proofs.Lowest.{alone, in_turn, made, or_fault-kind, fields-kind, entry_lowest}
 use Rattle.acl_dump.specs.declared.line.LineKind.{LineKind}
 use Rattle.acl_dump.specs.declared.line.LineKind.TheVariants.{Nothing, File, Owner, OwningGroup, Flags, Entry}
-use Rattle.acl_dump.specs.declared.draft.Draft.{Draft}
+use Rattle.acl_dump.specs.declared.draft.RecordDraft.{RecordDraft}
 use Rattle.acl_dump.specs.declared.record.DumpRecord.{DumpRecord}
 use Rattle.acl_dump.specs.declared.item.Item.{Item}
 use Rattle.acl_dump.specs.declared.item.Item.TheVariants as item
@@ -86,7 +86,7 @@ of_repeated (r ∷ rs) path h =
     ]
 
 module _ (records : List DumpRecord) (at : ℕ) where
-  abbrev opened_with : List ℕ → List (List ℕ) → Draft
+  abbrev opened_with : List ℕ → List (List ℕ) → RecordDraft
   opened_with value path = record { at = at; path = path; slash = ends_in_slash value; owner = None; group = None; flags = None; access = []; dacl = [] }
 
   no_path_check : (value : List ℕ) → ReportsLowest (IsNoPath records value) (or_fault (path_of value) kinds.BadPath)
@@ -95,7 +95,7 @@ module _ (records : List DumpRecord) (at : ℕ) where
       (λ k h. ap (λ o. or_fault o kinds.BadPath) h.no_path ∙ ap (λ j. Err j) (sym h.is))
       (λ k e. record { is = sym (or_fault-kind (path_of value) kinds.BadPath k e); no_path = or_fault-none (path_of value) kinds.BadPath k e })
 
-  new_check : (value : List ℕ) (path : List (List ℕ)) (draft : Draft) → path_of value ≡ Some path → ReportsLowest (IsOfAnEarlier records value) (if is_repeated records path then Err kinds.RepeatedFile else Ok draft)
+  new_check : (value : List ℕ) (path : List (List ℕ)) (draft : RecordDraft) → path_of value ≡ Some path → ReportsLowest (IsOfAnEarlier records value) (if is_repeated records path then Err kinds.RepeatedFile else Ok draft)
   new_check value path draft is_path =
       alone (IsOfAnEarlier records value) (if is_repeated records path then Err kinds.RepeatedFile else Ok draft)
       (λ k h.
@@ -146,7 +146,7 @@ module _ (records : List DumpRecord) (at : ℕ) where
 -- ---- any other line
 
 -- content that comes late
-abbrev late : Option Item → Draft → Bool
+abbrev late : Option Item → RecordDraft → Bool
 late None draft = false
 late (Some (item.Owner id)) draft = not (may_head draft.owner draft)
 late (Some (item.OwningGroup id)) draft = not (may_head draft.group draft)
@@ -156,7 +156,7 @@ late (Some (item.Entry dflt entry)) draft = false
 -- the content of a line of a kind
 record IsOfKind (kind : LineKind) (s : Option Item) : Type 0 where
   lone : is_some s ≡ belongs kind
-  late_is : (draft : Draft) → late s draft ≡ is_late kind draft
+  late_is : (draft : RecordDraft) → late s draft ≡ is_late kind draft
 
 reads_of_kind : {A : Type 0} (r : Result A FaultKind) (item_from : A → Item) (kind : LineKind) (s : Option Item) → ((x : A) → IsOfKind kind (Some (item_from x))) → (r >>= (λ x. Ok (Some (item_from x)))) ≡ Ok s → IsOfKind kind s
 reads_of_kind (Ok x) item_from kind s is e = let same : Some (item_from x) ≡ s = cc in rw (← same) (is x)
@@ -196,22 +196,22 @@ module _ (naming : Naming) (at : ℕ) where
 
 -- ---- the place of a line
 
-refused : (b : Bool) (draft new : Draft) → not b ≡ true → ((if b then Ok new else Err kinds.BadHeader) >>= (λ d. Ok (Some d))) ≡ Err kinds.BadHeader
+refused : (b : Bool) (draft new : RecordDraft) → not b ≡ true → ((if b then Ok new else Err kinds.BadHeader) >>= (λ d. Ok (Some d))) ≡ Err kinds.BadHeader
 refused true draft new is = absurd cc
 refused false draft new is = refl
 
-not_late : (b : Bool) (draft new : Draft) (k : FaultKind) → ((if b then Ok new else Err kinds.BadHeader) >>= (λ d. Ok (Some d))) ≡ Err k → (k ≡ kinds.BadHeader) × (not b ≡ true)
+not_late : (b : Bool) (draft new : RecordDraft) (k : FaultKind) → ((if b then Ok new else Err kinds.BadHeader) >>= (λ d. Ok (Some d))) ≡ Err k → (k ≡ kinds.BadHeader) × (not b ≡ true)
 not_late true draft new k e = absurd cc
 not_late false draft new k e = (cc, refl)
 
-is_refused : (s : Option Item) (draft : Draft) → late s draft ≡ true → add s (Some draft) ≡ Err kinds.BadHeader
+is_refused : (s : Option Item) (draft : RecordDraft) → late s draft ≡ true → add s (Some draft) ≡ Err kinds.BadHeader
 is_refused None draft is = absurd cc
 is_refused (Some (item.Owner id)) draft is = refused (may_head draft.owner draft) draft _ is
 is_refused (Some (item.OwningGroup id)) draft is = refused (may_head draft.group draft) draft _ is
 is_refused (Some (item.Flags flags)) draft is = refused (may_head draft.flags draft) draft _ is
 is_refused (Some (item.Entry dflt entry)) draft is = absurd cc
 
-is_late_where : (s : Option Item) (draft : Draft) (k : FaultKind) → add s (Some draft) ≡ Err k → (k ≡ kinds.BadHeader) × (late s draft ≡ true)
+is_late_where : (s : Option Item) (draft : RecordDraft) (k : FaultKind) → add s (Some draft) ≡ Err k → (k ≡ kinds.BadHeader) × (late s draft ≡ true)
 is_late_where None draft k e = absurd cc
 is_late_where (Some (item.Owner id)) draft k e = not_late (may_head draft.owner draft) draft _ k e
 is_late_where (Some (item.OwningGroup id)) draft k e = not_late (may_head draft.group draft) draft _ k e
@@ -226,7 +226,7 @@ none_where : (s : Option Item) (k : FaultKind) → add s None ≡ Err k → (k �
 none_where None k e = absurd cc
 none_where (Some x) k e = (cc, refl)
 
-module _ (naming : Naming) (draft : Option Draft) (l : Numbered) where
+module _ (naming : Naming) (draft : Option RecordDraft) (l : Numbered) where
   abbrev kind_of : LineKind
   kind_of = (content_of l.1).0
 
@@ -240,7 +240,7 @@ module _ (naming : Naming) (draft : Option Draft) (l : Numbered) where
         | inr h ↦ ap (add s) h.opened_draft ∙ (is_refused s h.so_far (is.late_is h.so_far ∙ h.late) ∙ ap (λ j. Err j) (sym h.is))
       ]
 
-  applies_to : (s : Option Item) → IsOfKind kind_of s → (d : Option Draft) → draft ≡ d → (k : FaultKind) → add s d ≡ Err k → Misplaced k
+  applies_to : (s : Option Item) → IsOfKind kind_of s → (d : Option RecordDraft) → draft ≡ d → (k : FaultKind) → add s d ≡ Err k → Misplaced k
   applies_to s is None none k e = let w = none_where s k e in inl (record { is = w.0; none = none; lone = sym is.lone ∙ w.1 })
   applies_to s is (Some d) opened_draft k e = let w = is_late_where s d k e in inr (record { is = w.0; so_far = d; opened_draft = opened_draft; late = sym (is.late_is d) ∙ w.1 })
 

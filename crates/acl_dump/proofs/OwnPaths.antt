@@ -11,7 +11,7 @@ use Rattle.acl_syntax.specs.declared.fault.FaultKind.TheVariants.{BadHeader, Bad
 use Rattle.acl_syntax.specs.declared.fault.TextFault.{TextFault}
 use Rattle.acl_syntax.specs.declared.fault.Which.TheVariants.{Access}
 use Rattle.acl_syntax.specs.InTurn.{at_place, ◌>>=◌, or_fault, Gives}
-use Rattle.acl_dump.specs.declared.draft.Draft.{Draft}
+use Rattle.acl_dump.specs.declared.draft.RecordDraft.{RecordDraft}
 use Rattle.acl_dump.specs.declared.record.DumpRecord.{DumpRecord}
 use Rattle.acl_dump.specs.declared.record.DumpUse.{DumpUse}
 use Rattle.acl_dump.specs.declared.item.Item.{Item}
@@ -81,25 +81,25 @@ one_more (s ∷ rs) r apart fresh =
 
 -- ---- the open record
 
-abbrev pub Fresh : List DumpRecord → Option Draft → Type 0
+abbrev pub Fresh : List DumpRecord → Option RecordDraft → Type 0
 Fresh records None = Unit {0}
 Fresh records (Some draft) = is_repeated records draft.path ≡ false
 
-abbrev Keeps : Draft → Draft → Type 0
+abbrev Keeps : RecordDraft → RecordDraft → Type 0
 Keeps old new = new.path ≡ old.path
 
-with_item_keeps : (s : Item) (draft : Draft) → IfOk (with_item s draft) (Keeps draft)
+with_item_keeps : (s : Item) (draft : RecordDraft) → IfOk (with_item s draft) (Keeps draft)
 with_item_keeps (item.Owner id) draft = elim (may_head draft.owner draft) as (λ b. IfOk (cond b (Ok (record draft { owner = Some id })) (Err BadHeader)) (Keeps draft)) [ true ↦ refl | false ↦ tt ]
 with_item_keeps (item.OwningGroup id) draft = elim (may_head draft.group draft) as (λ b. IfOk (cond b (Ok (record draft { group = Some id })) (Err BadHeader)) (Keeps draft)) [ true ↦ refl | false ↦ tt ]
 with_item_keeps (item.Flags flags) draft = elim (may_head draft.flags draft) as (λ b. IfOk (cond b (Ok (record draft { flags = Some flags })) (Err BadHeader)) (Keeps draft)) [ true ↦ refl | false ↦ tt ]
 with_item_keeps (item.Entry true entry) draft = refl
 with_item_keeps (item.Entry false entry) draft = refl
 
-fresh_by : (records : List DumpRecord) (draft : Draft) (r : Result Draft FaultKind) → is_repeated records draft.path ≡ false → IfOk r (Keeps draft) → IfOk (r >>= λ new. Ok (Some new)) (Fresh records)
+fresh_by : (records : List DumpRecord) (draft : RecordDraft) (r : Result RecordDraft FaultKind) → is_repeated records draft.path ≡ false → IfOk r (Keeps draft) → IfOk (r >>= λ new. Ok (Some new)) (Fresh records)
 fresh_by records draft (Ok new) fresh keeps = ap (λ p. is_repeated records p) keeps ∙ fresh
 fresh_by records draft (Err kind) fresh keeps = tt
 
-add_fresh : (records : List DumpRecord) (s : Option Item) (draft : Option Draft) → Fresh records draft → IfOk (add s draft) (Fresh records)
+add_fresh : (records : List DumpRecord) (s : Option Item) (draft : Option RecordDraft) → Fresh records draft → IfOk (add s draft) (Fresh records)
 add_fresh records None draft fresh = fresh
 add_fresh records (Some s) None fresh = tt
 add_fresh records (Some s) (Some draft) fresh = fresh_by records draft (with_item s draft) fresh (with_item_keeps s draft)
@@ -108,7 +108,7 @@ opened_fresh : (records : List DumpRecord) (at : ℕ) (value : List ℕ) → IfO
 opened_fresh records at [] = tt
 opened_fresh records at (b ∷ bs) = by_path (path_of (b ∷ bs))
   where
-    draft_of : List (List ℕ) → Draft
+    draft_of : List (List ℕ) → RecordDraft
     draft_of path = record { at = at; path = path; slash = ends_in_slash (b ∷ bs); owner = None; group = None; flags = None; access = []; dacl = [] }
 
     by_test : (path : List (List ℕ)) (t : Bool) → is_repeated records path ≡ t → IfOk (cond t (Err RepeatedFile) (Ok (draft_of path))) (λ draft. is_repeated records draft.path ≡ false)
@@ -124,18 +124,18 @@ open_fresh records l = at_place_ok l.0 (opened_draft records l.0 (content_of l.1
 
 -- ---- a record as a whole
 
-whole_keeps : (draft : Draft) → IfOk (whole draft) (λ r. r.path ≡ draft.path)
+whole_keeps : (draft : RecordDraft) → IfOk (whole draft) (λ r. r.path ≡ draft.path)
 whole_keeps draft =
     bind_ok (list_of Access draft.access) _ (λ (r : DumpRecord). r.path ≡ draft.path) (λ access.
     bind_ok (default_list_of draft.dacl) _ (λ (r : DumpRecord). r.path ≡ draft.path) (λ dacl. refl))
 
-record_keeps : (dump_use : DumpUse) (draft : Draft) → IfOk (record_of dump_use draft) (λ r. r.path ≡ draft.path)
+record_keeps : (dump_use : DumpUse) (draft : RecordDraft) → IfOk (record_of dump_use draft) (λ r. r.path ≡ draft.path)
 record_keeps dump_use draft = elim (has_headers dump_use draft) as (λ b. IfOk (cond b (whole draft) (Err MissingHeader)) (λ r. r.path ≡ draft.path)) [ true ↦ whole_keeps draft | false ↦ tt ]
 
 abbrev Apart : List DumpRecord → Type 0
 Apart records = have_own_paths records ≡ true
 
-close_apart : (dump_use : DumpUse) (records : List DumpRecord) (draft : Option Draft) → Apart records → Fresh records draft → IfOk (close dump_use records draft) Apart
+close_apart : (dump_use : DumpUse) (records : List DumpRecord) (draft : Option RecordDraft) → Apart records → Fresh records draft → IfOk (close dump_use records draft) Apart
 close_apart dump_use records None apart fresh = apart
 close_apart dump_use records (Some draft) apart fresh =
     at_place_ok draft.at (record_of dump_use draft) (λ r. Ok (records ++ r ∷ [])) (λ r. r.path ≡ draft.path) Apart (record_keeps dump_use draft) (λ r same. one_more records r apart (ap (λ p. is_repeated records p) same ∙ fresh))
@@ -143,23 +143,23 @@ close_apart dump_use records (Some draft) apart fresh =
 -- ---- the whole dump
 
 module _ (naming : Naming) (dump_use : DumpUse) where
-  line_fresh : (records : List DumpRecord) (draft : Option Draft) (l : Numbered) → Fresh records draft → IfOk (line_in naming draft l) (Fresh records)
+  line_fresh : (records : List DumpRecord) (draft : Option RecordDraft) (l : Numbered) → Fresh records draft → IfOk (line_in naming draft l) (Fresh records)
   line_fresh records draft l fresh =
       at_place_ok l.0 (judged naming draft l) (λ new. Ok new) (Fresh records) (Fresh records)
       (bind_ok (item_of naming l.0 (content_of l.1).0 (content_of l.1).1) (λ s. add s draft) (Fresh records) (λ s. add_fresh records s draft fresh))
       (λ new fresh. fresh)
 
-  abbrev Good : List DumpRecord × Option Draft → Type 0
+  abbrev Good : List DumpRecord × Option RecordDraft → Type 0
   Good s = Apart s.0 × Fresh s.0 s.1
 
-  stepped_good : (records : List DumpRecord) (draft : Option Draft) (l : Numbered) → Apart records → Fresh records draft
+  stepped_good : (records : List DumpRecord) (draft : Option RecordDraft) (l : Numbered) → Apart records → Fresh records draft
       → (b : Bool) → IfOk (cond b (close dump_use records draft >>= (λ more. open_record more l >>= (λ new. Ok (more, new)))) (line_in naming draft l >>= (λ more. Ok (records, more)))) Good
   stepped_good records draft l apart fresh true =
       next_ok (close dump_use records draft) _ Apart Good (close_apart dump_use records draft apart fresh) (λ more are.
       next_ok (open_record more l) _ (Fresh more) Good (open_fresh more l) (λ new is. (are, is)))
   stepped_good records draft l apart fresh false = next_ok (line_in naming draft l) _ (Fresh records) Good (line_fresh records draft l fresh) (λ more is. (apart, is))
 
-  stream_apart : (records : List DumpRecord) (draft : Option Draft) (lines : List Numbered) → Apart records → Fresh records draft → IfOk (dump_stream naming dump_use records draft lines) Apart
+  stream_apart : (records : List DumpRecord) (draft : Option RecordDraft) (lines : List Numbered) → Apart records → Fresh records draft → IfOk (dump_stream naming dump_use records draft lines) Apart
   stream_apart records draft [] apart fresh = close_apart dump_use records draft apart fresh
   stream_apart records draft (l ∷ ls) apart fresh =
       next_ok _ (λ s. dump_stream naming dump_use s.0 s.1 ls) Good Apart (stepped_good records draft l apart fresh (begins l)) (λ s good. stream_apart s.0 s.1 ls good.0 good.1)

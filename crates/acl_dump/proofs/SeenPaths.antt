@@ -11,7 +11,7 @@ use Rattle.acl_names.proofs.PathOrder.{slice_cmp_on}
 use Rattle.acl_dump.specs.declared.record.DumpRecord.{DumpRecord}
 use Rattle.acl_dump.specs.declared.seen.Seen.{Seen}
 use Rattle.acl_dump.specs.Records.{same_path, is_repeated}
-use Rattle.acl_dump.specs.Seen.{has_path, SeenAre}
+use Rattle.acl_dump.specs.Seen.{has_path, SeenPathsAre}
 
 -- an order of components is path order of their bytes
 pub by_bytes : {V : Type 0} (f : V → List ℕ) (a b : List V) → slice_cmp (λ x y. slice_cmp nat_cmp (f x) (f y)) a b ≡ path_cmp (map f a) (map f b)
@@ -53,7 +53,7 @@ turned false true = refl
 turned false false = refl
 
 -- the paths of the records with one more
-pub seen_more : (old new : Seen) (records : List DumpRecord) (r : DumpRecord) → SeenAre (Some old) records → ((other : List (List ℕ)) → has_path new other ≡ (same_path other r.path || has_path old other)) → SeenAre (Some new) (records ++ r ∷ [])
+pub seen_more : (old new : Seen) (records : List DumpRecord) (r : DumpRecord) → SeenPathsAre (Some old) records → ((other : List (List ℕ)) → has_path new other ≡ (same_path other r.path || has_path old other)) → SeenPathsAre (Some new) (records ++ r ∷ [])
 seen_more old new records r are more path =
     more path
     ∙ ap (λ b. same_path path r.path || b) (are path)

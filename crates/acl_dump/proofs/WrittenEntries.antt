@@ -5,8 +5,8 @@ use Rattle.std.specs.List.{list_all, before_first, position_or_len, AllByRecursi
 use Rattle.std.proofs.lemmas.Bool.{cases_Bool, eqb-true}
 use Rattle.std.proofs.lemmas.List.{reverse-append}
 use Rattle.acl_entry.specs.declared.entry.Entry.{Entry}
-use Rattle.acl_entry.specs.declared.key.Key.{Key}
-use Rattle.acl_entry.specs.declared.key.Key.TheVariants as keys
+use Rattle.acl_entry.specs.declared.entry.Key.{Key}
+use Rattle.acl_entry.specs.declared.entry.Key.TheVariants as keys
 use Rattle.acl_entry.specs.Ids.{nobody}
 use Rattle.acl_entry.specs.Keys.{id_of, is_class}
 use Rattle.acl_entry.specs.Perms as perms
@@ -17,7 +17,7 @@ use Rattle.acl_syntax.specs.declared.fault.FaultKind.{FaultKind}
 use Rattle.acl_syntax.specs.declared.fault.FaultKind.TheVariants.{BadTag}
 use Rattle.acl_syntax.specs.declared.fault.Which.{Which}
 use Rattle.acl_syntax.specs.declared.fault.Which.TheVariants.{Access, Default}
-use Rattle.acl_syntax.specs.declared.form.Form.TheVariants.{Long}
+use Rattle.acl_syntax.specs.declared.entries.Form.TheVariants.{Long}
 use Rattle.acl_syntax.specs.declared.entries.Sep.TheVariants.{Line}
 use Rattle.acl_syntax.specs.declared.entries.PermSpec.{PermSpec}
 use Rattle.acl_syntax.specs.declared.entries.Spec.{Spec}

@@ -6,7 +6,7 @@ use Rattle.std.specs.FinMap as maps
 use Rattle.std.proofs.lemmas.List.{append-nil, map-append}
 use Rattle.std.proofs.lemmas.List.Elements.{recursion_from_All}
 use Rattle.acl_entry.specs.declared.entry.Entry.{Entry}
-use Rattle.acl_entry.specs.declared.key.Key.TheVariants.{Mask}
+use Rattle.acl_entry.specs.declared.entry.Key.TheVariants.{Mask}
 use Rattle.acl_entry.specs.Ids.{nobody}
 use Rattle.acl_entry.specs.Keys.{id_of}
 use Rattle.acl_entry.specs.Lists.{KeyMap, entries, fault, IsValid}
@@ -30,7 +30,7 @@ use Rattle.acl_dump.specs.declared.line.LineKind.TheVariants as lines
 use Rattle.acl_dump.specs.declared.record.DumpUse.{DumpUse}
 use Rattle.acl_dump.specs.declared.record.DumpUse.TheVariants.{Load, Restore}
 use Rattle.acl_dump.specs.declared.record.DumpRecord.{DumpRecord}
-use Rattle.acl_dump.specs.declared.draft.Draft.{Draft}
+use Rattle.acl_dump.specs.declared.draft.RecordDraft.{RecordDraft}
 use Rattle.acl_dump.specs.declared.effective.Effective.TheVariants.{WhereMasked}
 use Rattle.acl_dump.specs.declared.item.Item.{Item}
 use Rattle.acl_dump.specs.declared.item.Item.TheVariants as item
@@ -56,7 +56,7 @@ default_entries None = []
 default_entries (Some acl) = entries acl
 
 -- a record with all its lines
-abbrev all_lines : ℕ → DumpRecord → Draft
+abbrev all_lines : ℕ → DumpRecord → RecordDraft
 all_lines at r = record { at = at; path = r.path; slash = r.slash; owner = r.owner; group = r.group; flags = r.flags; access = entries r.access; dacl = default_entries r.dacl }
 
 five : (a b c d e f rest : List ℕ) → ((a ++ (b ++ (c ++ d))) ++ (e ++ (f ++ 10 ∷ []))) ++ rest ≡ a ++ (b ++ (c ++ (d ++ (e ++ (f ++ 10 ∷ rest)))))
@@ -85,53 +85,53 @@ module _ (dump_use : DumpUse) (naming : Naming) where
 
   -- ---- lines
 
-  abbrev reading : List DumpRecord → Option Draft → ℕ → List ℕ → Result (List DumpRecord) TextFault
+  abbrev reading : List DumpRecord → Option RecordDraft → ℕ → List ℕ → Result (List DumpRecord) TextFault
   reading records draft at bytes = dump_stream naming dump_use records draft (enumerate_from at (pieces 10 bytes))
 
-  abbrev step : List DumpRecord → Option Draft → ℕ → LineKind × List ℕ → Result (List DumpRecord × Option Draft) TextFault
+  abbrev step : List DumpRecord → Option RecordDraft → ℕ → LineKind × List ℕ → Result (List DumpRecord × Option RecordDraft) TextFault
   step records draft at c =
       cond (begins_record c.0) (close dump_use records draft >>= (λ more. at_place at (opened_draft more at c.1) (λ d. Ok (Some d)) >>= (λ new. Ok (more, new))))
       ((at_place at (item_of naming at c.0 c.1 >>= (λ item. add item draft)) (λ new. Ok new)) >>= (λ more. Ok (records, more)))
 
-  cut : (records : List DumpRecord) (draft : Option Draft) (at : ℕ) (line rest : List ℕ) (c : LineKind × List ℕ) → AllByRecursion (λ b. (b == 10) ≡ false) line → content_of line ≡ c
+  cut : (records : List DumpRecord) (draft : Option RecordDraft) (at : ℕ) (line rest : List ℕ) (c : LineKind × List ℕ) → AllByRecursion (λ b. (b == 10) ≡ false) line → content_of line ≡ c
       → reading records draft at (line ++ 10 ∷ rest) ≡ (step records draft at c >>= (λ s. reading s.0 s.1 (at + 1) rest))
   cut records draft at line rest c clean is =
       ap (λ ps. dump_stream naming dump_use records draft (enumerate_from at ps)) (pieces_at 10 line rest clean)
       ∙ ap (λ k. step records draft at k >>= (λ s. reading s.0 s.1 (at + 1) rest)) is
 
   -- a line that adds to the open record
-  pub read_one_item : (records : List DumpRecord) (draft new : Option Draft) (at : ℕ) (line rest : List ℕ) (k : LineKind) (v : List ℕ) (s : Option Item) → AllByRecursion (λ b. (b == 10) ≡ false) line → content_of line ≡ (k, v)
+  pub read_one_item : (records : List DumpRecord) (draft new : Option RecordDraft) (at : ℕ) (line rest : List ℕ) (k : LineKind) (v : List ℕ) (s : Option Item) → AllByRecursion (λ b. (b == 10) ≡ false) line → content_of line ≡ (k, v)
       → begins_record k ≡ false → item_of naming at k v ≡ Ok s → add s draft ≡ Ok new → reading records draft at (line ++ 10 ∷ rest) ≡ reading records new (at + 1) rest
   read_one_item records draft new at line rest k v s clean is other reads_as adds =
-      let on = λ (r : Result (List DumpRecord × Option Draft) TextFault). (r >>= (λ s. reading s.0 s.1 (at + 1) rest)) in
+      let on = λ (r : Result (List DumpRecord × Option RecordDraft) TextFault). (r >>= (λ s. reading s.0 s.1 (at + 1) rest)) in
       cut records draft at line rest (k, v) clean is
       ∙ (ap (λ b. on (cond b (close dump_use records draft >>= (λ more. at_place at (opened_draft more at v) (λ d. Ok (Some d)) >>= (λ new. Ok (more, new)))) ((at_place at (item_of naming at k v >>= (λ item. add item draft)) (λ new. Ok new)) >>= (λ more. Ok (records, more))))) other
       ∙ (ap (λ r. on ((at_place at (r >>= (λ item. add item draft)) (λ new. Ok new)) >>= (λ more. Ok (records, more)))) reads_as
       ∙ ap (λ r. on (at_place at r (λ new. Ok new) >>= (λ more. Ok (records, more)))) adds))
 
   -- a line that begins a record
-  pub opened : (records more : List DumpRecord) (draft : Option Draft) (new : Draft) (at : ℕ) (line rest v : List ℕ) → AllByRecursion (λ b. (b == 10) ≡ false) line → content_of line ≡ (lines.File, v)
+  pub opened : (records more : List DumpRecord) (draft : Option RecordDraft) (new : RecordDraft) (at : ℕ) (line rest v : List ℕ) → AllByRecursion (λ b. (b == 10) ≡ false) line → content_of line ≡ (lines.File, v)
       → close dump_use records draft ≡ Ok more → opened_draft more at v ≡ Ok new → reading records draft at (line ++ 10 ∷ rest) ≡ reading more (Some new) (at + 1) rest
   opened records more draft new at line rest v clean is closes begins =
-      let on = λ (r : Result (List DumpRecord × Option Draft) TextFault). (r >>= (λ s. reading s.0 s.1 (at + 1) rest)) in
+      let on = λ (r : Result (List DumpRecord × Option RecordDraft) TextFault). (r >>= (λ s. reading s.0 s.1 (at + 1) rest)) in
       cut records draft at line rest (lines.File, v) clean is
       ∙ (ap (λ r. on (r >>= (λ more. at_place at (opened_draft more at v) (λ d. Ok (Some d)) >>= (λ new. Ok (more, new))))) closes
       ∙ ap (λ r. on (at_place at r (λ d. Ok (Some d)) >>= (λ new. Ok (more, new)))) begins)
 
   -- ---- headers
 
-  abbrev drafted : ℕ → DumpRecord → Option ℕ → Option ℕ → Option (List Bool) → List Entry → List Entry → Option Draft
+  abbrev drafted : ℕ → DumpRecord → Option ℕ → Option ℕ → Option (List Bool) → List Entry → List Entry → Option RecordDraft
   drafted at r owner group flags access dacl = Some (record { at = at; path = r.path; slash = r.slash; owner = owner; group = group; flags = flags; access = access; dacl = dacl })
 
   opened_from : (records : List DumpRecord) (at : ℕ) (r : DumpRecord) (name : List ℕ) → 0 < length name → path_of name ≡ Some r.path → ends_in_slash name ≡ r.slash → is_repeated records r.path ≡ false
       → opened_draft records at name ≡ Ok (record { at = at; path = r.path; slash = r.slash; owner = None; group = None; flags = None; access = []; dacl = [] })
   opened_from records at r [] some is slash new = absurd (omega arith)
   opened_from records at r (b ∷ bs) some is slash new =
-      let make : List (List ℕ) → Bool → Draft = λ path slash. record { at = at; path = path; slash = slash; owner = None; group = None; flags = None; access = []; dacl = [] } in
+      let make : List (List ℕ) → Bool → RecordDraft = λ path slash. record { at = at; path = path; slash = slash; owner = None; group = None; flags = None; access = []; dacl = [] } in
       ap (λ o. or_fault o BadPath >>= (λ path. cond (is_repeated records path) (Err RepeatedFile) (Ok (make path (ends_in_slash (b ∷ bs)))))) is
       ∙ (ap (λ c. cond c (Err RepeatedFile) (Ok (make r.path (ends_in_slash (b ∷ bs))))) new ∙ ap (λ c. Ok (make r.path c)) slash)
 
-  file_chunk : (records more : List DumpRecord) (draft : Option Draft) (at : ℕ) (r : DumpRecord) (rest : List ℕ) → close dump_use records draft ≡ Ok more → list_all is_component r.path ≡ true → is_repeated more r.path ≡ false
+  file_chunk : (records more : List DumpRecord) (draft : Option RecordDraft) (at : ℕ) (r : DumpRecord) (rest : List ℕ) → close dump_use records draft ≡ Ok more → list_all is_component r.path ≡ true → is_repeated more r.path ≡ false
       → reading records draft at (file_text r.path r.slash ++ rest) ≡ reading more (drafted at r None None None [] []) (at + 1) rest
   file_chunk records more draft at r rest closes are new =
       let p = path_text r.path in
@@ -150,7 +150,7 @@ module _ (dump_use : DumpUse) (naming : Naming) where
   bare : (w : List ℕ) → list_all is_plain w ≡ true → trimmed w ≡ w
   bare w plain = trimmed_none w (none_of is_plain is_blank plain-blank w plain)
 
-  no_more : (records : List DumpRecord) (draft : Option Draft) (at : ℕ) (rest : List ℕ) → reading records draft at rest ≡ reading records draft (at + 0) rest
+  no_more : (records : List DumpRecord) (draft : Option RecordDraft) (at : ℕ) (rest : List ℕ) → reading records draft at rest ≡ reading records draft (at + 0) rest
   no_more records draft at rest = ap (λ (n : ℕ). reading records draft n rest) (omega arith)
 
   owner_chunk : (records : List DumpRecord) (first at : ℕ) (r : DumpRecord) (owner : Option ℕ) (rest : List ℕ) → IsFoundIf naming.user_id naming.user_name owner
@@ -264,7 +264,7 @@ module _ (dump_use : DumpUse) (naming : Naming) where
       ≡ file_text r.path r.slash ++ (owner_text naming.user_name r.owner ++ (group_text naming.group_name r.group ++ (flags_text r.flags ++ (list_text naming WhereMasked Access r.access ++ (default_text naming WhereMasked r.dacl ++ 10 ∷ rest)))))
   apart_text r rest = five (file_text r.path r.slash) (owner_text naming.user_name r.owner) (group_text naming.group_name r.group) (flags_text r.flags) (list_text naming WhereMasked Access r.access) (default_text naming WhereMasked r.dacl) rest
 
-  record_chunk : (records more : List DumpRecord) (draft : Option Draft) (at : ℕ) (r : DumpRecord) (rest : List ℕ) → close dump_use records draft ≡ Ok more → is_repeated more r.path ≡ false → Readable r
+  record_chunk : (records more : List DumpRecord) (draft : Option RecordDraft) (at : ℕ) (r : DumpRecord) (rest : List ℕ) → close dump_use records draft ≡ Ok more → is_repeated more r.path ≡ false → Readable r
       → reading records draft at (record_text naming r ++ rest) ≡ reading more (Some (all_lines at r)) (at + line_count r) rest
   record_chunk records more draft at r rest closes new is =
       let ending = default_text naming WhereMasked r.dacl ++ 10 ∷ rest in
@@ -290,7 +290,7 @@ module _ (dump_use : DumpUse) (naming : Naming) where
   any_paths path [] = refl
   any_paths path (r ∷ rs) = ap (λ b. same_path path r.path || b) (any_paths path rs)
 
-  all_again : (records more : List DumpRecord) (draft : Option Draft) (at : ℕ) (rs : List DumpRecord) → close dump_use records draft ≡ Ok more → AllByRecursion Readable rs → AreApart (paths more) (paths rs)
+  all_again : (records more : List DumpRecord) (draft : Option RecordDraft) (at : ℕ) (rs : List DumpRecord) → close dump_use records draft ≡ Ok more → AllByRecursion Readable rs → AreApart (paths more) (paths rs)
       → reading records draft at (dump_text naming rs) ≡ Ok (more ++ placed at rs)
   all_again records more draft at [] closes are apart = closes ∙ ap (λ (l : List DumpRecord). Ok l) (sym (append-nil more))
   all_again records more draft at (r ∷ rs) closes are apart =

@@ -9,7 +9,7 @@ use Rattle.acl_syntax.specs.Words.{word_id}
 use Rattle.acl_syntax.specs.Lowest.{EntryHas}
 use Rattle.acl_dump.specs.declared.line.LineKind.{LineKind}
 use Rattle.acl_dump.specs.declared.line.LineKind.TheVariants.{Nothing, File, Owner, OwningGroup, Flags, Entry}
-use Rattle.acl_dump.specs.declared.draft.Draft.{Draft}
+use Rattle.acl_dump.specs.declared.draft.RecordDraft.{RecordDraft}
 use Rattle.acl_dump.specs.declared.record.DumpRecord.{DumpRecord}
 use Rattle.acl_dump.specs.Lines.{content_of}
 use Rattle.acl_dump.specs.Records.{Numbered, rules, flags_of, may_head}
@@ -62,7 +62,7 @@ belongs Flags = true
 belongs Entry = true
 
 -- a header that the record has already, or that follows one of its entries
-abbrev pub is_late : LineKind → Draft → Bool
+abbrev pub is_late : LineKind → RecordDraft → Bool
 is_late Nothing draft = false
 is_late File draft = false
 is_late Owner draft = not (may_head draft.owner draft)
@@ -80,7 +80,7 @@ module _ (naming : Naming) where
   HasInItself Flags value kind = AreNoFlags value kind
   HasInItself Entry value kind = EntryHas naming rules value kind
 
-  module _ (draft : Option Draft) (l : Numbered) where
+  module _ (draft : Option RecordDraft) (l : Numbered) where
     -- it belongs to a record, and no record is open
     pub record HasNoRecord (kind : FaultKind) : Type 0 where
       pub is : kind ≡ MissingHeader
@@ -90,7 +90,7 @@ module _ (naming : Naming) where
     -- it is a header that comes late in its record
     pub record IsLate (kind : FaultKind) : Type 0 where
       pub is : kind ≡ BadHeader
-      pub so_far : Draft
+      pub so_far : RecordDraft
       pub opened_draft : draft ≡ Some so_far
       pub late : is_late (content_of l.1).0 so_far ≡ true
 

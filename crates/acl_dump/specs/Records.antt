@@ -26,7 +26,7 @@ use Rattle.acl_dump.specs.declared.line.LineKind.TheVariants.{Nothing, File, Own
 use Rattle.acl_dump.specs.declared.record.DumpUse.{DumpUse}
 use Rattle.acl_dump.specs.declared.record.DumpUse.TheVariants.{Load, Restore}
 use Rattle.acl_dump.specs.declared.record.DumpRecord.{DumpRecord}
-use Rattle.acl_dump.specs.declared.draft.Draft.{Draft}
+use Rattle.acl_dump.specs.declared.draft.RecordDraft.{RecordDraft}
 use Rattle.acl_dump.specs.declared.item.Item.{Item}
 use Rattle.acl_dump.specs.declared.item.Item.TheVariants as item
 use Rattle.acl_dump.specs.Groups.{by_groups, grouped, streamed}
@@ -84,24 +84,24 @@ module _ (naming : Naming) where
 
 -- ---- an open record
 
-abbrev pub has_no_entry : Draft → Bool
+abbrev pub has_no_entry : RecordDraft → Bool
 has_no_entry draft = (length draft.access == 0) && (length draft.dacl == 0)
 
 -- a header comes once, and before the entries
-abbrev pub may_head : {A : Type 0} → Option A → Draft → Bool
+abbrev pub may_head : {A : Type 0} → Option A → RecordDraft → Bool
 may_head there draft = not (is_some there) && has_no_entry draft
 
-abbrev pub with_entry : Bool → entries.Entry → Draft → Draft
+abbrev pub with_entry : Bool → entries.Entry → RecordDraft → RecordDraft
 with_entry dflt entry draft = if dflt then record draft { dacl = draft.dacl ++ entry ∷ [] } else record draft { access = draft.access ++ entry ∷ [] }
 
-abbrev pub with_item : Item → Draft → Result Draft FaultKind
+abbrev pub with_item : Item → RecordDraft → Result RecordDraft FaultKind
 with_item (item.Owner id) draft = if may_head draft.owner draft then Ok (record draft { owner = Some id }) else Err BadHeader
 with_item (item.OwningGroup id) draft = if may_head draft.group draft then Ok (record draft { group = Some id }) else Err BadHeader
 with_item (item.Flags flags) draft = if may_head draft.flags draft then Ok (record draft { flags = Some flags }) else Err BadHeader
 with_item (item.Entry dflt entry) draft = Ok (with_entry dflt entry draft)
 
 -- the content belongs to the open record, if there is one
-abbrev pub add : Option Item → Option Draft → Result (Option Draft) FaultKind
+abbrev pub add : Option Item → Option RecordDraft → Result (Option RecordDraft) FaultKind
 add None draft = Ok draft
 add (Some item) None = Err MissingHeader
 add (Some item) (Some draft) = do
@@ -120,7 +120,7 @@ abbrev pub is_repeated : List DumpRecord → List (List ℕ) → Bool
 is_repeated records path = list_any (λ r. same_path path r.path) records
 
 -- a record that is opened by the value of its `file:` line
-abbrev pub opened_draft : List DumpRecord → ℕ → List ℕ → Result Draft FaultKind
+abbrev pub opened_draft : List DumpRecord → ℕ → List ℕ → Result RecordDraft FaultKind
 opened_draft records at [] = Err BadHeader
 opened_draft records at (b ∷ bs) = do
   path ← or_fault (path_of (b ∷ bs)) BadPath
@@ -144,17 +144,17 @@ default_list_of (e ∷ es) = do
   Ok (Some acl)
 
 -- a file that is loaded needs its owner and its group
-abbrev pub has_headers : DumpUse → Draft → Bool
+abbrev pub has_headers : DumpUse → RecordDraft → Bool
 has_headers Load draft = is_some draft.owner && is_some draft.group
 has_headers Restore draft = true
 
-abbrev pub whole : Draft → Result DumpRecord FaultKind
+abbrev pub whole : RecordDraft → Result DumpRecord FaultKind
 whole draft = do
   access ← list_of Access draft.access
   dacl ← default_list_of draft.dacl
   Ok (record { at = draft.at; path = draft.path; slash = draft.slash; owner = draft.owner; group = draft.group; flags = draft.flags; access = access; dacl = dacl })
 
-abbrev pub record_of : DumpUse → Draft → Result DumpRecord FaultKind
+abbrev pub record_of : DumpUse → RecordDraft → Result DumpRecord FaultKind
 record_of dump_use draft = if has_headers dump_use draft then whole draft else Err MissingHeader
 
 -- ---- dumps
@@ -170,22 +170,22 @@ lines_of bytes = enumerate_from 1 (pieces 10 bytes)
 abbrev pub begins : Numbered → Bool
 begins l = begins_record (content_of l.1).0
 
-abbrev pub open_record : List DumpRecord → Numbered → Result (Option Draft) TextFault
+abbrev pub open_record : List DumpRecord → Numbered → Result (Option RecordDraft) TextFault
 open_record records l = at_place l.0 (opened_draft records l.0 (content_of l.1).1) (λ draft. Ok (Some draft))
 
 -- the place of what a record lacks as a whole is its `file:` line
-abbrev pub close : DumpUse → List DumpRecord → Option Draft → Result (List DumpRecord) TextFault
+abbrev pub close : DumpUse → List DumpRecord → Option RecordDraft → Result (List DumpRecord) TextFault
 close dump_use records None = Ok records
 close dump_use records (Some draft) = at_place draft.at (record_of dump_use draft) (λ r. Ok (records ++ r ∷ []))
 
 module _ (naming : Naming) where
   -- a line that begins no record, with the open record, or the lowest kind of fault that it has there
-  abbrev pub judged : Option Draft → Numbered → Result (Option Draft) FaultKind
+  abbrev pub judged : Option RecordDraft → Numbered → Result (Option RecordDraft) FaultKind
   judged draft l = do
     item ← item_of naming l.0 (content_of l.1).0 (content_of l.1).1
     add item draft
 
-  abbrev pub line_in : Option Draft → Numbered → Result (Option Draft) TextFault
+  abbrev pub line_in : Option RecordDraft → Numbered → Result (Option RecordDraft) TextFault
   line_in draft l = at_place l.0 (judged draft l) (λ new. Ok new)
 
   -- the records of a dump, or its first fault: record after record, each line by line and then as a whole; the lines
@@ -194,5 +194,5 @@ module _ (naming : Naming) where
   dump_of dump_use bytes = by_groups begins open_record line_in (close dump_use) [] None (grouped begins (lines_of bytes))
 
   -- the same, read line by line
-  abbrev pub dump_stream : DumpUse → List DumpRecord → Option Draft → List Numbered → Result (List DumpRecord) TextFault
+  abbrev pub dump_stream : DumpUse → List DumpRecord → Option RecordDraft → List Numbered → Result (List DumpRecord) TextFault
   dump_stream dump_use records draft lines = streamed begins open_record line_in (close dump_use) records draft lines

@@ -10,6 +10,6 @@ abbrev pub has_path : Seen → List (List ℕ) → Bool
 has_path seen path = contains_by (λ k. path_cmp path (map (λ v. v.items) k.items)) seen.paths
 
 -- the set, where there is one, has the paths of the records
-abbrev pub SeenAre : Option Seen → List DumpRecord → Type 0
-SeenAre None records = Unit {0}
-SeenAre (Some seen) records = (path : List (List ℕ)) → has_path seen path ≡ is_repeated records path
+abbrev pub SeenPathsAre : Option Seen → List DumpRecord → Type 0
+SeenPathsAre None records = Unit {0}
+SeenPathsAre (Some seen) records = (path : List (List ℕ)) → has_path seen path ≡ is_repeated records path

@@ -8,20 +8,20 @@ use Rattle.acl_syntax.specs.declared.fault.TextFault.{TextFault}
 use Rattle.acl_syntax.specs.InTurn.{at_place, ◌>>=◌, or_fault}
 use Rattle.acl_dump.specs.declared.record.DumpUse.{DumpUse}
 use Rattle.acl_dump.specs.declared.record.DumpRecord.{DumpRecord}
-use Rattle.acl_dump.specs.declared.draft.Draft.{Draft}
+use Rattle.acl_dump.specs.declared.draft.RecordDraft.{RecordDraft}
 use Rattle.acl_dump.specs.Groups.{streamed}
 use Rattle.acl_dump.specs.Lines.{content_of}
 use Rattle.acl_dump.specs.Records.{Numbered, is_repeated, ends_in_slash, begins, line_in, close}
 
 -- a record that is opened by the value of its `file:` line; it may have the path of an earlier one where paths are not watched
-abbrev pub opened_draft : Bool → List DumpRecord → ℕ → List ℕ → Result Draft FaultKind
+abbrev pub opened_draft : Bool → List DumpRecord → ℕ → List ℕ → Result RecordDraft FaultKind
 opened_draft watched records at [] = Err BadHeader
 opened_draft watched records at (b ∷ bs) = do
   path ← or_fault (path_of (b ∷ bs)) BadPath
   if watched && is_repeated records path then Err RepeatedFile else Ok (record { at = at; path = path; slash = ends_in_slash (b ∷ bs); owner = None; group = None; flags = None; access = []; dacl = [] })
 
-abbrev pub open_record : Bool → List DumpRecord → Numbered → Result (Option Draft) TextFault
+abbrev pub open_record : Bool → List DumpRecord → Numbered → Result (Option RecordDraft) TextFault
 open_record watched records l = at_place l.0 (opened_draft watched records l.0 (content_of l.1).1) (λ draft. Ok (Some draft))
 
-abbrev pub stream : Naming → Bool → DumpUse → List DumpRecord → Option Draft → List Numbered → Result (List DumpRecord) TextFault
+abbrev pub stream : Naming → Bool → DumpUse → List DumpRecord → Option RecordDraft → List Numbered → Result (List DumpRecord) TextFault
 stream naming watched dump_use records draft lines = streamed begins (open_record watched) (line_in naming) (close dump_use) records draft lines

@@ -3,7 +3,7 @@ use Rattle.std.specs.Prelude.{ℕ, ◌-◌, ◌/◌, max, List, [], ◌∷◌, �
 use Rattle.std.specs.List.{flat_map}
 use Rattle.std.specs.FinMap as maps
 use Rattle.acl_entry.specs.declared.entry.Entry.{Entry}
-use Rattle.acl_entry.specs.declared.key.Key.TheVariants.{Mask}
+use Rattle.acl_entry.specs.declared.entry.Key.TheVariants.{Mask}
 use Rattle.acl_entry.specs.Keys.{is_class}
 use Rattle.acl_entry.specs.Lists.{KeyMap, entries}
 use Rattle.acl_entry.specs.Perms as perms
@@ -12,7 +12,7 @@ use Rattle.acl_names.specs.Paths.{path_text}
 use Rattle.acl_syntax.specs.Naming.{Naming}
 use Rattle.acl_syntax.specs.declared.fault.Which.{Which}
 use Rattle.acl_syntax.specs.declared.fault.Which.TheVariants.{Access, Default}
-use Rattle.acl_syntax.specs.declared.form.Form.TheVariants.{Long}
+use Rattle.acl_syntax.specs.declared.entries.Form.TheVariants.{Long}
 use Rattle.acl_syntax.specs.Writing.{id_text, entry_text}
 use Rattle.acl_dump.specs.declared.effective.Effective.{Effective}
 use Rattle.acl_dump.specs.declared.effective.Effective.TheVariants.{WhereMasked, Always, Never}

@@ -3,9 +3,9 @@
 ghost use Rattle.std.specs.Prelude.{◌≡◌, Some, OnOk, List, is_some};
 ghost use Rattle.acl_syntax.specs.InTurn.{Gives, GivesAt};
 ghost use Rattle.acl_dump.specs.Records.{list_of, default_list_of, has_headers, record_of, close};
-ghost use Rattle.acl_dump.specs.Seen.{SeenAre};
+ghost use Rattle.acl_dump.specs.Seen.{SeenPathsAre};
 
-use crate::draft::Draft;
+use crate::draft::RecordDraft;
 use crate::record::{DumpRecord, DumpUse};
 use crate::seen::{Seen, watch};
 use acl_entry::{Acl, Entry, ListFault};
@@ -40,7 +40,7 @@ fn default_list_of(alloc: Global, at: usize, entries: &[Entry]) -> Result<Option
 }
 
 /// Whether the record has the headers that its use needs.
-fn has_headers(dump_use: DumpUse, draft: &Draft) -> bool
+fn has_headers(dump_use: DumpUse, draft: &RecordDraft) -> bool
     ensures { result ≡ has_headers dump_use draft.now }
 {
     match dump_use {
@@ -50,7 +50,7 @@ fn has_headers(dump_use: DumpUse, draft: &Draft) -> bool
 }
 
 /// The record of all its lines, or what it lacks as a whole, at its `file:` line.
-fn record_of(alloc: Global, dump_use: DumpUse, draft: Draft) -> Result<DumpRecord, TextFault>
+fn record_of(alloc: Global, dump_use: DumpUse, draft: RecordDraft) -> Result<DumpRecord, TextFault>
     ensures { GivesAt draft.at (λ r. r) result (record_of dump_use draft) }
 {
     let at = draft.at;
@@ -80,11 +80,11 @@ pub(crate) fn close(
     dump_use: DumpUse,
     records: &mut Vec<DumpRecord>,
     seen: &mut Option<Seen>,
-    draft: Option<Draft>,
+    draft: Option<RecordDraft>,
 ) -> Result<(), TextFault>
-    requires { SeenAre seen.old records.old.items }
+    requires { SeenPathsAre seen.old records.old.items }
     ensures closed { Gives (λ _. records.new.items) result (close dump_use records.old.items draft) }
-    ensures seen_are { OnOk result (SeenAre seen.new records.new.items) }
+    ensures seen_are { OnOk result (SeenPathsAre seen.new records.new.items) }
     ensures watched { is_some seen.new ≡ is_some seen.old }
 {
     let Some(draft) = draft else {

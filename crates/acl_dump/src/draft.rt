@@ -5,7 +5,7 @@ ghost use Rattle.acl_syntax.specs.declared.fault.FaultKind.TheVariants.{NoMemory
 ghost use Rattle.acl_syntax.specs.InTurn.{GivesAt};
 ghost use Rattle.acl_dump.specs.Records.{has_no_entry, with_entry, with_item, add};
 ghost use Rattle.acl_dump.specs.Watched.{opened_draft};
-ghost use Rattle.acl_dump.specs.Seen.{SeenAre};
+ghost use Rattle.acl_dump.specs.Seen.{SeenPathsAre};
 ghost use Rattle.acl_dump.specs.declared.record.DumpRecord.{DumpRecord};
 
 use crate::item::{Item, bad_header};
@@ -17,7 +17,7 @@ use std::alloc::{AllocError, Global};
 use std::marker::Model;
 
 /// The entries of one list in the order of their lines.
-#[derive(Debug, Drop)]
+#[derive(Drop)]
 pub(crate) struct EntryLines {
     entries: Vec<Entry>,
 }
@@ -32,6 +32,7 @@ impl Model for EntryLines {
 }
 
 impl EntryLines {
+    /// No entries.
     fn new(alloc: Global) -> EntryLines
         ensures { result ≡ [] }
     {
@@ -40,6 +41,7 @@ impl EntryLines {
         }
     }
 
+    /// Adds an entry after the others.
     fn push(&mut self, key: Key, perm: Perm) -> Result<(), AllocError>
         ensures { OnOk result (self.new ≡ self.old ++ record { key = key; perm = perm } ∷ []) }
     {
@@ -47,6 +49,7 @@ impl EntryLines {
         Ok(())
     }
 
+    /// The entries in the order of their lines.
     pub(crate) fn as_slice(&self) -> &[Entry]
         ensures { result.now ≡ self.now }
     {
@@ -55,8 +58,8 @@ impl EntryLines {
 }
 
 /// A record of which more lines may come.
-#[derive(Debug, Drop)]
-pub(crate) struct Draft {
+#[derive(Drop)]
+pub(crate) struct RecordDraft {
     pub at: usize,
     pub path: Path,
     pub slash: bool,
@@ -67,7 +70,8 @@ pub(crate) struct Draft {
     pub dacl: EntryLines,
 }
 
-impl Draft {
+impl RecordDraft {
+    /// Whether no line so far was an entry.
     fn has_no_entry(&self) -> bool
         ensures { result ≡ has_no_entry self.now }
     {
@@ -76,7 +80,7 @@ impl Draft {
 }
 
 /// The record with the content of a line at a place.
-fn with_item(draft: Draft, at: usize, item: Item) -> Result<Draft, TextFault>
+fn with_item(draft: RecordDraft, at: usize, item: Item) -> Result<RecordDraft, TextFault>
     ensures { GivesAt at (λ draft. draft) result (with_item item draft) }
 {
     match item {
@@ -84,7 +88,7 @@ fn with_item(draft: Draft, at: usize, item: Item) -> Result<Draft, TextFault>
             if draft.owner.is_some() || !draft.has_no_entry() {
                 return Err(bad_header(at));
             }
-            Ok(Draft {
+            Ok(RecordDraft {
                 owner: Some(id),
                 ..draft
             })
@@ -93,7 +97,7 @@ fn with_item(draft: Draft, at: usize, item: Item) -> Result<Draft, TextFault>
             if draft.group.is_some() || !draft.has_no_entry() {
                 return Err(bad_header(at));
             }
-            Ok(Draft {
+            Ok(RecordDraft {
                 group: Some(id),
                 ..draft
             })
@@ -102,7 +106,7 @@ fn with_item(draft: Draft, at: usize, item: Item) -> Result<Draft, TextFault>
             if draft.flags.is_some() || !draft.has_no_entry() {
                 return Err(bad_header(at));
             }
-            Ok(Draft {
+            Ok(RecordDraft {
                 flags: Some(flags),
                 ..draft
             })
@@ -112,7 +116,7 @@ fn with_item(draft: Draft, at: usize, item: Item) -> Result<Draft, TextFault>
 }
 
 /// The record with one more entry.
-fn with_entry(draft: Draft, dflt: bool, entry: Entry) -> Result<Draft, TextFault>
+fn with_entry(draft: RecordDraft, dflt: bool, entry: Entry) -> Result<RecordDraft, TextFault>
     ensures ok { IfOk result (λ new. new ≡ with_entry dflt entry draft) }
     ensures err { IfErr result (λ fault. fault.kind ≡ NoMemory) }
 {
@@ -127,10 +131,10 @@ fn with_entry(draft: Draft, dflt: bool, entry: Entry) -> Result<Draft, TextFault
 
 /// Adds the content of a line to the open record, if there is one.
 pub(crate) fn add(
-    draft: Option<Draft>,
+    draft: Option<RecordDraft>,
     at: usize,
     item: Option<Item>,
-) -> Result<Option<Draft>, TextFault>
+) -> Result<Option<RecordDraft>, TextFault>
     ensures { GivesAt at (λ draft. draft) result (add item draft) }
 {
     let Some(item) = item else {
@@ -152,8 +156,9 @@ pub(crate) fn open_record(
     seen: &Option<Seen>,
     at: usize,
     value: &[u8],
-) -> Result<Draft, TextFault>
-    ensures { (records : List DumpRecord) → SeenAre seen.now records → GivesAt at (λ draft. draft) result (opened_draft (is_some seen.now) records at value.now) }
+) -> Result<RecordDraft, TextFault>
+    ensures { (records : List DumpRecord) → SeenPathsAre seen.now records
+        → GivesAt at (λ draft. draft) result (opened_draft (is_some seen.now) records at value.now) }
 {
     if value.is_empty() {
         return Err(bad_header(at));
@@ -170,7 +175,7 @@ pub(crate) fn open_record(
             at,
         });
     }
-    Ok(Draft {
+    Ok(RecordDraft {
         at,
         path,
         slash: value.ends_with(b"/"),

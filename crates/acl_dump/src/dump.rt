@@ -1,16 +1,16 @@
 //! Reading dumps.
 
-ghost use Rattle.std.specs.Prelude.{◌≡◌, [], ◌∷◌, OnOk, IfOk, None, true, is_some};
-ghost use Rattle.acl_syntax.specs.InTurn.{Gives, GivesAt};
+ghost use Rattle.std.specs.Prelude.{◌≡◌, [], OnOk, IfOk, None, true, is_some};
+ghost use Rattle.acl_syntax.specs.InTurn.{Gives};
 ghost use Rattle.acl_dump.specs.Records.{lines_of, line_in, begins, close, dump_of};
 ghost use Rattle.acl_dump.specs.Watched as watched;
 ghost use Rattle.acl_dump.specs.Groups.{stepped};
-ghost use Rattle.acl_dump.specs.Seen.{SeenAre};
+ghost use Rattle.acl_dump.specs.Seen.{SeenPathsAre};
 ghost use Rattle.acl_dump.specs.OwnPaths.{have_own_paths};
 
 use crate::apart::are_apart;
 use crate::close::close;
-use crate::draft::{Draft, add, open_record};
+use crate::draft::{RecordDraft, add, open_record};
 use crate::item::item_of;
 use crate::line::{LineKind, content_of};
 use crate::record::{DumpRecord, DumpUse};
@@ -69,7 +69,7 @@ fn read_stream<N: Names>(
     names: &N,
     mut seen: Option<Seen>,
 ) -> Result<Vec<DumpRecord>, TextFault>
-    requires { SeenAre seen [] }
+    requires { SeenPathsAre seen [] }
     ensures { Gives (λ records. records.items) result (watched.stream (N.naming names.now) (is_some seen) dump_use [] None (lines_of bytes.now)) }
 {
     let mut records = Vec::new(alloc);
@@ -103,17 +103,17 @@ fn read_line<N: Names>(
     dump_use: DumpUse,
     records: &mut Vec<DumpRecord>,
     seen: &mut Option<Seen>,
-    draft: Option<Draft>,
+    draft: Option<RecordDraft>,
     at: usize,
     line: &[u8],
-) -> Result<Option<Draft>, TextFault>
-    requires { SeenAre seen.old records.old.items }
+) -> Result<Option<RecordDraft>, TextFault>
+    requires { SeenPathsAre seen.old records.old.items }
     ensures stepped { Gives (λ new. (records.new.items, new)) result (stepped begins (watched.open_record (is_some seen.old)) (line_in (N.naming names.now)) (close dump_use) records.old.items draft (at, line.now)) }
-    ensures seen_are { OnOk result (SeenAre seen.new records.new.items) }
+    ensures seen_are { OnOk result (SeenPathsAre seen.new records.new.items) }
     ensures watched { is_some seen.new ≡ is_some seen.old }
 {
     let (kind, value) = content_of(line);
-    if kind == LineKind::File {
+    if matches!(kind, LineKind::File) {
         close(alloc, dump_use, records, seen, draft)?;
         Ok(Some(open_record(alloc, seen, at, value)?))
     } else {

@@ -1,7 +1,6 @@
 //! Writing the headers of a record, and records (getfacl(1)).
 
-ghost use Rattle.std.specs.Prelude.{◌≡◌, ◌++◌, OnOk, OnErr};
-ghost use Rattle.std.specs.Io.{StartsWith};
+ghost use Rattle.std.specs.Prelude.{◌≡◌};
 ghost use Rattle.acl_names.specs.Appends.{Appends, AppendsWhole};
 ghost use Rattle.acl_dump.specs.Writing.{mark, marks, flags_text, file_text, owner_text, group_text, header_text, record_text};
 
@@ -14,7 +13,7 @@ use acl_syntax::{Names, Which, append_id};
 use std::alloc::AllocError;
 
 /// What the header lines of a record contain.
-#[derive(Clone, Copy, Debug)]
+#[derive(Clone, Copy)]
 pub struct Header<'a> {
     pub path: &'a Path,
     /// The path is written with a final `/`.

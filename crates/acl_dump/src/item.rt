@@ -13,7 +13,7 @@ use acl_syntax::{
 use std::alloc::Global;
 
 /// The content of a line that begins no record.
-#[derive(Clone, Copy, Debug)]
+#[derive(Clone, Copy)]
 pub(crate) enum Item {
     Owner(Id),
     OwningGroup(Id),
@@ -85,6 +85,7 @@ fn entry_item(spec: Spec) -> Item
     )
 }
 
+/// The user that an `# owner:` line names.
 fn read_owner<N: Names>(alloc: Global, names: &N, at: usize, value: &[u8]) -> Result<Id, TextFault>
     ensures { GivesAt at (λ id. id) result (named (N.naming names.now).user_id UnknownUser value.now) }
 {
@@ -100,6 +101,7 @@ fn read_owner<N: Names>(alloc: Global, names: &N, at: usize, value: &[u8]) -> Re
     }
 }
 
+/// The group that a `# group:` line names.
 fn read_group<N: Names>(alloc: Global, names: &N, at: usize, value: &[u8]) -> Result<Id, TextFault>
     ensures { GivesAt at (λ id. id) result (named (N.naming names.now).group_id UnknownGroup value.now) }
 {
@@ -115,6 +117,7 @@ fn read_group<N: Names>(alloc: Global, names: &N, at: usize, value: &[u8]) -> Re
     }
 }
 
+/// The flags that a `# flags:` line gives.
 fn read_flags(at: usize, value: &[u8]) -> Result<[bool; 3], TextFault>
     ensures { GivesAt at (λ flags. flags) result (or_fault (flags_of value.now) BadHeader) }
 {
@@ -124,6 +127,7 @@ fn read_flags(at: usize, value: &[u8]) -> Result<[bool; 3], TextFault>
     }
 }
 
+/// The fault of a header line that has no value, comes twice, or comes after an entry.
 pub(crate) fn bad_header(at: usize) -> TextFault
     ensures kind { result.kind ≡ BadHeader }
     ensures place { result.at ≡ at }

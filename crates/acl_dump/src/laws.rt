@@ -7,7 +7,7 @@ ghost use Rattle.acl_dump.specs.declared.record.DumpRecord.{DumpRecord};
 ghost use Rattle.acl_syntax.specs.Naming.{Naming};
 ghost use Rattle.acl_syntax.specs.declared.fault.TextFault.{TextFault};
 ghost use Rattle.acl_syntax.specs.Lowest.{ReportsLowest};
-ghost use Rattle.acl_dump.specs.declared.draft.Draft.{Draft};
+ghost use Rattle.acl_dump.specs.declared.draft.RecordDraft.{RecordDraft};
 ghost use Rattle.acl_dump.specs.Records.{Numbered, begins, opened_draft, judged, lines_of, dump_of};
 ghost use Rattle.acl_dump.specs.Faults.{IsFirstFault};
 ghost use Rattle.acl_dump.specs.Lowest.{FileHas, LineHas};
@@ -36,7 +36,7 @@ pub fn dump_file_fault_is_lowest()
 /// flags, a line before the first record, and a header that comes twice or after an entry. Without a
 /// fault, the line is read.
 pub fn dump_line_fault_is_lowest()
-    ensures { (naming : Naming) (draft : Option Draft) (line : Numbered) →
+    ensures { (naming : Naming) (draft : Option RecordDraft) (line : Numbered) →
         ReportsLowest (LineHas naming draft line) (judged naming draft line) }
 {}
 

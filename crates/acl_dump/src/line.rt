@@ -6,7 +6,7 @@ ghost use Rattle.acl_dump.specs.Lines.{without_space, header_of, content_of};
 use acl_syntax::{Sep, content, trim, trim_front};
 
 /// What a line of a dump is.
-#[derive(Clone, Copy, Debug, PartialEq, Eq)]
+#[derive(Clone, Copy)]
 pub(crate) enum LineKind {
     /// An empty line or a comment.
     Nothing,

@@ -4,7 +4,7 @@ use acl_entry::{Acl, Id};
 use acl_names::Path;
 
 /// What a dump is read for.
-#[derive(Clone, Copy, Debug, PartialEq, Eq)]
+#[derive(Clone, Copy, PartialEq, Eq)]
 pub enum DumpUse {
     /// To make the files of a tree: each record needs its owner and its group.
     Load,
@@ -13,7 +13,7 @@ pub enum DumpUse {
 }
 
 /// A file as in a record of a dump.
-#[derive(Debug, Drop)]
+#[derive(Drop)]
 pub struct DumpRecord {
     /// The number of its `# file:` line, counted from 1.
     pub at: usize,

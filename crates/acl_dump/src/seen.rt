@@ -3,19 +3,20 @@
 ghost use Rattle.std.specs.Prelude.{◌≡◌, ◌++◌, ◌∷◌, [], ℕ, List, IfOk, OnOk, false, ◌||◌, ◌&&◌, map, is_some};
 ghost use Rattle.acl_dump.specs.declared.record.DumpRecord.{DumpRecord};
 ghost use Rattle.acl_dump.specs.Records.{same_path, is_repeated};
-ghost use Rattle.acl_dump.specs.Seen.{has_path, SeenAre};
+ghost use Rattle.acl_dump.specs.Seen.{has_path, SeenPathsAre};
 
 use acl_names::Path;
 use std::alloc::{AllocError, Global};
 use std::collections::BTreeSet;
 
 /// A set of paths, each by its components.
-#[derive(Debug, Drop)]
+#[derive(Drop)]
 pub(crate) struct Seen {
     paths: BTreeSet<Vec<Vec<u8>>>,
 }
 
 impl Seen {
+    /// No paths.
     pub(crate) fn new(alloc: Global) -> Seen
         ensures { (path : List (List ℕ)) → has_path result path ≡ false }
     {
@@ -24,6 +25,7 @@ impl Seen {
         }
     }
 
+    /// Whether a path is among them. Fails only if memory runs out.
     pub(crate) fn contains(&self, alloc: Global, path: &Path) -> Result<bool, AllocError>
         ensures { IfOk result (λ is. is ≡ has_path self.now path.now) }
     {
@@ -31,6 +33,7 @@ impl Seen {
         Ok(self.paths.contains(components.as_slice()))
     }
 
+    /// Adds a path. Fails only if memory runs out.
     pub(crate) fn insert(&mut self, alloc: Global, path: &Path) -> Result<(), AllocError>
         ensures { OnOk result ((other : List (List ℕ)) → has_path self.new other ≡ (same_path other path.now || has_path self.old other)) }
     {
@@ -42,7 +45,7 @@ impl Seen {
 
 /// Whether paths are watched, and this one is among them.
 pub(crate) fn is_seen(alloc: Global, seen: &Option<Seen>, path: &Path) -> Result<bool, AllocError>
-    ensures { (records : List DumpRecord) → SeenAre seen.now records → IfOk result (λ is. is ≡ (is_some seen.now && is_repeated records path.now)) }
+    ensures { (records : List DumpRecord) → SeenPathsAre seen.now records → IfOk result (λ is. is ≡ (is_some seen.now && is_repeated records path.now)) }
 {
     match seen {
         None => Ok(false),
@@ -53,7 +56,8 @@ pub(crate) fn is_seen(alloc: Global, seen: &Option<Seen>, path: &Path) -> Result
 /// Adds the path of a record that follows others, where paths are watched.
 pub(crate) fn watch(alloc: Global, seen: &mut Option<Seen>, path: &Path) -> Result<(), AllocError>
     ensures watched { is_some seen.new ≡ is_some seen.old }
-    ensures added { OnOk result ((records : List DumpRecord) (r : DumpRecord) → r.path ≡ path.now → SeenAre seen.old records → SeenAre seen.new (records ++ r ∷ [])) }
+    ensures added { OnOk result ((records : List DumpRecord) (r : DumpRecord) → r.path ≡ path.now → SeenPathsAre seen.old records
+        → SeenPathsAre seen.new (records ++ r ∷ [])) }
 {
     match seen {
         None => Ok(()),

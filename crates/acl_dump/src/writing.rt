@@ -1,12 +1,10 @@
 //! Writing the records of a dump (getfacl(1)).
 
-ghost use Rattle.std.specs.Prelude.{◌≡◌, ◌++◌, ◌∷◌, [], OnOk, OnErr, length};
-ghost use Rattle.std.specs.Io.{StartsWith};
+ghost use Rattle.std.specs.Prelude.{◌≡◌};
 ghost use Rattle.std.specs.List.{flat_map};
 ghost use Rattle.acl_names.specs.Appends.{Appends, AppendsWhole};
-ghost use Rattle.acl_entry.specs.Lists as lists;
 ghost use Rattle.acl_syntax.specs.declared.fault.Which.TheVariants.{Default};
-ghost use Rattle.acl_dump.specs.Writing.{is_shown, tab_count, tabs, comment, front, shown, entry_line, list_text, default_text};
+ghost use Rattle.acl_dump.specs.Writing.{is_shown, tab_count, comment, front, shown, entry_line, list_text, default_text};
 
 use crate::effective::Effective;
 use acl_entry::{Acl, Entry, Key, Perm};
@@ -145,6 +143,7 @@ pub fn append_list<N: Names>(
     Ok(())
 }
 
+/// Adds the default list, if there is one, as [`append_list`] adds it.
 pub(crate) fn append_default<N: Names>(
     text: &mut Vec<u8>,
     dacl: &Option<Acl>,

@@ -6,8 +6,8 @@ use Rattle.std.specs.FinMap.Entries.{by_order}
 use Rattle.acl_entry.specs.Perms.{Perms}
 use Rattle.acl_entry.specs.Keys.{key_cmp, same_key, is_base, is_named, is_class}
 use Rattle.acl_entry.specs.Lists.{KeyMap, class_union, in_class, perm_of_entry, union_all, or_else}
-use Rattle.acl_entry.specs.declared.key.Key.{Key}
-use Rattle.acl_entry.specs.declared.key.Key.TheVariants.{Owner, User, OwningGroup, Group, Mask, Other}
+use Rattle.acl_entry.specs.declared.entry.Key.{Key}
+use Rattle.acl_entry.specs.declared.entry.Key.TheVariants.{Owner, User, OwningGroup, Group, Mask, Other}
 use Rattle.acl_entry.specs.declared.entry.Entry.{Entry}
 use Rattle.acl_entry.proofs.KeyLaws.{key_total, exact_keys}
 use Rattle.acl_syntax.specs.declared.entries.Spec.{Spec}

@@ -4,8 +4,8 @@ use Rattle.std.specs.FinMap as maps
 use Rattle.acl_entry.specs.Perms.{Perms}
 use Rattle.acl_entry.specs.Keys.{same_key}
 use Rattle.acl_entry.specs.Lists.{KeyMap, class_union, or_else}
-use Rattle.acl_entry.specs.declared.key.Key.{Key}
-use Rattle.acl_entry.specs.declared.key.Key.TheVariants.{Owner, User, OwningGroup, Group, Mask, Other}
+use Rattle.acl_entry.specs.declared.entry.Key.{Key}
+use Rattle.acl_entry.specs.declared.entry.Key.TheVariants.{Owner, User, OwningGroup, Group, Mask, Other}
 use Rattle.acl_entry.proofs.KeyLaws.{key_total}
 use Rattle.acl_syntax.specs.declared.entries.Spec.{Spec}
 use Rattle.acl_edit.specs.Parts.{Part, is_given, is_mask, names, puts}

@@ -3,8 +3,8 @@ use Rattle.std.proofs.Common.{◌≡◌, Bool, true, false, if◌then◌else◌,
 use Rattle.std.specs.FinMap as maps
 use Rattle.acl_entry.specs.Keys.{key_cmp, is_base}
 use Rattle.acl_entry.specs.Lists.{KeyMap, effective, or_else}
-use Rattle.acl_entry.specs.declared.key.Key.{Key}
-use Rattle.acl_entry.specs.declared.key.Key.TheVariants.{Mask}
+use Rattle.acl_entry.specs.declared.entry.Key.{Key}
+use Rattle.acl_entry.specs.declared.entry.Key.TheVariants.{Mask}
 use Rattle.acl_syntax.specs.declared.fault.Which.TheVariants.{Access, Default}
 use Rattle.acl_edit.specs.Parts.{part, names, puts, is_given, is_mask}
 use Rattle.acl_edit.specs.Steps.{gives_execute, strip, replace, fill_from}
@@ -24,14 +24,14 @@ module _ (n : Node) (c : Change) where
   base_or_none false k e = get-strip_other n.label.acl k e
 
   pub had_access_is : (k : Key) → maps.get (access_before c n.label.acl) k ≡ had_access n c k
-  had_access_is k = by_strip c.strip
+  had_access_is k = by_strip c.flags.strip
     where
       by_strip : (b : Bool) → maps.get (if b then strip n.label.acl else n.label.acl) k ≡ (if b then (if is_base k then effective n.label.acl k else None) else maps.get n.label.acl k)
       by_strip true = base_or_none (is_base k) k refl
       by_strip false = refl
 
   pub had_default_is : (k : Key) → maps.get (default_before c n.dacl) k ≡ had_default n c k
-  had_default_is k = by_drop (c.strip || c.drop_default) n.dacl
+  had_default_is k = by_drop (c.flags.strip || c.flags.drop_default) n.dacl
     where
       by_drop : (b : Bool) (o : Option KeyMap) → maps.get (if b then maps.empty else unwrap_or o maps.empty) k ≡ (if b then None else option_and_then (λ d. maps.get d k) o)
       by_drop true o = maps.get-empty key_cmp k

@@ -8,8 +8,8 @@ use Rattle.std.specs.FinMap as maps
 use Rattle.acl_entry.specs.Perms.{Perms, none, union, meet}
 use Rattle.acl_entry.specs.Keys.{key_cmp, same_key, is_class}
 use Rattle.acl_entry.specs.Lists.{KeyMap, entries, masked_by, union_all, perm_of_entry, in_class, class_union}
-use Rattle.acl_entry.specs.declared.key.Key.{Key}
-use Rattle.acl_entry.specs.declared.key.Key.TheVariants.{Owner, User, OwningGroup, Group, Mask, Other}
+use Rattle.acl_entry.specs.declared.entry.Key.{Key}
+use Rattle.acl_entry.specs.declared.entry.Key.TheVariants.{Owner, User, OwningGroup, Group, Mask, Other}
 use Rattle.acl_entry.specs.declared.entry.Entry.{Entry}
 use Rattle.acl_entry.proofs.KeyLaws.{key_total, exact_keys}
 use Rattle.acl_edit.specs.Masks.{has_mask, recalculate}

@@ -5,8 +5,8 @@ use Rattle.std.specs.FinMap as maps
 use Rattle.acl_entry.specs.Perms.{Perms}
 use Rattle.acl_entry.specs.Keys.{key_cmp}
 use Rattle.acl_entry.specs.Lists.{KeyMap}
-use Rattle.acl_entry.specs.declared.key.Key.{Key}
-use Rattle.acl_entry.specs.declared.key.Key.TheVariants.{Owner, OwningGroup, Mask, Other}
+use Rattle.acl_entry.specs.declared.entry.Key.{Key}
+use Rattle.acl_entry.specs.declared.entry.Key.TheVariants.{Owner, OwningGroup, Mask, Other}
 use Rattle.acl_entry.proofs.KeyLaws.{key_total}
 use Rattle.acl_syntax.specs.declared.entries.Spec.{Spec}
 use Rattle.acl_edit.specs.Steps.{perms_of, put_some, remove, modify, replace, fill_one, fill_from}

@@ -4,8 +4,8 @@ use Rattle.std.specs.FinMap as maps
 use Rattle.acl_entry.specs.Perms.{Perms}
 use Rattle.acl_entry.specs.Keys.{key_cmp, same_key, is_base}
 use Rattle.acl_entry.specs.Lists.{KeyMap, effective, or_else}
-use Rattle.acl_entry.specs.declared.key.Key.{Key}
-use Rattle.acl_entry.specs.declared.key.Key.TheVariants.{Owner, User, OwningGroup, Group, Mask, Other}
+use Rattle.acl_entry.specs.declared.entry.Key.{Key}
+use Rattle.acl_entry.specs.declared.entry.Key.TheVariants.{Owner, User, OwningGroup, Group, Mask, Other}
 use Rattle.acl_entry.proofs.KeyLaws.{key_total}
 use Rattle.acl_edit.specs.Steps.{put_some, strip}
 

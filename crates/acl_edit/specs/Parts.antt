@@ -1,8 +1,8 @@
 -- The entries that a line gives, each for one of the two lists: setfacl(1), "ACL entries".
 use Rattle.std.specs.Prelude.{Bool, true, false, not, ◌||◌, List, [], ◌∷◌, filter, if◌then◌else◌}
 use Rattle.std.specs.List.{list_any}
-use Rattle.acl_entry.specs.declared.key.Key.{Key}
-use Rattle.acl_entry.specs.declared.key.Key.TheVariants.{Owner, User, OwningGroup, Group, Mask, Other}
+use Rattle.acl_entry.specs.declared.entry.Key.{Key}
+use Rattle.acl_entry.specs.declared.entry.Key.TheVariants.{Owner, User, OwningGroup, Group, Mask, Other}
 use Rattle.acl_syntax.specs.declared.entries.Spec.{Spec}
 use Rattle.acl_syntax.specs.declared.fault.Which.{Which}
 use Rattle.acl_syntax.specs.declared.fault.Which.TheVariants.{Access, Default}
@@ -21,9 +21,9 @@ pub record Part : Type 0 where
 
 abbrev pub part : Change → Which → Part
 part c which = record {
-  remove = filter (is_for c.as_default which) c.remove;
-  set = filter (is_for c.as_default which) c.set;
-  modify = filter (is_for c.as_default which) c.modify;
+  remove = filter (is_for c.flags.as_default which) c.entries.removed;
+  set = filter (is_for c.flags.as_default which) c.entries.set;
+  modify = filter (is_for c.flags.as_default which) c.entries.modified;
 }
 
 abbrev pub is_given : List Spec → Bool

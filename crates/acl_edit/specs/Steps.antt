@@ -5,8 +5,8 @@ use Rattle.std.specs.FinMap as maps
 use Rattle.acl_entry.specs.Perms as perms
 use Rattle.acl_entry.specs.Perms.{Perms}
 use Rattle.acl_entry.specs.Lists.{KeyMap, entries, effective}
-use Rattle.acl_entry.specs.declared.key.Key.{Key}
-use Rattle.acl_entry.specs.declared.key.Key.TheVariants.{Owner, OwningGroup, Other}
+use Rattle.acl_entry.specs.declared.entry.Key.{Key}
+use Rattle.acl_entry.specs.declared.entry.Key.TheVariants.{Owner, OwningGroup, Other}
 use Rattle.acl_entry.specs.declared.entry.Entry.{Entry}
 use Rattle.acl_syntax.specs.declared.entries.PermSpec.{PermSpec}
 use Rattle.acl_syntax.specs.declared.entries.Spec.{Spec}

@@ -1,6 +1,7 @@
-//! What a setfacl(1) line leaves of a file's lists.
-ghost use Rattle.std.specs.Prelude.{◌≡◌, ◌≢◌, ◌+◌, ◌||◌, true, None, Ok, Err, IfOk, IfErr, IsOk, OnOk, if◌then◌else◌};
-ghost use Rattle.acl_edit.specs.Parts.{part, names};
+//! What a setfacl(1) line leaves of a file's lists: its entries, each for one of the two.
+
+ghost use Rattle.std.specs.Prelude.{◌≡◌, ◌≢◌, ◌+◌, ◌||◌, true, None, Ok, Err, IfOk, IfErr, IsOk, OnOk, if◌then◌else◌, filter};
+ghost use Rattle.acl_edit.specs.Parts.{part, names, is_mask, is_given, is_for, is_of_mask};
 ghost use Rattle.acl_edit.specs.Masks.{takes_mask};
 ghost use Rattle.acl_edit.specs.Steps as steps;
 ghost use Rattle.acl_edit.specs.Edits as edits;
@@ -10,21 +11,27 @@ ghost use Rattle.acl_edit.specs.Rooms.{Fits, HasRoom, size, size_of, puts_of};
 ghost use Rattle.acl_syntax.specs.declared.fault.Which.TheVariants.{Access, Default};
 ghost use Rattle.acl_edit.specs.Laws.{LeavesUnnamed, ShowsRecalculated, BoundsRecalculated, KeepsGranted, GivesModified, GoesByKey, LeavesByKey, CopiesBase, MakesMask, DropsDefault};
 ghost use Rattle.acl_edit.specs.declared.edit.EditFault.TheVariants.{DefaultOnFile, NoMemory};
+ghost use Rattle.std.specs.List.{list_any};
+ghost use Rattle.acl_edit.specs.Parts as parts;
 
-use crate::line::Line;
-use crate::masks::{complete_mask, has_mask};
-use crate::steps::{fill_from, gives_execute, modify, remove, replace, strip};
+use crate::edit::Change;
+use crate::steps::{
+    complete_mask, fill_from, gives_execute, has_mask, modify, remove, replace, strip,
+};
 use crate::{EditFault, Kind, Node};
-use acl_entry::{Acl, Draft};
-use acl_syntax::Which;
+use acl_entry::{Acl, Draft, Key};
+use acl_syntax::{Spec, Which};
 use std::alloc::{AllocError, Global};
 
-impl Line<'_> {
+impl Change {
     /// Whether the line takes the list's mask out.
     fn takes_mask(&self, which: Which, draft: &Draft) -> bool
         ensures { result ≡ takes_mask (part self.now which) draft.now }
     {
-        has_mask(draft) && self.scope(which).takes_mask(self.remove)
+        has_mask(draft)
+            && self
+                .scope(which)
+                .takes_mask(self.entries.removed.as_slice())
     }
 
     /// Replaces, removes and modifies, and returns whether the list lost its mask.
@@ -41,10 +48,10 @@ impl Line<'_> {
         ensures room { Fits (size draft.old + puts_of (part self.now which)) → IsOk result }
     {
         let scope = self.scope(which);
-        replace(alloc, draft, scope, x, self.set)?;
+        replace(alloc, draft, scope, x, self.entries.set.as_slice())?;
         let lost = self.takes_mask(which, draft);
-        remove(draft, scope, self.remove);
-        modify(draft, scope, x, self.modify)?;
+        remove(draft, scope, self.entries.removed.as_slice());
+        modify(draft, scope, x, self.entries.modified.as_slice())?;
         Ok(lost)
     }
 
@@ -88,7 +95,7 @@ impl Line<'_> {
         ensures starts_from { IfOk result (λ draft. draft ≡ access_before self.now acl.now) }
         ensures room { Fits (size acl.now) → IsOk result }
     {
-        if self.strip {
+        if self.flags.strip {
             strip(alloc, acl)
         } else {
             Draft::of(alloc, acl)
@@ -97,10 +104,10 @@ impl Line<'_> {
 
     /// The default list of a file that is not a directory, if there is one: -b and -k remove it.
     fn kept_default(&self, alloc: Global, dacl: &Option<Acl>) -> Result<Option<Acl>, AllocError>
-        ensures kept { IfOk result (λ kept. kept ≡ (if self.now.strip || self.now.drop_default then None else dacl.now)) }
+        ensures kept { IfOk result (λ kept. kept ≡ (if self.now.flags.strip || self.now.flags.drop_default then None else dacl.now)) }
         ensures room { Fits (size_of dacl.now) → IsOk result }
     {
-        if self.strip || self.drop_default {
+        if self.flags.strip || self.flags.drop_default {
             return Ok(None);
         }
         clone_of(alloc, dacl)
@@ -112,7 +119,7 @@ impl Line<'_> {
         ensures room { Fits (size_of dacl.now) → IsOk result }
     {
         match dacl {
-            Some(acl) if !self.strip && !self.drop_default => Draft::of(alloc, acl),
+            Some(acl) if !self.flags.strip && !self.flags.drop_default => Draft::of(alloc, acl),
             _ => Ok(Draft::new(alloc)),
         }
     }
@@ -143,7 +150,7 @@ fn checked_default(draft: Draft) -> Result<Option<Acl>, EditFault>
 }
 
 /// The access list that a line leaves.
-fn changed_access(alloc: Global, node: &Node, line: &Line<'_>, x: bool) -> Result<Acl, EditFault>
+fn changed_access(alloc: Global, node: &Node, line: &Change, x: bool) -> Result<Acl, EditFault>
     requires { x ≡ steps.gives_execute node.now }
     ensures made { IfOk result (λ acl. changed_access node.now line.now ≡ Ok acl) }
     ensures reported { IfErr result (λ fault. fault ≢ NoMemory → changed_access node.now line.now ≡ Err fault) }
@@ -158,7 +165,7 @@ fn changed_access(alloc: Global, node: &Node, line: &Line<'_>, x: bool) -> Resul
 fn changed_default(
     alloc: Global,
     node: &Node,
-    line: &Line<'_>,
+    line: &Change,
     x: bool,
     acl: &Acl,
 ) -> Result<Option<Acl>, EditFault>
@@ -187,7 +194,7 @@ pub(crate) fn clone_of(alloc: Global, acl: &Option<Acl>) -> Result<Option<Acl>, 
 }
 
 /// Whether the line puts default entries into a file that is not a directory, and not in a recursion.
-fn is_misplaced(node: &Node, line: &Line<'_>, in_recursion: bool) -> bool
+fn is_misplaced(node: &Node, line: &Change, in_recursion: bool) -> bool
     ensures { result ≡ is_misplaced node.now line.now in_recursion }
 {
     node.kind != Kind::Directory && !in_recursion && line.puts(Which::Default)
@@ -198,7 +205,7 @@ fn is_misplaced(node: &Node, line: &Line<'_>, in_recursion: bool) -> bool
 pub(crate) fn change(
     alloc: Global,
     node: &Node,
-    line: &Line<'_>,
+    line: &Change,
     in_recursion: bool,
 ) -> Result<Node, EditFault>
     ensures made { IfOk result (λ n. edits.change node.now line.now in_recursion ≡ Ok n) }
@@ -225,4 +232,94 @@ pub(crate) fn change(
     let acl = changed_access(alloc, node, line, x)?;
     let dacl = changed_default(alloc, node, line, x, &acl)?;
     Ok(node.with_lists(acl, dacl))
+}
+
+/// The entries for one list.
+#[derive(Clone, Copy)]
+pub(crate) struct Scope {
+    pub which: Which,
+    /// `-d`: plain entries are default ones, and default ones are dropped.
+    pub as_default: bool,
+}
+
+impl Scope {
+    /// Whether the entry is for the list.
+    pub fn takes(self, spec: &Spec) -> bool
+        ensures { result ≡ is_for self.as_default self.which spec.now }
+    {
+        match self.which {
+            Which::Access => !self.as_default && !spec.dflt,
+            Which::Default => spec.dflt != self.as_default,
+        }
+    }
+
+    /// Whether an entry is for the list.
+    pub fn takes_some(self, specs: &[Spec]) -> bool
+        ensures { result ≡ is_given (filter (is_for self.as_default self.which) specs.now) }
+    {
+        for spec in specs {
+            if self.takes(spec) {
+                return true;
+            }
+        }
+        false
+    }
+
+    /// Whether an entry is the list's mask.
+    pub fn takes_mask(self, specs: &[Spec]) -> bool
+        ensures { result ≡ list_any is_of_mask (filter (is_for self.as_default self.which) specs.now) }
+    {
+        for spec in specs {
+            if self.takes(spec) && is_mask(&spec.key) {
+                return true;
+            }
+        }
+        false
+    }
+}
+
+/// Whether it is the mask's key.
+pub(crate) fn is_mask(key: &Key) -> bool
+    ensures { result ≡ is_mask key.now }
+{
+    matches!(key, Key::Mask)
+}
+
+impl Change {
+    /// The entries for this list.
+    pub(crate) fn scope(&self, which: Which) -> Scope
+        ensures { result ≡ record { which = which; as_default = self.now.flags.as_default } }
+    {
+        Scope {
+            which,
+            as_default: self.flags.as_default,
+        }
+    }
+
+    /// Whether the line puts entries into the list.
+    pub(crate) fn puts(&self, which: Which) -> bool
+        ensures { result ≡ parts.puts (part self.now which) }
+    {
+        let scope = self.scope(which);
+        scope.takes_some(self.entries.set.as_slice())
+            || scope.takes_some(self.entries.modified.as_slice())
+    }
+
+    /// Whether the line names an entry of the list.
+    pub(crate) fn names(&self, which: Which) -> bool
+        ensures { result ≡ parts.names (part self.now which) }
+    {
+        self.scope(which)
+            .takes_some(self.entries.removed.as_slice())
+            || self.puts(which)
+    }
+
+    /// Whether the line gives the list a mask.
+    pub(crate) fn gives_mask(&self, which: Which) -> bool
+        ensures { result ≡ parts.gives_mask (part self.now which) }
+    {
+        let scope = self.scope(which);
+        scope.takes_mask(self.entries.set.as_slice())
+            || scope.takes_mask(self.entries.modified.as_slice())
+    }
 }

@@ -1,34 +1,59 @@
-//! What may be done to a file's lists: setfacl(1) and chacl(1).
-ghost use Rattle.std.specs.Prelude.{◌≡◌};
-ghost use Rattle.acl_edit.specs.declared.edit.EditFault.TheVariants.{NoMemory};
+//! What may be done to a file's lists: setfacl(1) and chacl(1), with entries as a command line or a text gives them; and what
+//! it leaves of them.
 
-use crate::Specs;
-use acl_entry::{Acl, Id, ListFault};
-use acl_syntax::Which;
-use std::alloc::{AllocError, AllocFailed};
+ghost use Rattle.std.specs.Prelude.{◌≡◌, ◌≢◌, true, None, Ok, Err, IfOk, IfErr, IsOk};
+ghost use Rattle.acl_edit.specs.declared.edit.EditFault.TheVariants.{NoMemory, DefaultOnFile};
+ghost use Rattle.acl_edit.specs.Edits as edits;
+ghost use Rattle.acl_edit.specs.Edits.{allowed};
+ghost use Rattle.acl_edit.specs.Nodes.{IsSound, HasValidLists};
+ghost use Rattle.acl_edit.specs.Rooms.{Fits, HasShortLists, IsSmall, size_of};
+ghost use Rattle.acl_edit.specs.Laws.{LeavesUnnamed, ShowsRecalculated, BoundsRecalculated, KeepsGranted, GivesModified, GoesByKey, LeavesByKey, CopiesBase, MakesMask, DropsDefault, OfLine, GivesBack, misplaces_default};
+
+use crate::change::{change, clone_of};
+use crate::{Kind, Node};
+use acl_entry::{Acl, Id, Label, ListFault};
+use acl_syntax::{Spec, Which};
+use std::alloc::{AllocError, AllocFailed, Global};
+use std::marker::Model;
+
+/// The flags of a setfacl(1) line that say how it changes a list.
+#[derive(Clone, Copy, Debug, PartialEq, Eq)]
+pub struct ChangeFlags {
+    /// `-b`: the access list keeps its base entries with what they grant, and the default list goes.
+    pub strip: bool,
+    /// `-k`: the default list goes.
+    pub drop_default: bool,
+    /// `-d`: plain entries are entries of the default list, and default entries are dropped.
+    pub as_default: bool,
+    /// `-n`: no mask is recalculated.
+    pub no_mask: bool,
+    /// `--mask`: the mask is recalculated even where one was given.
+    pub remask: bool,
+}
+
+/// The entries of a setfacl(1) line.
+#[derive(Drop)]
+pub struct ChangeEntries {
+    /// `-x`, `-X`: the keys that are removed.
+    pub removed: Specs,
+    /// `--set`, `--set-file`: the entries that replace a list.
+    pub set: Specs,
+    /// `-m`, `-M`: the entries that are modified or added.
+    pub modified: Specs,
+}
+
+/// A setfacl(1) line that changes lists. The order of its options on the line has no meaning.
+#[derive(Drop)]
+pub struct Change {
+    pub flags: ChangeFlags,
+    pub entries: ChangeEntries,
+}
 
 /// An edit of one file.
-#[derive(Debug, Drop)]
+#[derive(Drop)]
 pub enum Edit {
-    /// A setfacl(1) line: its options but `--restore` and `--test`. Their order on the line has no meaning.
-    Change {
-        /// `-b`: the access list keeps its base entries with what they grant, and the default list goes.
-        strip: bool,
-        /// `-k`: the default list goes.
-        drop_default: bool,
-        /// `-d`: plain entries are entries of the default list, and default entries are dropped.
-        as_default: bool,
-        /// `-n`: no mask is recalculated.
-        no_mask: bool,
-        /// `--mask`: the mask is recalculated even where one was given.
-        remask: bool,
-        /// `-x`, `-X`: the keys that are removed.
-        remove: Specs,
-        /// `--set`, `--set-file`: the entries that replace a list.
-        set: Specs,
-        /// `-m`, `-M`: the entries that are modified or added.
-        modify: Specs,
-    },
+    /// A setfacl(1) line, but for `--restore` and `--test`.
+    Change(Change),
     /// chacl(1) with lists: each that is given is put in place of the file's.
     Put {
         access: Option<Acl>,
@@ -77,5 +102,186 @@ impl<T: Drop> From<AllocFailed<T>> for EditFault {
 
     fn from(_: AllocFailed<T>) -> EditFault {
         EditFault::NoMemory
+    }
+}
+
+/// What an edit makes of a file. The borrowed file stays as it is. `in_recursion`: the edit goes to a
+/// whole subtree (`-R`, chacl's `-r`), where default entries skip files that are not directories.
+///
+/// # Errors
+///
+/// Default entries or a default list for a file that is not a directory, but in a recursion, which takes no
+/// memory to find; a resulting list that is not valid; that memory ran out, never where no list has more than
+/// eight entries, counted with what a setfacl(1) line puts into it, a mask, and copied base entries.
+#[tactic(auto, unfolding(crate::specs::Edits::restore))]
+pub fn apply(alloc: Global, node: &Node, edit: &Edit, in_recursion: bool) -> Result<Node, EditFault>
+    ensures made { IfOk result (λ n. edits.edit node.now edit.now in_recursion ≡ Ok n) }
+    ensures reported { IfErr result (λ fault. fault ≢ NoMemory → edits.edit node.now edit.now in_recursion ≡ Err fault) }
+    ensures misplaced { misplaces_default node.now edit.now in_recursion ≡ true → result ≡ Err DefaultOnFile }
+    ensures room { IsSmall node.now edit.now → result ≢ Err NoMemory }
+
+    ensures valid { IfOk result HasValidLists }
+    ensures sound { IsSound node.now → IfOk result IsSound }
+
+    // What a setfacl(1) line keeps.
+    ensures unnamed { IfOk result (λ n. OfLine edit.now (λ c. LeavesUnnamed node.now c n)) }
+    ensures shown { IfOk result (λ n. OfLine edit.now (λ c. ShowsRecalculated node.now c n)) }
+    ensures bounded { IfOk result (λ n. OfLine edit.now (λ c. BoundsRecalculated node.now c n)) }
+    ensures granted { IfOk result (λ n. OfLine edit.now (λ c. KeepsGranted node.now c n)) }
+    ensures modified { IfOk result (λ n. OfLine edit.now (λ c. GivesModified node.now c n)) }
+    ensures by_key { IfOk result (λ n. OfLine edit.now (λ c. GoesByKey node.now c n)) }
+    ensures every_key { IfOk result (λ n. OfLine edit.now (λ c. LeavesByKey node.now c n)) }
+    ensures copied { IfOk result (λ n. OfLine edit.now (λ c. CopiesBase node.now c n)) }
+    ensures masked { IfOk result (λ n. OfLine edit.now (λ c. MakesMask node.now c n)) }
+    ensures dropped { IfOk result (λ n. OfLine edit.now (λ c. DropsDefault node.now c n)) }
+{
+    let edited = match edit {
+        Edit::Change(line) => change(alloc, node, line, in_recursion)?,
+        Edit::Put { access, dacl } => put(alloc, node, access, dacl, in_recursion)?,
+        Edit::Flatten { access, dacl } => flatten(alloc, node, *access, *dacl)?,
+        Edit::Restore {
+            access,
+            dacl,
+            owner,
+            group,
+            flags,
+        } => {
+            let dacl = allowed(alloc, node.kind, in_recursion, dacl)?;
+            Node {
+                kind: node.kind,
+                label: Label {
+                    owner: owner.unwrap_or(node.label.owner),
+                    group: group.unwrap_or(node.label.group),
+                    acl: access.try_clone(alloc)?,
+                },
+                flags: flags.unwrap_or([false; 3]),
+                dacl,
+            }
+        }
+    };
+    edited.lists_are_valid();
+    Ok(edited)
+}
+
+/// A default list that is given, where the file may have one.
+fn allowed(
+    alloc: Global,
+    kind: Kind,
+    in_recursion: bool,
+    dacl: &Option<Acl>,
+) -> Result<Option<Acl>, EditFault>
+    ensures made { IfOk result (λ d. allowed kind in_recursion dacl.now ≡ Ok d) }
+    ensures reported { IfErr result (λ fault. fault ≢ NoMemory → allowed kind in_recursion dacl.now ≡ Err fault) }
+    ensures misplaced { allowed kind in_recursion dacl.now ≡ Err DefaultOnFile → result ≡ Err DefaultOnFile }
+    ensures room { Fits (size_of dacl.now) → result ≢ Err NoMemory }
+    ensures sound { kind ≡ Kind.Plain → IfOk result (λ d. d ≡ None) }
+{
+    match kind {
+        Kind::Directory => Ok(clone_of(alloc, dacl)?),
+        Kind::Plain if dacl.is_none() || in_recursion => Ok(None),
+        Kind::Plain => Err(EditFault::DefaultOnFile),
+    }
+}
+
+/// Each list that is given, and else the file's own.
+#[tactic(auto, unfolding(crate::specs::Edits::put))]
+fn put(
+    alloc: Global,
+    node: &Node,
+    access: &Option<Acl>,
+    dacl: &Option<Acl>,
+    in_recursion: bool,
+) -> Result<Node, EditFault>
+    ensures made { IfOk result (λ n. edits.put node.now access.now dacl.now in_recursion ≡ Ok n) }
+    ensures reported { IfErr result (λ fault. fault ≢ NoMemory → edits.put node.now access.now dacl.now in_recursion ≡ Err fault) }
+    ensures misplaced { edits.put node.now access.now dacl.now in_recursion ≡ Err DefaultOnFile → result ≡ Err DefaultOnFile }
+    ensures room { HasShortLists node.now → Fits (size_of access.now) → Fits (size_of dacl.now) → result ≢ Err NoMemory }
+    ensures sound { IsSound node.now → IfOk result IsSound }
+{
+    let given = allowed(alloc, node.kind, in_recursion, dacl)?;
+    let acl = match access {
+        Some(acl) => acl.try_clone(alloc)?,
+        None => node.label.acl.try_clone(alloc)?,
+    };
+    let dacl = match given {
+        Some(dacl) => Some(dacl),
+        None => clone_of(alloc, &node.dacl)?,
+    };
+    Ok(node.with_lists(acl, dacl))
+}
+
+/// The minimal list of the mode, and no default list, as they are asked for.
+#[tactic(auto, unfolding(crate::specs::Edits::flatten))]
+fn flatten(alloc: Global, node: &Node, access: bool, dacl: bool) -> Result<Node, AllocError>
+    ensures made { IfOk result (λ n. n ≡ edits.flatten node.now access dacl) }
+    ensures room { HasShortLists node.now → IsOk result }
+    ensures sound { IsSound node.now → IfOk result IsSound }
+{
+    let acl = if access {
+        Acl::minimal(alloc, node.label.acl.mode())?
+    } else {
+        node.label.acl.try_clone(alloc)?
+    };
+    let dacl = if dacl {
+        None
+    } else {
+        clone_of(alloc, &node.dacl)?
+    };
+    Ok(node.with_lists(acl, dacl))
+}
+
+impl Edit {
+    /// The edit that gives a file of the same kind the lists, the owner, the group and the flags of this one,
+    /// as its record in a dump does.
+    ///
+    /// # Errors
+    ///
+    /// If memory runs out.
+    pub fn restoring(alloc: Global, node: &Node) -> Result<Edit, AllocError>
+        ensures gives_back { IsSound node.now → IfOk result (GivesBack node.now) }
+        ensures room { HasShortLists node.now → IsOk result }
+    {
+        Ok(Edit::Restore {
+            access: node.label.acl.try_clone(alloc)?,
+            dacl: clone_of(alloc, &node.dacl)?,
+            owner: Some(node.label.owner),
+            group: Some(node.label.group),
+            flags: Some(node.flags),
+        })
+    }
+}
+
+/// Entries in the order in which they were written; contracts see them as a list.
+#[derive(Drop)]
+pub struct Specs {
+    pub list: Vec<Spec>,
+}
+
+impl Model for Specs {
+    ghost use Rattle.std.specs.Prelude.{List};
+    ghost use Rattle.std.specs.Coded.{coded_list};
+    ghost use Rattle.acl_syntax.specs.declared.entries.Spec.{Spec};
+    ghost use Rattle.acl_syntax.specs.contracts.entries.Spec as spec_contracts;
+
+    ghost Value = { List Spec };
+
+    ghost coded = { coded_list spec_contracts.the_row.coded };
+
+    ghost view = { λ s. s.list.items };
+}
+
+impl Specs {
+    /// These entries.
+    pub fn new(list: Vec<Spec>) -> Specs
+        ensures { result ≡ list.items }
+    {
+        Specs { list }
+    }
+
+    /// The entries, in their order.
+    pub fn as_slice(&self) -> &[Spec]
+        ensures { result.now ≡ self.now }
+    {
+        &self.list
     }
 }

@@ -11,7 +11,8 @@ ghost use Rattle.acl_edit.specs.declared.node.Node.{Node};
 /// of the access list that a line leaves, key by key; else that of the default list. Edits that put whole
 /// lists are refused for no list. Running out of memory is not part of the definition.
 pub fn edits_are_refused_for_their_lists()
-    ensures misplaced { (n : Node) (e : Edit) (in_recursion : Bool) → (edit n e in_recursion ≡ Err DefaultOnFile) ↔ (misplaces_default n e in_recursion ≡ true) }
+    ensures misplaced { (n : Node) (e : Edit) (in_recursion : Bool)
+        → (edit n e in_recursion ≡ Err DefaultOnFile) ↔ (misplaces_default n e in_recursion ≡ true) }
     ensures lists { (n : Node) (e : Edit) (in_recursion : Bool) → OfLine e (λ c. RefusesLists n c in_recursion) }
     ensures whole { (n : Node) (e : Edit) (in_recursion : Bool) → RefusesNoList n e in_recursion }
     ensures memory { (n : Node) (e : Edit) (in_recursion : Bool) → edit n e in_recursion ≢ Err NoMemory }

@@ -7,18 +7,11 @@
 mod change;
 mod creation;
 mod edit;
-mod edits;
 mod laws;
-mod line;
-mod masks;
 mod node;
-mod parts;
 mod steps;
-mod written;
 
 pub use creation::create;
-pub use edit::{Edit, EditFault};
-pub use edits::apply;
+pub use edit::{Change, ChangeEntries, ChangeFlags, Edit, EditFault, Specs, apply};
 pub use laws::edits_are_refused_for_their_lists;
 pub use node::{Kind, Node, chmod};
-pub use written::Specs;

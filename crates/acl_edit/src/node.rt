@@ -8,7 +8,7 @@ use acl_entry::{Acl, Label};
 use std::alloc::{AllocError, Global};
 
 /// Whether a file is a directory. Only directories have default lists: acl(5), "ACL TYPES".
-#[derive(Clone, Copy, PartialEq, Eq, Debug)]
+#[derive(Clone, Copy, PartialEq, Eq)]
 pub enum Kind {
     /// A regular file.
     Plain,
@@ -17,7 +17,7 @@ pub enum Kind {
 }
 
 /// One file, as its lists and its mode see it.
-#[derive(Debug, Drop)]
+#[derive(Drop)]
 pub struct Node {
     pub kind: Kind,
     /// The owner, the file's group and the access list.

@@ -1,18 +1,23 @@
-//! The steps of a setfacl(1) line on one list.
+//! The steps of a setfacl(1) line on one list, and the mask that the line leaves in a list that it names.
+
 ghost use Rattle.std.specs.Prelude.{◌≡◌, ◌<◌, ◌+◌, length, IfOk, IsOk, OnOk, filter};
 ghost use Rattle.std.specs.List.{list_any};
-ghost use Rattle.acl_edit.specs.Parts.{is_for};
+ghost use Rattle.acl_edit.specs.Parts.{is_for, part};
 ghost use Rattle.acl_entry.specs.Lists.{inline_entries};
 ghost use Rattle.acl_edit.specs.Rooms.{Fits, size};
 ghost use Rattle.acl_edit.specs.Steps as steps;
 ghost use Rattle.acl_edit.specs.Steps.{execute, gives_execute, perms_of, may_execute};
+ghost use Rattle.acl_edit.specs.Masks as masks;
+ghost use Rattle.acl_edit.specs.Masks.{has_mask, has_named, is_recalculated};
 
-use crate::parts::{Scope, is_mask};
+use crate::change::{Scope, is_mask};
+use crate::edit::Change;
 use crate::{Kind, Node};
 use acl_entry::{Acl, Draft, Entry, Key, Perm};
-use acl_syntax::{PermSpec, Spec};
+use acl_syntax::{PermSpec, Spec, Which};
 use std::alloc::{AllocError, Global};
 
+/// Execute alone.
 fn execute() -> Perm
     ensures { result ≡ execute }
 {
@@ -144,4 +149,69 @@ fn fill_one(draft: &mut Draft, key: &Key, other: &Acl) -> Result<(), AllocError>
         return Ok(());
     }
     put_some(draft, key, other.get(*key))
+}
+
+/// Whether the list has a mask.
+pub(crate) fn has_mask(draft: &Draft) -> bool
+    ensures { result ≡ has_mask draft.now }
+{
+    draft.get(Key::Mask).is_some()
+}
+
+/// Whether the list names a user or a group.
+fn has_named(draft: &Draft) -> bool
+    ensures { result ≡ has_named draft.now }
+{
+    draft.entries().iter().any(|entry| entry.key.is_named())
+}
+
+/// Gives a list with named entries and without a mask one that is equal to the owning group.
+fn add_mask(draft: &mut Draft) -> Result<(), AllocError>
+    ensures added { OnOk result (draft.new ≡ masks.add_mask draft.old) }
+    ensures room { size draft.old < inline_entries → IsOk result }
+{
+    if has_named(draft) && !has_mask(draft) {
+        if let Some(perm) = draft.get(Key::OwningGroup) {
+            draft.insert(Key::Mask, perm)?;
+        }
+    }
+    Ok(())
+}
+
+/// Makes a mask that is all that the group class has.
+fn recalculate(draft: &mut Draft) -> Result<(), AllocError>
+    ensures recalculated { OnOk result (draft.new ≡ masks.recalculate draft.old) }
+    ensures room { IsOk result }
+{
+    if has_mask(draft) {
+        let all = draft.class_union();
+        draft.insert(Key::Mask, all)?;
+    }
+    Ok(())
+}
+
+/// Whether the line has the list's mask recalculated.
+fn is_recalculated(line: &Change, which: Which) -> bool
+    ensures { result ≡ is_recalculated line.now (part line.now which) }
+{
+    !line.flags.no_mask && (line.flags.remask || !line.gives_mask(which))
+}
+
+/// Completes a list with its mask, where `lost` means that the line took one out.
+pub(crate) fn complete_mask(
+    draft: &mut Draft,
+    line: &Change,
+    which: Which,
+    lost: bool,
+) -> Result<(), AllocError>
+    ensures completed { OnOk result (draft.new ≡ masks.with_mask line.now (part line.now which) lost draft.old) }
+    ensures room { size draft.old < inline_entries → IsOk result }
+{
+    if !lost {
+        add_mask(draft)?;
+    }
+    if is_recalculated(line, which) {
+        recalculate(draft)?;
+    }
+    Ok(())
 }

@@ -1,6 +1,6 @@
 //! Lines of setfacl, each with the lists that it leaves, or its fault.
 use crate::made::{expect, specs};
-use acl_edit::{Edit, Specs};
+use acl_edit::{Change, ChangeEntries, ChangeFlags, Edit, Specs};
 use acl_syntax::Want;
 use std::alloc::Global;
 use std::process::Abort;
@@ -231,16 +231,20 @@ fn value<'a>(line: &'a str, option: &str) -> &'a str {
 }
 
 fn change(rt: &impl Abort, alloc: Global, line: &str) -> Edit {
-    Edit::Change {
-        strip: has(line, "-b"),
-        drop_default: has(line, "-k"),
-        as_default: has(line, "-d"),
-        no_mask: has(line, "-n"),
-        remask: has(line, "--mask"),
-        remove: Specs::new(specs(rt, alloc, value(line, "-x"), Want::WithoutPerms)),
-        set: Specs::new(specs(rt, alloc, value(line, "--set"), Want::WithPerms)),
-        modify: Specs::new(specs(rt, alloc, value(line, "-m"), Want::WithPerms)),
-    }
+    Edit::Change(Change {
+        flags: ChangeFlags {
+            strip: has(line, "-b"),
+            drop_default: has(line, "-k"),
+            as_default: has(line, "-d"),
+            no_mask: has(line, "-n"),
+            remask: has(line, "--mask"),
+        },
+        entries: ChangeEntries {
+            removed: Specs::new(specs(rt, alloc, value(line, "-x"), Want::WithoutPerms)),
+            set: Specs::new(specs(rt, alloc, value(line, "--set"), Want::WithPerms)),
+            modified: Specs::new(specs(rt, alloc, value(line, "-m"), Want::WithPerms)),
+        },
+    })
 }
 
 #[test]

@@ -2,11 +2,11 @@
 use Rattle.std.proofs.Common.{◌≡◌, Bool, true, false, ◌&&◌, refl, sym, ap, subst, ◌∙◌}
 use Rattle.std.specs.Bool.{Decides}
 use Rattle.std.proofs.lemmas.Bool.{and_parts, eqb-true, eq-eqb}
-use Rattle.acl_entry.specs.declared.key.Key.{Key}
-use Rattle.acl_entry.specs.declared.key.Key.TheVariants.{Owner, User, OwningGroup, Group, Mask, Other}
+use Rattle.acl_entry.specs.declared.entry.Key.{Key}
+use Rattle.acl_entry.specs.declared.entry.Key.TheVariants.{Owner, User, OwningGroup, Group, Mask, Other}
 use Rattle.acl_entry.specs.declared.entry.Entry.{Entry}
-use Rattle.acl_entry.specs.contracts.key.KeyPartialEq.TheImpl.{ghosts as key_equality}
-use Rattle.acl_entry.specs.contracts.perm.PermPartialEq.TheImpl.{ghosts as perm_equality}
+use Rattle.acl_entry.specs.contracts.entry.KeyPartialEq.TheImpl.{ghosts as key_equality}
+use Rattle.acl_entry.specs.contracts.entry.PermPartialEq.TheImpl.{ghosts as perm_equality}
 use Rattle.acl_entry.specs.contracts.entry.EntryPartialEq.TheImpl.{ghosts as entry_equality}
 use Rattle.acl_entry.specs.Perms.{Perms, number, numbered}
 

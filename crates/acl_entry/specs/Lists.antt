@@ -8,8 +8,8 @@ use Rattle.acl_entry.specs.Perms as perms
 use Rattle.acl_entry.specs.Perms.{Perms}
 use Rattle.acl_entry.specs.Ids.{nobody}
 use Rattle.acl_entry.specs.Keys.{key_cmp, same_key, id_of, is_named, is_class, is_base}
-use Rattle.acl_entry.specs.declared.key.Key.{Key}
-use Rattle.acl_entry.specs.declared.key.Key.TheVariants.{Owner, OwningGroup, Mask, Other}
+use Rattle.acl_entry.specs.declared.entry.Key.{Key}
+use Rattle.acl_entry.specs.declared.entry.Key.TheVariants.{Owner, OwningGroup, Mask, Other}
 use Rattle.acl_entry.specs.declared.entry.Entry.{Entry}
 use Rattle.acl_entry.specs.declared.entry.ListFault.{ListFault}
 use Rattle.acl_entry.specs.declared.entry.ListFault.TheVariants.{TooLong, Repeated, MissingBase, MissingMask}

@@ -10,8 +10,8 @@ use Rattle.acl_entry.specs.Perms.{Perms, contains}
 use Rattle.acl_entry.specs.Lists.{entries, perm_at, masked, masked_by}
 use Rattle.acl_entry.specs.Check.{is_for, group_of, check, byte_of, rights}
 use Rattle.acl_entry.specs.Person.{Person}
-use Rattle.acl_entry.specs.declared.key.Key.{Key}
-use Rattle.acl_entry.specs.declared.key.Key.TheVariants.{Owner, User, OwningGroup, Group, Mask, Other}
+use Rattle.acl_entry.specs.declared.entry.Key.{Key}
+use Rattle.acl_entry.specs.declared.entry.Key.TheVariants.{Owner, User, OwningGroup, Group, Mask, Other}
 use Rattle.acl_entry.specs.declared.entry.Entry.{Entry}
 use Rattle.acl_entry.specs.declared.label.Label.{Label}
 

@@ -1,20 +1,16 @@
 //! Valid lists: acl(5), "VALID ACLs" and "CORRESPONDENCE BETWEEN ACL ENTRIES AND FILE PERMISSION
 //! BITS".
-ghost use Rattle.std.specs.Prelude.{◌≡◌, ◌≢◌, ◌<◌, ◌≤◌, ◌%◌, ℕ, length, IfOk, IfErr, OnOk, IsOk, Ok, Err, IsTrue, Some, None, ◌↔◌};
-ghost use Rattle.acl_entry.specs.declared.key.Key.{Key};
-ghost use Rattle.acl_entry.specs.declared.entry.ListFault.TheVariants.{NoMemory, Repeated, TooLong};
-ghost use Rattle.acl_entry.specs.declared.key.Key.TheVariants.{Mask};
-ghost use Rattle.std.specs.List.Sorted.{IsPermutation};
+ghost use Rattle.std.specs.Prelude.{◌≡◌, ◌≢◌, ◌<◌, ◌≤◌, ◌%◌, length, IfOk, IfErr, OnOk, IsOk, Ok, Err, IsTrue, Some, None, ◌↔◌};
+ghost use Rattle.acl_entry.specs.declared.entry.Key.{Key};
+ghost use Rattle.acl_entry.specs.declared.entry.ListFault.TheVariants.{NoMemory, TooLong};
+ghost use Rattle.acl_entry.specs.declared.entry.Key.TheVariants.{Mask};
 ghost use Rattle.std.specs.FinMap as maps;
 ghost use Rattle.acl_entry.specs.Ids.{nobody};
-ghost use Rattle.acl_entry.specs.Keys.{key_cmp, is_named, is_base};
 ghost use Rattle.acl_entry.specs.Lists as lists;
 ghost use Rattle.acl_entry.specs.Lists.{HasIds, IsValid, IsList};
-ghost use Rattle.acl_entry.specs.Perms as perms;
 ghost use Rattle.acl_entry.specs.Perms.{number};
-ghost use Rattle.std.specs.List.{position_from, list_all};
 
-use crate::sorted::{
+use crate::draft::{
     class_union, has_base_alone, has_entry, in_order, missing_base, perm_of, set_mode, unmasked,
 };
 use crate::{Entry, Key, ListFault, NOBODY, Perm};
@@ -39,7 +35,7 @@ pub fn limits_are_as_defined()
 ///
 /// It has the owner, the owning group and the others once each, no key twice, and a mask where it
 /// has a named entry.
-#[derive(Debug, Drop)]
+#[derive(Drop)]
 pub struct Acl {
     entries: SmallVec<Entry, INLINE_ENTRIES>,
 }

@@ -1,11 +1,10 @@
 //! The check of all eight requests in one walk: acl(5), "ACCESS CHECK ALGORITHM".
-ghost use Rattle.std.specs.Prelude.{◌≡◌, ◌&&◌, ◌<◌, ◌^◌, Some, None, Option, Bool, true, false, if◌then◌else◌, option_map, unwrap_or};
+ghost use Rattle.std.specs.Prelude.{◌≡◌, ◌<◌, Some, None, Option, true, false};
 ghost use Rattle.std.specs.List.{list_any};
 ghost use Rattle.std.specs.Int.RustNames.{bit_or};
-ghost use Rattle.std.specs.FinMap as maps;
-ghost use Rattle.acl_entry.specs.declared.key.Key.TheVariants.{Mask};
+ghost use Rattle.acl_entry.specs.declared.entry.Key.TheVariants.{Mask};
 ghost use Rattle.acl_entry.specs.Perms.{Perms, contains};
-ghost use Rattle.acl_entry.specs.Lists.{masked, masked_by};
+ghost use Rattle.acl_entry.specs.Lists.{masked_by};
 ghost use Rattle.acl_entry.specs.Check.{has, byte_of, is_for, rights, check, group_of, some_entry_grants};
 ghost use Rattle.acl_entry.specs.Mentions.{AgreeOnMentions};
 ghost use Rattle.acl_entry.specs.Person.{Person};
@@ -16,7 +15,7 @@ use crate::{Entry, Id, Key, Label, Perm, Subject};
 use std::marker::Model;
 
 /// A set of requests, as any byte is one. There are eight, numbered as permission sets are: bit i is request i.
-#[derive(Clone, Copy, PartialEq, Eq, Debug)]
+#[derive(Clone, Copy, PartialEq, Eq)]
 pub struct Requests(pub u8);
 
 impl Model for Requests {
@@ -125,12 +124,13 @@ fn by_groups(
     mask: &Option<Perm>,
 ) -> Option<Requests>
     ensures none { list_any (is_for subject.now owning) entries.now ≡ false → result ≡ None }
-    ensures some { list_any (is_for subject.now owning) entries.now ≡ true → result ≡ Some (byte_of (some_entry_grants subject.now owning mask.now entries.now)) }
+    ensures some { list_any (is_for subject.now owning) entries.now ≡ true
+        → result ≡ Some (byte_of (some_entry_grants subject.now owning mask.now entries.now)) }
 {
     let mut is_matched = false;
     let mut all = Requests::none();
     for entry in entries {
-        if is_for(subject, owning, &entry.key) {
+        if subject.matches(owning, &entry.key) {
             is_matched = true;
             all = all.union(Requests::within(under(mask, entry.perm)));
         }
@@ -138,13 +138,15 @@ fn by_groups(
     if is_matched { Some(all) } else { None }
 }
 
-/// Whether an entry of the key is for one of the user's groups.
-fn is_for(subject: &Subject, owning: Id, key: &Key) -> bool
-    ensures { result ≡ option_map_or (sets.contains subject.now.groups) (group_of owning key.now) false }
-{
-    match *key {
-        Key::OwningGroup => subject.is_of(owning),
-        Key::Group(group) => subject.is_of(group),
-        Key::Owner | Key::User(_) | Key::Mask | Key::Other => false,
+impl Subject {
+    /// Whether an entry of the key is for one of the user's groups, where `owning` owns the file. Allocates nothing.
+    pub fn matches(&self, owning: Id, key: &Key) -> bool
+        ensures { result ≡ option_map_or (sets.contains self.now.groups) (group_of owning key.now) false }
+    {
+        match *key {
+            Key::OwningGroup => self.is_of(owning),
+            Key::Group(group) => self.is_of(group),
+            Key::Owner | Key::User(_) | Key::Mask | Key::Other => false,
+        }
     }
 }

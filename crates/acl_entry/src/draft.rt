@@ -1,11 +1,19 @@
-//! A list that is not valid yet.
-ghost use Rattle.std.specs.Prelude.{◌≡◌, ◌<◌, ◌≤◌, true, None, Some, IfOk, IfErr, IsOk, OnOk, OnErr, length};
+//! A list that is not valid yet, and entries in list order: where a key is, what is wrong with them, and other sets at their
+//! keys.
+
+ghost use Rattle.std.specs.Prelude.{◌≡◌, ◌<◌, ◌≤◌, true, Some, IfOk, IfErr, IsOk, OnOk, OnErr, length, ◌≢◌, Ok, Err, IsTrue, option_map, map, filter};
 ghost use Rattle.std.specs.FinMap as maps;
 ghost use Rattle.acl_entry.specs.Lists as lists;
-ghost use Rattle.acl_entry.specs.Lists.{HasIds, IsValid};
+ghost use Rattle.acl_entry.specs.Lists.{HasIds, IsValid, IsAt, IsGapFor, IsInOrder, IsList, pairs, keys, repeated, in_class, perm_of_entry};
+ghost use Rattle.acl_entry.specs.declared.entry.Key.{Key};
+ghost use Rattle.acl_entry.specs.declared.entry.ListFault.TheVariants.{NoMemory, Repeated};
+ghost use Rattle.acl_entry.specs.declared.entry.Key.TheVariants.{Mask};
+ghost use Rattle.std.specs.List.Sorted.{IsPermutation};
+ghost use Rattle.acl_entry.specs.Ids.{nobody};
+ghost use Rattle.acl_entry.specs.Keys.{key_cmp, is_named, is_base, id_of};
+ghost use Rattle.std.specs.List.{position_from, list_all};
 
-use crate::acl::{Acl, INLINE_ENTRIES};
-use crate::sorted::{class_union, fault_in_order, perm_of, place, set_perm};
+use crate::acl::{Acl, INLINE_ENTRIES, MAX_ENTRIES};
 use crate::{Entry, Key, ListFault, Perm};
 use smallvec::SmallVec;
 use std::alloc::{AllocError, Global};
@@ -13,7 +21,7 @@ use std::marker::Model;
 
 /// A map from keys to permission sets that need not be a valid list yet: what edits and readers of
 /// text work on, so that they do not touch sorted entries.
-#[derive(Debug, Drop)]
+#[derive(Drop)]
 pub struct Draft {
     entries: SmallVec<Entry, INLINE_ENTRIES>,
 }
@@ -125,4 +133,167 @@ impl Draft {
         }
         Ok(Acl::of_list(self.entries))
     }
+}
+
+/// Where the key is, or where it would go.
+pub(crate) fn place(entries: &[Entry], key: &Key) -> Result<usize, usize>
+    requires { IsInOrder entries.now }
+    ensures found { IfOk result (IsAt entries.now key.now) }
+    ensures absent { IfErr result (IsGapFor entries.now key.now) }
+    ensures id { id_of key.now < nobody }
+{
+    let _id = key.id();
+    entries.binary_search_by_key(key, |entry| entry.key)
+}
+
+/// The permissions of the key's entry, if there is one.
+pub(crate) fn perm_of(entries: &[Entry], key: &Key) -> Option<Perm>
+    requires { IsInOrder entries.now }
+    ensures { result ≡ maps.find key_cmp key.now (pairs entries.now) }
+{
+    match place(entries, key) {
+        Ok(at) => Some(entries[at].perm),
+        Err(_) => None,
+    }
+}
+
+/// Puts another permission set at a key that is present.
+pub(crate) fn set_perm(entries: &mut [Entry], key: &Key, perm: Perm)
+    requires in_order { IsInOrder entries.old }
+    requires has_entry { IsTrue (lists.is_among key.now (keys entries.old)) }
+    ensures put { pairs entries.new ≡ maps.put key_cmp key.now perm (pairs entries.old) }
+    ensures keys { keys entries.new ≡ keys entries.old }
+{
+    if let Ok(at) = place(entries, key) {
+        entries[at].perm = perm;
+    }
+}
+
+/// The entries in list order, or the first key that comes twice.
+pub(crate) fn in_order(
+    alloc: Global,
+    entries: &[Entry],
+) -> Result<SmallVec<Entry, INLINE_ENTRIES>, ListFault>
+    requires { length entries.now ≤ MAX_ENTRIES }
+    ensures once { OnOk result (repeated (keys entries.now) ≡ None) }
+    ensures in_order { IfOk result (λ sorted. IsInOrder sorted.items) }
+    ensures permutation { IfOk result (λ sorted. IsPermutation entries.now sorted.items) }
+    ensures ids { IfOk result (λ sorted. HasIds sorted.items) }
+    ensures same { IfOk result (λ sorted. (k : Key) → maps.find key_cmp k (pairs sorted.items) ≡ maps.find key_cmp k (pairs entries.now)) }
+    ensures err { IfErr result (λ fault. fault ≢ NoMemory → option_map Repeated (repeated (keys entries.now)) ≡ Some fault) }
+    ensures inline { length entries.now ≤ INLINE_ENTRIES → result ≢ Err NoMemory }
+{
+    let mut sorted = SmallVec::new(alloc);
+    for (i, entry) in entries.iter().enumerate() {
+        match place(&sorted, &entry.key) {
+            Ok(_) => return Err(ListFault::Repeated { at: i + 1 }),
+            Err(at) => sorted.insert(at, *entry)?,
+        }
+    }
+    Ok(sorted)
+}
+
+/// Whether there is an entry of the key.
+pub(crate) fn has_entry(sorted: &[Entry], key: &Key) -> bool
+    requires { IsInOrder sorted.now }
+    ensures { result ≡ lists.is_among key.now (keys sorted.now) }
+{
+    perm_of(sorted, key).is_some()
+}
+
+/// The first base key without an entry.
+pub(crate) fn missing_base(sorted: &[Entry]) -> Option<Key>
+    requires { IsInOrder sorted.now }
+    ensures { result ≡ lists.missing_base (keys sorted.now) }
+{
+    if !has_entry(sorted, &Key::Owner) {
+        return Some(Key::Owner);
+    }
+    if !has_entry(sorted, &Key::OwningGroup) {
+        return Some(Key::OwningGroup);
+    }
+    if !has_entry(sorted, &Key::Other) {
+        return Some(Key::Other);
+    }
+    None
+}
+
+/// The first named entry, as a place from 1.
+fn first_named(entries: &[Entry]) -> Option<usize>
+    requires { length entries.now ≤ MAX_ENTRIES }
+    ensures { result ≡ position_from is_named 1 (keys entries.now) }
+{
+    for (i, entry) in entries.iter().enumerate() {
+        if entry.key.is_named() {
+            return Some(i + 1);
+        }
+    }
+    None
+}
+
+/// What is wrong with entries that are in list order.
+pub(crate) fn fault_in_order(sorted: &[Entry]) -> Option<ListFault>
+    requires { IsInOrder sorted.now }
+    ensures { result ≡ lists.fault sorted.now }
+{
+    if sorted.len() > MAX_ENTRIES {
+        return Some(ListFault::TooLong);
+    }
+    if let Some(key) = missing_base(sorted) {
+        return Some(ListFault::MissingBase { key });
+    }
+    match unmasked(sorted, has_entry(sorted, &Key::Mask)) {
+        Some(at) => Some(ListFault::MissingMask { at }),
+        None => None,
+    }
+}
+
+/// The first named entry where there is no mask.
+pub(crate) fn unmasked(entries: &[Entry], has_mask: bool) -> Option<usize>
+    requires short { length entries.now ≤ MAX_ENTRIES }
+    requires mask { has_mask ≡ lists.is_among Mask (keys entries.now) }
+    ensures { result ≡ lists.unmasked (keys entries.now) }
+{
+    if has_mask {
+        return None;
+    }
+    first_named(entries)
+}
+
+/// The union of what the entries of the group class have, the mask apart.
+pub(crate) fn class_union(entries: &[Entry]) -> Perm
+    ensures { result ≡ lists.union_all (map perm_of_entry (filter in_class entries.now)) }
+{
+    let mut all = Perm::none();
+    for entry in entries {
+        if entry.key.is_class() {
+            all = all.union(entry.perm);
+        }
+    }
+    all
+}
+
+/// Whether there are only base entries.
+pub(crate) fn has_base_alone(entries: &[Entry]) -> bool
+    ensures { result ≡ list_all (λ e. is_base e.key) entries.now }
+{
+    entries.iter().all(|entry| entry.key.is_base())
+}
+
+/// Puts other sets at the mode entries.
+pub(crate) fn set_mode(
+    entries: &mut [Entry],
+    group: &Key,
+    owner: Perm,
+    group_perm: Perm,
+    other: Perm,
+)
+    requires list { IsList entries.old }
+    requires group { group.now ≡ lists.group_digit_key (lists.map_of entries.old) }
+    ensures list { IsList entries.new }
+    ensures map { lists.map_of entries.new ≡ lists.with_mode (lists.map_of entries.old) owner group_perm other }
+{
+    set_perm(entries, &Key::Owner, owner);
+    set_perm(entries, group, group_perm);
+    set_perm(entries, &Key::Other, other);
 }

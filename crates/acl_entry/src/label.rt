@@ -1,14 +1,16 @@
-//! What a file has for the check, and who asks: acl(5), "ACCESS CHECK ALGORITHM".
+//! What a file has for the check, and who asks: acl(5), "ACCESS CHECK ALGORITHM"; and the groups that a label mentions.
+
 ghost use Rattle.std.specs.Prelude.{◌≡◌, IfOk};
 ghost use Rattle.std.specs.List.Sorted.{IsStrictlyIncreasing};
 ghost use Rattle.std.specs.FinSet as sets;
+ghost use Rattle.acl_entry.specs.Mentions.{mentions, meets};
 
-use crate::{Acl, Id};
+use crate::{Acl, Id, Key};
 use std::alloc::{AllocError, Global};
 use std::marker::Model;
 
 /// What the check reads of a file: its owner, its group and its access list.
-#[derive(Debug, Drop)]
+#[derive(Drop)]
 pub struct Label {
     pub owner: Id,
     pub group: Id,
@@ -16,7 +18,7 @@ pub struct Label {
 }
 
 /// Who asks: a user's id and groups.
-#[derive(Debug, Drop)]
+#[derive(Drop)]
 pub struct Subject {
     uid: Id,
     groups: Vec<Id>,
@@ -89,5 +91,44 @@ impl Subject {
         ensures { result ≡ sets.contains self.now.groups group }
     {
         self.groups.binary_search(&group).is_ok()
+    }
+}
+
+impl Label {
+    /// The file's group, then the groups that entries name, in list order.
+    ///
+    /// What the check grants a user rests, of the user's groups, on these alone.
+    ///
+    /// # Errors
+    ///
+    /// If memory runs out.
+    pub fn mentions(&self, alloc: Global) -> Result<Vec<Id>, AllocError>
+        ensures { IfOk result (λ ids. ids.items ≡ mentions self.now) }
+    {
+        let mut ids = Vec::new(alloc);
+        ids.push(self.group)?;
+        for entry in self.acl.entries() {
+            if let Key::Group(id) = entry.key {
+                ids.push(id)?;
+            }
+        }
+        Ok(ids)
+    }
+
+    /// Whether the label mentions one of the groups.
+    pub fn mentions_one_of(&self, groups: &[Id]) -> bool
+        ensures { result ≡ meets (mentions self.now) groups.now }
+    {
+        if groups.contains(&self.group) {
+            return true;
+        }
+        for entry in self.acl.entries() {
+            if let Key::Group(id) = entry.key {
+                if groups.contains(&id) {
+                    return true;
+                }
+            }
+        }
+        false
     }
 }

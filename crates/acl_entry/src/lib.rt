@@ -9,19 +9,13 @@ mod acl;
 mod check;
 mod draft;
 mod entry;
-mod key;
 mod label;
-mod mentions;
-mod perm;
-mod sorted;
 
 pub use acl::{Acl, INLINE_ENTRIES, MAX_ENTRIES, limits_are_as_defined};
 pub use check::{Requests, granted};
 pub use draft::Draft;
-pub use entry::{Entry, ListFault};
-pub use key::{Id, Key, NOBODY};
+pub use entry::{Entry, Id, Key, ListFault, NOBODY, Perm};
 pub use label::{Label, Subject};
-pub use perm::Perm;
 
 /// What is returned where memory runs out: std's error under the name that the crates above use for it.
 pub type NoMemory = std::alloc::AllocError;

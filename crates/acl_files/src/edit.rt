@@ -1,6 +1,6 @@
 //! Edits of the files of a command: each file of it is edited, or none.
 
-ghost use Rattle.std.specs.Prelude.{◌≡◌, ◌≢◌, ◌↔◌, IsTrue, ◌++◌, ◌∷◌, [], true, map, Ok, Err, Result, IfOk, IfErr, OnOk, if◌then◌else◌};
+ghost use Rattle.std.specs.Prelude.{◌≡◌, ◌≢◌, ◌↔◌, IsTrue, ◌++◌, ◌∷◌, [], true, map, Ok, Err, Result, IfOk, IfErr, OnOk};
 ghost use Rattle.acl_edit.specs.declared.edit.EditFault as edit_faults;
 ghost use Rattle.acl_edit.specs.declared.edit.EditFault.TheVariants as no_edit;
 ghost use Rattle.acl_edit.specs.declared.node.Node as nodes;
@@ -12,10 +12,8 @@ ghost use Rattle.acl_files.specs.declared.edit.FileFault.TheVariants.{NoMemory};
 
 use crate::fault::TreeFault;
 use crate::files::Files;
-use crate::found::Found;
-use crate::paths::Selection;
 use crate::records::Record;
-use crate::selection::select;
+use crate::selection::{Found, Selection, select};
 use acl_edit::{EditFault, Node};
 use acl_names::Path;
 use std::alloc::{AllocError, AllocFailed, Global};
@@ -129,7 +127,8 @@ fn edit_each<E: NodeEdit>(
 ) -> Result<Vec<Rc<Record>>, FileFault>
     ensures made { IfOk result (λ edits. edit_each (E.edited edit.now) (map file_of files.now) ≡ Ok (map (λ r. r.value) edits.items)) }
     ensures fault { IfErr result (λ fault. fault ≢ NoMemory → edit_each (E.edited edit.now) (map file_of files.now) ≡ Err fault) }
-    ensures reported { OnOk result (map (λ r. r.value) changed.new.items ≡ map (λ r. r.value) changed.old.items ++ changed_by (λ _. true) (node_after (E.edited edit.now)) (map file_of files.now)) }
+    ensures reported { OnOk result (map (λ r. r.value) changed.new.items
+        ≡ map (λ r. r.value) changed.old.items ++ changed_by (λ _. true) (node_after (E.edited edit.now)) (map file_of files.now)) }
 {
     let mut edits = Vec::with_capacity(alloc, files.len())?;
     let mut rest = files;
@@ -150,8 +149,10 @@ pub fn edit_files<E: NodeEdit>(
     edit: &E,
 ) -> Result<Files, FileFault>
     ensures made { IfOk result (λ new. edit_all (E.edited edit.now) selection.now.recursive selection.now.operands.now tree.now ≡ Ok new) }
-    ensures fault { IfErr result (λ fault. fault ≢ NoMemory → edit_all (E.edited edit.now) selection.now.recursive selection.now.operands.now tree.now ≡ Err fault) }
-    ensures reported { IfOk result (λ new. map (λ r. r.value) changed.new.items ≡ map (λ r. r.value) changed.old.items ++ changed_between tree.now.files new.files) }
+    ensures fault { IfErr result (λ fault. fault ≢ NoMemory → edit_all (E.edited edit.now) selection.now.recursive selection.now.operands.now tree.now
+        ≡ Err fault) }
+    ensures reported { IfOk result (λ new. map (λ r. r.value) changed.new.items
+        ≡ map (λ r. r.value) changed.old.items ++ changed_between tree.now.files new.files) }
     ensures gone { IfOk result (λ new. gone_between tree.now.files new.files ≡ []) }
 {
     edit.keeps_place();

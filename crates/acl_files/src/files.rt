@@ -18,7 +18,7 @@ use std::marker::Model;
 pub type FilesIter<'a> = Entries<'a, Node>;
 
 /// The files that a dump recorded, in path order, and whether a dump was loaded. Files and those made from them share
-/// what is the same, by chunks. What is always true of them is the clause of [`Files::is_sound`].
+/// what is the same, by chunks. What is always true of them is the clause of [`Files::soundness_law`].
 #[derive(Drop)]
 pub struct Files {
     files: PathMap<Node>,
@@ -78,7 +78,7 @@ impl Files {
     /// Proof only: the files are in path order, each path once, and there are at most 1,048,576; there is none
     /// before a dump is loaded; the root and what has a file below it are directories, and only directories
     /// have default lists.
-    pub fn is_sound(&self)
+    pub fn soundness_law(&self)
         ensures { IsSoundTree self.now }
     {
         let _files = self.files_by_path();

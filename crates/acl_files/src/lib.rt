@@ -2,26 +2,23 @@
 //! or restored, all or none; the recorded paths around a path.
 #![tactic(auto)]
 
-mod above;
 mod edit;
 mod fault;
 mod files;
-mod found;
 mod laws;
-mod paths;
 mod records;
 mod restore;
 mod selection;
-mod sorting;
 mod walks;
 
-pub use above::nearest_above;
 pub use acl_dump::{
     DumpRecord, DumpUse, Effective, FaultKind, Form, Header, Names, NoNames, PasswdRow, Sep, Spec,
     TextFault, Want, Which, append_entry, append_header, append_id, append_line, append_list,
     append_short, read_dump, read_entries, read_id, read_perms, records_are_read_again, trim,
 };
-pub use acl_edit::{Edit, EditFault, Kind, Node, Specs, apply, chmod, create};
+pub use acl_edit::{
+    Change, ChangeEntries, ChangeFlags, Edit, EditFault, Kind, Node, Specs, apply, chmod, create,
+};
 pub use acl_entry::{
     Acl, Draft, Entry, Id, Key, Label, ListFault, NoMemory, Perm, Requests, Subject, granted,
 };
@@ -29,11 +26,9 @@ pub use acl_names::{Name, Path, append_name, append_path, read_name, read_path, 
 pub use edit::{FileFault, NodeEdit, edit_files};
 pub use fault::TreeFault;
 pub use files::{Files, FilesIter};
-pub use found::Found;
 pub use laws::each_record_is_a_file;
 pub use path_map::PathMap;
-pub use paths::{Paths, Selection};
-pub use records::{Record, files_of};
+pub use records::{Record, files_of, in_path_order};
 pub use restore::{DumpRecords, restore_files};
-pub use selection::{look_up, select};
-pub use sorting::in_path_order;
+pub use selection::{Found, Paths, Selection, look_up, select};
+pub use walks::nearest_above;

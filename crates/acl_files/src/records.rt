@@ -1,21 +1,20 @@
-//! The files of a dump's records.
+//! The files of a dump's records, sorted by their paths.
 
 ghost use Rattle.std.specs.Prelude.{◌≡◌, true, map, reverse, IfOk, unwrap_or};
 ghost use Rattle.acl_dump.specs.OwnPaths.{have_own_paths};
-ghost use Rattle.acl_files.specs.Loading.{node_of, files_of};
+ghost use Rattle.acl_files.specs.Loading.{node_of, files_of, in_path_order};
 ghost use Rattle.acl_files.specs.Inner.{next_file_below, files_from};
 
-use crate::sorting::in_path_order;
 use acl_dump::DumpRecord;
 use acl_edit::{Kind, Node};
 use acl_entry::{Id, Label};
 use acl_names::Path;
-use path_map::Entry;
+use path_map::MapEntry;
 use std::alloc::{AllocError, Global};
 use std::rc::Rc;
 
 /// A file: its path, and its node.
-pub type Record = Entry<Node>;
+pub type Record = MapEntry<Node>;
 
 /// A directory where a file is below it, or its record has a default list.
 fn kind_of(has_below: bool, entry: &DumpRecord) -> Kind
@@ -28,6 +27,7 @@ fn kind_of(has_below: bool, entry: &DumpRecord) -> Kind
     }
 }
 
+/// The id, or that of root where there is none.
 fn id_or_root(id: Option<Id>) -> Id
     ensures { result ≡ unwrap_or id 0 }
 {
@@ -99,4 +99,14 @@ pub fn files_of(alloc: Global, records: Vec<DumpRecord>) -> Result<Vec<Rc<Record
     ensures { IfOk result (λ files. map (λ r. r.value) files.items ≡ files_of records.items) }
 {
     files_from(alloc, in_path_order(records))
+}
+
+/// The records in path order. Allocates nothing.
+pub fn in_path_order(records: Vec<DumpRecord>) -> Vec<DumpRecord>
+    requires { have_own_paths records.items ≡ true }
+    ensures { result.items ≡ in_path_order records.items }
+{
+    let mut sorted = records;
+    sorted.sort_unstable_by(|a, b| a.path.order(&b.path));
+    sorted
 }

@@ -30,7 +30,7 @@ use std::marker::Model;
 use std::rc::Rc;
 
 /// Records of a dump, no two of one path.
-#[derive(Debug, Drop)]
+#[derive(Drop)]
 pub struct DumpRecords {
     list: Vec<DumpRecord>,
 }
@@ -130,9 +130,10 @@ impl NodeEdit for Restored<'_> {
 
 /// The file of a path.
 fn file_at<'a>(tree: &'a Files, path: &Path) -> Option<&'a Rc<Record>>
-    ensures { MatchOption result (find path_cmp path.now tree.now.files ≡ None) (λ file. (file.now.value.0 ≡ path.now) × (find path_cmp path.now tree.now.files ≡ Some file.now.value.1)) }
+    ensures { MatchOption result (find path_cmp path.now tree.now.files ≡ None) (λ file. (file.now.value.0 ≡ path.now)
+        × (find path_cmp path.now tree.now.files ≡ Some file.now.value.1)) }
 {
-    tree.is_sound();
+    tree.soundness_law();
     let Some(file) = tree.files_by_path().from(path).next() else {
         return None;
     };
@@ -208,10 +209,11 @@ pub fn restore_files(
 ) -> Result<Files, TreeFault>
     ensures made { IfOk result (λ new. restored_tree records.now tree.now ≡ Ok new) }
     ensures fault { IfErr result (λ fault. fault ≢ NoMemory → restored_tree records.now tree.now ≡ Err fault) }
-    ensures reported { IfOk result (λ new. map (λ r. r.value) changed.new.items ≡ map (λ r. r.value) changed.old.items ++ changed_between tree.now.files new.files) }
+    ensures reported { IfOk result (λ new. map (λ r. r.value) changed.new.items
+        ≡ map (λ r. r.value) changed.old.items ++ changed_between tree.now.files new.files) }
     ensures gone { IfOk result (λ new. gone_between tree.now.files new.files ≡ []) }
 {
-    tree.is_sound();
+    tree.soundness_law();
     let found = files_of(alloc, tree, records.as_slice())?;
     let sorted = in_path_order(found);
     let edits = restore_each(alloc, changed, &sorted)?;

@@ -1,20 +1,22 @@
-//! The files that the operands of a command mean, found by search.
+//! The operands of a command, and the files that they mean, found by search.
 
 ghost use Rattle.std.specs.Prelude.{◌≡◌, ◌≢◌, ◌++◌, Bool, false, map, filter, None, IfOk, IfErr, OnOk};
 ghost use Rattle.std.specs.Option.{option_map_or};
 ghost use Rattle.acl_files.specs.Files.{PathOf};
-ghost use Rattle.acl_files.specs.Found.{files_found, found_in};
-ghost use Rattle.acl_files.specs.Inner.{Ascend};
+ghost use Rattle.acl_files.specs.Found.{files_found, found_in, found_file};
+ghost use Rattle.acl_files.specs.Inner.{Ascend, next_file_below};
 ghost use Rattle.acl_files.specs.Operands.{means, is_file, first_missing, IsMissing};
 ghost use Rattle.acl_files.specs.declared.fault.TreeFault.TheVariants.{NoMemory};
 
 use crate::fault::TreeFault;
-use crate::files::Files;
-use crate::found::Found;
-use crate::paths::{Paths, Selection};
+use crate::files::{Files, FilesIter};
+use crate::records::Record;
+use acl_edit::Node;
 use acl_names::Path;
 use std::alloc::{AllocError, Global};
 use std::cmp::Ordering;
+use std::marker::Model;
+use std::rc::Rc;
 
 /// Whether an operand means a file.
 fn means(recursive: bool, operand: &Path, path: &Path) -> bool
@@ -46,7 +48,8 @@ fn all_operands<'a>(alloc: Global, operands: &'a Paths) -> Result<Vec<&'a Path>,
 
 /// The operands in path order.
 fn in_order<'a>(alloc: Global, operands: &'a Paths) -> Result<Vec<&'a Path>, AllocError>
-    ensures same { IfOk result (λ sorted. (recursive : Bool) (q : PathOf) → is_file recursive (map (λ p. p.now) sorted.items) q ≡ is_file recursive operands.now q) }
+    ensures same { IfOk result (λ sorted. (recursive : Bool) (q : PathOf)
+        → is_file recursive (map (λ p. p.now) sorted.items) q ≡ is_file recursive operands.now q) }
     ensures sorted { IfOk result (λ sorted. Ascend (map (λ p. p.now) sorted.items)) }
 {
     let mut sorted = all_operands(alloc, operands)?;
@@ -63,7 +66,7 @@ fn push_meant(
 ) -> Result<(), AllocError>
     ensures { OnOk result (files.new.items ≡ files.old.items ++ found_in tree.now.files (filter (λ e. means recursive operand.now e.0) tree.now.files)) }
 {
-    tree.is_sound();
+    tree.soundness_law();
     let mut rest = tree.files_by_path().from(operand);
     while let Some(file) = rest.next() {
         if !means(recursive, operand, file.path()) {
@@ -86,7 +89,7 @@ fn select_in_order(
     requires { Ascend (map (λ p. p.now) operands.now) }
     ensures { IfOk result (λ files. files.items ≡ files_found recursive (map (λ p. p.now) operands.now) tree.now.files) }
 {
-    tree.is_sound();
+    tree.soundness_law();
     let mut files = Vec::new(alloc);
     let mut last: Option<&Path> = None;
     for operand in operands {
@@ -143,5 +146,122 @@ impl Files {
     {
         look_up(alloc, self, selection.operands.as_slice())?;
         Ok(select(alloc, self, selection)?)
+    }
+}
+
+/// The operands of a command.
+#[derive(Drop)]
+pub struct Paths {
+    list: Vec<Path>,
+}
+
+impl Model for Paths {
+    ghost use Rattle.std.specs.Prelude.{List, ℕ};
+
+    ghost Value = { List (List (List ℕ)) };
+
+    ghost view = { λ p. p.list.items };
+}
+
+impl Paths {
+    /// The operands, in their order.
+    pub fn new(list: Vec<Path>) -> Paths
+        ensures { result ≡ list.items }
+    {
+        Paths { list }
+    }
+
+    /// The operands, in their order.
+    pub fn as_slice(&self) -> &[Path]
+        ensures { result.now ≡ self.now }
+    {
+        &self.list
+    }
+}
+
+/// Which files a command selects: its operands, with `recursive` also all files below them.
+#[derive(Clone, Copy)]
+pub struct Selection<'a> {
+    pub operands: &'a Paths,
+    pub recursive: bool,
+}
+
+/// A recorded file, and whether another one lies below it.
+#[derive(Drop)]
+pub struct Found {
+    file: Rc<Record>,
+    has_below: bool,
+}
+
+impl Model for Found {
+    ghost use Rattle.acl_files.specs.Found.{FoundFile, coded_found};
+
+    ghost Value = { FoundFile };
+
+    ghost coded = { coded_found };
+
+    ghost view = { λ f. record { path = f.file.value.0; node = f.file.value.1; has_below = f.has_below } };
+}
+
+/// Whether the next file is below a path.
+fn is_next_below(path: &Path, rest: &FilesIter<'_>) -> bool
+    ensures { result ≡ next_file_below path.now rest.now }
+{
+    match rest.peek() {
+        Some(next) => next.path().is_below(path),
+        None => false,
+    }
+}
+
+impl Found {
+    /// A file, and whether another one lies below it.
+    pub fn new(file: Rc<Record>, has_below: bool) -> Found
+        ensures { result ≡ record { path = file.value.0; node = file.value.1; has_below = has_below } }
+    {
+        Found { file, has_below }
+    }
+
+    /// A file before those that follow it in path order, with whether the next one is below it. Fails only if memory
+    /// runs out.
+    pub fn before(file: &Rc<Record>, rest: &FilesIter<'_>) -> Result<Found, AllocError>
+        ensures { IfOk result (λ found. found ≡ found_file (next_file_below file.now.value.0 rest.now) file.now.value) }
+    {
+        let has_below = is_next_below(file.path(), rest);
+        Ok(Found::new(file.clone()?, has_below))
+    }
+
+    /// The file, for those that share it.
+    pub(crate) fn record(&self) -> &Record
+        ensures { result.now ≡ (self.now.path, self.now.node) }
+    {
+        &self.file
+    }
+
+    /// The file, for others that share it.
+    pub fn shared_record(&self) -> &Rc<Record>
+        ensures { result.now.value ≡ (self.now.path, self.now.node) }
+    {
+        &self.file
+    }
+
+    /// The file's path.
+    pub fn path(&self) -> &Path
+        ensures { result.now ≡ self.now.path }
+    {
+        self.file.path()
+    }
+
+    /// The file's node.
+    pub fn node(&self) -> &Node
+        ensures { result.now ≡ self.now.node }
+    {
+        self.file.value()
+    }
+
+    /// Whether another recorded file lies below it.
+    pub fn has_below(&self) -> bool
+        ensures { result ≡ self.now.has_below }
+    {
+        self.has_below
     }
 }

@@ -1,6 +1,6 @@
 //! The components of a path, one after another, and their form in one list of bytes.
 
-ghost use Rattle.std.specs.Prelude.{◌≡◌, ◌∷◌, ◌++◌, [], ◌==◌, length, MatchOption, IfOk, OnOk, IsTrue};
+ghost use Rattle.std.specs.Prelude.{◌≡◌, ◌<◌, ◌∷◌, ◌++◌, [], ◌==◌, length, IfOk, OnOk, IsTrue};
 ghost use Rattle.std.specs.List.{list_all};
 ghost use Rattle.acl_names.specs.Packed.{IsPacked, unpacked};
 ghost use Rattle.acl_names.specs.Paths.{is_component, path_cmp};
@@ -149,6 +149,71 @@ pub(crate) fn pack(packed: &mut Vec<u8>, name: &[u8]) -> Result<(), AllocError>
     packed.extend_from_slice(name)?;
     packed.push(0)?;
     Ok(())
+}
+
+/// Of components in one list of bytes those but the last: the bytes up to the NUL byte before it.
+pub(crate) fn packed_parent(bytes: &[u8]) -> &[u8]
+    requires { IsPacked bytes.now }
+    ensures packed { IsPacked result.now }
+    ensures all { unpacked result.now ≡ parent (unpacked bytes.now) }
+    ensures shorter { 0 < length bytes.now → length result.now < length bytes.now }
+{
+    let Some((_, front)) = bytes.split_last() else {
+        return bytes;
+    };
+    let mut rest = front;
+    while let Some((last, before)) = rest.split_last() {
+        if *last == 0 {
+            return rest;
+        }
+        rest = before;
+    }
+    rest
+}
+
+/// Of components in one list of bytes those without some of the last, up to eight, that others do not begin with too.
+fn without_others<'a>(bytes: &'a [u8], others: &[u8]) -> &'a [u8]
+    requires bytes { IsPacked bytes.now }
+    requires others { IsPacked others.now }
+    ensures packed { IsPacked result.now }
+    ensures same { common (unpacked result.now) (unpacked others.now) ≡ common (unpacked bytes.now) (unpacked others.now) }
+{
+    let mut top = bytes;
+    for _ in 0..8 {
+        if packed_within(top, others) {
+            return top;
+        }
+        top = packed_parent(top);
+    }
+    top
+}
+
+/// Of components in one list of bytes those that others begin with too. Where all but a few are, the bytes are compared
+/// at once, else one component after another.
+pub(crate) fn packed_common(
+    alloc: Global,
+    bytes: &[u8],
+    others: &[u8],
+) -> Result<Vec<u8>, AllocError>
+    requires bytes { IsPacked bytes.now }
+    requires others { IsPacked others.now }
+    ensures packed { IfOk result (λ packed. IsPacked packed.items) }
+    ensures all { IfOk result (λ packed. unpacked packed.items ≡ common (unpacked bytes.now) (unpacked others.now)) }
+{
+    let top = without_others(bytes, others);
+    if packed_within(top, others) {
+        let packed = Vec::from_slice(alloc, top)?;
+        return Ok(packed);
+    }
+    let names = Components {
+        parts: &[],
+        bytes: top,
+    };
+    let against = Components {
+        parts: &[],
+        bytes: others,
+    };
+    names.common(alloc, against)
 }
 
 /// Path order of components in one list of bytes: as the bytes.

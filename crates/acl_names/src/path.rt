@@ -1,17 +1,17 @@
 //! Paths, by their components.
 
-ghost use Rattle.std.specs.Prelude.{◌≡◌, ◌++◌, ℕ, List, Some, map, IsTrue, IfOk, OnOk, OnErr};
-ghost use Rattle.std.specs.Io.{StartsWith};
-ghost use Rattle.std.specs.List.{list_any, list_all, flat_map};
+ghost use Rattle.std.specs.Prelude.{◌≡◌, ℕ, List, Some, map, IsTrue, IfOk};
+ghost use Rattle.std.specs.List.{list_all, flat_map};
 ghost use Rattle.acl_names.specs.Appends.{Appends, AppendsWhole};
 ghost use Rattle.acl_names.specs.Names.{escaped_where, is_escaped_in_paths};
-ghost use Rattle.acl_names.specs.Paths.{is_component, is_allowed, path_from, is_nothing, is_dot_dot, is_refused, path_of, path_cmp, path_text, after_slash, components_of};
+ghost use Rattle.acl_names.specs.Paths.{is_component, is_allowed, path_from, is_nothing, is_dot_dot, is_refused, path_of, path_cmp, path_text, after_slash};
 ghost use Rattle.acl_names.specs.Below.{is_within, is_below, parent, common};
 
-use crate::components::{Components, pack, packed_order, packed_within};
+use crate::components::{
+    Components, pack, packed_common, packed_order, packed_parent, packed_within,
+};
 use crate::cut::first_piece;
-use crate::escape::{is_escaped_in_paths, push_byte};
-use crate::name::read_name;
+use crate::name::{is_escaped_in_paths, push_byte, read_name};
 use std::alloc::{AllocError, Global};
 use std::cmp::Ordering;
 use std::marker::Model;
@@ -19,12 +19,12 @@ use std::marker::Model;
 /// A path from the root, as its components: no component is empty, `.` or `..`, or contains `/` or NUL.
 #[derive(Debug, Drop)]
 pub struct Path {
-    form: Form,
+    form: PathForm,
 }
 
 /// How the components of a path are kept.
 #[derive(Debug, Drop)]
-pub(crate) enum Form {
+pub(crate) enum PathForm {
     /// Each in an allocation of its own, as a caller has them.
     Parts(Vec<Vec<u8>>),
     /// In one allocation, each with a NUL byte after it: so path order is the order of the bytes.
@@ -51,7 +51,7 @@ impl Path {
     {
         if are_components(&components) {
             Some(Path {
-                form: Form::Parts(components),
+                form: PathForm::Parts(components),
             })
         } else {
             None
@@ -64,8 +64,8 @@ impl Path {
         ensures valid { IsTrue (list_all is_component self.now) }
     {
         match &self.form {
-            Form::Parts(parts) => Components { parts, bytes: &[] },
-            Form::Packed(bytes) => Components { parts: &[], bytes },
+            PathForm::Parts(parts) => Components { parts, bytes: &[] },
+            PathForm::Packed(bytes) => Components { parts: &[], bytes },
         }
     }
 
@@ -74,16 +74,16 @@ impl Path {
         ensures { IfOk result (λ path. path ≡ self.now) }
     {
         match &self.form {
-            Form::Parts(parts) => {
+            PathForm::Parts(parts) => {
                 let parts = parts.clone()?;
                 Ok(Path {
-                    form: Form::Parts(parts),
+                    form: PathForm::Parts(parts),
                 })
             }
-            Form::Packed(bytes) => {
+            PathForm::Packed(bytes) => {
                 let bytes = Vec::from_slice(alloc, bytes)?;
                 Ok(Path {
-                    form: Form::Packed(bytes),
+                    form: PathForm::Packed(bytes),
                 })
             }
         }
@@ -94,7 +94,7 @@ impl Path {
         ensures { result ≡ path_cmp self.now other.now }
     {
         match (&self.form, &other.form) {
-            (Form::Packed(left), Form::Packed(right)) => packed_order(left, right),
+            (PathForm::Packed(left), PathForm::Packed(right)) => packed_order(left, right),
             _ => self.components().order(other.components()),
         }
     }
@@ -104,7 +104,7 @@ impl Path {
         ensures { result ≡ is_within top.now self.now }
     {
         match (&top.form, &self.form) {
-            (Form::Packed(front), Form::Packed(bytes)) => packed_within(front, bytes),
+            (PathForm::Packed(front), PathForm::Packed(bytes)) => packed_within(front, bytes),
             _ => self.components().are_within(top.components()),
         }
     }
@@ -120,8 +120,12 @@ impl Path {
     pub fn parent(&self, alloc: Global) -> Result<Path, AllocError>
         ensures { IfOk result (λ path. path ≡ parent self.now) }
     {
+        let packed = match &self.form {
+            PathForm::Parts(_) => self.components().parent(alloc)?,
+            PathForm::Packed(bytes) => Vec::from_slice(alloc, packed_parent(bytes))?,
+        };
         Ok(Path {
-            form: Form::Packed(self.components().parent(alloc)?),
+            form: PathForm::Packed(packed),
         })
     }
 
@@ -129,8 +133,12 @@ impl Path {
     pub fn common(&self, alloc: Global, other: &Path) -> Result<Path, AllocError>
         ensures { IfOk result (λ path. path ≡ common self.now other.now) }
     {
+        let packed = match (&self.form, &other.form) {
+            (PathForm::Packed(left), PathForm::Packed(right)) => packed_common(alloc, left, right)?,
+            _ => self.components().common(alloc, other.components())?,
+        };
         Ok(Path {
-            form: Form::Packed(self.components().common(alloc, other.components())?),
+            form: PathForm::Packed(packed),
         })
     }
 }
@@ -149,6 +157,7 @@ fn is_allowed(part: &[u8]) -> bool
     !is_nothing(part) && !is_refused(part) && !part.contains(&b'/')
 }
 
+/// Whether each part may be a component of a path.
 fn are_components(parts: &[Vec<u8>]) -> bool
     ensures { result ≡ list_all (λ v. is_component v.items) parts.now }
 {
@@ -166,6 +175,7 @@ fn is_nothing(part: &[u8]) -> bool
     }
 }
 
+/// Whether a part is `..`.
 fn is_dot_dot(part: &[u8]) -> bool
     ensures { result ≡ is_dot_dot part.now }
 {
@@ -201,7 +211,7 @@ pub fn read_path(alloc: Global, text: &[u8]) -> Result<Option<Path>, AllocError>
         rest = after;
     }
     Ok(Some(Path {
-        form: Form::Packed(packed),
+        form: PathForm::Packed(packed),
     }))
 }
 

@@ -7,7 +7,7 @@ use Rattle.std.proofs.Math.Seq.{map-set_same}
 use Rattle.std.proofs.lemmas.Option.{get_or_from_slice_get}
 use Rattle.acl_syntax.specs.declared.rows.PasswdRow.{PasswdRow}
 use Rattle.acl_syntax.specs.declared.rows.GroupRow.{GroupRow}
-use Rattle.acl_people.specs.Registers.{names_user}
+use Rattle.acl_people.specs.KnownPeople.{names_user}
 use Rattle.acl_people.specs.Changes.{change_at, name_removed}
 
 abbrev pub user_row : List ℕ → ℕ → ℕ → PasswdRow

@@ -16,7 +16,7 @@ use Rattle.acl_syntax.specs.declared.fault.FaultKind.TheVariants.{TooMany}
 use Rattle.acl_syntax.specs.declared.fault.TextFault.{TextFault}
 use Rattle.acl_syntax.specs.InTurn.{read_each_from, at_place}
 use Rattle.acl_syntax.specs.Rows.{is_repeated, counted, one_line, has_no_content, most_rows}
-use Rattle.acl_people.specs.Rolls.{Named, is_name, AreNames, AreCounted}
+use Rattle.acl_people.specs.NameTables.{Named, is_name, AreNames, AreCounted}
 use Rattle.acl_people.proofs.Bytes.{are_texts, pieces_made}
 use Rattle.acl_people.proofs.Places.{position-cons, position-push}
 

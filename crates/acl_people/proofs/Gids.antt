@@ -11,7 +11,7 @@ use Rattle.std.proofs.lemmas.List.Folds.{list_any-append}
 use Rattle.acl_syntax.specs.declared.rows.GroupRow.{GroupRow}
 use Rattle.acl_syntax.specs.declared.rows.PasswdRow.{PasswdRow}
 use Rattle.acl_people.specs.Members.{row_gids, rows_gids}
-use Rattle.acl_people.specs.Registers.{names_user, gids_of, person}
+use Rattle.acl_people.specs.KnownPeople.{names_user, gids_of, person}
 
 absorbs : (b c : Bool) → (b || (c && b)) ≡ b
 absorbs true c = refl

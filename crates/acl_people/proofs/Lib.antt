@@ -1,7 +1,7 @@
 pub mod Pointers
 pub mod Changed
 pub mod Places
-pub mod Rolled
+pub mod NamedRows
 pub mod Joined
 pub mod Gids
 pub mod Bytes

@@ -13,9 +13,9 @@ use Rattle.std.proofs.lemmas.Slice.Eq.{bytes_eq-Decides}
 use Rattle.acl_entry.specs.Person.{Person}
 use Rattle.acl_syntax.specs.declared.rows.PasswdRow.{PasswdRow}
 use Rattle.acl_syntax.specs.declared.rows.GroupRow.{GroupRow}
-use Rattle.acl_people.specs.Rolls.{is_name, AreNames}
+use Rattle.acl_people.specs.NameTables.{is_name, AreNames}
 use Rattle.acl_people.specs.Entries.{user_entry}
-use Rattle.acl_people.specs.Registers.{Register, users_of, names_user, person, persons, IsSound}
+use Rattle.acl_people.specs.KnownPeople.{KnownPeople, users_of, names_user, person, persons, IsSound}
 use Rattle.acl_people.specs.Changes.{change_at, name_of, gid_of, name_added, name_removed, without_member, with_gid, with_primary_group, with_user, without_user}
 use Rattle.acl_people.specs.Moves.{ChangesUser, JoinsUser, LeavesUser}
 use Rattle.acl_people.proofs.Changed.{user_row, change_at-set, map-change_at}
@@ -118,16 +118,16 @@ other_name users names u i x y at here apart = by (bytes_eq x.name y.name) refl
 pub row_at : (users : List PasswdRow) (u : ℕ) → u < length users → slice_get users u ≡ Some (get_or users u (user_row [] 0 0))
 row_at users u lt = slice_get-get_or users u (user_row [] 0 0) lt
 
-named : (known : Register) (u : ℕ) (row : PasswdRow) → slice_get known.users u ≡ Some row → name_of u known ≡ row.name
+named : (known : KnownPeople) (u : ℕ) (row : PasswdRow) → slice_get known.users u ≡ Some row → name_of u known ≡ row.name
 named known u row at = ap (λ o. option_map_or (λ r. r.name) o []) at
 
-pub person_at : (known : Register) (u : ℕ) (row : PasswdRow) → slice_get known.users u ≡ Some row → slice_get (persons known) u ≡ Some (person known.groups row)
+pub person_at : (known : KnownPeople) (u : ℕ) (row : PasswdRow) → slice_get known.users u ≡ Some row → slice_get (persons known) u ≡ Some (person known.groups row)
 person_at known u row at = slice_get-map (person known.groups) known.users u ∙ ap (λ o. option_map (person known.groups) o) at
 
 changes_none : (old : List Person) (u : ℕ) (p : Person) → slice_get old u ≡ Some p → ChangesUser old old u
 changes_none old u p at = record { before = p; after = p; was = at; becomes = sym (ap (λ x. slice_set old u x) (sym (get_or_from_slice_get old u p p at)) ∙ set-get_or old u p); uid = refl }
 
-changes_rows : (known : Register) (u : ℕ) (row : PasswdRow) (groups : List GroupRow) → AreNames (users_of known) → slice_get known.users u ≡ Some row
+changes_rows : (known : KnownPeople) (u : ℕ) (row : PasswdRow) (groups : List GroupRow) → AreNames (users_of known) → slice_get known.users u ≡ Some row
     → ((name : List ℕ) → bytes_eq row.name name ≡ false → map (given name) groups ≡ map (given name) known.groups)
     → ChangesUser (persons known) (map (person groups) known.users) u
 changes_rows known u row groups names at same = record {
@@ -139,10 +139,10 @@ changes_rows known u row groups names at same = record {
 }
 
 -- nothing changes
-pub same_changes : (known : Register) (u : ℕ) → u < length known.users → ChangesUser (persons known) (persons known) u
+pub same_changes : (known : KnownPeople) (u : ℕ) → u < length known.users → ChangesUser (persons known) (persons known) u
 same_changes known u within = let row = get_or known.users u (user_row [] 0 0) in changes_none (persons known) u (person known.groups row) (person_at known u row (row_at known.users u within))
 
-module _ (known : Register) (sound : IsSound known) (u : ℕ) (within : u < length known.users) where
+module _ (known : KnownPeople) (sound : IsSound known) (u : ℕ) (within : u < length known.users) where
   abbrev row : PasswdRow
   row = get_or known.users u (user_row [] 0 0)
 
@@ -185,7 +185,7 @@ module _ (known : Register) (sound : IsSound known) (u : ℕ) (within : u < leng
   }
 
 -- one user more
-pub joins : (known : Register) (name : List ℕ) (uid g : ℕ) → JoinsUser (persons known) (persons (with_user name uid g known))
+pub joins : (known : KnownPeople) (name : List ℕ) (uid g : ℕ) → JoinsUser (persons known) (persons (with_user name uid g known))
 joins known name uid g = record { next = person known.groups (user_row name uid (gid_of g known)); becomes = map-append (person known.groups) known.users (user_row name uid (gid_of g known) ∷ []) }
 
 -- ---- a change of one user, and the rows after it

@@ -11,7 +11,7 @@ use Rattle.std.proofs.lemmas.Option.{get_or_from_slice_get}
 use Rattle.acl_entry.specs.Person.{Person}
 use Rattle.acl_syntax.specs.declared.rows.PasswdRow.{PasswdRow}
 use Rattle.acl_syntax.specs.declared.rows.GroupRow.{GroupRow}
-use Rattle.acl_people.specs.Registers.{Register, names_user, gids_of, person, persons, IsSound}
+use Rattle.acl_people.specs.KnownPeople.{KnownPeople, names_user, gids_of, person, persons, IsSound}
 use Rattle.acl_people.specs.Changes.{change_at, name_of, gid_of, name_added, name_removed, is_member}
 use Rattle.acl_people.specs.Laws.{has_otherwise, GroupHeldOtherwiseStays}
 use Rattle.acl_people.specs.Moves.{ChangesUser}
@@ -92,7 +92,7 @@ otherwise_same rows at r new row is gid has =
         let w : sets.contains (person (remove rows at) row).groups q ≡ true = ap (λ id. sets.contains (person (remove rows at) row).groups id) (sym (eqb-true r.gid q e)) ∙ has in
         ap (λ b. (names_user row.name new && nat_eq r.gid q) || b) w ∙ all (names_user row.name new && nat_eq r.gid q) (names_user row.name r && nat_eq r.gid q) ∙ ap (λ b. (names_user row.name r && nat_eq r.gid q) || b) (sym w)
 
-module _ (known : Register) (sound : IsSound known) (u : ℕ) (within : u < length known.users) where
+module _ (known : KnownPeople) (sound : IsSound known) (u : ℕ) (within : u < length known.users) where
   abbrev row : PasswdRow
   row = get_or known.users u (user_row [] 0 0)
 
@@ -121,6 +121,6 @@ module _ (known : Register) (sound : IsSound known) (u : ℕ) (within : u < leng
   pub otherwise : (at : ℕ) → GroupHeldOtherwiseStays u at known
   otherwise at has = (added (is_member u at known) refl, unmoved (change_at at (name_removed (name_of u known)) known.groups) (removed_changes known sound u within at) (row_same at (name_removed (name_of u known)) (λ r. refl) has))
     where
-      added : (b : Bool) → is_member u at known ≡ b → persons (if b then known else (let r : Register = record { users = known.users; groups = change_at at (name_added (name_of u known)) known.groups; passwd_loaded = known.passwd_loaded; group_loaded = known.group_loaded } in r)) ≡ persons known
+      added : (b : Bool) → is_member u at known ≡ b → persons (if b then known else (let r : KnownPeople = record { users = known.users; groups = change_at at (name_added (name_of u known)) known.groups; passwd_loaded = known.passwd_loaded; group_loaded = known.group_loaded } in r)) ≡ persons known
       added true e = refl
       added false e = unmoved (change_at at (name_added (name_of u known)) known.groups) (added_changes known sound u within at) (row_same at (name_added (name_of u known)) (λ r. refl) has)

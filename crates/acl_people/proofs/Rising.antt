@@ -19,7 +19,7 @@ use Rattle.std.proofs.lemmas.Option.{slice_get-map}
 use Rattle.acl_entry.specs.Mentions.{is_one_of}
 use Rattle.acl_entry.specs.Person.{Person}
 use Rattle.acl_syntax.specs.declared.rows.PasswdRow.{PasswdRow}
-use Rattle.acl_people.specs.Registers.{Register, gids_of, person, persons}
+use Rattle.acl_people.specs.KnownPeople.{KnownPeople, gids_of, person, persons}
 use Rattle.acl_people.specs.Moves.{AreMoved, in_just_one, rising, ids_of_one, user_gids}
 
 -- ---- entries of a set
@@ -89,7 +89,7 @@ in_one_list ids others id =
 
 -- ---- a user's groups
 
-groups_are : (known : Register) (user : ℕ) (p : Person) → slice_get (persons known) user ≡ Some p → (id : ℕ) → sets.contains p.groups id ≡ is_one_of id (user_gids known user)
+groups_are : (known : KnownPeople) (user : ℕ) (p : Person) → slice_get (persons known) user ≡ Some p → (id : ℕ) → sets.contains p.groups id ≡ is_one_of id (user_gids known user)
 groups_are known user p at id = by (slice_get known.users user) (sym (slice_get-map (person known.groups) known.users user) ∙ at)
   where
     by : (o : Option PasswdRow) → option_map (person known.groups) o ≡ Some p → sets.contains p.groups id ≡ is_one_of id (option_map_or (gids_of known.groups) o [])
@@ -100,7 +100,7 @@ groups_are known user p at id = by (slice_get known.users user) (sym (slice_get-
         some_same x y e = cc
 
 -- the ids that moved, by the rows
-pub moved_ids : (old new : Register) (user : ℕ) (before after : Person) (ids : List ℕ) → slice_get (persons old) user ≡ Some before → slice_get (persons new) user ≡ Some after → AreMoved before after ids
+pub moved_ids : (old new : KnownPeople) (user : ℕ) (before after : Person) (ids : List ℕ) → slice_get (persons old) user ≡ Some before → slice_get (persons new) user ≡ Some after → AreMoved before after ids
     → ids ≡ ids_of_one (user_gids old user) (user_gids new user)
 moved_ids old new user before after ids was is moved =
     are_rising ids _ moved.rising

@@ -7,7 +7,7 @@ use Rattle.acl_syntax.specs.declared.rows.PasswdRow.{PasswdRow}
 use Rattle.acl_syntax.specs.declared.rows.GroupRow.{GroupRow}
 use Rattle.acl_syntax.specs.Ids.{id_of}
 use Rattle.acl_syntax.specs.Rows.{passwd_row, group_row, passwd_of, group_of, passwd_name, group_name, names_of}
-use Rattle.acl_people.specs.Rolls.{AreCounted}
+use Rattle.acl_people.specs.NameTables.{AreCounted}
 use Rattle.acl_people.specs.Entries.{user_entry, group_entry}
 use Rattle.acl_people.proofs.Bytes.{are_texts, pieces_made}
 use Rattle.acl_people.proofs.Counted.{IsNameText, none_counted, reads_keep}

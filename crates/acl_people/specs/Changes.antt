@@ -5,18 +5,18 @@ use Rattle.std.specs.Option.{option_map_or}
 use Rattle.std.specs.Str.{bytes_eq}
 use Rattle.acl_syntax.specs.declared.rows.PasswdRow.{PasswdRow}
 use Rattle.acl_syntax.specs.declared.rows.GroupRow.{GroupRow}
-use Rattle.acl_people.specs.Registers.{Register, names_user}
+use Rattle.acl_people.specs.KnownPeople.{KnownPeople, names_user}
 
 -- the rows with the one at a place changed
 abbrev pub change_at : {R : Type 0} → ℕ → (R → R) → List R → List R
 change_at at change rows = option_map_or (λ row. slice_set rows at (change row)) (slice_get rows at) rows
 
 -- the name of the user at a place
-abbrev pub name_of : ℕ → Register → List ℕ
+abbrev pub name_of : ℕ → KnownPeople → List ℕ
 name_of user known = option_map_or (λ row. row.name) (slice_get known.users user) []
 
 -- the id of the group at a place
-abbrev pub gid_of : ℕ → Register → ℕ
+abbrev pub gid_of : ℕ → KnownPeople → ℕ
 gid_of group known = option_map_or (λ row. row.gid) (slice_get known.groups group) 0
 
 -- a group's row with one more name, the last
@@ -28,11 +28,11 @@ abbrev pub name_removed : List ℕ → GroupRow → GroupRow
 name_removed name row = record { name = row.name; gid = row.gid; names = filter (λ member. not (bytes_eq member name)) row.names }
 
 -- the row of the group names the user
-abbrev pub is_member : ℕ → ℕ → Register → Bool
+abbrev pub is_member : ℕ → ℕ → KnownPeople → Bool
 is_member user group known = option_map_or (names_user (name_of user known)) (slice_get known.groups group) false
 
 -- gpasswd -a: the row of the group names the user, last where it did not before
-abbrev pub with_member : ℕ → ℕ → Register → Register
+abbrev pub with_member : ℕ → ℕ → KnownPeople → KnownPeople
 with_member user group known =
     if is_member user group known then known
     else record {
@@ -43,7 +43,7 @@ with_member user group known =
     }
 
 -- gpasswd -d: the row of the group does not name the user
-abbrev pub without_member : ℕ → ℕ → Register → Register
+abbrev pub without_member : ℕ → ℕ → KnownPeople → KnownPeople
 without_member user group known = record {
   users = known.users;
   groups = change_at group (name_removed (name_of user known)) known.groups;
@@ -56,7 +56,7 @@ abbrev pub with_gid : ℕ → PasswdRow → PasswdRow
 with_gid gid row = record { name = row.name; uid = row.uid; gid = gid }
 
 -- usermod -g: the user's primary group is this one
-abbrev pub with_primary_group : ℕ → ℕ → Register → Register
+abbrev pub with_primary_group : ℕ → ℕ → KnownPeople → KnownPeople
 with_primary_group user group known = record {
   users = change_at user (with_gid (gid_of group known)) known.users;
   groups = known.groups;
@@ -65,7 +65,7 @@ with_primary_group user group known = record {
 }
 
 -- useradd: one more user, the last, whose primary group is this one; the users count as loaded
-abbrev pub with_user : List ℕ → ℕ → ℕ → Register → Register
+abbrev pub with_user : List ℕ → ℕ → ℕ → KnownPeople → KnownPeople
 with_user name uid group known = record {
   users = known.users ++ record { name = name; uid = uid; gid = gid_of group known } ∷ [];
   groups = known.groups;
@@ -74,7 +74,7 @@ with_user name uid group known = record {
 }
 
 -- userdel: the user's row is gone, and no group's row names the user
-abbrev pub without_user : ℕ → Register → Register
+abbrev pub without_user : ℕ → KnownPeople → KnownPeople
 without_user user known = record {
   users = remove known.users user;
   groups = map (name_removed (name_of user known)) known.groups;

@@ -4,7 +4,7 @@ use Rattle.std.specs.List.{flat_map}
 use Rattle.std.specs.Hash.DefaultHasher.{initial, write}
 use Rattle.std.specs.declared.hash.DefaultHasher.{DefaultHasher}
 use Rattle.sha2.specs.Sha256.{sha256}
-use Rattle.acl_people.specs.Rolls.{Named}
+use Rattle.acl_people.specs.NameTables.{Named}
 
 -- all names, a colon after each
 abbrev pub all_names : List Named → List ℕ

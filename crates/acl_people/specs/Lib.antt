@@ -1,7 +1,7 @@
-pub mod Rolls
+pub mod NameTables
 pub mod Entries
 pub mod Hashes
-pub mod Registers
+pub mod KnownPeople
 pub mod Members
 pub mod Changes
 pub mod Moves

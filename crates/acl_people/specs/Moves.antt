@@ -8,7 +8,7 @@ use Rattle.std.specs.FinSet.{contains}
 use Rattle.std.specs.List.Sorted.{IsStrictlyIncreasing}
 use Rattle.acl_entry.specs.Mentions.{is_one_of}
 use Rattle.acl_entry.specs.Person.{Person}
-use Rattle.acl_people.specs.Registers.{Register, gids_of}
+use Rattle.acl_people.specs.KnownPeople.{KnownPeople, gids_of}
 
 -- one user may have other groups; the user's id and all other users are as they were
 pub record ChangesUser (old new : List Person) (user : ℕ) : Type 0 where
@@ -50,9 +50,9 @@ abbrev pub ids_of_one : List ℕ → List ℕ → List ℕ
 ids_of_one ids others = rising (filter (λ id. in_just_one (is_one_of id ids) (is_one_of id others)) (ids ++ others))
 
 -- the groups of the user at a place
-abbrev pub user_gids : Register → ℕ → List ℕ
+abbrev pub user_gids : KnownPeople → ℕ → List ℕ
 user_gids known user = option_map_or (gids_of known.groups) (slice_get known.users user) []
 
 -- the groups that the user at a place joined or left
-abbrev pub moved_groups : Register → Register → ℕ → List ℕ
+abbrev pub moved_groups : KnownPeople → KnownPeople → ℕ → List ℕ
 moved_groups old new user = ids_of_one (user_gids old user) (user_gids new user)

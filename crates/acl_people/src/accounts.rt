@@ -4,8 +4,8 @@ ghost use Rattle.std.specs.Prelude.{◌≡◌, ◌<◌, nat_le, true, false, len
 ghost use Rattle.std.specs.List.{list_all};
 ghost use Rattle.acl_names.specs.Pieces.{is_byte};
 ghost use Rattle.acl_syntax.specs.Rows.{most_rows};
-ghost use Rattle.acl_people.specs.Rolls.{is_name, has_name, has_id};
-ghost use Rattle.acl_people.specs.Registers.{users_of, persons};
+ghost use Rattle.acl_people.specs.NameTables.{is_name, has_name, has_id};
+ghost use Rattle.acl_people.specs.KnownPeople.{users_of, persons};
 ghost use Rattle.acl_people.specs.Changes.{gid_of, with_user, without_user};
 ghost use Rattle.acl_people.specs.Moves.{JoinsUser, LeavesUser};
 
@@ -34,7 +34,7 @@ impl People {
     pub fn user_named(&self, name: &[u8]) -> Option<usize>
         ensures { result ≡ position (is_name name.now) (users_of self.now) }
     {
-        self.user_rows().roll().place_of_name(name)
+        self.user_rows().name_table().place_of_name(name)
     }
 
     /// Whether a user has this name.
@@ -48,7 +48,7 @@ impl People {
     pub fn has_user_id(&self, id: Id) -> bool
         ensures { result ≡ has_id id (users_of self.now) }
     {
-        self.user_rows().roll().place_of_id(id).is_some()
+        self.user_rows().name_table().place_of_id(id).is_some()
     }
 
     /// Whether there is no room for one more user.
@@ -73,7 +73,7 @@ impl People {
         ensures rows { IfOk result (λ people. people ≡ with_user name.now uid group self.now) }
         ensures joins { IfOk result (λ people. JoinsUser (persons self.now) (persons people)) }
     {
-        self.is_sound();
+        self.soundness_law();
         let gid = self.gid_of(group);
         let row = new_row(alloc, name.as_name().as_bytes(), uid, gid)?;
         let people = self.with_user_row(alloc, row)?;

@@ -1,16 +1,18 @@
 //! The rows of group(5), looked up by name and by id.
 
-ghost use Rattle.std.specs.Prelude.{◌≡◌, ◌<◌, [], map, length, slice_set, IfOk};
+ghost use Rattle.std.specs.Prelude.{◌≡◌, ◌<◌, [], map, length, slice_set, IfOk, ◌++◌, ◌∷◌, filter, not, OnOk};
 ghost use Rattle.acl_syntax.specs.InTurn.{Gives};
 ghost use Rattle.acl_syntax.specs.Rows.{group_of};
-ghost use Rattle.acl_people.specs.Rolls.{AreCounted};
+ghost use Rattle.acl_people.specs.NameTables.{AreCounted};
 ghost use Rattle.acl_people.specs.Entries.{group_entry};
 ghost use Rattle.acl_people.specs.Changes.{change_at, name_added, name_removed};
+ghost use Rattle.std.specs.Str.{bytes_eq};
+ghost use Rattle.acl_people.specs.KnownPeople.{names_user};
 
-use crate::group::Group;
-use crate::named_row::NamedRow;
-use crate::roll::Roll;
+use crate::each_shared::each_shared;
+use crate::name_table::{NameTable, NamedRow};
 use acl_entry::Id;
+use acl_names::Name;
 use acl_syntax::{GroupRow, TextFault, read_group};
 use std::alloc::{AllocError, Global};
 use std::marker::Model;
@@ -18,22 +20,23 @@ use std::rc::Rc;
 
 /// The counted rows of group(5), in their order. The rows are shared among copies.
 #[derive(Drop)]
-pub struct Groups {
+pub(crate) struct Groups {
     rows: Vec<Rc<Group>>,
-    roll: Rc<Roll>,
+    name_table: Rc<NameTable>,
 }
 
 impl Model for Groups {
     ghost use Rattle.std.specs.Prelude.{◌≡◌, List, map};
     ghost use Rattle.acl_syntax.specs.declared.rows.GroupRow.{GroupRow};
-    ghost use Rattle.acl_people.specs.Rolls.{AreCounted};
+    ghost use Rattle.acl_people.specs.NameTables.{AreCounted};
     ghost use Rattle.acl_people.specs.Entries.{group_entry};
 
     ghost Value = { List GroupRow };
 
     ghost view = { λ g. map (λ r. r.value) g.rows.items };
 
-    ghost invariant = { λ g. (g.roll.value ≡ map group_entry (map (λ r. r.value) g.rows.items)) × AreCounted (map group_entry (map (λ r. r.value) g.rows.items)) };
+    ghost invariant = { λ g. (g.name_table.value ≡ map group_entry (map (λ r. r.value) g.rows.items))
+        × AreCounted (map group_entry (map (λ r. r.value) g.rows.items)) };
 }
 
 impl NamedRow for GroupRow {
@@ -92,7 +95,7 @@ impl Groups {
     {
         Ok(Groups {
             rows: Vec::new(alloc),
-            roll: Rc::new(alloc, Roll::of::<GroupRow>(alloc, &[])?)?,
+            name_table: Rc::new(alloc, NameTable::of::<GroupRow>(alloc, &[])?)?,
         })
     }
 
@@ -101,9 +104,9 @@ impl Groups {
         ensures { Gives (λ groups. groups) result (group_of bytes.now) }
     {
         let rows = read_group(alloc, bytes)?;
-        let roll = Rc::new(alloc, Roll::of(alloc, &rows)?)?;
+        let name_table = Rc::new(alloc, NameTable::of(alloc, &rows)?)?;
         let rows = shared_rows(alloc, rows)?;
-        Ok(Groups { rows, roll })
+        Ok(Groups { rows, name_table })
     }
 
     /// The rows.
@@ -114,11 +117,11 @@ impl Groups {
     }
 
     /// The names and ids.
-    pub fn roll(&self) -> &Roll
+    pub fn name_table(&self) -> &NameTable
         ensures all { result.now ≡ map group_entry self.now }
         ensures counted { AreCounted (map group_entry self.now) }
     {
-        &self.roll
+        &self.name_table
     }
     /// These groups with another row at a place, of the same name and id. Fails only if memory runs out.
     fn with_row(&self, alloc: Global, at: usize, row: Group) -> Result<Groups, AllocError>
@@ -130,7 +133,7 @@ impl Groups {
         rows[at] = Rc::new(alloc, row)?;
         Ok(Groups {
             rows,
-            roll: self.roll.clone()?,
+            name_table: self.name_table.clone()?,
         })
     }
 
@@ -161,7 +164,103 @@ impl Groups {
         let rows = rows_without(alloc, &self.rows, name)?;
         Ok(Groups {
             rows,
-            roll: self.roll.clone()?,
+            name_table: self.name_table.clone()?,
+        })
+    }
+}
+
+/// A counted row of group(5). Its names are shared among copies.
+#[derive(Drop)]
+pub(crate) struct Group {
+    name: Rc<Name>,
+    gid: Id,
+    members: Vec<Rc<Name>>,
+}
+
+impl Model for Group {
+    ghost use Rattle.std.specs.Prelude.{map};
+    ghost use Rattle.acl_syntax.specs.declared.rows.GroupRow.{GroupRow};
+
+    ghost Value = { GroupRow };
+
+    ghost view = { λ g. record { name = g.name.value; gid = g.gid; names = map (λ n. n.value) g.members.items } };
+}
+
+/// Adds a name, unless it is this one.
+fn push_other(members: &mut Vec<Rc<Name>>, member: &Rc<Name>, name: &[u8]) -> Result<(), AllocError>
+    ensures { OnOk result (map (λ n. n.value) members.new.items ≡ map (λ n. n.value) members.old.items
+        ++ filter (λ m. not (bytes_eq m name.now)) (member.now.value ∷ [])) }
+{
+    if member.as_bytes() != name {
+        members.push(member.clone()?)?;
+    }
+    Ok(())
+}
+
+impl Group {
+    /// The row, its names as pointers. Fails only if memory runs out.
+    pub fn new(alloc: Global, row: GroupRow) -> Result<Group, AllocError>
+        ensures { IfOk result (λ group. group ≡ row) }
+    {
+        Ok(Group {
+            name: Rc::new(alloc, row.name)?,
+            gid: row.gid,
+            members: each_shared(alloc, row.names.into_names())?,
+        })
+    }
+
+    /// The group's name.
+    pub fn name(&self) -> &[u8]
+        ensures { result.now ≡ self.now.name }
+    {
+        self.name.as_bytes()
+    }
+
+    /// The group's id.
+    pub fn gid(&self) -> Id
+        ensures { result ≡ self.now.gid }
+    {
+        self.gid
+    }
+
+    /// The names in the row, in their order.
+    pub fn members(&self) -> &[Rc<Name>]
+        ensures { map (λ n. n.value) result.now ≡ self.now.names }
+    {
+        &self.members
+    }
+
+    /// Whether the row names the user.
+    pub fn names_user(&self, name: &[u8]) -> bool
+        ensures { result ≡ names_user name.now self.now }
+    {
+        self.members.iter().any(|member| member.as_bytes() == name)
+    }
+    /// The row with one more name, the last. Fails only if memory runs out.
+    pub fn with_name(&self, alloc: Global, name: &[u8]) -> Result<Group, AllocError>
+        ensures { IfOk result (λ group. group ≡ name_added name.now self.now) }
+    {
+        let mut members = self.members.clone()?;
+        members.push(Rc::new(alloc, Name::from_bytes(alloc, name)?)?)?;
+        Ok(Group {
+            name: self.name.clone()?,
+            gid: self.gid,
+            members,
+        })
+    }
+
+    /// The row without a name, however often it occurs. Fails only if memory runs out.
+    pub fn without_name(&self, alloc: Global, name: &[u8]) -> Result<Group, AllocError>
+        ensures { IfOk result (λ group. group ≡ name_removed name.now self.now) }
+    {
+        let mut members = Vec::with_capacity(alloc, self.members.len())?;
+        for member in &self.members {
+            push_other(&mut members, member, name)?;
+        }
+        Ok(Group {
+            name: self.name.clone()?,
+            gid: self.gid,
+            members,
         })
     }
 }

@@ -3,24 +3,19 @@
 #![tactic(auto)]
 
 mod accounts;
+mod each_shared;
 mod fault;
-mod group;
 mod groups;
 mod laws;
-mod members;
 mod memberships;
-mod moves;
-mod name_hashes;
-mod named_row;
+mod name_table;
 mod people;
-mod roll;
-mod shared;
 mod subjects;
 mod user_name;
 mod users;
 
 pub use fault::LoadFault;
 pub use laws::{added_member_is_removed, added_user_is_removed, group_held_otherwise_stays};
-pub use moves::rising_ids;
+pub use memberships::rising_ids;
 pub use people::People;
 pub use user_name::UserName;

@@ -1,13 +1,20 @@
-//! The groups of one user: gpasswd(1) and usermod(8).
+//! The groups of users: gpasswd(1) and usermod(8), the groups whose rows name a user, and those that a user joined or left.
 
-ghost use Rattle.std.specs.Prelude.{◌≡◌, ◌<◌, length, IfOk};
-ghost use Rattle.acl_people.specs.Registers.{persons};
+ghost use Rattle.std.specs.Prelude.{◌≡◌, ◌<◌, length, IfOk, ◌++◌, ◌∷◌, [], if◌then◌else◌, ℕ, List, map, OnOk, ◌||◌, ◌&&◌, not};
+ghost use Rattle.acl_people.specs.KnownPeople.{persons};
 ghost use Rattle.acl_people.specs.Changes.{gid_of, is_member, with_member, without_member, with_primary_group};
-ghost use Rattle.acl_people.specs.Moves.{ChangesUser};
+ghost use Rattle.acl_people.specs.Moves.{ChangesUser, AreMoved, MovesUser, moved_groups};
+ghost use Rattle.std.specs.Str.{bytes_eq};
+ghost use Rattle.acl_people.specs.Members.{gids_at, row_gids, rows_gids};
+ghost use Rattle.std.specs.FinSet as sets;
+ghost use Rattle.std.specs.List.Sorted.{IsStrictlyIncreasing};
+ghost use Rattle.acl_entry.specs.Mentions.{is_one_of};
 
+use crate::groups::Group;
 use crate::people::People;
-use acl_entry::Id;
+use acl_entry::{Id, Subject};
 use std::alloc::{AllocError, Global};
+use std::collections::BTreeMap;
 use std::rc::Rc;
 
 impl People {
@@ -102,5 +109,105 @@ impl People {
             user,
         )?;
         Ok(people)
+    }
+}
+
+/// Notes a group for a name.
+fn join<'a>(
+    alloc: Global,
+    members: &mut BTreeMap<&'a [u8], Vec<Id>>,
+    name: &'a [u8],
+    gid: Id,
+) -> Result<(), AllocError>
+    ensures { OnOk result ((q : List ℕ) → gids_at members.new q ≡ (if bytes_eq name.now q then gids_at members.old q ++ gid ∷ [] else gids_at members.old q)) }
+{
+    let mut gids = match members.remove(name) {
+        Some(gids) => gids,
+        None => Vec::new(alloc),
+    };
+    gids.push(gid)?;
+    members.insert(name, gids)?;
+    Ok(())
+}
+
+/// Notes a row's group for each name in it.
+fn add_row<'a>(
+    alloc: Global,
+    members: &mut BTreeMap<&'a [u8], Vec<Id>>,
+    row: &'a Group,
+) -> Result<(), AllocError>
+    ensures { OnOk result ((name : List ℕ) → gids_at members.new name ≡ gids_at members.old name ++ row_gids name row.now) }
+{
+    for name in row.members() {
+        join(alloc, members, name.as_bytes(), row.gid())?;
+    }
+    Ok(())
+}
+
+/// The groups whose rows name a user, by the user's name: one pass over the rows.
+pub(crate) fn members_of<'a>(
+    alloc: Global,
+    rows: &'a [Rc<Group>],
+) -> Result<BTreeMap<&'a [u8], Vec<Id>>, AllocError>
+    ensures { IfOk result (λ members. (name : List ℕ) → gids_at members name ≡ rows_gids name (map (λ r. r.value) rows.now)) }
+{
+    let mut members = BTreeMap::new(alloc);
+    for row in rows {
+        add_row(alloc, &mut members, row)?;
+    }
+    Ok(members)
+}
+
+/// Adds the groups of one user that another is not of.
+fn add_others(groups: &mut Vec<Id>, of: &Subject, but: &Subject) -> Result<(), AllocError>
+    ensures { OnOk result ((gid : ℕ) → is_one_of gid groups.new.items
+        ≡ (is_one_of gid groups.old.items || (sets.contains of.now.groups gid && not (sets.contains but.now.groups gid)))) }
+{
+    for group in of.groups() {
+        if !but.is_of(*group) {
+            groups.push(*group)?;
+        }
+    }
+    Ok(())
+}
+
+/// The ids in rising order, each once. Fails only if memory runs out.
+pub fn rising_ids(ids: Vec<Id>) -> Result<Vec<Id>, AllocError>
+    ensures rising { IfOk result (λ rising. IsStrictlyIncreasing rising.items) }
+    ensures same { IfOk result (λ rising. (gid : ℕ) → is_one_of gid rising.items ≡ is_one_of gid ids.items) }
+{
+    let mut rising = ids;
+    rising.sort()?;
+    rising.dedup();
+    Ok(rising)
+}
+
+/// The groups that just one of the two has, rising. Fails only if memory runs out.
+fn groups_of_one(alloc: Global, before: &Subject, after: &Subject) -> Result<Vec<Id>, AllocError>
+    ensures { IfOk result (λ ids. AreMoved before.now after.now ids.items) }
+{
+    let mut groups = Vec::new(alloc);
+    add_others(&mut groups, before, after)?;
+    add_others(&mut groups, after, before)?;
+    let groups = rising_ids(groups)?;
+    Ok(groups)
+}
+
+impl People {
+    /// The ids of the groups that a user joined or left between these people and the next, rising. Without
+    /// any, all users are as they were. Fails only if memory runs out.
+    pub fn moved_groups(
+        &self,
+        alloc: Global,
+        next: &People,
+        user: usize,
+    ) -> Result<Vec<Id>, AllocError>
+        requires { ChangesUser (persons self.now) (persons next.now) user }
+        ensures moved { IfOk result (λ ids. MovesUser (persons self.now) (persons next.now) user ids.items) }
+        ensures ids { IfOk result (λ ids. ids.items ≡ moved_groups self.now next.now user) }
+        ensures none { IfOk result (λ ids. ids.items ≡ [] → persons next.now ≡ persons self.now) }
+    {
+        let groups = groups_of_one(alloc, &self.subjects()[user], &next.subjects()[user])?;
+        Ok(groups)
     }
 }

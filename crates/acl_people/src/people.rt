@@ -4,11 +4,11 @@ ghost use Rattle.std.specs.Prelude.{◌≡◌, ◌<◌, ◌++◌, ◌∷◌, [],
 ghost use Rattle.acl_people.specs.declared.fault.LoadFault.TheVariants.{AlreadyLoaded, NoMemory};
 ghost use Rattle.std.specs.Option.{option_copied};
 ghost use Rattle.acl_syntax.specs.InTurn.{GivesUnless};
-ghost use Rattle.acl_people.specs.Rolls.{id_named, name_shown, place_of_word, IsNaming, AreCounted};
+ghost use Rattle.acl_people.specs.NameTables.{id_named, name_shown, place_of_word, IsNaming, AreCounted};
 ghost use Rattle.acl_people.specs.Entries.{user_entry};
 ghost use Rattle.acl_people.specs.Moves.{ChangesUser, LeavesUser};
 ghost use Rattle.acl_people.specs.Changes.{name_of};
-ghost use Rattle.acl_people.specs.Registers.{person, nobody, users_of, groups_of, persons, subject, IsSound, load_passwd, load_group, naming_of};
+ghost use Rattle.acl_people.specs.KnownPeople.{person, nobody, users_of, groups_of, persons, subject, IsSound, load_passwd, load_group, naming_of};
 
 use crate::fault::{LoadFault, text_fault};
 use crate::groups::Groups;
@@ -34,9 +34,9 @@ pub struct People {
 
 impl Model for People {
     ghost use Rattle.std.specs.Prelude.{◌≡◌, map};
-    ghost use Rattle.acl_people.specs.Registers.{Register, person};
+    ghost use Rattle.acl_people.specs.KnownPeople.{KnownPeople, person};
 
-    ghost Value = { Register };
+    ghost Value = { KnownPeople };
 
     ghost view = { λ p. record { users = p.users.value; groups = p.groups.value; passwd_loaded = p.passwd_loaded; group_loaded = p.group_loaded } };
 
@@ -48,12 +48,34 @@ impl People {
     pub fn new(alloc: Global) -> Result<People, AllocError>
         ensures { IfOk result (λ people. people ≡ nobody) }
     {
+        let users = Rc::new(alloc, Users::new(alloc)?)?;
+        let groups = Rc::new(alloc, Groups::new(alloc)?)?;
+        People::of_rows(alloc, users, groups, false, false)
+    }
+
+    /// The people of these rows: every user's groups are computed. Fails only if memory runs out.
+    fn of_rows(
+        alloc: Global,
+        users: Rc<Users>,
+        groups: Rc<Groups>,
+        passwd_loaded: bool,
+        group_loaded: bool,
+    ) -> Result<People, AllocError>
+        ensures { IfOk result (λ people. people ≡ record {
+          users = users.value;
+          groups = groups.value;
+          passwd_loaded = passwd_loaded;
+          group_loaded = group_loaded;
+        }) }
+    {
+        let subjects = subjects_of(alloc, users.rows(), groups.rows())?;
+        let subjects = Subjects::of(alloc, subjects)?;
         Ok(People {
-            users: Rc::new(alloc, Users::new(alloc)?)?,
-            groups: Rc::new(alloc, Groups::new(alloc)?)?,
-            subjects: Subjects::of(alloc, Vec::new(alloc))?,
-            passwd_loaded: false,
-            group_loaded: false,
+            users,
+            groups,
+            subjects,
+            passwd_loaded,
+            group_loaded,
         })
     }
 
@@ -97,7 +119,7 @@ impl People {
         ensures found { result ≡ place_of_word word.now (users_of self.now) }
         ensures within { IfSome result (λ user. user < length self.now.users) }
     {
-        self.users.roll().place_of_word(word)
+        self.users.name_table().place_of_word(word)
     }
 
     /// The place of the group that a word stands for: digits alone are the first group of that id, any other
@@ -106,7 +128,7 @@ impl People {
         ensures found { result ≡ place_of_word word.now (groups_of self.now) }
         ensures within { IfSome result (λ group. group < length self.now.groups) }
     {
-        self.groups.roll().place_of_word(word)
+        self.groups.name_table().place_of_word(word)
     }
 
     /// The name in the user's row; `None` past the last user.
@@ -177,15 +199,10 @@ impl People {
             Ok(users) => users,
             Err(fault) => return Err(text_fault(fault)),
         };
-        let subjects = subjects_of(alloc, users.rows(), self.groups.rows())?;
-        let subjects = Subjects::of(alloc, subjects)?;
-        Ok(People {
-            users: Rc::new(alloc, users)?,
-            groups: self.groups.clone()?,
-            subjects,
-            passwd_loaded: true,
-            group_loaded: self.group_loaded,
-        })
+        let users = Rc::new(alloc, users)?;
+        let groups = self.groups.clone()?;
+        let people = People::of_rows(alloc, users, groups, true, self.group_loaded)?;
+        Ok(people)
     }
 
     /// These people with the groups of a group text. Refused where one was loaded, whatever memory there is,
@@ -201,15 +218,10 @@ impl People {
             Ok(groups) => groups,
             Err(fault) => return Err(text_fault(fault)),
         };
-        let subjects = subjects_of(alloc, self.users.rows(), groups.rows())?;
-        let subjects = Subjects::of(alloc, subjects)?;
-        Ok(People {
-            users: self.users.clone()?,
-            groups: Rc::new(alloc, groups)?,
-            subjects,
-            passwd_loaded: self.passwd_loaded,
-            group_loaded: true,
-        })
+        let groups = Rc::new(alloc, groups)?;
+        let users = self.users.clone()?;
+        let people = People::of_rows(alloc, users, groups, self.passwd_loaded, true)?;
+        Ok(people)
     }
 
     /// The rows of users.
@@ -217,7 +229,7 @@ impl People {
         ensures rows { result.now.value ≡ self.now.users }
         ensures sound { IsSound self.now }
     {
-        self.is_sound();
+        self.soundness_law();
         &self.users
     }
 
@@ -226,7 +238,7 @@ impl People {
         ensures rows { result.now.value ≡ self.now.groups }
         ensures sound { IsSound self.now }
     {
-        self.is_sound();
+        self.soundness_law();
         &self.groups
     }
 
@@ -248,7 +260,12 @@ impl People {
         user: usize,
     ) -> Result<People, AllocError>
         requires { ChangesUser (persons self.now) (map (person groups.value) users.value) user }
-        ensures { IfOk result (λ people. people ≡ record { users = users.value; groups = groups.value; passwd_loaded = self.now.passwd_loaded; group_loaded = self.now.group_loaded }) }
+        ensures { IfOk result (λ people. people ≡ record {
+          users = users.value;
+          groups = groups.value;
+          passwd_loaded = self.now.passwd_loaded;
+          group_loaded = self.now.group_loaded;
+        }) }
     {
         let subject = person_of(alloc, groups.rows(), &users.rows()[user])?;
         let subject = Rc::new(alloc, subject)?;
@@ -265,7 +282,12 @@ impl People {
     /// These people and one user more, the last. The users count as loaded. Fails only if memory runs out.
     pub(crate) fn with_user_row(&self, alloc: Global, row: PasswdRow) -> Result<People, AllocError>
         requires { AreCounted (map user_entry (self.now.users ++ row ∷ [])) }
-        ensures { IfOk result (λ people. people ≡ record { users = self.now.users ++ row ∷ []; groups = self.now.groups; passwd_loaded = true; group_loaded = self.now.group_loaded }) }
+        ensures { IfOk result (λ people. people ≡ record {
+          users = self.now.users ++ row ∷ [];
+          groups = self.now.groups;
+          passwd_loaded = true;
+          group_loaded = self.now.group_loaded;
+        }) }
     {
         let subject = person_of(alloc, self.groups.rows(), &row)?;
         let subject = Rc::new(alloc, subject)?;
@@ -288,7 +310,12 @@ impl People {
         user: usize,
     ) -> Result<People, AllocError>
         requires { LeavesUser (persons self.now) (map (person groups.value) users.value) user }
-        ensures { IfOk result (λ people. people ≡ record { users = users.value; groups = groups.value; passwd_loaded = self.now.passwd_loaded; group_loaded = self.now.group_loaded }) }
+        ensures { IfOk result (λ people. people ≡ record {
+          users = users.value;
+          groups = groups.value;
+          passwd_loaded = self.now.passwd_loaded;
+          group_loaded = self.now.group_loaded;
+        }) }
     {
         let subjects = self.all_subjects().without(alloc, user)?;
         Ok(People {
@@ -301,11 +328,11 @@ impl People {
     }
 
     /// Proof only: there are at most 65,536 users and as many groups, and each name is in one row.
-    pub fn is_sound(&self)
+    pub fn soundness_law(&self)
         ensures { IsSound self.now }
     {
-        let _users = self.users.roll();
-        let _groups = self.groups.roll();
+        let _users = self.users.name_table();
+        let _groups = self.groups.name_table();
     }
 
     /// Proof only: the names that ids print as are found under these ids, are made of bytes, are not empty, and are
@@ -314,8 +341,8 @@ impl People {
         ensures users { IsNaming (naming_of self.now).user_id (naming_of self.now).user_name }
         ensures groups { IsNaming (naming_of self.now).group_id (naming_of self.now).group_name }
     {
-        let _users = self.users.roll();
-        let _groups = self.groups.roll();
+        let _users = self.users.name_table();
+        let _groups = self.groups.name_table();
     }
 }
 
@@ -323,18 +350,18 @@ impl Names for People {
     ghost naming = { λ known. naming_of known };
 
     fn user_id(&self, name: &[u8]) -> Option<Id> {
-        self.users.roll().id_named(name)
+        self.users.name_table().id_named(name)
     }
 
     fn group_id(&self, name: &[u8]) -> Option<Id> {
-        self.groups.roll().id_named(name)
+        self.groups.name_table().id_named(name)
     }
 
     fn user_name(&self, id: Id) -> Option<&[u8]> {
-        self.users.roll().name_shown(id)
+        self.users.name_table().name_shown(id)
     }
 
     fn group_name(&self, id: Id) -> Option<&[u8]> {
-        self.groups.roll().name_shown(id)
+        self.groups.name_table().name_shown(id)
     }
 }

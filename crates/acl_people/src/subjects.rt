@@ -3,10 +3,10 @@
 ghost use Rattle.std.specs.Prelude.{◌≡◌, ◌∷◌, map, IfOk};
 ghost use Rattle.std.specs.FinSet as sets;
 ghost use Rattle.acl_people.specs.Members.{gids_at};
-ghost use Rattle.acl_people.specs.Registers.{person};
+ghost use Rattle.acl_people.specs.KnownPeople.{person};
 
-use crate::group::Group;
-use crate::members::members_of;
+use crate::groups::Group;
+use crate::memberships::members_of;
 use acl_entry::{Id, Subject};
 use acl_syntax::PasswdRow;
 use std::alloc::{AllocError, Global};
@@ -31,7 +31,7 @@ fn subject_of(
 
 /// Every user's id and groups, in the order of the users' rows: one pass over the group rows, and one over
 /// the users.
-pub fn subjects_of(
+pub(crate) fn subjects_of(
     alloc: Global,
     users: &[Rc<PasswdRow>],
     groups: &[Rc<Group>],
@@ -47,7 +47,7 @@ pub fn subjects_of(
 }
 
 /// One user's id and groups: a pass over the group rows. Fails only if memory runs out.
-pub fn person_of(
+pub(crate) fn person_of(
     alloc: Global,
     groups: &[Rc<Group>],
     user: &PasswdRow,

@@ -9,7 +9,7 @@ use std::marker::Model;
 
 /// A name that a new user may have: not empty, not digits alone, and without a colon, a comma, a line feed
 /// and NUL, so that it can be a field of passwd(5) and one of the names of a row of group(5).
-#[derive(Debug, Drop)]
+#[derive(Drop)]
 pub struct UserName {
     name: Name,
 }

@@ -4,13 +4,12 @@ ghost use Rattle.std.specs.Prelude.{◌≡◌, ◌<◌, ◌++◌, ◌∷◌, [],
 ghost use Rattle.std.specs.List.{remove};
 ghost use Rattle.acl_syntax.specs.InTurn.{Gives};
 ghost use Rattle.acl_syntax.specs.Rows.{passwd_of};
-ghost use Rattle.acl_people.specs.Rolls.{AreCounted};
+ghost use Rattle.acl_people.specs.NameTables.{AreCounted};
 ghost use Rattle.acl_people.specs.Entries.{user_entry};
 ghost use Rattle.acl_people.specs.Changes.{change_at, with_gid};
 
-use crate::named_row::NamedRow;
-use crate::roll::Roll;
-use crate::shared::shared;
+use crate::each_shared::each_shared;
+use crate::name_table::{NameTable, NamedRow};
 use acl_entry::Id;
 use acl_syntax::{PasswdRow, TextFault, read_passwd};
 use std::alloc::{AllocError, Global};
@@ -19,22 +18,23 @@ use std::rc::Rc;
 
 /// The counted rows of passwd(5), in their order. The rows are shared among copies.
 #[derive(Drop)]
-pub struct Users {
+pub(crate) struct Users {
     rows: Vec<Rc<PasswdRow>>,
-    roll: Rc<Roll>,
+    name_table: Rc<NameTable>,
 }
 
 impl Model for Users {
     ghost use Rattle.std.specs.Prelude.{◌≡◌, List, map};
     ghost use Rattle.acl_syntax.specs.declared.rows.PasswdRow.{PasswdRow};
-    ghost use Rattle.acl_people.specs.Rolls.{AreCounted};
+    ghost use Rattle.acl_people.specs.NameTables.{AreCounted};
     ghost use Rattle.acl_people.specs.Entries.{user_entry};
 
     ghost Value = { List PasswdRow };
 
     ghost view = { λ u. map (λ r. r.value) u.rows.items };
 
-    ghost invariant = { λ u. (u.roll.value ≡ map user_entry (map (λ r. r.value) u.rows.items)) × AreCounted (map user_entry (map (λ r. r.value) u.rows.items)) };
+    ghost invariant = { λ u. (u.name_table.value ≡ map user_entry (map (λ r. r.value) u.rows.items))
+        × AreCounted (map user_entry (map (λ r. r.value) u.rows.items)) };
 }
 
 impl NamedRow for Rc<PasswdRow> {
@@ -62,8 +62,8 @@ impl Users {
         requires { AreCounted (map user_entry (map (λ r. r.value) rows.items)) }
         ensures { IfOk result (λ users. users ≡ map (λ r. r.value) rows.items) }
     {
-        let roll = Rc::new(alloc, Roll::of(alloc, &rows)?)?;
-        Ok(Users { rows, roll })
+        let name_table = Rc::new(alloc, NameTable::of(alloc, &rows)?)?;
+        Ok(Users { rows, name_table })
     }
 
     /// The users of a passwd text.
@@ -71,7 +71,7 @@ impl Users {
         ensures { Gives (λ users. users) result (passwd_of bytes.now) }
     {
         let rows = read_passwd(alloc, bytes)?;
-        let users = Users::of(alloc, shared(alloc, rows)?)?;
+        let users = Users::of(alloc, each_shared(alloc, rows)?)?;
         Ok(users)
     }
 
@@ -83,11 +83,11 @@ impl Users {
     }
 
     /// The names and ids.
-    pub fn roll(&self) -> &Roll
+    pub fn name_table(&self) -> &NameTable
         ensures all { result.now ≡ map user_entry self.now }
         ensures counted { AreCounted (map user_entry self.now) }
     {
-        &self.roll
+        &self.name_table
     }
     /// These users, one of them with another primary group. Fails only if memory runs out.
     pub fn with_gid(&self, alloc: Global, user: usize, gid: Id) -> Result<Users, AllocError>
@@ -104,7 +104,7 @@ impl Users {
         rows[user] = Rc::new(alloc, changed)?;
         Ok(Users {
             rows,
-            roll: self.roll.clone()?,
+            name_table: self.name_table.clone()?,
         })
     }
 

@@ -89,7 +89,7 @@ fn names_have_ids(rt: HostRuntime) {
     assert!(rt; people.group_id(b"other") == Some(id(&rt, 60)));
     assert!(rt; people.group_id(b"joe").is_none());
     people.naming_is_read_back();
-    people.is_sound();
+    people.soundness_law();
 }
 
 /// The place of a user, a group, and whether it is one of the user's groups.

@@ -10,7 +10,7 @@ use Rattle.acl_tree.specs.acl_names.Below.{is_below}
 use Rattle.acl_tree.specs.acl_edit.declared.node.Node.{Node}
 use Rattle.acl_tree.specs.Files.{PathOf, Files, Recorded}
 use Rattle.acl_tree.specs.Changed.{is_changed, changed_between, gone_between}
-use Rattle.acl_tree.specs.acl_people.Registers.{persons}
+use Rattle.acl_tree.specs.acl_people.KnownPeople.{persons}
 use Rattle.acl_tree.specs.Reports.{StagedState, UsersMoved}
 use Rattle.acl_tree.specs.declared.user_change.UserChange.{UserChange}
 use Rattle.acl_tree.specs.declared.user_change.UserChange.TheVariants.{Unchanged, Memberships, Added, Removed}
@@ -23,7 +23,7 @@ use Rattle.acl_verdicts.proofs.Reaching.{first_kept, have_more}
 use Rattle.acl_verdicts.specs.declared.ways.Ways.{Ways}
 use Rattle.acl_rights.specs.Tables.{Verdict, rows_of}
 use Rattle.acl_rights.specs.Stages.{mentions_one}
-use Rattle.acl_rights.specs.Reach.{moves_refreshed, most_refreshed}
+use Rattle.acl_rights.specs.Reach.{moves_refreshed, verdicts_refreshed}
 use Rattle.acl_rights.specs.declared.label_rows.LabelRows.{LabelRows}
 use Rattle.acl_rights.specs.declared.grants.Grants.{Grants}
 use Rattle.acl_rights.specs.Labels.{labelled, row_of, AreLabelled, AreJudged, AreLonger, AreShorter, AreAgain, AreChangedRows}
@@ -179,7 +179,7 @@ module _ (V : Verdict) (g : Grants) (t : StagedState) (goes : GoesOn V g t) (ord
       pub moved_order : IsInOrder (map (λ p. (f p, f p)) ps)
       moved_order = same_order (map (λ p. (f p, f p)) ps) (filter (mentions_one groups) gs) pairs_same (map_filter (mentions_one groups) gs n)
 
-      pub moved_refreshed : (count : ℕ) → count ≡ count_by (λ (e : PathOf × ℕ). lies_in (map (λ p. (f p, f p)) ps) e.0) new.numbers → count ≡ most_refreshed t
+      pub moved_refreshed : (count : ℕ) → count ≡ count_by (λ (e : PathOf × ℕ). lies_in (map (λ p. (f p, f p)) ps) e.0) new.numbers → count ≡ verdicts_refreshed t
       moved_refreshed count h2 =
           let m = moves V (rows_at g) t goes.goes at groups is in
           users_refreshed t count (nothing_changed V (rows_at g) t goes.goes n m.0)
@@ -211,7 +211,7 @@ module _ (V : Verdict) (g : Grants) (t : StagedState) (goes : GoesOn V g t) (ord
     pub joined_rows : IsInOrder new.numbers → rows_in new.cells new.numbers ≡ rows_of V us gs
     joined_rows order = rows_are V us gs new joined_labelled (subst (λ (l : List Person). AreJudged V l new) (sym last) (longer_judged V before gs g.rows new (same_files (joins V (rows_at g) t goes.goes is).0) old_judged u h)) order
 
-    pub joined_refreshed : (count : ℕ) → count ≡ length new.numbers → count ≡ most_refreshed t
+    pub joined_refreshed : (count : ℕ) → count ≡ length new.numbers → count ≡ verdicts_refreshed t
     joined_refreshed count long =
         users_refreshed t count (nothing_changed V (rows_at g) t goes.goes n (joins V (rows_at g) t goes.goes is).0) (long ∙ numbers_long gs new joined_labelled ∙ ap (λ (c : UserChange). moves_refreshed c gs) (sym is))
 
@@ -226,5 +226,5 @@ module _ (V : Verdict) (g : Grants) (t : StagedState) (goes : GoesOn V g t) (ord
         let l = leaves V (rows_at g) t goes.goes at is in
         rows_are V us gs new left_labelled (subst (λ (l : List Person). AreJudged V l new) (sym l.1.becomes) (shorter_judged V before gs g.rows new (same_files l.0) old_judged at l.1.was h)) order
 
-    pub left_refreshed : 0 ≡ most_refreshed t
+    pub left_refreshed : 0 ≡ verdicts_refreshed t
     left_refreshed = users_refreshed t 0 (nothing_changed V (rows_at g) t goes.goes n (leaves V (rows_at g) t goes.goes at is).0) (ap (λ (c : UserChange). moves_refreshed c gs) (sym is))

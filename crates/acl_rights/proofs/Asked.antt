@@ -11,9 +11,9 @@ use Rattle.acl_tree.specs.acl_entry.Person.{Person}
 use Rattle.acl_tree.specs.acl_names.Paths.{path_cmp}
 use Rattle.acl_tree.specs.acl_edit.declared.node.Node.{Node}
 use Rattle.acl_tree.specs.Files.{PathOf, Files}
-use Rattle.acl_tree.specs.acl_people.Registers.{person, persons}
+use Rattle.acl_tree.specs.acl_people.KnownPeople.{person, persons}
 use Rattle.acl_tree.specs.Step.{State}
-use Rattle.acl_rights.specs.Tables.{Verdict, Table, IsWhole, Rows, cells_of, rows_of, cell_at, places_from, who_in, grants_to, may_in, verdict_at, users_granted, files_granted}
+use Rattle.acl_rights.specs.Tables.{Verdict, VerdictTable, IsWhole, Rows, cells_of, rows_of, cell_at, places_from, who_in, grants_to, may_in, verdict_at, users_granted, files_granted}
 use Rattle.acl_rights.proofs.Maps.{find-values}
 
 pub got-map : {A B : Type 0} (f : A → B) (xs : List A) (i : ℕ) → slice_get (map f xs) i ≡ option_map f (slice_get xs i)
@@ -35,7 +35,7 @@ none_got [] i le = refl
 none_got (x ∷ xs) zero le = absurd (omega arith)
 none_got (x ∷ xs) (suc i) le = none_got xs i (omega arith)
 
-module _ (V : Verdict) (s : State) (t : Table) (whole : IsWhole V s t) where
+module _ (V : Verdict) (s : State) (t : VerdictTable) (whole : IsWhole V s t) where
   abbrev us : List Person
   us = persons s.people
 

@@ -7,11 +7,11 @@ use Rattle.acl_tree.specs.acl_names.Paths.{path_cmp}
 use Rattle.std.proofs.lemmas.List.{length-map}
 use Rattle.std.proofs.lemmas.List.Sums.{length-filter}
 use Rattle.acl_tree.specs.acl_edit.declared.node.Node.{Node}
-use Rattle.acl_tree.specs.acl_people.Registers.{Register}
+use Rattle.acl_tree.specs.acl_people.KnownPeople.{KnownPeople}
 use Rattle.acl_tree.specs.Files.{Files, Recorded}
 use Rattle.acl_tree.specs.Changed.{same_label, is_changed, changed_between}
 use Rattle.acl_tree.proofs.of_acl_files.Changes.{label_itself}
-use Rattle.acl_tree.specs.acl_people.Registers.{persons}
+use Rattle.acl_tree.specs.acl_people.KnownPeople.{persons}
 use Rattle.acl_tree.specs.Reports.{StagedState}
 use Rattle.acl_tree.specs.declared.user_change.UserChange.{UserChange}
 use Rattle.acl_tree.specs.declared.user_change.UserChange.TheVariants.{Unchanged, Loaded, Memberships, Added, Removed}
@@ -28,7 +28,7 @@ right_le a b c d e f = omega (arith, e, f)
 left_le : (a b c d : ℕ) → d ≡ a + b → a ≡ c → c ≤ d
 left_le a b c d e f = omega (arith, e, f)
 
-pub all_users : (known : Register) → length (persons known) ≡ length known.users
+pub all_users : (known : KnownPeople) → length (persons known) ≡ length known.users
 all_users known = length-map known.users _
 
 pub within : (t : StagedState) → length t.changed * length t.state.people.users ≤ most_asked t

@@ -27,7 +27,7 @@ use Rattle.acl_rights.specs.Tables.{Verdict, cells_of, rows_of}
 use Rattle.acl_rights.specs.Stages.{mentions_one}
 use Rattle.acl_rights.specs.declared.labels.MoreLabels.{MoreLabels}
 use Rattle.acl_rights.specs.declared.label_rows.LabelRows.{LabelRows}
-use Rattle.acl_rights.specs.Labels.{labelled, labels_of, IsUsed, row_of, labels_in, added_in, AreNumbered, AreLabelled, AreJudged, longer_row, row_again, shorter_row, AreLonger, AreShorter, AreAgain, AreChangedRows}
+use Rattle.acl_rights.specs.Labels.{labelled, labels_of, IsUsed, row_of, labels_in, added_in, AreNumbered, AreLabelled, AreJudged, longer_row, updated_row, shorter_row, AreLonger, AreShorter, AreAgain, AreChangedRows}
 use Rattle.acl_rights.proofs.Maps.{find-values, map_values, map_filter, same_found, found_at}
 use Rattle.acl_rights.proofs.Numbers.{get_front, get_same, get_later, labelled_more}
 use Rattle.acl_rights.proofs.RowLists.{rows_by_got, rows_by_long}
@@ -311,7 +311,7 @@ module _ (V : Verdict) (us : List Person) (fs : Files) (old new : LabelRows) (w 
   module _ (ws : List Person) (at : ℕ) (groups : List ℕ) (m : MovesUser us ws at groups) (local : (u w : Person) (f : Label) → AgreeOnMentions u w f → V u f ≡ V w f) (u : Person) (next : slice_get ws at ≡ Some u)
       (paths : List PathOf) (touched : paths ≡ map (λ (e : PathOf × Node). e.0) (filter (mentions_one groups) fs)) (h : AreAgain V at u paths old new) where
     pub again_labelled : AreLabelled fs new
-    again_labelled = same_labelled fs old new h.numbers h.labels (ap length h.cells ∙ rows_by_long (row_again V at u old.labels h.marks) 0 old.cells) w
+    again_labelled = same_labelled fs old new h.numbers h.labels (ap length h.cells ∙ rows_by_long (updated_row V at u old.labels h.marks) 0 old.cells) w
 
     -- a file that mentions one of the groups is among the paths
     path_touched : (P : PathOf → Type 0) (es : Files) → AllByRecursion P (map (λ (e : PathOf × Node). e.0) (filter (mentions_one groups) es)) → (p : PathOf) (k : Node) → find path_cmp p es ≡ Some k → meets (mentions k.label) groups ≡ true → P p
@@ -334,9 +334,9 @@ module _ (V : Verdict) (us : List Person) (fs : Files) (old new : LabelRows) (w 
     pub again_judged : AreJudged V ws new
     again_judged n l used label =
         ap (λ cs. slice_get cs n) h.cells
-        ∙ rows_by_got (row_again V at u old.labels h.marks) 0 n old.cells
-        ∙ ap (option_map (row_again V at u old.labels h.marks (0 + n))) (judged n l was there)
-        ∙ ap (λ k. Some (row_again V at u old.labels h.marks k (row_of V us l))) none
+        ∙ rows_by_got (updated_row V at u old.labels h.marks) 0 n old.cells
+        ∙ ap (option_map (updated_row V at u old.labels h.marks (0 + n))) (judged n l was there)
+        ∙ ap (λ k. Some (updated_row V at u old.labels h.marks k (row_of V us l))) none
         ∙ ap (λ b. Some (if get_or h.marks n false && b then option_map_or (λ f. set (row_of V us l) at (V u f)) (slice_get old.labels n) (row_of V us l) else row_of V us l)) wide
         ∙ by (get_or h.marks n false) refl
       where

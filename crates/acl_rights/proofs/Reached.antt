@@ -14,9 +14,9 @@ use Rattle.std.specs.Ordering.{is_eq}
 use Rattle.acl_tree.specs.acl_edit.declared.node.Node.{Node}
 use Rattle.acl_tree.specs.acl_names.Below.{is_below}
 use Rattle.acl_tree.specs.Files.{PathOf, Files}
-use Rattle.acl_tree.specs.acl_people.Registers.{person, persons}
+use Rattle.acl_tree.specs.acl_people.KnownPeople.{person, persons}
 use Rattle.acl_tree.specs.Step.{State}
-use Rattle.acl_rights.specs.Tables.{Verdict, Table, IsWhole, Rows, cells_of, rows_of, places_from, who_in, grants_to, may_in}
+use Rattle.acl_rights.specs.Tables.{Verdict, VerdictTable, IsWhole, Rows, cells_of, rows_of, places_from, who_in, grants_to, may_in}
 use Rattle.acl_rights.specs.Reach.{execute, passes, reach, reach_at, users_reaching, files_reached, can_search, passes_in, reach_cell, reached_from, reached_rows, reached_at}
 use Rattle.acl_rights.proofs.Maps.{find-values}
 use Rattle.acl_rights.proofs.Asked.{got-map, got, none_got}
@@ -117,7 +117,7 @@ module _ (V : Verdict) (us : List Person) where
       by true first rest same more = λ i. same i ∷ more i
       by false first rest same more = more
 
-module _ (V : Verdict) (s : State) (t : Table) (whole : IsWhole V s t) where
+module _ (V : Verdict) (s : State) (t : VerdictTable) (whole : IsWhole V s t) where
   abbrev us : List Person
   us = persons s.people
 

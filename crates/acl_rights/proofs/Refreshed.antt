@@ -16,7 +16,7 @@ use Rattle.acl_tree.specs.acl_edit.declared.node.Node.{Node}
 use Rattle.acl_tree.specs.acl_names.Below.{is_within, is_below}
 use Rattle.acl_tree.specs.Changed.{same_label, is_changed, changed_between, gone_between}
 use Rattle.acl_tree.specs.Files.{PathOf, Files, Recorded}
-use Rattle.acl_tree.specs.acl_people.Registers.{persons}
+use Rattle.acl_tree.specs.acl_people.KnownPeople.{persons}
 use Rattle.acl_tree.specs.acl_people.Moves.{MovesUser}
 use Rattle.acl_tree.specs.Sound.{holds_below}
 use Rattle.acl_tree.specs.Reports.{StagedState, UsersMoved, place_left}
@@ -27,7 +27,7 @@ use Rattle.path_map.specs.Entries.{IsInOrder}
 use Rattle.path_map.specs.Below.{lies_in}
 use Rattle.acl_rights.specs.Tables.{Verdict, Rows, cells_of, rows_of}
 use Rattle.acl_rights.specs.Stages.{mentions_one}
-use Rattle.acl_rights.specs.Reach.{execute, passes, reach, reached_from, reached_rows, moves_refreshed, most_refreshed}
+use Rattle.acl_rights.specs.Reach.{execute, passes, reach, reached_from, reached_rows, moves_refreshed, verdicts_refreshed}
 use Rattle.acl_verdicts.specs.Differing.{place_before, is_as_before, is_as_in, fails_from, differing}
 use Rattle.acl_rights.specs.Kept.{GoesFrom}
 use Rattle.acl_rights.proofs.Lines.{agree, got_in, set_here}
@@ -360,9 +360,9 @@ module _ (V : Verdict) (local : (u w : Person) (f : Label) → AgreeOnMentions u
   is_there : reached_rows rows ≡ reached_rows (rows_of V us fs)
   is_there = ap reached_rows goes.rows_are
 
-  pub line_most : differing (place_left t.user_change) (reached_rows rows) (reached_rows (rows_of V ws gs)) ≤ most_refreshed t
+  pub line_most : differing (place_left t.user_change) (reached_rows rows) (reached_rows (rows_of V ws gs)) ≤ verdicts_refreshed t
   line_most =
       let parts = line t.user_change refl in
       let all : at_changed ≡ length t.state.people.users * count_by (λ (e : PathOf × Node). lies_in t.changed e.0) gs =
       (let long = length-map t.state.people.users _ in let reported = sym goes.reports.changed in λ i. long i * count_by (λ (e : PathOf × Node). lies_in (reported i) e.0) gs) in
-      subst (λ (r : Rows). differing (place_left t.user_change) r (reached_rows (rows_of V ws gs)) ≤ most_refreshed t) (sym is_there) (omega (arith, parts, all))
+      subst (λ (r : Rows). differing (place_left t.user_change) r (reached_rows (rows_of V ws gs)) ≤ verdicts_refreshed t) (sym is_there) (omega (arith, parts, all))

@@ -13,7 +13,7 @@ use Rattle.path_map.specs.Entries.{IsInOrder}
 use Rattle.path_map.specs.Below.{within, lies_in}
 use Rattle.acl_verdicts.specs.Subtrees.{covers, AreWalked}
 use Rattle.acl_verdicts.proofs.Tops.{tops_walk}
-use Rattle.acl_rights.specs.Reach.{moves_refreshed, most_refreshed}
+use Rattle.acl_rights.specs.Reach.{moves_refreshed, verdicts_refreshed}
 use Rattle.acl_rights.proofs.Costs.{few_pass, times_le}
 
 pub no_length : {A : Type 0} (xs : List A) → length xs ≡ 0 → xs ≡ []
@@ -85,7 +85,7 @@ count_none (f ∷ fs) = sum_by-cons (λ (e : PathOf × Node). 0) f fs ∙ ap (λ
 
 module _ (t : StagedState) where
   -- files change
-  pub files_refreshed : (walked users : ℕ) → t.user_change ≡ Unchanged → walked ≡ count_by (λ (e : PathOf × Node). lies_in t.changed e.0) t.state.tree.files → users ≡ length t.state.people.users → walked * users ≡ most_refreshed t
+  pub files_refreshed : (walked users : ℕ) → t.user_change ≡ Unchanged → walked ≡ count_by (λ (e : PathOf × Node). lies_in t.changed e.0) t.state.tree.files → users ≡ length t.state.people.users → walked * users ≡ verdicts_refreshed t
   files_refreshed walked users is w u =
       (λ i. w i * u i)
       ∙ swapped (count_by (λ (e : PathOf × Node). lies_in t.changed e.0) t.state.tree.files) (length t.state.people.users)
@@ -102,7 +102,7 @@ module _ (t : StagedState) where
       omega (arith, le, same, fits)
 
   -- no file changes
-  pub users_refreshed : (n : ℕ) → t.changed ≡ [] → n ≡ moves_refreshed t.user_change t.state.tree.files → n ≡ most_refreshed t
+  pub users_refreshed : (n : ℕ) → t.changed ≡ [] → n ≡ moves_refreshed t.user_change t.state.tree.files → n ≡ verdicts_refreshed t
   users_refreshed n none is =
       let all : length t.state.people.users * count_by (λ (e : PathOf × Node). lies_in t.changed e.0) t.state.tree.files ≡ 0 = ap (λ (es : Files). length t.state.people.users * count_by (λ (e : PathOf × Node). lies_in es e.0) t.state.tree.files) none ∙ ap (λ k. length t.state.people.users * k) (count_none t.state.tree.files) ∙ times_none (length t.state.people.users) in
       is ∙ plus (length t.state.people.users * count_by (λ (e : PathOf × Node). lies_in t.changed e.0) t.state.tree.files) (moves_refreshed t.user_change t.state.tree.files) all

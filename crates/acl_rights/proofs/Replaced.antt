@@ -24,7 +24,7 @@ use Rattle.path_map.proofs.Merges.{in_order-merged, in_order-without, without_no
 use Rattle.path_map.proofs.Rows.{find_merged}
 use Rattle.acl_rights.specs.Groups.{mentions_group, PathSet, set_of}
 use Rattle.acl_rights.specs.Inner.{mentioned_group, same_ids, same_mentions, is_regrouped, regrouped, ByGroups, noted_at, list_with, AreNone}
-use Rattle.acl_rights.specs.declared.noted.Noted.{Noted}
+use Rattle.acl_rights.specs.declared.lists.ListChanges.{ListChanges}
 use Rattle.acl_rights.proofs.Maps.{map_filter, find-filter, if_passes, same_found}
 use Rattle.acl_rights.proofs.Listed.{unit, set_found, set_order}
 
@@ -139,7 +139,7 @@ module _ (g : ℕ) (old new : Files) (o : IsInOrder old) (n : IsInOrder new) whe
       ∙ sym (set_found p mg new n))
 
 -- the list of a group for which no path is noted
-pub with_none : (noted : Noted) (g : ℕ) (list : PathSet) → AreNone noted g → list_with noted g list ≡ list
+pub with_none : (noted : ListChanges) (g : ℕ) (list : PathSet) → AreNone noted g → list_with noted g list ≡ list
 with_none noted g list none =
     without_none (noted_at noted.gone g) (merged (noted_at noted.puts g) (noted_at noted.before g) list) none.gone
     ∙ merged_nothing (noted_at noted.puts g) (noted_at noted.before g) list none.puts none.before
@@ -154,7 +154,7 @@ not_in : (g : ℕ) (xs ys : List ℕ) → is_one_of g (xs ++ ys) ≡ false → (
 not_in g xs ys h = or_false (is_one_of g xs) (is_one_of g ys) (sym (list_any-append (λ x. eqb x g) xs ys) ∙ h)
 
 -- all lists with the noted paths, where those of these groups are replaced
-pub lists_with : (noted : Noted) (ids : List ℕ) → ((g : ℕ) → is_one_of g ids ≡ false → AreNone noted g) → (g : ℕ) (list : PathSet)
+pub lists_with : (noted : ListChanges) (ids : List ℕ) → ((g : ℕ) → is_one_of g ids ≡ false → AreNone noted g) → (g : ℕ) (list : PathSet)
     → (if is_one_of g ids then list_with noted g list else list) ≡ list_with noted g list
 lists_with noted ids none g list = by (is_one_of g ids) refl
   where

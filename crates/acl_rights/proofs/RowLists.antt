@@ -14,7 +14,7 @@ use Rattle.acl_tree.specs.acl_names.Paths.{path_cmp}
 use Rattle.acl_tree.specs.Files.{PathOf}
 use Rattle.acl_verdicts.specs.Ways.{Numbers}
 use Rattle.acl_rights.specs.Tables.{Verdict}
-use Rattle.acl_rights.specs.Labels.{rows_by, row_again, mark_at}
+use Rattle.acl_rights.specs.Labels.{rows_by, updated_row, mark_at}
 use Rattle.acl_rights.proofs.Costs.{times_le}
 
 -- ---- what is left of a list
@@ -186,15 +186,18 @@ ones_cost counts k n u a b is le asked =
     let t = times_le (sum_by (λ (x : ℕ). x) counts) n u (omega (arith, s, le)) in
     omega (arith, t, asked)
 
+pub fewer_cost : (k n u a b : ℕ) → k ≤ n → b ≤ a + k * u → b ≤ a + n * u
+fewer_cost k n u a b le asked = let t = times_le k n u le in omega (arith, t, asked)
+
 -- a row without a mark is as it was
 pub unmarked_again : (V : Verdict) (at : ℕ) (u : Person) (ls : List Label) (marks : List Bool) (cells : List (List ℕ)) (n : ℕ) → get_or marks n false ≡ false
-    → get_or (rows_by (row_again V at u ls marks) 0 cells) n [] ≡ get_or cells n []
+    → get_or (rows_by (updated_row V at u ls marks) 0 cells) n [] ≡ get_or cells n []
 unmarked_again V at u ls marks cells n unmarked = go cells 0 n none
   where
     none : get_or marks (0 + n) false ≡ false
     none = let e : 0 + n ≡ n = omega arith in ap (λ k. get_or marks k false) e ∙ unmarked
 
-    go : (cs : List (List ℕ)) (first k : ℕ) → get_or marks (first + k) false ≡ false → get_or (rows_by (row_again V at u ls marks) first cs) k [] ≡ get_or cs k []
+    go : (cs : List (List ℕ)) (first k : ℕ) → get_or marks (first + k) false ≡ false → get_or (rows_by (updated_row V at u ls marks) first cs) k [] ≡ get_or cs k []
     go [] first k h = refl
     go (c ∷ cs) first zero h =
         let e : first + 0 ≡ first = omega arith in

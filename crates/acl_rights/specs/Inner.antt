@@ -15,7 +15,7 @@ use Rattle.acl_tree.specs.acl_edit.declared.node.Node.{Node}
 use Rattle.acl_tree.specs.Files.{PathOf, Files}
 use Rattle.path_map.specs.Entries.{IsInOrder}
 use Rattle.path_map.specs.Merged.{merged, without_all}
-use Rattle.acl_rights.specs.declared.noted.Noted.{Noted}
+use Rattle.acl_rights.specs.declared.lists.ListChanges.{ListChanges}
 use Rattle.acl_rights.specs.Groups.{mentions_group, PathSet}
 
 -- a file mentions one of the groups, each looked for by itself
@@ -51,17 +51,17 @@ abbrev pub noted_at : ByGroups → ℕ → PathSet
 noted_at noted g = option_map_or (λ entries. map (λ e. e.value) entries.items) (get nat_cmp noted g) []
 
 -- a group's list with the noted paths put and removed
-abbrev pub list_with : Noted → ℕ → PathSet → PathSet
+abbrev pub list_with : ListChanges → ℕ → PathSet → PathSet
 list_with noted g list = without_all (noted_at noted.gone g) (merged (noted_at noted.puts g) (noted_at noted.before g) list)
 
 -- for a group the noted paths are in order
-pub record AreInOrder (noted : Noted) (g : ℕ) : Type 0 where
+pub record AreInOrder (noted : ListChanges) (g : ℕ) : Type 0 where
   pub puts : IsInOrder (noted_at noted.puts g)
   pub before : IsInOrder (noted_at noted.before g)
   pub gone : IsInOrder (noted_at noted.gone g)
 
 -- for a group no path is noted
-pub record AreNone (noted : Noted) (g : ℕ) : Type 0 where
+pub record AreNone (noted : ListChanges) (g : ℕ) : Type 0 where
   pub puts : noted_at noted.puts g ≡ []
   pub before : noted_at noted.before g ≡ []
   pub gone : noted_at noted.gone g ≡ []

@@ -84,8 +84,8 @@ abbrev pub longer_row : Verdict → Person → List Label → List Bool → ℕ 
 longer_row V u ls marks n c = if get_or marks n false then option_map_or (λ l. c ++ V u l ∷ []) (slice_get ls n) c else c
 
 -- a row with one user's verdict asked for again, if its number is marked and it has so many
-abbrev pub row_again : Verdict → ℕ → Person → List Label → List Bool → ℕ → List ℕ → List ℕ
-row_again V at u ls marks n c = if get_or marks n false && nat_lt at (length c) then option_map_or (λ l. slice_set c at (V u l)) (slice_get ls n) c else c
+abbrev pub updated_row : Verdict → ℕ → Person → List Label → List Bool → ℕ → List ℕ → List ℕ
+updated_row V at u ls marks n c = if get_or marks n false && nat_lt at (length c) then option_map_or (λ l. slice_set c at (V u l)) (slice_get ls n) c else c
 
 -- a row without one user, if it has so many
 abbrev pub shorter_row : ℕ → List ℕ → List ℕ
@@ -115,7 +115,7 @@ pub record AreAgain (V : Verdict) (at : ℕ) (u : Person) (paths : List PathOf) 
   pub used : AllByRecursion (λ p. (n : ℕ) → find path_cmp p old.numbers ≡ Some n → n < length old.cells → get_or marks n false ≡ true) paths
   pub numbers : new.numbers ≡ old.numbers
   pub labels : new.labels ≡ old.labels
-  pub cells : new.cells ≡ rows_by (row_again V at u old.labels marks) 0 old.cells
+  pub cells : new.cells ≡ rows_by (updated_row V at u old.labels marks) 0 old.cells
 
 -- rows after some files have other labels and others are gone: labels that no file has are added, with their rows
 pub record AreChangedRows (V : Verdict) (us : List Person) (changed gone : Files) (old new : LabelRows) (entries : Numbers) : Type 0 where

@@ -7,7 +7,7 @@ use Rattle.acl_tree.specs.acl_entry.Check.{has}
 use Rattle.acl_tree.specs.acl_entry.Person.{Person}
 use Rattle.acl_tree.specs.acl_names.Paths.{path_cmp}
 use Rattle.acl_tree.specs.acl_edit.declared.node.Node.{Node}
-use Rattle.acl_tree.specs.acl_people.Registers.{persons}
+use Rattle.acl_tree.specs.acl_people.KnownPeople.{persons}
 use Rattle.acl_tree.specs.acl_names.Below.{is_below}
 use Rattle.acl_tree.specs.Files.{PathOf, Files}
 use Rattle.acl_tree.specs.Step.{State}
@@ -49,7 +49,7 @@ files_reached V s user q = option_map (λ u. map (λ e. e.0) (filter (λ e. has 
 abbrev pub unlike : UserChange → Rows → Rows → ℕ
 unlike move old new = differing (place_left move) (reached_rows old) (reached_rows new)
 
--- the most verdicts that the users' move changes, beside those of changed files
+-- how many are made again for the users' move, beside those of changed files
 abbrev pub moves_refreshed : UserChange → Files → ℕ
 moves_refreshed Unchanged fs = 0
 moves_refreshed Loaded fs = 0
@@ -57,7 +57,7 @@ moves_refreshed (Memberships user groups) fs = count_by (λ e. lies_in (filter (
 moves_refreshed Added fs = length fs
 moves_refreshed (Removed user) fs = 0
 
--- the most verdicts that a line changes: those of all users on changed files and on what is below them, and those of the
--- users' move; the index makes exactly these again
-abbrev pub most_refreshed : StagedState → ℕ
-most_refreshed t = length t.state.people.users * count_by (λ e. lies_in t.changed e.0) t.state.tree.files + moves_refreshed t.user_change t.state.tree.files
+-- how many verdicts along paths the index makes again after a line: those of all users on changed files and on what is
+-- below them, and those of the users' move; no other one changes
+abbrev pub verdicts_refreshed : StagedState → ℕ
+verdicts_refreshed t = length t.state.people.users * count_by (λ e. lies_in t.changed e.0) t.state.tree.files + moves_refreshed t.user_change t.state.tree.files

@@ -6,10 +6,10 @@ use Rattle.acl_tree.specs.Reports.{StagedState, Reports}
 use Rattle.acl_tree.specs.declared.user_change.UserChange.{UserChange}
 use Rattle.acl_tree.specs.declared.user_change.UserChange.TheVariants.{Unchanged, Loaded, Memberships, Added, Removed}
 pub use Rattle.acl_rights.specs.Groups.{mentions_one, mentioning, sum_mentioning}
-use Rattle.acl_rights.specs.Tables.{Verdict, Table, IsWhole}
+use Rattle.acl_rights.specs.Tables.{Verdict, VerdictTable, IsWhole}
 
 -- the index is the whole table of some state, from which the line goes
-pub record CanStage (V : Verdict) (index : Table) (t : StagedState) : Type 0 where
+pub record CanStage (V : Verdict) (index : VerdictTable) (t : StagedState) : Type 0 where
   pub state : State
   pub whole : IsWhole V state index
   pub reports : Reports state t

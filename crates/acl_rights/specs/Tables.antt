@@ -6,7 +6,7 @@ use Rattle.acl_tree.specs.acl_entry.Check.{has}
 use Rattle.acl_tree.specs.acl_entry.Perms.{Perms}
 use Rattle.acl_tree.specs.acl_entry.Person.{Person}
 use Rattle.acl_tree.specs.acl_names.Paths.{path_cmp}
-use Rattle.acl_tree.specs.acl_people.Registers.{persons}
+use Rattle.acl_tree.specs.acl_people.KnownPeople.{persons}
 use Rattle.acl_tree.specs.acl_edit.declared.node.Node.{Node}
 use Rattle.acl_tree.specs.Files.{PathOf, Files}
 use Rattle.acl_tree.specs.Step.{State}
@@ -21,33 +21,33 @@ abbrev pub rows_of : Verdict → List Person → Files → Rows
 rows_of V users fs = map (λ e. (e.0, cells_of V users e.1)) fs
 
 -- how many users there are, the files, and a row for each
-pub record Table : Type 0 where
+pub record VerdictTable : Type 0 where
   pub users : ℕ
   pub files : Files
   pub rows : Rows
 
-abbrev pub coded_table : Coded Table
+abbrev pub coded_table : Coded VerdictTable
 coded_table =
     code_by (ℕ × (Files × Rows)) (coded× coded_ℕ (coded× coded_files coded_rows)) (λ t. (t.users, (t.files, t.rows))) (λ p. record { users = p.0; files = p.1.0; rows = p.1.1 }) (λ _. refl)
 
 -- the whole table of a state: every user against every file, judged afresh
-pub record IsWhole (V : Verdict) (s : State) (t : Table) : Type 0 where
+pub record IsWhole (V : Verdict) (s : State) (t : VerdictTable) : Type 0 where
   pub users : t.users ≡ length s.people.users
   pub files : t.files ≡ s.tree.files
   pub rows : t.rows ≡ rows_of V (persons s.people) s.tree.files
 
 -- a staged table, how many labels were fetched for it, and how many verdicts along paths are new or other ones
-pub record Staged : Type 0 where
-  pub table : Table
+pub record StagedTable : Type 0 where
+  pub table : VerdictTable
   pub looked : ℕ
   pub refreshed : ℕ
 
-abbrev pub coded_staged : Coded Staged
-coded_staged = code_by (Table × (ℕ × ℕ)) (coded× coded_table (coded× coded_ℕ coded_ℕ)) (λ s. (s.table, (s.looked, s.refreshed))) (λ p. record { table = p.0; looked = p.1.0; refreshed = p.1.1 }) (λ _. refl)
+abbrev pub coded_staged : Coded StagedTable
+coded_staged = code_by (VerdictTable × (ℕ × ℕ)) (coded× coded_table (coded× coded_ℕ coded_ℕ)) (λ s. (s.table, (s.looked, s.refreshed))) (λ p. record { table = p.0; looked = p.1.0; refreshed = p.1.1 }) (λ _. refl)
 
 -- ---- what is asked of a table
 
-abbrev pub cell_at : Table → ℕ → PathOf → Option ℕ
+abbrev pub cell_at : VerdictTable → ℕ → PathOf → Option ℕ
 cell_at t user p = option_and_then (λ cells. slice_get cells user) (find path_cmp p t.rows)
 
 -- ---- what is asked of a state

@@ -1,6 +1,7 @@
-//! What is granted on files, and what is reached: each label's row of verdicts, and those that are left at each step.
+//! What is granted on files, and what is reached: each label's row of verdicts, and those that are left at each step; and
+//! the rows of files, one after another.
 
-ghost use Rattle.std.specs.Prelude.{◌≡◌, [], map, option_and_then, slice_get, IfOk};
+ghost use Rattle.std.specs.Prelude.{◌≡◌, map, option_and_then, slice_get, IfOk, get_or, []};
 ghost use Rattle.std.specs.Option.{option_copied};
 ghost use Rattle.std.specs.FinMap.{find};
 ghost use Rattle.path_map.specs.Entries.{IsInOrder};
@@ -11,14 +12,16 @@ ghost use Rattle.acl_rights.specs.Labels.{AreLabelled, AreAsBefore};
 ghost use Rattle.acl_rights.specs.Grants.{AreGrants};
 
 use crate::label_rows::LabelRows;
-use acl_tree::{Path, Record};
+use acl_tree::{Path, Record, Requests};
 use acl_verdicts::{Cells, Numbered, Ways, reaches_after};
+use path_map::Entries;
 use std::alloc::{AllocError, Global};
+use std::marker::Model;
 use std::rc::Rc;
 
 /// How many labels and steps there may be before all are renumbered.
 #[derive(Clone, Copy)]
-pub struct MaxNumbers {
+pub(crate) struct MaxNumbers {
     labels: usize,
     steps: usize,
 }
@@ -37,7 +40,7 @@ fn room_for_new(rows: &LabelRows, files: usize) -> usize {
 /// For each file the numbers of its label and of its step, for each label its row of verdicts, and for each step what is
 /// reached at it.
 #[derive(Drop)]
-pub struct Grants {
+pub(crate) struct Grants {
     pub rows: LabelRows,
     pub ways: Ways,
     pub reaches: Numbered<Cells>,
@@ -108,6 +111,77 @@ impl Grants {
     {
         match self.ways.get(path) {
             Some(step) => self.reaches.get(step),
+            None => None,
+        }
+    }
+}
+
+/// A file with what each user may do with it, in the order of the users.
+#[derive(Clone, Copy)]
+pub struct FileRow<'a> {
+    pub path: &'a Path,
+    pub requests: &'a [Requests],
+}
+
+/// A cursor over files with their rows: those that are still to come, in path order.
+#[derive(Drop)]
+pub struct FileRows<'a> {
+    pub(crate) numbers: Entries<'a, usize>,
+    pub(crate) cells: &'a Numbered<Cells>,
+}
+
+impl<'a> Model for FileRows<'a> {
+    ghost use Rattle.acl_verdicts.specs.Rows.{Rows, coded_rows};
+    ghost use Rattle.acl_verdicts.specs.Ways.{rows_in};
+
+    ghost Value = { Rows };
+
+    ghost coded = { coded_rows };
+
+    ghost view = { λ f. rows_in f.cells.now f.numbers };
+}
+
+/// The row of a number; it is empty where there is none.
+fn row_of(cells: &Numbered<Cells>, number: usize) -> &[Requests]
+    ensures { result.now ≡ get_or cells.now number [] }
+{
+    match cells.get(number) {
+        Some(row) => row.as_slice(),
+        None => &[],
+    }
+}
+
+impl<'a> Iterator for FileRows<'a> {
+    ghost use Rattle.std.specs.Iterator.{YieldsFirstBy, item_count};
+
+    type Item = FileRow<'a>;
+
+    ghost next_gives = { YieldsFirstBy (λ file. (file.path.now, file.requests.now)) (λ rows. rows) };
+
+    ghost remaining = { item_count (λ rows. rows) };
+
+    /// The next file in path order with its row. Allocates nothing.
+    fn next(&mut self) -> Option<FileRow<'a>> {
+        match self.numbers.next() {
+            Some(file) => Some(FileRow {
+                path: file.path(),
+                requests: row_of(self.cells, *file.value()),
+            }),
+            None => None,
+        }
+    }
+}
+
+impl<'a> FileRows<'a> {
+    ghost use Rattle.std.specs.Prelude.{option_map};
+    ghost use Rattle.path_map.specs.Entries.{first};
+
+    /// The path of the file that `next` would return. Allocates nothing.
+    pub fn path(&self) -> Option<&'a Path>
+        ensures { option_map (λ path. path.now) result ≡ option_map (λ row. row.0) (first self.now) }
+    {
+        match self.numbers.peek() {
+            Some(file) => Some(file.path()),
             None => None,
         }
     }

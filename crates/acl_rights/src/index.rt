@@ -1,14 +1,12 @@
 //! The index: the whole table of verdicts of a state, and of verdicts along paths.
 
-ghost use Rattle.std.specs.Prelude.{◌≡◌, ◌+◌, ◌*◌, ◌<◌, ◌≤◌, ◌^◌, ◌↔◌, ℕ, List, length, map, IfOk, OnOk, option_map, if◌then◌else◌, nat_lt, true, Some, None};
+ghost use Rattle.std.specs.Prelude.{◌≡◌, ◌+◌, ◌*◌, ◌<◌, ◌≤◌, ◌^◌, length, map, IfOk, OnOk, option_map, if◌then◌else◌, nat_lt, true, Some, None};
 ghost use Rattle.std.specs.Option.{option_copied};
 ghost use Rattle.std.specs.FinMap.{find};
-ghost use Rattle.acl_tree.specs.acl_entry.Person.{Person};
 ghost use Rattle.acl_tree.specs.acl_names.Paths.{path_cmp};
 ghost use Rattle.acl_tree.specs.Step as step;
 
-use crate::file_rows::FileRows;
-use crate::grants::Grants;
+use crate::grants::{FileRows, Grants};
 use crate::label_rows::LabelRows;
 use crate::lists::{GroupLists, records};
 use crate::stage::{After, after_line};
@@ -21,15 +19,15 @@ use std::rc::Rc;
 /// The verdicts on all users and files of a state, with and without search along the files' paths, and for each group the
 /// files that mention it.
 #[derive(Drop)]
-struct Table {
+struct VerdictTable {
     users: usize,
     tree: Tree,
     grants: Grants,
     lists: GroupLists,
 }
 
-impl Model for Table {
-    ghost use Rattle.acl_rights.specs.Tables.{Table as Whole, coded_table};
+impl Model for VerdictTable {
+    ghost use Rattle.acl_rights.specs.Tables.{VerdictTable as Whole, coded_table};
     ghost use Rattle.acl_rights.specs.Groups.{AreLists};
     ghost use Rattle.acl_rights.specs.Grants.{rows_at, AreGrants};
 
@@ -46,12 +44,12 @@ impl Model for Table {
 /// the file's path, and for each group the files that mention it.
 #[derive(Drop)]
 pub struct Index<J> {
-    table: Table,
+    table: VerdictTable,
     judge: PhantomData<J>,
 }
 
 impl<J> Model for Index<J> {
-    ghost use Rattle.acl_rights.specs.Tables.{Table as Whole, coded_table};
+    ghost use Rattle.acl_rights.specs.Tables.{VerdictTable as Whole, coded_table};
 
     ghost Value = { Whole };
 
@@ -63,13 +61,13 @@ impl<J> Model for Index<J> {
 /// A whole new table, not yet in place. It has to be put in place by [`Index::commit`] or discarded by
 /// [`Rows::give_up`].
 pub struct Rows {
-    table: Table,
+    table: VerdictTable,
     looked: u64,
     refreshed: u64,
 }
 
 impl Model for Rows {
-    ghost use Rattle.acl_rights.specs.Tables.{Staged as StagedTable, coded_staged};
+    ghost use Rattle.acl_rights.specs.Tables.{StagedTable, coded_staged};
 
     ghost Value = { StagedTable };
 
@@ -106,7 +104,7 @@ impl Rows {
 impl<J: Judge> Index<J> {
     ghost use Rattle.acl_rights.specs.Tables.{IsWhole, cell_at, verdict_at, row_at, who_in, may_in, users_granted, files_granted};
     ghost use Rattle.acl_rights.specs.Stages.{CanStage, most_asked, most_looked, moves_looked, moves_groups};
-    ghost use Rattle.acl_rights.specs.Reach.{most_refreshed, unlike, rows_along, reached_rows, reached_at, reach_at, users_reaching, files_reached};
+    ghost use Rattle.acl_rights.specs.Reach.{verdicts_refreshed, unlike, rows_along, reached_rows, reached_at, reach_at, users_reaching, files_reached};
 
     /// The table of a state: a verdict is asked for on every user and every file. Fails only if memory runs out.
     pub fn build(
@@ -120,12 +118,12 @@ impl<J: Judge> Index<J> {
         ensures asked { OnOk result (J.asked_of judge.new ≡ J.asked_of judge.old + length tree.now.files * length people.now.users) }
         ensures at_most { J.asked_of judge.new ≤ J.asked_of judge.old + length tree.now.files * length people.now.users }
     {
-        tree.is_sound();
+        tree.soundness_law();
         let lists = GroupLists::of_tree(alloc, tree)?;
         let shared = tree.share()?;
         let files = records(alloc, tree)?;
         let rows = LabelRows::of_files(alloc, judge, &files, people.all_subjects())?;
-        let table = Table {
+        let table = VerdictTable {
             users: people.users(),
             tree: shared,
             grants: Grants::of(alloc, rows, files.len())?,
@@ -148,12 +146,12 @@ impl<J: Judge> Index<J> {
         ensures looked { IfOk result (λ rows. rows.looked ≡ moves_looked staged.now.user_change staged.now.state.tree.files) }
         ensures looked_most { IfOk result (λ rows. rows.looked ≤ most_looked staged.now.user_change staged.now.state.tree.files) }
         ensures looked_least { IfOk result (λ rows. moves_groups staged.now.user_change ≡ true → J.asked_of judge.new ≤ J.asked_of judge.old + rows.looked) }
-        ensures refreshed { IfOk result (λ rows. rows.refreshed ≡ most_refreshed staged.now) }
+        ensures refreshed { IfOk result (λ rows. rows.refreshed ≡ verdicts_refreshed staged.now) }
         ensures refreshed_least { IfOk result (λ rows. unlike staged.now.user_change self.now.rows rows.table.rows ≤ rows.refreshed) }
     {
-        staged.tree().is_sound();
+        staged.tree().soundness_law();
         let now = &self.table;
-        now.grants.rows.numbers.is_in_order();
+        now.grants.rows.numbers.order_law();
         let lists = now.lists.staged(
             alloc,
             &now.tree,
@@ -168,7 +166,7 @@ impl<J: Judge> Index<J> {
             looked,
             refreshed,
         } = new;
-        let table = Table {
+        let table = VerdictTable {
             users: staged.people().users(),
             tree,
             grants,
@@ -203,6 +201,7 @@ impl<J: Judge> Index<J> {
         *self = Index::of(staged);
     }
 
+    /// The verdict on a user and a file.
     fn cell(&self, user: usize, path: &Path) -> Option<Requests>
         ensures { result ≡ cell_at self.now user path.now }
     {
@@ -221,6 +220,7 @@ impl<J: Judge> Index<J> {
         self.cell(user, path)
     }
 
+    /// The users who are granted a request on a file.
     fn users(
         &self,
         alloc: Global,
@@ -245,18 +245,21 @@ impl<J: Judge> Index<J> {
         request: Perm,
     ) -> Result<Option<Vec<usize>>, NoMemory>
         ensures reported { IfOk result (λ found. option_map (λ users. users.items) found ≡ option_map (who_in request) (find path_cmp path.now self.now.rows)) }
-        ensures whole { IfOk result (λ found. (s : step.State) → IsWhole J.verdict_of s self.now → option_map (λ users. users.items) found ≡ users_granted J.verdict_of s path.now request) }
+        ensures whole { IfOk result (λ found. (s : step.State) → IsWhole J.verdict_of s self.now
+            → option_map (λ users. users.items) found ≡ users_granted J.verdict_of s path.now request) }
     {
         self.users(alloc, path, request)
     }
 
+    /// The files on which a user is granted a request.
     fn paths(
         &self,
         alloc: Global,
         user: usize,
         request: Perm,
     ) -> Result<Option<Vec<Rc<Path>>>, NoMemory>
-        ensures { IfOk result (λ found. option_map (λ paths. map (λ p. p.value) paths.items) found ≡ (if nat_lt user self.now.users then Some (may_in request user self.now.rows) else None)) }
+        ensures { IfOk result (λ found. option_map (λ paths. map (λ p. p.value) paths.items) found
+            ≡ (if nat_lt user self.now.users then Some (may_in request user self.now.rows) else None)) }
     {
         if user >= self.table.users {
             return Ok(None);
@@ -274,12 +277,15 @@ impl<J: Judge> Index<J> {
         user: usize,
         request: Perm,
     ) -> Result<Option<Vec<Rc<Path>>>, NoMemory>
-        ensures reported { IfOk result (λ found. option_map (λ paths. map (λ p. p.value) paths.items) found ≡ (if nat_lt user self.now.users then Some (may_in request user self.now.rows) else None)) }
-        ensures whole { IfOk result (λ found. (s : step.State) → IsWhole J.verdict_of s self.now → option_map (λ paths. map (λ p. p.value) paths.items) found ≡ files_granted J.verdict_of s user request) }
+        ensures reported { IfOk result (λ found. option_map (λ paths. map (λ p. p.value) paths.items) found
+            ≡ (if nat_lt user self.now.users then Some (may_in request user self.now.rows) else None)) }
+        ensures whole { IfOk result (λ found. (s : step.State) → IsWhole J.verdict_of s self.now
+            → option_map (λ paths. map (λ p. p.value) paths.items) found ≡ files_granted J.verdict_of s user request) }
     {
         self.paths(alloc, user, request)
     }
 
+    /// The verdict on a user and a file, with search along its path.
     fn reach_cell(&self, user: usize, path: &Path) -> Option<Requests>
         ensures { result ≡ reached_at self.now.rows user path.now }
     {
@@ -299,13 +305,15 @@ impl<J: Judge> Index<J> {
         self.reach_cell(user, path)
     }
 
+    /// The users who are granted a request on a file, with search along its path.
     fn reaching(
         &self,
         alloc: Global,
         path: &Path,
         request: Perm,
     ) -> Result<Option<Vec<usize>>, NoMemory>
-        ensures { IfOk result (λ found. option_map (λ users. users.items) found ≡ option_map (who_in request) (find path_cmp path.now (reached_rows self.now.rows))) }
+        ensures { IfOk result (λ found. option_map (λ users. users.items) found
+            ≡ option_map (who_in request) (find path_cmp path.now (reached_rows self.now.rows))) }
     {
         let now = &self.table;
         let Some(cells) = now.grants.reach(path) else {
@@ -323,19 +331,23 @@ impl<J: Judge> Index<J> {
         path: &Path,
         request: Perm,
     ) -> Result<Option<Vec<usize>>, NoMemory>
-        ensures reported { IfOk result (λ found. option_map (λ users. users.items) found ≡ option_map (who_in request) (find path_cmp path.now (reached_rows self.now.rows))) }
-        ensures whole { IfOk result (λ found. (s : step.State) → IsWhole J.verdict_of s self.now → option_map (λ users. users.items) found ≡ users_reaching J.verdict_of s path.now request) }
+        ensures reported { IfOk result (λ found. option_map (λ users. users.items) found
+            ≡ option_map (who_in request) (find path_cmp path.now (reached_rows self.now.rows))) }
+        ensures whole { IfOk result (λ found. (s : step.State) → IsWhole J.verdict_of s self.now
+            → option_map (λ users. users.items) found ≡ users_reaching J.verdict_of s path.now request) }
     {
         self.reaching(alloc, path, request)
     }
 
+    /// The files on which a user is granted a request, with search along their paths.
     fn reached_paths(
         &self,
         alloc: Global,
         user: usize,
         request: Perm,
     ) -> Result<Option<Vec<Rc<Path>>>, NoMemory>
-        ensures { IfOk result (λ found. option_map (λ paths. map (λ p. p.value) paths.items) found ≡ (if nat_lt user self.now.users then Some (may_in request user (reached_rows self.now.rows)) else None)) }
+        ensures { IfOk result (λ found. option_map (λ paths. map (λ p. p.value) paths.items) found
+            ≡ (if nat_lt user self.now.users then Some (may_in request user (reached_rows self.now.rows)) else None)) }
     {
         let now = &self.table;
         if user >= now.users {
@@ -354,12 +366,15 @@ impl<J: Judge> Index<J> {
         user: usize,
         request: Perm,
     ) -> Result<Option<Vec<Rc<Path>>>, NoMemory>
-        ensures reported { IfOk result (λ found. option_map (λ paths. map (λ p. p.value) paths.items) found ≡ (if nat_lt user self.now.users then Some (may_in request user (reached_rows self.now.rows)) else None)) }
-        ensures whole { IfOk result (λ found. (s : step.State) → IsWhole J.verdict_of s self.now → option_map (λ paths. map (λ p. p.value) paths.items) found ≡ files_reached J.verdict_of s user request) }
+        ensures reported { IfOk result (λ found. option_map (λ paths. map (λ p. p.value) paths.items) found
+            ≡ (if nat_lt user self.now.users then Some (may_in request user (reached_rows self.now.rows)) else None)) }
+        ensures whole { IfOk result (λ found. (s : step.State) → IsWhole J.verdict_of s self.now
+            → option_map (λ paths. map (λ p. p.value) paths.items) found ≡ files_reached J.verdict_of s user request) }
     {
         self.reached_paths(alloc, user, request)
     }
 
+    /// The verdicts on all users and a file.
     fn cells(&self, path: &Path) -> Option<&[Requests]>
         ensures { option_copied result ≡ find path_cmp path.now self.now.rows }
     {
@@ -378,6 +393,7 @@ impl<J: Judge> Index<J> {
         self.cells(path)
     }
 
+    /// Each file with its row.
     fn rows_alone(&self) -> FileRows<'_>
         ensures { result ≡ self.now.rows }
     {
@@ -388,6 +404,7 @@ impl<J: Judge> Index<J> {
         }
     }
 
+    /// Each file with what of its row is left with search along its path.
     fn rows_reached(&self) -> FileRows<'_>
         ensures { result ≡ reached_rows self.now.rows }
     {

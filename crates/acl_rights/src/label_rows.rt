@@ -5,21 +5,22 @@ ghost use Rattle.std.specs.List.{AllByRecursion, sum_by};
 ghost use Rattle.std.specs.Option.{option_copied};
 ghost use Rattle.std.specs.FinMap.{find};
 ghost use Rattle.path_map.specs.Entries.{IsInOrder};
+ghost use Rattle.path_map.specs.Merged.{merged};
 ghost use Rattle.acl_tree.specs.acl_names.Paths.{path_cmp};
 ghost use Rattle.acl_verdicts.specs.Ways.{rows_in};
 ghost use Rattle.acl_rights.specs.Tables.{rows_of};
-ghost use Rattle.acl_rights.specs.Labels.{AreLabelled, IsUsed, row_of, row_at_path, rows_by, longer_row, row_again, shorter_row, mark_at, AreLonger, AreShorter, AreAgain, AreChangedRows, AreAsBefore};
+ghost use Rattle.acl_rights.specs.Labels.{labels_in, AreLabelled, IsUsed, row_of, row_at_path, rows_by, longer_row, updated_row, shorter_row, mark_at, AreLonger, AreShorter, AreAgain, AreChangedRows, AreAsBefore};
 
-use crate::labels::{Labelled, Labels, NumberedFiles, numbered};
+use crate::labels::{Labelled, Labels, NumberedFiles, numbered, numbered_anew};
 use acl_tree::{Path, Record, Subject};
 use acl_verdicts::{Cells, Judge, Numbered, Subjects, judged, judged_at, judged_last, without};
-use path_map::{Entry, PathMap};
+use path_map::{MapEntry, PathMap};
 use std::alloc::{AllocError, Global};
 use std::rc::Rc;
 
 /// For each file the number of its label, and for each label its row of verdicts.
 #[derive(Drop)]
-pub struct LabelRows {
+pub(crate) struct LabelRows {
     pub numbers: PathMap<usize>,
     pub labels: Labels,
     pub cells: Numbered<Cells>,
@@ -27,14 +28,14 @@ pub struct LabelRows {
 
 /// Rows after some files changed, and the numbers that these files have.
 #[derive(Drop)]
-pub struct ChangedRows {
+pub(crate) struct ChangedRows {
     pub rows: LabelRows,
-    pub puts: Vec<Rc<Entry<usize>>>,
+    pub puts: Vec<Rc<MapEntry<usize>>>,
 }
 
 /// Rows of which some were asked for again, and marks at those.
 #[derive(Drop)]
-pub struct AgainRows {
+pub(crate) struct UpdatedRows {
     pub rows: LabelRows,
     pub marks: Vec<bool>,
 }
@@ -68,6 +69,21 @@ fn ones(alloc: Global, labels: usize) -> Result<Vec<u64>, AllocError>
     ensures { IfOk result (λ ones. ones.items ≡ replicate labels 1) }
 {
     vec![in alloc; 1; labels]
+}
+
+/// The rows of labels, each asked for once.
+fn judged_once<J: Judge>(
+    alloc: Global,
+    judge: &mut J,
+    users: &Subjects,
+    labels: &[Labelled],
+) -> Result<Vec<Cells>, AllocError>
+    requires { J.asked_of judge.old + length labels.now * length users.now < 2 ^ 64 }
+    ensures rows { IfOk result (λ rows. rows.items ≡ map (λ f. row_of J.verdict_of users.now f.1.label) labels.now) }
+    ensures at_most { J.asked_of judge.new ≤ J.asked_of judge.old + length labels.now * length users.now }
+{
+    let ones = ones(alloc, labels.len())?;
+    judged_labels(alloc, judge, users, labels, &ones)
 }
 
 /// Marks a number, if it is one of those that can be marked.
@@ -116,7 +132,8 @@ fn in_use_at(
     count: usize,
 ) -> Result<Vec<bool>, AllocError>
     ensures long { IfOk result (λ marks. length marks.items ≡ count) }
-    ensures used { IfOk result (λ marks. AllByRecursion (λ p. (n : ℕ) → find path_cmp p.value numbers.now ≡ Some n → n < count → get_or marks.items n false ≡ true) paths.now) }
+    ensures used { IfOk result (λ marks. AllByRecursion (λ p. (n : ℕ) → find path_cmp p.value numbers.now ≡ Some n → n < count
+        → get_or marks.items n false ≡ true) paths.now) }
     ensures few { IfOk result (λ marks. count_by (λ m. m) marks.items ≤ length paths.now) }
 {
     let mut marks = vec![in alloc; false; count]?;
@@ -181,14 +198,32 @@ impl LabelRows {
         ensures asked { OnOk result (J.asked_of judge.new ≡ J.asked_of judge.old + length files.now * length users.now) }
         ensures at_most { J.asked_of judge.new ≤ J.asked_of judge.old + length files.now * length users.now }
     {
-        let none = LabelRows::none(alloc);
-        let new = numbered(alloc, &none.labels, &none.numbers, files)?;
-        let NumberedFiles { labels, entries } = new;
+        let new = numbered_anew(alloc, files)?;
+        let labels = &new.labels;
         let rows = judged_labels(alloc, judge, users, labels.more(), labels.counts())?;
+        let all = LabelRows::of_numbered(alloc, new, rows)?;
+        Ok(all)
+    }
+
+    /// The rows of files by the numbers of their labels, and of these labels: there are no others.
+    fn of_numbered(
+        alloc: Global,
+        new: NumberedFiles,
+        rows: Vec<Cells>,
+    ) -> Result<LabelRows, AllocError>
+        requires { IsInOrder (map (λ e. e.value) new.entries.items) }
+        ensures numbers { IfOk result (λ all. all.numbers ≡ map (λ e. e.value) new.entries.items) }
+        ensures labels { IfOk result (λ all. all.labels ≡ labels_in new.labels) }
+        ensures cells { IfOk result (λ all. all.cells ≡ rows.items) }
+    {
+        let NumberedFiles { labels, entries } = new;
+        let labels = labels.all(alloc)?;
+        let numbers = PathMap::from_sorted(alloc, &entries)?;
+        let cells = Numbered::new(alloc).pushed(alloc, rows)?;
         Ok(LabelRows {
-            numbers: PathMap::from_sorted(alloc, &entries)?,
-            labels: labels.all(alloc)?,
-            cells: none.cells.pushed(alloc, rows)?,
+            numbers,
+            labels,
+            cells,
         })
     }
 
@@ -221,15 +256,10 @@ impl LabelRows {
         ensures labelled { IfOk result (λ new. AreLabelled (map (λ f. f.value) files.now) new) }
         ensures rows { IfOk result (λ new. AreAsBefore (map (λ f. f.value) files.now) self.now new) }
     {
-        let none = LabelRows::none(alloc);
-        let new = numbered(alloc, &none.labels, &none.numbers, files)?;
-        let NumberedFiles { labels, entries } = new;
-        let rows = self.rows_of_labels(alloc, labels.more())?;
-        Ok(LabelRows {
-            numbers: PathMap::from_sorted(alloc, &entries)?,
-            labels: labels.all(alloc)?,
-            cells: none.cells.pushed(alloc, rows)?,
-        })
+        let new = numbered_anew(alloc, files)?;
+        let rows = self.rows_of_labels(alloc, new.labels.more())?;
+        let all = LabelRows::of_numbered(alloc, new, rows)?;
+        Ok(all)
     }
 
     /// A file's row, if it is there. Allocates nothing.
@@ -255,20 +285,43 @@ impl LabelRows {
         requires room { J.asked_of judge.old + length changed.now * length users.now < 2 ^ 64 }
         requires changed { IsInOrder (map (λ f. f.value) changed.now) }
         requires gone { IsInOrder (map (λ f. f.value) gone.now) }
-        ensures rows { IfOk result (λ new. AreChangedRows J.verdict_of users.now (map (λ f. f.value) changed.now) (map (λ f. f.value) gone.now) self.now new.rows (map (λ e. e.value) new.puts.items)) }
+        ensures rows { IfOk result (λ new. AreChangedRows J.verdict_of users.now (map (λ f. f.value) changed.now)
+            (map (λ f. f.value) gone.now) self.now new.rows (map (λ e. e.value) new.puts.items)) }
         ensures at_most { J.asked_of judge.new ≤ J.asked_of judge.old + length changed.now * length users.now }
     {
         let new = numbered(alloc, &self.labels, &self.numbers, changed)?;
+        let rows = judged_once(alloc, judge, users, new.labels.more())?;
+        let all = self.with_numbered(alloc, new, rows, gone)?;
+        Ok(all)
+    }
+
+    /// These rows, and those of labels that were added after them, where files are put by the numbers of their labels and
+    /// others are gone.
+    fn with_numbered(
+        &self,
+        alloc: Global,
+        new: NumberedFiles,
+        rows: Vec<Cells>,
+        gone: &[Rc<Record>],
+    ) -> Result<ChangedRows, AllocError>
+        requires puts { IsInOrder (map (λ e. e.value) new.entries.items) }
+        requires gone { IsInOrder (map (λ f. f.value) gone.now) }
+        ensures puts { IfOk result (λ all. all.puts.items ≡ new.entries.items) }
+        ensures numbers { IfOk result (λ all. all.rows.numbers ≡ merged (map (λ e. e.value) new.entries.items) (map (λ f. f.value) gone.now) self.now.numbers) }
+        ensures labels { IfOk result (λ all. all.rows.labels ≡ labels_in new.labels) }
+        ensures cells { IfOk result (λ all. all.rows.cells ≡ self.now.cells ++ rows.items) }
+    {
         let NumberedFiles {
             labels,
             entries: puts,
         } = new;
-        let ones = ones(alloc, labels.more().len())?;
-        let rows = judged_labels(alloc, judge, users, labels.more(), &ones)?;
+        let labels = labels.all(alloc)?;
+        let numbers = self.numbers.merged(alloc, &puts, gone)?;
+        let cells = self.cells.pushed(alloc, rows)?;
         let rows = LabelRows {
-            numbers: self.numbers.merged(alloc, &puts, gone)?,
-            labels: labels.all(alloc)?,
-            cells: self.cells.pushed(alloc, rows)?,
+            numbers,
+            labels,
+            cells,
         };
         Ok(ChangedRows { rows, puts })
     }
@@ -371,7 +424,7 @@ impl LabelRows {
     }
 
     /// A row with a user's verdict asked for again, if its number is marked and it has so many.
-    fn row_again<J: Judge>(
+    fn updated_row<J: Judge>(
         &self,
         alloc: Global,
         judge: &mut J,
@@ -382,7 +435,7 @@ impl LabelRows {
         user: &Subject,
     ) -> Result<Cells, AllocError>
         requires { J.asked_of judge.old + mark_at marks.now number < 2 ^ 64 }
-        ensures row { IfOk result (λ new. new ≡ row_again J.verdict_of at user.now self.now.labels marks.now number cells.now) }
+        ensures row { IfOk result (λ new. new ≡ updated_row J.verdict_of at user.now self.now.labels marks.now number cells.now) }
         ensures at_most { J.asked_of judge.new ≤ J.asked_of judge.old + mark_at marks.now number }
     {
         if !is_marked(marks, number) {
@@ -398,7 +451,7 @@ impl LabelRows {
     }
 
     /// The rows, those that are marked with a user's verdict asked for again.
-    fn rows_again<J: Judge>(
+    fn updated_rows<J: Judge>(
         &self,
         alloc: Global,
         judge: &mut J,
@@ -407,7 +460,7 @@ impl LabelRows {
         user: &Subject,
     ) -> Result<Vec<Cells>, AllocError>
         requires { J.asked_of judge.old + count_by (λ m. m) marks.now < 2 ^ 64 }
-        ensures rows { IfOk result (λ rows. rows.items ≡ rows_by (row_again J.verdict_of at user.now self.now.labels marks.now) 0 self.now.cells) }
+        ensures rows { IfOk result (λ rows. rows.items ≡ rows_by (updated_row J.verdict_of at user.now self.now.labels marks.now) 0 self.now.cells) }
         ensures at_most { J.asked_of judge.new ≤ J.asked_of judge.old + count_by (λ m. m) marks.now }
     {
         let mut rows: Vec<Cells> = Vec::with_capacity(alloc, self.cells.len())?;
@@ -415,7 +468,7 @@ impl LabelRows {
             let Some(cells) = self.cells.get(number) else {
                 unreachable!();
             };
-            let row = self.row_again(alloc, judge, marks, number, cells, at, user)?;
+            let row = self.updated_row(alloc, judge, marks, number, cells, at, user)?;
             rows.push(row)?;
         }
         Ok(rows)
@@ -423,22 +476,22 @@ impl LabelRows {
 
     /// The rows with a user's verdict asked for again where the files at some paths have their numbers, and marks at these.
     /// Fails only if memory runs out.
-    pub fn with_user_again<J: Judge>(
+    pub fn with_user_updated<J: Judge>(
         &self,
         alloc: Global,
         judge: &mut J,
         paths: &[Rc<Path>],
         at: usize,
         user: &Subject,
-    ) -> Result<AgainRows, AllocError>
+    ) -> Result<UpdatedRows, AllocError>
         requires { J.asked_of judge.old + length paths.now < 2 ^ 64 }
         ensures rows { IfOk result (λ new. AreAgain J.verdict_of at user.now (map (λ p. p.value) paths.now) self.now new.rows) }
         ensures same { IfOk result (λ new. (n : ℕ) → get_or new.marks.items n false ≡ false → get_or self.now.cells n [] ≡ get_or new.rows.cells n []) }
         ensures at_most { J.asked_of judge.new ≤ J.asked_of judge.old + length paths.now }
     {
         let marks = in_use_at(alloc, &self.numbers, paths, self.cells.len())?;
-        let rows = self.rows_again(alloc, judge, &marks, at, user)?;
+        let rows = self.updated_rows(alloc, judge, &marks, at, user)?;
         let rows = self.with_cells(alloc, rows)?;
-        Ok(AgainRows { rows, marks })
+        Ok(UpdatedRows { rows, marks })
     }
 }

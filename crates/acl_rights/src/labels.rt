@@ -1,13 +1,16 @@
 //! The labels of files by numbers, so that files of one label share its row of verdicts.
 
-ghost use Rattle.std.specs.Prelude.{◌≡◌, ◌<◌, ◌+◌, ◌++◌, true, [], ℕ, map, length, slice_get, option_map, Some, IfOk, IfSome, OnOk};
+ghost use Rattle.std.specs.Prelude.{◌≡◌, ◌<◌, ◌+◌, ◌++◌, ◌∷◌, true, [], ℕ, List, map, length, slice_get, option_map, Some, IfOk, IfSome, OnOk};
 ghost use Rattle.std.specs.FinMap.{find};
 ghost use Rattle.acl_tree.specs.acl_names.Paths.{path_cmp};
+ghost use Rattle.acl_tree.specs.acl_entry.declared.label.Label.{Label};
+ghost use Rattle.acl_tree.specs.Files.{Files};
+ghost use Rattle.acl_verdicts.specs.Ways.{Numbers};
 ghost use Rattle.acl_rights.specs.Labels.{labels_in, added_in, IsUsed, IsNumbered, AreNumbered, AreCounted};
 
 use acl_tree::{Entry as ListEntry, Key, Label, Record};
 use acl_verdicts::{Hints, Numbered, mixed};
-use path_map::{Entry, PathMap};
+use path_map::{MapEntry, PathMap};
 use std::alloc::{AllocError, Global};
 use std::collections::BTreeMap;
 use std::marker::Model;
@@ -39,7 +42,7 @@ fn mark_of(label: &Label) -> u64 {
 
 /// A file that has a label, or had it.
 #[derive(Drop)]
-pub struct Labelled {
+pub(crate) struct Labelled {
     file: Rc<Record>,
 }
 
@@ -91,7 +94,7 @@ impl Labelled {
 
 /// Labels by their numbers: for each a file that has it or had it.
 #[derive(Drop)]
-pub struct Labels {
+pub(crate) struct Labels {
     files: Numbered<Labelled>,
     hints: Hints,
 }
@@ -163,7 +166,7 @@ impl Labels {
 /// Labels to which those of more files are added. A number is given again only while a file has it, since the rows of
 /// numbers that no file has are not kept up.
 #[derive(Drop)]
-pub struct MoreLabels {
+pub(crate) struct MoreLabels {
     first: Labels,
     numbers: PathMap<usize>,
     more: Vec<Labelled>,
@@ -313,22 +316,38 @@ impl MoreLabels {
 }
 
 /// The entry of a file with its number.
-fn entry_of(alloc: Global, file: &Record, number: usize) -> Result<Rc<Entry<usize>>, AllocError>
+fn entry_of(alloc: Global, file: &Record, number: usize) -> Result<Rc<MapEntry<usize>>, AllocError>
     ensures { IfOk result (λ entry. entry.value ≡ (file.now.0, number)) }
 {
-    Ok(Rc::new(alloc, Entry::new(file.shared_path().clone()?, number))?)
+    Ok(Rc::new(alloc, MapEntry::new(file.shared_path().clone()?, number))?)
+}
+
+/// Adds the entry of one more file, and its label unless that is met. Fails only if memory, or the numbers, run out.
+fn push_numbered(
+    alloc: Global,
+    labels: &mut MoreLabels,
+    entries: &mut Vec<Rc<MapEntry<usize>>>,
+    file: &Rc<Record>,
+) -> Result<(), AllocError>
+    ensures { OnOk result ((old : List Label) (given : Numbers) (files : Files)
+        → AreNumbered old given files labels.old (map (λ e. e.value) entries.old.items)
+        → AreNumbered old given (files ++ file.now.value ∷ []) labels.new (map (λ e. e.value) entries.new.items)) }
+{
+    let number = labels.number(file)?;
+    entries.push(entry_of(alloc, file, number)?)?;
+    Ok(())
 }
 
 /// Files with the numbers of their labels, and the labels that were added for them.
 #[derive(Drop)]
-pub struct NumberedFiles {
+pub(crate) struct NumberedFiles {
     pub labels: MoreLabels,
-    pub entries: Vec<Rc<Entry<usize>>>,
+    pub entries: Vec<Rc<MapEntry<usize>>>,
 }
 
 /// The numbers of the labels of some files, where there are labels with numbers that files have. Fails only if memory, or
 /// the numbers, run out.
-pub fn numbered(
+pub(crate) fn numbered(
     alloc: Global,
     old: &Labels,
     numbers: &PathMap<usize>,
@@ -339,8 +358,19 @@ pub fn numbered(
     let mut labels = MoreLabels::of(alloc, old, numbers)?;
     let mut entries = Vec::with_capacity(alloc, files.len())?;
     for file in files {
-        let number = labels.number(file)?;
-        entries.push(entry_of(alloc, file, number)?)?;
+        push_numbered(alloc, &mut labels, &mut entries, file)?;
     }
     Ok(NumberedFiles { labels, entries })
+}
+
+/// The numbers of the labels of some files, where there are no labels yet.
+pub(crate) fn numbered_anew(
+    alloc: Global,
+    files: &[Rc<Record>],
+) -> Result<NumberedFiles, AllocError>
+    ensures { IfOk result (λ new. AreNumbered [] [] (map (λ f. f.value) files.now) new.labels (map (λ e. e.value) new.entries.items)) }
+{
+    let (labels, numbers) = (Labels::new(alloc), PathMap::new(alloc));
+    let new = numbered(alloc, &labels, &numbers, files)?;
+    Ok(new)
 }

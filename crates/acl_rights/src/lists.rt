@@ -1,23 +1,25 @@
-//! By groups the paths of the files that mention them.
+//! By groups the paths of the files that mention them: of all files, and of some in one pass over these.
 
-ghost use Rattle.std.specs.Prelude.{◌≡◌, ◌==◌, [], if◌then◌else◌, ℕ, map, IfOk, OnOk};
+ghost use Rattle.std.specs.Prelude.{◌≡◌, ◌==◌, [], if◌then◌else◌, ℕ, map, IfOk, OnOk, ◌++◌, ◌∷◌, false, filter};
 ghost use Rattle.std.specs.Option.{option_map_or};
 ghost use Rattle.path_map.specs.Entries.{IsInOrder};
 ghost use Rattle.path_map.specs.Merged.{merged, without_all};
 ghost use Rattle.acl_tree.specs.Changed.{changed_between, gone_between};
-ghost use Rattle.acl_rights.specs.Groups.{AreLists, list_at};
-ghost use Rattle.acl_rights.specs.Inner.{AreInOrder, kept_at, list_with};
+ghost use Rattle.acl_rights.specs.Groups.{AreLists, list_at, mentions_group, set_of, mentioning};
+ghost use Rattle.acl_rights.specs.Inner.{AreInOrder, kept_at, list_with, noted_at, mentioned_group, regrouped, AreNone};
+ghost use Rattle.acl_tree.specs.acl_entry.Mentions.{mentions, is_one_of};
+ghost use Rattle.std.specs.BTreeMap.{keys};
 
-use crate::noted::{Noted, noted_for};
-use acl_tree::{Id, Record, Tree};
-use path_map::{Entry, PathMap};
+use crate::mentioned::regrouped;
+use acl_tree::{Id, Label, Path, Record, Tree, rising_ids};
+use path_map::{MapEntry, PathMap};
 use std::alloc::{AllocError, Global};
 use std::collections::BTreeMap;
 use std::rc::Rc;
 
 /// By groups the paths of the files that mention them. Lists that a line leaves as they are, are shared.
 #[derive(Drop)]
-pub struct GroupLists {
+pub(crate) struct GroupLists {
     lists: Rc<BTreeMap<Id, Rc<PathMap<()>>>>,
 }
 
@@ -26,14 +28,15 @@ pub struct GroupLists {
 fn list_after(
     alloc: Global,
     list: &PathMap<()>,
-    puts: &[Rc<Entry<()>>],
-    before: &[Rc<Entry<()>>],
-    gone: &[Rc<Entry<()>>],
+    puts: &[Rc<MapEntry<()>>],
+    before: &[Rc<MapEntry<()>>],
+    gone: &[Rc<MapEntry<()>>],
 ) -> Result<PathMap<()>, AllocError>
     requires puts { IsInOrder (map (λ e. e.value) puts.now) }
     requires before { IsInOrder (map (λ e. e.value) before.now) }
     requires gone { IsInOrder (map (λ e. e.value) gone.now) }
-    ensures { IfOk result (λ new. new ≡ without_all (map (λ e. e.value) gone.now) (merged (map (λ e. e.value) puts.now) (map (λ e. e.value) before.now) list.now)) }
+    ensures { IfOk result (λ new. new ≡ without_all (map (λ e. e.value) gone.now) (merged (map (λ e. e.value) puts.now)
+        (map (λ e. e.value) before.now) list.now)) }
 {
     let first = list.merged(alloc, puts, before)?;
     let new = first.without_all(alloc, gone)?;
@@ -97,7 +100,12 @@ impl GroupLists {
     }
 
     /// A group's list with the noted paths put and removed.
-    fn list_with(&self, alloc: Global, group: Id, noted: &Noted) -> Result<PathMap<()>, AllocError>
+    fn list_with(
+        &self,
+        alloc: Global,
+        group: Id,
+        noted: &ListChanges,
+    ) -> Result<PathMap<()>, AllocError>
         requires { AreInOrder noted.now group }
         ensures { IfOk result (λ new. new ≡ list_with noted.now group (list_at self.now group)) }
     {
@@ -111,7 +119,7 @@ impl GroupLists {
     }
 
     /// The lists with the noted paths put and removed. Those of other groups are shared.
-    fn with_noted(&self, alloc: Global, noted: &Noted) -> Result<GroupLists, AllocError>
+    fn with_noted(&self, alloc: Global, noted: &ListChanges) -> Result<GroupLists, AllocError>
         requires { (g : ℕ) → AreInOrder noted.now g }
         ensures { IfOk result (λ lists. (g : ℕ) → list_at lists g ≡ list_with noted.now g (list_at self.now g)) }
     {
@@ -167,10 +175,174 @@ impl GroupLists {
         requires gone { map (λ r. r.value) gone.now ≡ gone_between old.now.files new.now.files }
         ensures { IfOk result (λ lists. AreLists new.now.files lists) }
     {
-        old.is_sound();
-        new.is_sound();
-        let noted = Noted::of(alloc, old, changed, gone)?;
+        old.soundness_law();
+        new.soundness_law();
+        let noted = ListChanges::of(alloc, old, changed, gone)?;
         let lists = self.with_noted(alloc, &noted)?;
         Ok(lists)
+    }
+}
+
+/// Notes a path for a group.
+fn note(
+    alloc: Global,
+    noted: &mut BTreeMap<Id, Vec<Rc<MapEntry<()>>>>,
+    group: Id,
+    entry: Rc<MapEntry<()>>,
+) -> Result<(), AllocError>
+    ensures { OnOk result ((g : ℕ) → noted_at noted.new g ≡ (if group == g then noted_at noted.old g ++ entry.value ∷ [] else noted_at noted.old g)) }
+{
+    let mut entries = match noted.remove(&group) {
+        Some(entries) => entries,
+        None => Vec::new(alloc),
+    };
+    entries.push(entry)?;
+    noted.insert(group, entries)?;
+    Ok(())
+}
+
+/// Notes a path for each group that a label mentions.
+fn note_label(
+    alloc: Global,
+    noted: &mut BTreeMap<Id, Vec<Rc<MapEntry<()>>>>,
+    path: &Rc<Path>,
+    label: &Label,
+) -> Result<(), AllocError>
+    ensures { OnOk result ((g : ℕ) → noted_at noted.new g ≡ noted_at noted.old g
+        ++ (if is_one_of g (mentions label.now) then (path.now.value, tt) ∷ [] else [])) }
+{
+    let entry = Rc::new(alloc, MapEntry::new(path.clone()?, ()))?;
+    let groups = rising_ids(label.mentions(alloc)?)?;
+    for group in &groups {
+        note(alloc, noted, *group, entry.clone()?)?;
+    }
+    Ok(())
+}
+
+/// Notes a file's path for each group that its label mentions.
+fn note_file(
+    alloc: Global,
+    noted: &mut BTreeMap<Id, Vec<Rc<MapEntry<()>>>>,
+    file: &Record,
+) -> Result<(), AllocError>
+    ensures { OnOk result ((g : ℕ) → noted_at noted.new g ≡ noted_at noted.old g ++ (if mentions_group g file.now then (file.now.0, tt) ∷ [] else [])) }
+{
+    note_label(alloc, noted, file.shared_path(), &file.value().label)
+}
+
+/// By groups the paths of the files that mention them.
+pub(crate) fn noted_of(
+    alloc: Global,
+    files: &[Rc<Record>],
+) -> Result<BTreeMap<Id, Vec<Rc<MapEntry<()>>>>, AllocError>
+    ensures { IfOk result (λ noted. (g : ℕ) → noted_at noted g ≡ set_of (mentioning g (map (λ r. r.value) files.now))) }
+{
+    let mut noted = BTreeMap::new(alloc);
+    for file in files {
+        note_file(alloc, &mut noted, file)?;
+    }
+    Ok(noted)
+}
+
+/// Notes a file's path for each group that its label mentioned before.
+fn note_before(
+    alloc: Global,
+    noted: &mut BTreeMap<Id, Vec<Rc<MapEntry<()>>>>,
+    old: &Tree,
+    file: &Record,
+) -> Result<(), AllocError>
+    ensures { OnOk result ((g : ℕ) → noted_at noted.new g ≡ noted_at noted.old g
+        ++ (if mentioned_group old.now.files g file.now then (file.now.0, tt) ∷ [] else [])) }
+{
+    if let Some(node) = old.get(file.path()) {
+        note_label(alloc, noted, file.shared_path(), &node.label)?;
+    }
+    Ok(())
+}
+
+/// By groups the paths of the files whose labels mentioned them before.
+pub(crate) fn noted_before(
+    alloc: Global,
+    old: &Tree,
+    files: &[Rc<Record>],
+) -> Result<BTreeMap<Id, Vec<Rc<MapEntry<()>>>>, AllocError>
+    ensures { IfOk result (λ noted. (g : ℕ) → noted_at noted g ≡ set_of (filter (mentioned_group old.now.files g) (map (λ r. r.value) files.now))) }
+{
+    let mut noted = BTreeMap::new(alloc);
+    for file in files {
+        note_before(alloc, &mut noted, old, file)?;
+    }
+    Ok(noted)
+}
+
+/// The paths that were noted for a group.
+pub(crate) fn noted_for(
+    noted: &BTreeMap<Id, Vec<Rc<MapEntry<()>>>>,
+    group: Id,
+) -> &[Rc<MapEntry<()>>]
+    ensures { map (λ e. e.value) result.now ≡ noted_at noted.now group }
+{
+    match noted.get(&group) {
+        Some(entries) => entries.as_slice(),
+        None => &[],
+    }
+}
+
+/// By groups the paths that a line puts into their lists and removes from them.
+#[derive(Drop)]
+pub(crate) struct ListChanges {
+    /// Of the files that are new, or mention other groups than before, those that mention the group.
+    pub puts: BTreeMap<Id, Vec<Rc<MapEntry<()>>>>,
+    /// Of the same files, those that mentioned the group before.
+    pub before: BTreeMap<Id, Vec<Rc<MapEntry<()>>>>,
+    /// The files that are gone and mentioned the group.
+    pub gone: BTreeMap<Id, Vec<Rc<MapEntry<()>>>>,
+}
+
+/// Adds the groups for which paths are noted.
+fn add_groups(
+    groups: &mut Vec<Id>,
+    noted: &BTreeMap<Id, Vec<Rc<MapEntry<()>>>>,
+) -> Result<(), AllocError>
+    ensures { OnOk result (groups.new.items ≡ groups.old.items ++ keys noted.now) }
+{
+    for group in noted.keys() {
+        groups.push(*group)?;
+    }
+    Ok(())
+}
+
+impl ListChanges {
+    /// The paths of files that a line changed, and of those that are gone.
+    pub fn of(
+        alloc: Global,
+        old: &Tree,
+        changed: &[Rc<Record>],
+        gone: &[Rc<Record>],
+    ) -> Result<ListChanges, AllocError>
+        ensures puts { IfOk result (λ noted. (g : ℕ) → noted_at noted.puts g
+            ≡ set_of (mentioning g (regrouped old.now.files (map (λ r. r.value) changed.now)))) }
+        ensures before { IfOk result (λ noted. (g : ℕ) → noted_at noted.before g
+            ≡ set_of (filter (mentioned_group old.now.files g) (regrouped old.now.files (map (λ r. r.value) changed.now)))) }
+        ensures gone { IfOk result (λ noted. (g : ℕ) → noted_at noted.gone g ≡ set_of (mentioning g (map (λ r. r.value) gone.now))) }
+    {
+        let files = regrouped(alloc, old, changed)?;
+        Ok(ListChanges {
+            puts: noted_of(alloc, &files)?,
+            before: noted_before(alloc, old, &files)?,
+            gone: noted_of(alloc, gone)?,
+        })
+    }
+
+    /// The groups for which paths are noted, rising.
+    pub fn groups(&self, alloc: Global) -> Result<Vec<Id>, AllocError>
+        ensures { IfOk result (λ groups. (g : ℕ) → is_one_of g groups.items ≡ false → AreNone self.now g) }
+    {
+        let mut groups = Vec::new(alloc);
+        add_groups(&mut groups, &self.puts)?;
+        add_groups(&mut groups, &self.before)?;
+        add_groups(&mut groups, &self.gone)?;
+        let groups = rising_ids(groups)?;
+        Ok(groups)
     }
 }

@@ -1,6 +1,6 @@
 //! The groups that labels mention.
 
-ghost use Rattle.std.specs.Prelude.{◌≡◌, ◌<◌, ◌∷◌, [], ℕ, length, IfOk, IfSome, map};
+ghost use Rattle.std.specs.Prelude.{◌≡◌, ◌<◌, ◌∷◌, [], length, IfOk, IfSome, map};
 ghost use Rattle.std.specs.Option.{option_map_or};
 ghost use Rattle.acl_tree.specs.acl_entry.Mentions.{named_groups};
 ghost use Rattle.acl_rights.specs.Inner.{same_ids, same_mentions, is_regrouped, regrouped};
@@ -61,7 +61,7 @@ fn is_regrouped(old: &Tree, file: &Record) -> bool
 }
 
 /// The files that are new, or mention other groups than before.
-pub fn regrouped(
+pub(crate) fn regrouped(
     alloc: Global,
     old: &Tree,
     files: &[Rc<Record>],

@@ -3,27 +3,27 @@
 ghost use Rattle.std.specs.Prelude.{◌≡◌, ◌+◌, ◌*◌, ◌<◌, ◌≤◌, ◌^◌, true, [], Some, length, map, slice_get, count_by, IfOk};
 ghost use Rattle.path_map.specs.Entries.{IsInOrder};
 ghost use Rattle.path_map.specs.Below.{within, lies_in};
-ghost use Rattle.acl_tree.specs.acl_people.Registers.{persons};
+ghost use Rattle.acl_tree.specs.acl_people.KnownPeople.{persons};
 ghost use Rattle.acl_tree.specs.declared.user_change.UserChange.TheVariants.{Unchanged, Loaded, Memberships, Added, Removed};
 ghost use Rattle.acl_rights.specs.Groups.{AreLists};
 ghost use Rattle.acl_rights.specs.Tables.{rows_of};
 ghost use Rattle.acl_rights.specs.Stages.{most_asked, most_looked, moves_looked, moves_groups};
-ghost use Rattle.acl_rights.specs.Reach.{most_refreshed};
+ghost use Rattle.acl_rights.specs.Reach.{verdicts_refreshed};
 ghost use Rattle.acl_rights.specs.Grants.{rows_at, AreGrants, GoesOn, GoesOnFrom};
 
 use crate::grants::Grants;
-use crate::label_rows::{AgainRows, ChangedRows, LabelRows};
+use crate::label_rows::{ChangedRows, LabelRows, UpdatedRows};
 use crate::lists::{GroupLists, records};
-use crate::touched::touched_paths;
+use crate::paths_of_groups::paths_of_groups;
 use acl_tree::{GroupIds, Path, Staged, Subject, Tree, UserChange};
-use acl_verdicts::{Again, Judge, Numbered, is_covered, reaches_after, reaches_again};
+use acl_verdicts::{Judge, Numbered, UpdatedWays, is_covered, reaches_after, updated_reaches};
 use path_map::PathMap;
 use std::alloc::{AllocError, Global};
 use std::rc::Rc;
 
 /// What is granted after a line, how many labels were fetched for it, and how many verdicts along paths were made again.
 #[derive(Drop)]
-pub struct After {
+pub(crate) struct After {
     pub grants: Grants,
     pub looked: u64,
     pub refreshed: u64,
@@ -48,7 +48,7 @@ fn count_within(numbers: &PathMap<usize>, paths: &[Rc<Path>]) -> u64
     requires order { IsInOrder (map (λ p. (p.value, p.value)) paths.now) }
     ensures { result ≡ count_by (λ e. lies_in (map (λ p. (p.value, p.value)) paths.now) e.0) numbers.now }
 {
-    numbers.is_in_order();
+    numbers.order_law();
     let mut count = 0;
     let mut last: Option<&Path> = None;
     let mut rest = paths;
@@ -79,20 +79,20 @@ fn after_files<J: Judge>(
     ensures rows { IfOk result (λ new. rows_at new.grants ≡ rows_of J.verdict_of (persons staged.now.state.people) staged.now.state.tree.files) }
     ensures at_most { J.asked_of judge.new ≤ J.asked_of judge.old + most_asked staged.now }
     ensures looked { IfOk result (λ new. new.looked ≡ 0) }
-    ensures refreshed { IfOk result (λ new. new.refreshed ≡ most_refreshed staged.now) }
+    ensures refreshed { IfOk result (λ new. new.refreshed ≡ verdicts_refreshed staged.now) }
 {
-    staged.tree().is_sound();
+    staged.tree().soundness_law();
     let old = &grants.rows;
-    old.numbers.is_in_order();
+    old.numbers.order_law();
     let users = staged.people().all_subjects();
     let gone = staged.gone();
     let new = old.with_files(alloc, judge, users, staged.changed(), gone)?;
     let ChangedRows { rows, puts } = new;
-    rows.numbers.is_in_order();
-    let again = grants
+    rows.numbers.order_law();
+    let updated = grants
         .ways
-        .again(alloc, &old.numbers, &rows.numbers, &puts, gone)?;
-    let Again { ways, walked } = again;
+        .updated(alloc, &old.numbers, &rows.numbers, &puts, gone)?;
+    let UpdatedWays { ways, walked } = updated;
     let none = Numbered::new(alloc);
     let reaches = reaches_after(alloc, &rows.cells, ways.steps(), &grants.reaches, &none)?;
     Ok(After {
@@ -124,12 +124,12 @@ fn after_files_anew<J: Judge>(
     ensures rows { IfOk result (λ new. rows_at new.grants ≡ rows_of J.verdict_of (persons staged.now.state.people) staged.now.state.tree.files) }
     ensures at_most { J.asked_of judge.new ≤ J.asked_of judge.old + most_asked staged.now }
     ensures looked { IfOk result (λ new. new.looked ≡ 0) }
-    ensures refreshed { IfOk result (λ new. new.refreshed ≡ most_refreshed staged.now) }
+    ensures refreshed { IfOk result (λ new. new.refreshed ≡ verdicts_refreshed staged.now) }
 {
     if !grants.has_many_numbers() {
         return after_files(alloc, judge, grants, staged);
     }
-    tree.is_sound();
+    tree.soundness_law();
     let files = records(alloc, tree)?;
     let anew = grants.renumbered(alloc, &files)?;
     after_files(alloc, judge, &anew, staged)
@@ -187,17 +187,19 @@ fn after_move<J: Judge>(
     ensures looked { IfOk result (λ new. new.looked ≡ moves_looked staged.now.user_change staged.now.state.tree.files) }
     ensures looked_most { IfOk result (λ new. new.looked ≤ most_looked staged.now.user_change staged.now.state.tree.files) }
     ensures looked_least { IfOk result (λ new. J.asked_of judge.new ≤ J.asked_of judge.old + new.looked) }
-    ensures refreshed { IfOk result (λ new. new.refreshed ≡ most_refreshed staged.now) }
+    ensures refreshed { IfOk result (λ new. new.refreshed ≡ verdicts_refreshed staged.now) }
 {
-    staged.tree().is_sound();
-    grants.rows.numbers.is_in_order();
-    let paths = touched_paths(alloc, lists, groups.as_slice())?;
+    staged.tree().soundness_law();
+    grants.rows.numbers.order_law();
+    let paths = paths_of_groups(alloc, lists, groups.as_slice())?;
     let paths: &[Rc<Path>] = &paths;
     let user = moved_user::<J>(grants, staged, at, groups);
-    let again = grants.rows.with_user_again(alloc, judge, paths, at, user)?;
-    let AgainRows { rows, marks } = again;
+    let updated = grants
+        .rows
+        .with_user_updated(alloc, judge, paths, at, user)?;
+    let UpdatedRows { rows, marks } = updated;
     let ways = grants.ways.share()?;
-    let reaches = reaches_again(alloc, &rows.cells, ways.steps(), &grants.reaches, &marks)?;
+    let reaches = updated_reaches(alloc, &rows.cells, ways.steps(), &grants.reaches, &marks)?;
     Ok(After {
         refreshed: count_within(&rows.numbers, paths),
         grants: Grants {
@@ -225,10 +227,10 @@ fn after_join<J: Judge>(
     ensures rows { IfOk result (λ new. rows_at new.grants ≡ rows_of J.verdict_of (persons staged.now.state.people) staged.now.state.tree.files) }
     ensures at_most { J.asked_of judge.new ≤ J.asked_of judge.old + most_asked staged.now }
     ensures looked { IfOk result (λ new. new.looked ≡ 0) }
-    ensures refreshed { IfOk result (λ new. new.refreshed ≡ most_refreshed staged.now) }
+    ensures refreshed { IfOk result (λ new. new.refreshed ≡ verdicts_refreshed staged.now) }
 {
-    staged.tree().is_sound();
-    grants.rows.numbers.is_in_order();
+    staged.tree().soundness_law();
+    grants.rows.numbers.order_law();
     let users = staged.people().subjects();
     let user = &users[users.len() - 1];
     let rows = grants.rows.with_user(alloc, judge, user)?;
@@ -253,10 +255,10 @@ fn after_leave<J: Judge>(
     ensures grants { IfOk result (λ new. AreGrants staged.now.state.tree.files new.grants) }
     ensures rows { IfOk result (λ new. rows_at new.grants ≡ rows_of J.verdict_of (persons staged.now.state.people) staged.now.state.tree.files) }
     ensures looked { IfOk result (λ new. new.looked ≡ 0) }
-    ensures refreshed { IfOk result (λ new. new.refreshed ≡ most_refreshed staged.now) }
+    ensures refreshed { IfOk result (λ new. new.refreshed ≡ verdicts_refreshed staged.now) }
 {
-    staged.tree().is_sound();
-    grants.rows.numbers.is_in_order();
+    staged.tree().soundness_law();
+    grants.rows.numbers.order_law();
     let rows = grants.rows.without_user(alloc, at)?;
     let ways = grants.ways.share()?;
     let none = Numbered::new(alloc);
@@ -268,7 +270,7 @@ fn after_leave<J: Judge>(
 }
 
 /// What is granted after a line.
-pub fn after_line<J: Judge>(
+pub(crate) fn after_line<J: Judge>(
     alloc: Global,
     judge: &mut J,
     grants: &Grants,
@@ -286,9 +288,9 @@ pub fn after_line<J: Judge>(
     ensures looked { IfOk result (λ new. new.looked ≡ moves_looked staged.now.user_change staged.now.state.tree.files) }
     ensures looked_most { IfOk result (λ new. new.looked ≤ most_looked staged.now.user_change staged.now.state.tree.files) }
     ensures looked_least { IfOk result (λ new. moves_groups staged.now.user_change ≡ true → J.asked_of judge.new ≤ J.asked_of judge.old + new.looked) }
-    ensures refreshed { IfOk result (λ new. new.refreshed ≡ most_refreshed staged.now) }
+    ensures refreshed { IfOk result (λ new. new.refreshed ≡ verdicts_refreshed staged.now) }
 {
-    staged.tree().is_sound();
+    staged.tree().soundness_law();
     match staged.user_change() {
         UserChange::Unchanged => after_files_anew(alloc, judge, grants, tree, staged),
         UserChange::Loaded => after_load(alloc),

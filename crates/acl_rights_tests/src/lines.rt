@@ -1,8 +1,8 @@
 //! Commands as they are written.
 
 use acl_rights::{
-    Command, Edit, Id, Membership, Name, NewUser, Path, Paths, People, Sep, Specs, Table, UserName,
-    Want, read_entries, read_path,
+    Change, ChangeEntries, ChangeFlags, Command, Edit, Id, Membership, Name, NewUser, Path, Paths,
+    People, Sep, Specs, Table, UserName, Want, read_entries, read_path,
 };
 use std::alloc::Global;
 
@@ -38,16 +38,20 @@ fn name(alloc: Global, text: &[u8]) -> Option<Name> {
 
 fn change(alloc: Global, people: &People, modify: &[u8]) -> Option<Edit> {
     let entries = read_entries(alloc, modify, Sep::Comma, Want::WithPerms, people).ok()?;
-    Some(Edit::Change {
-        strip: false,
-        drop_default: false,
-        as_default: false,
-        no_mask: false,
-        remask: false,
-        remove: Specs::new(Vec::new(alloc)),
-        set: Specs::new(Vec::new(alloc)),
-        modify: Specs::new(entries),
-    })
+    Some(Edit::Change(Change {
+        flags: ChangeFlags {
+            strip: false,
+            drop_default: false,
+            as_default: false,
+            no_mask: false,
+            remask: false,
+        },
+        entries: ChangeEntries {
+            removed: Specs::new(Vec::new(alloc)),
+            set: Specs::new(Vec::new(alloc)),
+            modified: Specs::new(entries),
+        },
+    }))
 }
 
 fn member(

@@ -37,8 +37,8 @@ pub fn play(alloc: Global, world: &mut World, command: &Command<'_>) -> Option<C
         Ok(staged) => staged,
         Err(_) => return None,
     };
-    staged.tree().is_sound();
-    staged.people().is_sound();
+    staged.tree().soundness_law();
+    staged.people().soundness_law();
     let rows = match world.index.stage(alloc, &mut world.judge, &staged) {
         Ok(rows) => rows,
         Err(_) => {
@@ -60,8 +60,8 @@ pub fn play(alloc: Global, world: &mut World, command: &Command<'_>) -> Option<C
 
 /// How many verdicts an index that is made of a state asks for; none where memory runs out.
 pub fn asked_by_build(alloc: Global, state: &State) -> Option<u64> {
-    state.tree().is_sound();
-    state.people().is_sound();
+    state.tree().soundness_law();
+    state.people().soundness_law();
     let mut judge = Posix::new();
     match Index::build(alloc, &mut judge, state.tree(), state.people()) {
         Ok(_) => Some(judge.asked()),

@@ -10,7 +10,7 @@ use Rattle.std.proofs.lemmas.List.Elements.{All-cons}
 use Rattle.std.proofs.lemmas.List.Folds.{list_any-append}
 use Rattle.acl_entry.specs.Mentions.{is_one_of}
 use Rattle.acl_subjects.specs.Places.{is_noted, of_both}
-use Rattle.acl_subjects.specs.declared.noted.Note.{Note}
+use Rattle.acl_subjects.specs.declared.places_by_id.Note.{Note}
 
 -- ---- lists that are cloned one by one
 

@@ -7,8 +7,8 @@ use Rattle.std.specs.BTreeMap.{get}
 use Rattle.std.specs.FinSet as sets
 use Rattle.acl_entry.specs.Person.{Person}
 use Rattle.acl_entry.specs.Mentions.{is_one_of}
-use Rattle.acl_subjects.specs.declared.noted.Note.{Note}
-use Rattle.acl_subjects.specs.declared.noted.Noted.{Noted}
+use Rattle.acl_subjects.specs.declared.places_by_id.Note.{Note}
+use Rattle.acl_subjects.specs.declared.places_by_id.PlacesById.{PlacesById}
 
 abbrev pub has_id : ℕ → Person → Bool
 has_id id u = u.uid == id
@@ -33,7 +33,7 @@ abbrev pub is_noted : ℕ → ℕ → List Note → Bool
 is_noted id at notes = list_any (of_both id at) notes
 
 -- the places that are noted for an id
-abbrev pub noted_for : Noted → ℕ → List ℕ
+abbrev pub noted_for : PlacesById → ℕ → List ℕ
 noted_for n id = option_map_or (λ places. places.value.items) (get nat_cmp n.lists id) []
 
 -- whether a place is noted for a group, if it was, after the user who is here or not became u in place of w
@@ -41,5 +41,5 @@ abbrev pub after_move : ℕ → Person → Person → Bool → Bool → Bool
 after_move group w u here was = (was && not ((is_in group w && not (is_in group u)) && here)) || ((is_in group u && not (is_in group w)) && here)
 
 -- for each id, the places of the users of it are noted
-abbrev pub AreNoted : (ℕ → Person → Bool) → Noted → List Person → Type 0
+abbrev pub AreNoted : (ℕ → Person → Bool) → PlacesById → List Person → Type 0
 AreNoted test n users = (id : ℕ) → AreThose (test id) users (noted_for n id)

@@ -6,7 +6,7 @@
 ghost use Rattle.std.specs.Prelude.{◌≡◌, ◌<◌, ℕ, true, map, length, slice_index, if◌then◌else◌};
 ghost use Rattle.std.specs.Int.RustNames.{bit_or};
 ghost use Rattle.std.specs.FinMap as maps;
-ghost use Rattle.acl_entry.specs.declared.key.Key.TheVariants.{Mask};
+ghost use Rattle.acl_entry.specs.declared.entry.Key.TheVariants.{Mask};
 ghost use Rattle.acl_entry.specs.Perms.{contains};
 ghost use Rattle.acl_entry.specs.Check.{byte_of, group_of, rights};
 ghost use Rattle.acl_entry.specs.Lists.{masked_by, perm_at};
@@ -81,7 +81,8 @@ fn clear_groups(row: &mut [Requests], users: &Subjects, label: &Label)
 fn add_groups(row: &mut [Requests], users: &Subjects, label: &Label, mask: &Option<Perm>)
     requires length { length row.old ≡ length users.now }
     requires mask { mask.now ≡ maps.get label.now.acl Mask }
-    ensures { (f : Person → ℕ) → row.old ≡ map (λ u. if is_matched label.now u then 0 else f u) users.now → row.new ≡ map (λ u. if is_matched label.now u then by_groups label.now u else f u) users.now }
+    ensures { (f : Person → ℕ) → row.old ≡ map (λ u. if is_matched label.now u then 0 else f u) users.now
+        → row.new ≡ map (λ u. if is_matched label.now u then by_groups label.now u else f u) users.now }
 {
     for entry in label.acl.entries() {
         if let Some(group) = group_of(label.group, &entry.key) {

@@ -3,8 +3,7 @@
 #![tactic(auto)]
 
 mod granted;
-mod noted;
-mod noting;
+mod places_by_id;
 mod subjects;
 
 pub use granted::granted_to_all;

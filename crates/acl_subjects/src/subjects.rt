@@ -4,8 +4,7 @@ ghost use Rattle.std.specs.Prelude.{◌≡◌, ◌<◌, ◌++◌, ◌∷◌, [],
 ghost use Rattle.std.specs.List.{remove};
 ghost use Rattle.acl_subjects.specs.Places.{has_id, is_in, AreThose, AreNoted};
 
-use crate::noted::Noted;
-use crate::noting::{joined_by, moved, notes_by_group, notes_by_id};
+use crate::places_by_id::{PlacesById, joined_by, moved, notes_by_group, notes_by_id};
 use acl_entry::{Id, Subject};
 use std::alloc::{AllocError, Global};
 use std::marker::Model;
@@ -16,8 +15,8 @@ use std::rc::Rc;
 #[derive(Drop)]
 pub struct Subjects {
     users: Rc<Vec<Rc<Subject>>>,
-    by_id: Rc<Noted>,
-    by_group: Rc<Noted>,
+    by_id: Rc<PlacesById>,
+    by_group: Rc<PlacesById>,
 }
 
 impl Model for Subjects {
@@ -32,7 +31,8 @@ impl Model for Subjects {
 
     ghost view = { λ u. map (λ s. s.value) u.users.value.items };
 
-    ghost invariant = { λ u. AreNoted has_id u.by_id.value (map (λ s. s.value) u.users.value.items) × AreNoted is_in u.by_group.value (map (λ s. s.value) u.users.value.items) };
+    ghost invariant = { λ u. AreNoted has_id u.by_id.value (map (λ s. s.value) u.users.value.items)
+        × AreNoted is_in u.by_group.value (map (λ s. s.value) u.users.value.items) };
 }
 
 /// Some users, by their pointers, with room for one more.
@@ -51,8 +51,8 @@ impl Subjects {
     fn found_by(
         alloc: Global,
         users: Vec<Rc<Subject>>,
-        by_id: Rc<Noted>,
-        by_group: Noted,
+        by_id: Rc<PlacesById>,
+        by_group: PlacesById,
     ) -> Result<Subjects, AllocError>
         requires ids { AreNoted has_id by_id.value (map (λ s. s.value) users.items) }
         requires groups { AreNoted is_in by_group (map (λ s. s.value) users.items) }
@@ -66,14 +66,14 @@ impl Subjects {
     }
 
     /// The places by id.
-    fn ids(&self) -> &Rc<Noted>
+    fn ids(&self) -> &Rc<PlacesById>
         ensures { AreNoted has_id result.now.value self.now }
     {
         &self.by_id
     }
 
     /// The places by group.
-    fn groups(&self) -> &Noted
+    fn groups(&self) -> &PlacesById
         ensures { AreNoted is_in result.now self.now }
     {
         &self.by_group
@@ -83,8 +83,8 @@ impl Subjects {
     pub fn of(alloc: Global, users: Vec<Rc<Subject>>) -> Result<Subjects, AllocError>
         ensures { IfOk result (λ all. all ≡ map (λ s. s.value) users.items) }
     {
-        let by_id = Noted::of(alloc, notes_by_id(alloc, &users)?)?;
-        let by_group = Noted::of(alloc, notes_by_group(alloc, &users)?)?;
+        let by_id = PlacesById::of(alloc, notes_by_id(alloc, &users)?)?;
+        let by_group = PlacesById::of(alloc, notes_by_group(alloc, &users)?)?;
         let by_id = Rc::new(alloc, by_id)?;
         Subjects::found_by(alloc, users, by_id, by_group)
     }

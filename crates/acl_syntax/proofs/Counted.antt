@@ -11,7 +11,7 @@ use Rattle.std.proofs.lemmas.List.Folds.{list_any-append}
 use Rattle.acl_syntax.specs.declared.fault.FaultKind.TheVariants.{TooMany}
 use Rattle.acl_names.specs.Pieces.{pieces}
 use Rattle.acl_syntax.specs.Rows.{has_no_content, is_repeated, most_rows, one_line}
-use Rattle.acl_syntax.specs.Seen.{SeenNames, SeenAre}
+use Rattle.acl_syntax.specs.Seen.{SeenNames, SeenNamesAre}
 
 module _ {R : Type 0} (name_of : R → List ℕ) (row_of : List (List ℕ) → Option R) (rows : List R) (line : List ℕ) (row : R) (means : has_no_content line ≡ false) (fields : Some row ≡ row_of (pieces 58 line)) where
   pub line_known : is_repeated name_of rows (name_of row) ≡ true → one_line name_of row_of rows line ≡ Ok rows
@@ -27,8 +27,8 @@ pub or_no : (b : Bool) → b ≡ (b || false)
 or_no true = refl
 or_no false = refl
 
-pub seen_more : {R : Type 0} (name_of : R → List ℕ) (old new : SeenNames) (rows : List R) (row : R) → SeenAre name_of old rows
-    → ((name : List ℕ) → get_by (λ k. slice_cmp nat_cmp name k.now) new ≡ update bytes_eq (λ ds. get_by (λ k. slice_cmp nat_cmp ds k.now) old) (name_of row) (Some tt) name) → SeenAre name_of new (rows ++ row ∷ [])
+pub seen_more : {R : Type 0} (name_of : R → List ℕ) (old new : SeenNames) (rows : List R) (row : R) → SeenNamesAre name_of old rows
+    → ((name : List ℕ) → get_by (λ k. slice_cmp nat_cmp name k.now) new ≡ update bytes_eq (λ ds. get_by (λ k. slice_cmp nat_cmp ds k.now) old) (name_of row) (Some tt) name) → SeenNamesAre name_of new (rows ++ row ∷ [])
 seen_more name_of old new rows row are updates name =
     elim (cases_Bool (bytes_eq (name_of row) name)) [
       | inl same ↦ rw (updates name, list_any-append, same) (sym (or_right (list_any (λ r. bytes_eq (name_of r) name) rows) true refl))

@@ -12,8 +12,8 @@ use Rattle.acl_entry.specs.declared.entry.ListFault.TheVariants.{TooLong}
 use Rattle.acl_entry.specs.Perms.{Perms, text}
 use Rattle.acl_entry.specs.Ids.{nobody}
 use Rattle.acl_entry.specs.Keys.{id_of}
-use Rattle.acl_entry.specs.declared.key.Key.{Key}
-use Rattle.acl_entry.specs.declared.key.Key.TheVariants as keys
+use Rattle.acl_entry.specs.declared.entry.Key.{Key}
+use Rattle.acl_entry.specs.declared.entry.Key.TheVariants as keys
 use Rattle.acl_entry.specs.declared.entry.Entry.{Entry}
 use Rattle.acl_names.specs.Pieces.{pieces}
 use Rattle.acl_syntax.specs.Naming.{Naming}
@@ -24,8 +24,8 @@ use Rattle.acl_syntax.specs.declared.entries.Rules.{Rules}
 use Rattle.acl_syntax.specs.declared.entries.Want.{Want}
 use Rattle.acl_syntax.specs.declared.entries.Want.TheVariants.{WithPerms, WithoutPerms, Plain}
 use Rattle.acl_syntax.specs.declared.entries.Spec.{Spec}
-use Rattle.acl_syntax.specs.declared.form.Form.{Form}
-use Rattle.acl_syntax.specs.declared.form.Form.TheVariants.{Long, Short}
+use Rattle.acl_syntax.specs.declared.entries.Form.{Form}
+use Rattle.acl_syntax.specs.declared.entries.Form.TheVariants.{Long, Short}
 use Rattle.acl_syntax.specs.InTurn.{at_place, read_each_from}
 use Rattle.acl_syntax.specs.Blanks.{is_blank, trimmed}
 use Rattle.acl_syntax.specs.Letters.{perms_of}

@@ -2,8 +2,8 @@
 use Rattle.std.specs.Prelude.{ℕ, List, [], ◌∷◌, ◌++◌, length, Bool, true, false, not, ◌&&◌, ◌==◌, nat_le, if◌then◌else◌, Option, Some, None, Result, Ok, Err, option_map}
 use Rattle.std.specs.List.{before_first}
 use Rattle.acl_entry.specs.Keys.{is_base}
-use Rattle.acl_entry.specs.declared.key.Key.{Key}
-use Rattle.acl_entry.specs.declared.key.Key.TheVariants as keys
+use Rattle.acl_entry.specs.declared.entry.Key.{Key}
+use Rattle.acl_entry.specs.declared.entry.Key.TheVariants as keys
 use Rattle.acl_names.specs.Pieces.{pieces}
 use Rattle.acl_syntax.specs.Naming.{Naming}
 use Rattle.acl_syntax.specs.declared.fault.FaultKind.{FaultKind}

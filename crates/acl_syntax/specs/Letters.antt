@@ -18,11 +18,11 @@ abbrev pub letters_of : Bool → List ℕ → Option PermSpec
 letters_of takes_x field =
     if list_all (is_letter takes_x) field then Some (record { fixed = letter_set field; cond_x = holds 88 field }) else None
 
-abbrev pub is_digit : ℕ → Bool
-is_digit b = nat_le 48 b && nat_le b 55
+abbrev pub is_octal_digit : ℕ → Bool
+is_octal_digit b = nat_le 48 b && nat_le b 55
 
 -- one digit 0 to 7, or letters in any order, or nothing
 abbrev pub perms_of : Bool → List ℕ → Option PermSpec
 perms_of takes_x [] = letters_of takes_x []
-perms_of takes_x (b ∷ []) = if is_digit b then Some (record { fixed = numbered (b - 48); cond_x = false }) else letters_of takes_x (b ∷ [])
+perms_of takes_x (b ∷ []) = if is_octal_digit b then Some (record { fixed = numbered (b - 48); cond_x = false }) else letters_of takes_x (b ∷ [])
 perms_of takes_x (b ∷ c ∷ bs) = letters_of takes_x (b ∷ c ∷ bs)

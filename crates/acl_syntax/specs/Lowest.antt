@@ -1,6 +1,6 @@
 -- The lowest of the kinds of fault that a piece has, whatever order they are looked for in.
 use Rattle.std.specs.Prelude.{◌≡◌, ℕ, ◌≤◌, ◌⊎◌, List, length, Option, Some, None, Result, Ok, Err, Bool, false}
-use Rattle.acl_entry.specs.declared.key.Key.{Key}
+use Rattle.acl_entry.specs.declared.entry.Key.{Key}
 use Rattle.acl_names.specs.Pieces.{pieces}
 use Rattle.acl_syntax.specs.Naming.{Naming}
 use Rattle.acl_syntax.specs.declared.fault.FaultKind.{FaultKind}

@@ -1,8 +1,8 @@
 -- What an entry means by the table of setfacl(1), "ACL entries": how each kind of entry is written.
 use Rattle.std.specs.Prelude.{◌≡◌, ℕ, ◌+◌, ◌<◌, ◌≤◌, ◌⊎◌, List, [], ◌∷◌, Bool, true, false, not, length, map, filter, Option, Some, None, Ok, codes, ◌==◌}
 use Rattle.std.specs.List.{list_all, enumerate_from}
-use Rattle.acl_entry.specs.declared.key.Key.{Key}
-use Rattle.acl_entry.specs.declared.key.Key.TheVariants as keys
+use Rattle.acl_entry.specs.declared.entry.Key.{Key}
+use Rattle.acl_entry.specs.declared.entry.Key.TheVariants as keys
 use Rattle.acl_entry.specs.Keys.{is_base}
 use Rattle.acl_entry.specs.Perms.{numbered}
 use Rattle.acl_names.specs.Pieces.{pieces}

@@ -10,5 +10,5 @@ abbrev pub SeenNames : Type 0
 SeenNames = BTreeMap (Bor (List ℕ)) (Unit {0})
 
 -- the keys are the names of the rows
-abbrev pub SeenAre : {R : Type 0} → (R → List ℕ) → SeenNames → List R → Type 0
-SeenAre name_of seen rows = (name : List ℕ) → is_some (get_by (λ k. slice_cmp nat_cmp name k.now) seen) ≡ is_repeated name_of rows name
+abbrev pub SeenNamesAre : {R : Type 0} → (R → List ℕ) → SeenNames → List R → Type 0
+SeenNamesAre name_of seen rows = (name : List ℕ) → is_some (get_by (λ k. slice_cmp nat_cmp name k.now) seen) ≡ is_repeated name_of rows name

@@ -2,14 +2,14 @@
 use Rattle.std.specs.Prelude.{◌≡◌, ℕ, ◌+◌, ◌<◌, List, [], ◌∷◌, ◌++◌, length, true, false, Option, Some, None, codes, decimal}
 use Rattle.std.specs.List.{list_all, flat_map, AllByRecursion}
 use Rattle.acl_entry.specs.Perms.{text}
-use Rattle.acl_entry.specs.declared.key.Key.{Key}
-use Rattle.acl_entry.specs.declared.key.Key.TheVariants.{Owner, User, OwningGroup, Group, Mask, Other}
+use Rattle.acl_entry.specs.declared.entry.Key.{Key}
+use Rattle.acl_entry.specs.declared.entry.Key.TheVariants.{Owner, User, OwningGroup, Group, Mask, Other}
 use Rattle.acl_entry.specs.declared.entry.Entry.{Entry}
 use Rattle.acl_names.specs.Pieces.{is_byte}
 use Rattle.acl_names.specs.Names.{escaped}
 use Rattle.acl_syntax.specs.Naming.{Naming}
-use Rattle.acl_syntax.specs.declared.form.Form.{Form}
-use Rattle.acl_syntax.specs.declared.form.Form.TheVariants.{Long, Short}
+use Rattle.acl_syntax.specs.declared.entries.Form.{Form}
+use Rattle.acl_syntax.specs.declared.entries.Form.TheVariants.{Long, Short}
 use Rattle.acl_syntax.specs.declared.entries.Spec.{Spec}
 use Rattle.acl_syntax.specs.Ids.{is_number}
 

@@ -9,7 +9,9 @@ use std::alloc::{AllocError, AllocFailed};
 /// Which of a file's two lists.
 #[derive(Clone, Copy, Debug, PartialEq, Eq)]
 pub enum Which {
+    /// The access list.
     Access,
+    /// The default list, which only directories have.
     Default,
 }
 
@@ -17,21 +19,37 @@ pub enum Which {
 /// A list that runs out of memory is `NoMemory`, never `List`.
 #[derive(Clone, Copy, Debug, PartialEq, Eq)]
 pub enum FaultKind {
+    /// The entry's first field is not a tag.
     BadTag,
+    /// The permissions are missing.
     MissingPerms,
+    /// There are permissions where none are wanted.
     UnwantedPerms,
+    /// The permissions are neither letters nor an octal digit.
     BadPerms,
+    /// No user has this name or id.
     UnknownUser,
+    /// No group has this name or id.
     UnknownGroup,
+    /// The entry is a base entry, which cannot be removed.
     BaseEntry,
+    /// A header line has no value, comes twice, or comes after an entry.
     BadHeader,
+    /// A record lacks a header line, or a line comes before the first record.
     MissingHeader,
+    /// The path is not valid.
     BadPath,
+    /// The file has a record before.
     RepeatedFile,
+    /// A line is not a row of passwd(5) or group(5).
     BadRow,
+    /// The bytes are not an attribute, or an entry in them has no value.
     BadAttr,
+    /// The entries do not make a valid list.
     List(Which, ListFault),
+    /// There are more entries, or rows, than a text may have.
     TooMany,
+    /// Memory ran out.
     NoMemory,
 }
 

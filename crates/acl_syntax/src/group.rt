@@ -1,15 +1,14 @@
 //! Reading group(5).
 
-ghost use Rattle.std.specs.Prelude.{◌≡◌, ◌+◌, [], ◌∷◌, ◌++◌, length, OnOk, IfOk, option_map};
+ghost use Rattle.std.specs.Prelude.{◌≡◌, ◌+◌, [], ◌∷◌, ◌++◌, OnOk, IfOk, option_map};
 ghost use Rattle.acl_names.specs.Pieces.{pieces};
 ghost use Rattle.acl_syntax.specs.InTurn.{Gives, JudgesAt};
-ghost use Rattle.acl_syntax.specs.Seen.{SeenAre};
+ghost use Rattle.acl_syntax.specs.Seen.{SeenNamesAre};
 ghost use Rattle.acl_syntax.specs.Rows.{names_of, group_row, group_name, group_line, group_of};
 
 use crate::fault::{FaultKind, TextFault};
-use crate::id::read_id;
-use crate::line::{MAX_ROWS, has_no_content};
-use crate::rows::{GroupRow, NameList};
+use crate::fields::read_id;
+use crate::rows::{GroupRow, MAX_ROWS, NameList, has_no_content};
 use acl_entry::Id;
 use acl_names::Name;
 use acl_names::cut::{cut, first_piece};
@@ -58,9 +57,9 @@ fn add_row<'a>(
     gid: Id,
     field: &[u8],
 ) -> Result<(), AllocError>
-    requires { SeenAre group_name seen.old rows.old.items }
+    requires { SeenNamesAre group_name seen.old rows.old.items }
     ensures row { OnOk result (rows.new.items ≡ rows.old.items ++ record { name = name.entry.now; gid = gid; names = names_of field.now } ∷ []) }
-    ensures seen_are { OnOk result (SeenAre group_name seen.new rows.new.items) }
+    ensures seen_are { OnOk result (SeenNamesAre group_name seen.new rows.new.items) }
 {
     let name_kept = Name::from_bytes(alloc, name)?;
     let names = names_of(alloc, field)?;
@@ -81,9 +80,9 @@ fn read_line<'a>(
     at: usize,
     line: &'a [u8],
 ) -> Result<(), TextFault>
-    requires { SeenAre group_name seen.old rows.old.items }
+    requires { SeenNamesAre group_name seen.old rows.old.items }
     ensures judged { JudgesAt at result rows.new.items (group_line at rows.old.items line.now) }
-    ensures seen_are { OnOk result (SeenAre group_name seen.new rows.new.items) }
+    ensures seen_are { OnOk result (SeenNamesAre group_name seen.new rows.new.items) }
 {
     if has_no_content(line) {
         return Ok(());

@@ -1,6 +1,6 @@
 //! Laws of the definitions, each proved as the contract of a function that does nothing.
 
-ghost use Rattle.std.specs.Prelude.{◌≡◌, ◌↔◌, ℕ, List, [], Option, Ok, Err, ◌<◌, false, length};
+ghost use Rattle.std.specs.Prelude.{◌≡◌, ◌↔◌, ℕ, List, [], Ok, Err, ◌<◌, false, length};
 ghost use Rattle.acl_names.specs.Pieces.{pieces};
 ghost use Rattle.acl_syntax.specs.Naming.{Naming};
 ghost use Rattle.acl_syntax.specs.declared.fault.TextFault.{TextFault};

@@ -5,8 +5,7 @@ ghost use Rattle.std.specs.Option.{option_copied};
 ghost use Rattle.acl_syntax.specs.Naming.{Naming, no_names};
 ghost use Rattle.acl_syntax.specs.Words.{word_id};
 
-use crate::blanks::trim;
-use crate::id::{is_number, read_id};
+use crate::fields::{is_number, read_id, trim};
 use acl_entry::Id;
 use acl_names::read_name;
 use std::alloc::{AllocError, Global};
@@ -33,7 +32,7 @@ pub trait Names {
 }
 
 /// No user and no group has a name: ids are read and printed as numbers.
-#[derive(Clone, Copy, Debug)]
+#[derive(Clone, Copy)]
 pub struct NoNames;
 
 impl Names for NoNames {

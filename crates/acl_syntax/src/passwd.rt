@@ -1,15 +1,14 @@
 //! Reading passwd(5).
 
-ghost use Rattle.std.specs.Prelude.{◌≡◌, ◌+◌, [], ◌∷◌, ◌++◌, length, OnOk, option_map};
+ghost use Rattle.std.specs.Prelude.{◌≡◌, ◌+◌, [], ◌∷◌, ◌++◌, OnOk, option_map};
 ghost use Rattle.acl_names.specs.Pieces.{pieces};
 ghost use Rattle.acl_syntax.specs.InTurn.{Gives, JudgesAt};
-ghost use Rattle.acl_syntax.specs.Seen.{SeenAre};
+ghost use Rattle.acl_syntax.specs.Seen.{SeenNamesAre};
 ghost use Rattle.acl_syntax.specs.Rows.{passwd_row, passwd_name, passwd_line, passwd_of};
 
 use crate::fault::{FaultKind, TextFault};
-use crate::id::read_id;
-use crate::line::{MAX_ROWS, has_no_content};
-use crate::rows::PasswdRow;
+use crate::fields::read_id;
+use crate::rows::{MAX_ROWS, PasswdRow, has_no_content};
 use acl_entry::Id;
 use acl_names::Name;
 use acl_names::cut::{cut, first_piece};
@@ -46,9 +45,9 @@ fn add_row<'a>(
     uid: Id,
     gid: Id,
 ) -> Result<(), AllocError>
-    requires { SeenAre passwd_name seen.old rows.old.items }
+    requires { SeenNamesAre passwd_name seen.old rows.old.items }
     ensures row { OnOk result (rows.new.items ≡ rows.old.items ++ record { name = name.entry.now; uid = uid; gid = gid } ∷ []) }
-    ensures seen_are { OnOk result (SeenAre passwd_name seen.new rows.new.items) }
+    ensures seen_are { OnOk result (SeenNamesAre passwd_name seen.new rows.new.items) }
 {
     let name_kept = Name::from_bytes(alloc, name)?;
     seen.insert(name, ())?;
@@ -68,9 +67,9 @@ fn read_line<'a>(
     at: usize,
     line: &'a [u8],
 ) -> Result<(), TextFault>
-    requires { SeenAre passwd_name seen.old rows.old.items }
+    requires { SeenNamesAre passwd_name seen.old rows.old.items }
     ensures judged { JudgesAt at result rows.new.items (passwd_line at rows.old.items line.now) }
-    ensures seen_are { OnOk result (SeenAre passwd_name seen.new rows.new.items) }
+    ensures seen_are { OnOk result (SeenNamesAre passwd_name seen.new rows.new.items) }
 {
     if has_no_content(line) {
         return Ok(());

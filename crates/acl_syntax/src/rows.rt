@@ -1,13 +1,14 @@
-//! The counted rows of passwd(5) and group(5).
+//! The counted rows of passwd(5) and group(5), and their lines.
 
 ghost use Rattle.std.specs.Prelude.{◌≡◌, List, ℕ};
+ghost use Rattle.acl_syntax.specs.Rows.{has_no_content};
 
 use acl_entry::Id;
 use acl_names::Name;
 use std::marker::Model;
 
 /// A counted row of passwd(5).
-#[derive(Debug, Drop)]
+#[derive(Drop)]
 pub struct PasswdRow {
     pub name: Name,
     pub uid: Id,
@@ -15,7 +16,7 @@ pub struct PasswdRow {
 }
 
 /// A counted row of group(5), with the names of its members.
-#[derive(Debug, Drop)]
+#[derive(Drop)]
 pub struct GroupRow {
     pub name: Name,
     pub gid: Id,
@@ -23,12 +24,14 @@ pub struct GroupRow {
 }
 
 /// The names in a group's row, in their order.
-#[derive(Debug, Drop)]
+#[derive(Drop)]
 pub struct NameList {
     names: Vec<Name>,
 }
 
 impl Model for NameList {
+    ghost use Rattle.std.specs.Prelude.{List, ℕ};
+
     ghost Value = { List (List ℕ) };
 
     ghost view = { λ l. l.names.items };
@@ -54,5 +57,18 @@ impl NameList {
         ensures { result.items ≡ self }
     {
         self.names
+    }
+}
+
+/// The most rows of passwd(5), or of group(5), that are counted.
+pub const MAX_ROWS: usize = 65536;
+
+/// Empty lines and lines that begin with `#` are ignored.
+pub(crate) fn has_no_content(line: &[u8]) -> bool
+    ensures { result ≡ has_no_content line.now }
+{
+    match line.first() {
+        None => true,
+        Some(first) => *first == b'#',
     }
 }

@@ -4,7 +4,7 @@ ghost use Rattle.std.specs.Prelude.{◌≡◌};
 ghost use Rattle.std.specs.List.{list_any};
 ghost use Rattle.acl_syntax.specs.UserNames.{cuts_row, is_user_name};
 
-use crate::id::is_number;
+use crate::fields::is_number;
 
 /// Whether a byte of the name ends a field or a row, or separates names.
 fn cuts_row(name: &[u8]) -> bool

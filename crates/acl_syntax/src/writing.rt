@@ -1,7 +1,6 @@
 //! Writing lists (acl(5), "ACL text forms"; getfacl(1)).
 
-ghost use Rattle.std.specs.Prelude.{◌≡◌, ◌++◌, ◌∷◌, [], IfOk, OnOk, OnErr, Ok, true};
-ghost use Rattle.std.specs.Io.{StartsWith};
+ghost use Rattle.std.specs.Prelude.{◌≡◌, ◌++◌, ◌∷◌, [], IfOk, OnOk, Ok, true};
 ghost use Rattle.std.specs.List.{flat_map};
 ghost use Rattle.std.specs.Option.{option_copied};
 ghost use Rattle.acl_names.specs.Appends.{Appends, AppendsWhole};
@@ -11,7 +10,7 @@ ghost use Rattle.acl_syntax.specs.declared.entries.Want.{Want};
 ghost use Rattle.acl_syntax.specs.Entries.{rules_of, entries_of};
 ghost use Rattle.acl_syntax.specs.Writing.{tag_text, id_text, qualifier, entry_text, long, after_comma, short, specs_from, AreNamed};
 
-use crate::form::Form;
+use crate::entries::Form;
 use crate::naming::Names;
 use acl_entry::{Acl, Entry, Id, Key};
 use acl_names::append_name;

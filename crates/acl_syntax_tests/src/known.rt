@@ -22,7 +22,7 @@ adm:x:70:
 ";
 
 /// The rows of a passwd and a group text.
-#[derive(Debug, Drop)]
+#[derive(Drop)]
 pub struct Known {
     users: Vec<PasswdRow>,
     groups: Vec<GroupRow>,

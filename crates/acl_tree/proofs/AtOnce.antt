@@ -1,7 +1,7 @@
 -- Refusals that take no memory are passed on.
 use Rattle.std.proofs.Common.{◌≡◌, ℕ, Bool, true, false, Option, Some, None, Result, Ok, Err, if◌then◌else◌, refl, sym, ap, ◌∙◌}
 use Rattle.std.specs.Prelude.{IfSome, IfErr}
-use Rattle.acl_people.specs.Registers.{Register}
+use Rattle.acl_people.specs.KnownPeople.{KnownPeople}
 use Rattle.acl_files.specs.declared.fault.TreeFault.{TreeFault}
 use Rattle.acl_files.specs.declared.fault.TreeFault.TheVariants.{AlreadyLoaded}
 use Rattle.acl_tree.specs.Memberships.{change_of}
@@ -29,7 +29,7 @@ module _ {A B : Type 0} (found : Result A TreeFault) (fault : TreeFault) (result
   passed_on (Some f) h = passed_fault f h
 
   -- the fault of a change of a user who was found
-  pub change_passed_on : (user : ℕ) (r : Result Register TreeFault) → IfErr r (λ f. found ≡ Err f) → IfSome (nameless (change_of user r)) (λ f. result ≡ Err f)
+  pub change_passed_on : (user : ℕ) (r : Result KnownPeople TreeFault) → IfErr r (λ f. found ≡ Err f) → IfSome (nameless (change_of user r)) (λ f. result ≡ Err f)
   change_passed_on user (Ok people) h = tt
   change_passed_on user (Err f) h = by (is_nameless f) (passed_fault f h)
     where

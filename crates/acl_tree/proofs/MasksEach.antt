@@ -5,7 +5,7 @@ use Rattle.acl_files.specs.acl_entry.Lists.{KeyMap}
 use Rattle.acl_files.specs.acl_syntax.InTurn.{◌>>=◌}
 use Rattle.acl_files.specs.acl_edit.Edits.{edit, edit_of, change, changed_access, changed_default, is_misplaced}
 use Rattle.acl_files.specs.acl_edit.Nodes.{with_lists}
-use Rattle.acl_files.specs.acl_edit.Changes.{Change}
+use Rattle.acl_files.specs.acl_edit.declared.edit.Change.{Change}
 use Rattle.acl_files.specs.acl_edit.declared.edit.EditFault.{EditFault}
 use Rattle.acl_files.specs.acl_edit.declared.edit.EditFault.TheVariants.{DefaultOnFile}
 use Rattle.acl_files.specs.acl_edit.declared.node.Node.{Node}

@@ -9,8 +9,8 @@ use Rattle.acl_files.specs.acl_syntax.Ids.{is_number, id_of}
 use Rattle.acl_files.specs.acl_syntax.declared.rows.PasswdRow.{PasswdRow}
 use Rattle.acl_people.specs.Changes.{gid_of, with_user}
 use Rattle.acl_people.specs.Entries.{user_entry}
-use Rattle.acl_people.specs.Registers.{Register, users_of, names_user}
-use Rattle.acl_people.specs.Rolls.{Named, is_name, is_id, has_name, has_id}
+use Rattle.acl_people.specs.KnownPeople.{KnownPeople, users_of, names_user}
+use Rattle.acl_people.specs.NameTables.{Named, is_name, is_id, has_name, has_id}
 use Rattle.acl_people.specs.UserNames.{cuts_row, is_user_name}
 use Rattle.acl_people.proofs.Places.{position-push}
 use Rattle.acl_people.proofs.Undone.{user_again}
@@ -57,11 +57,11 @@ module _ (new : NewUser) (old made : State) (allowed : is_user_name new.name ≡
   removed : (group : ℕ) → has_name new.name (users_of old.people) ≡ false
       → step (record old { people = with_user new.name new.uid group old.people }) (Userdel new.name) ≡ Ok (with_users_loaded old)
   removed group fresh =
-      let known : Register = with_user new.name new.uid group old.people in
+      let known : KnownPeople = with_user new.name new.uid group old.people in
       let again = user_again new.name new.uid group old.people unnamed in
       ap (λ o. with_change (record old { people = known }) (remove_at known o)) (found group fresh)
       ∙ (λ i.
-      let people : Register = record { users = again.0 i; groups = again.1 i; passwd_loaded = true; group_loaded = old.people.group_loaded } in
+      let people : KnownPeople = record { users = again.0 i; groups = again.1 i; passwd_loaded = true; group_loaded = old.people.group_loaded } in
       let s : State = record { tree = old.tree; people = people } in
       Ok s)
 
@@ -84,6 +84,6 @@ module _ (new : NewUser) (old made : State) (allowed : is_user_name new.name ≡
   user_removed_where_loaded loaded h =
       user_removed h
       ∙ (λ i.
-      let people : Register = record old.people { passwd_loaded = sym loaded i } in
+      let people : KnownPeople = record old.people { passwd_loaded = sym loaded i } in
       let s : State = record old { people = people } in
       Ok s)

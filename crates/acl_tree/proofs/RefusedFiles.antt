@@ -22,8 +22,8 @@ use Rattle.acl_files.specs.declared.fault.TreeFault.{TreeFault}
 use Rattle.acl_files.specs.declared.fault.TreeFault.TheVariants.{NoSuchUser, Exists, NoSuchFile, NotDirectory, TooMany}
 use Rattle.acl_files.specs.Files.{PathOf, Files, IsInOrder, Recorded, max_files}
 use Rattle.acl_people.specs.Entries.{user_entry}
-use Rattle.acl_people.specs.Registers.{Register, users_of}
-use Rattle.acl_people.specs.Rolls.{Named, is_id, is_name, place_of_word}
+use Rattle.acl_people.specs.KnownPeople.{KnownPeople, users_of}
+use Rattle.acl_people.specs.NameTables.{Named, is_id, is_name, place_of_word}
 use Rattle.acl_tree.specs.declared.command.Command.{Command}
 use Rattle.acl_tree.specs.declared.command.Command.TheVariants.{Creat}
 use Rattle.acl_tree.specs.declared.command.NewFile.{NewFile}
@@ -52,7 +52,7 @@ row_within word es i h = by (is_number word) (id_of word) h
     by true (Some id) h = (position-Some (is_id id) es i ([], 0) h).0
     by false o h = (position-Some (is_name word) es i ([], 0) h).0
 
-no_row : (known : Register) (word : List ℕ) → row_of known word ≡ None → MeansNoUser known word
+no_row : (known : KnownPeople) (word : List ℕ) → row_of known word ≡ None → MeansNoUser known word
 no_row known word h = by (place_of_word word (users_of known)) refl h
   where
     by : (o : Option ℕ) → place_of_word word (users_of known) ≡ o → option_and_then (slice_get known.users) o ≡ None → o ≡ None
@@ -62,7 +62,7 @@ no_row known word h = by (place_of_word word (users_of known)) refl h
         let within : i < length known.users = subst (λ n. i < n) (length-map known.users user_entry) (row_within word (users_of known) i is) in
         absurd (some_is_not_none _ _ (slice_get-get_or known.users i r within) h)
 
-some_row : (known : Register) (word : List ℕ) (row : PasswdRow) → row_of known word ≡ Some row → MeansNoUser known word → ⊥
+some_row : (known : KnownPeople) (word : List ℕ) (row : PasswdRow) → row_of known word ≡ Some row → MeansNoUser known word → ⊥
 some_row known word row is none = some_is_not_none (row_of known word) row is (ap (λ o. option_and_then (slice_get known.users) o) none)
 
 -- ---- files at a path or below it

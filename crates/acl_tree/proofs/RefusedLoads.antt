@@ -9,7 +9,7 @@ use Rattle.acl_files.specs.declared.fault.TreeFault.{TreeFault}
 use Rattle.acl_files.specs.declared.fault.TreeFault.TheVariants.{AlreadyLoaded, Text, TooMany, NoMemory}
 use Rattle.acl_files.specs.Files.{max_files}
 use Rattle.acl_files.specs.Loading.{files_of}
-use Rattle.acl_people.specs.Registers.{Register, loaded}
+use Rattle.acl_people.specs.KnownPeople.{KnownPeople, loaded}
 use Rattle.acl_people.specs.declared.fault.LoadFault.TheVariants as loads
 use Rattle.acl_tree.specs.declared.command.Command.{Command}
 use Rattle.acl_tree.specs.declared.command.Command.TheVariants.{Load}
@@ -66,7 +66,7 @@ module _ (s : State) (c : Command) {A : Type 0} (r : Result A TextFault) (again 
     decides_loaded first a is few t = decides_ok s c t (cases (λ g. ⊥) (λ h. not_both again h first) (λ g h. ok_is_not_err r a g is h) few)
 
     -- of users or groups
-    pub decides_people : (put : A → Register) (few : Many → ⊥) (a b : Bool) → again ≡ (a || b) → (q : Result A TextFault) → r ≡ q
+    pub decides_people : (put : A → KnownPeople) (few : Many → ⊥) (a b : Bool) → again ≡ (a || b) → (q : Result A TextFault) → r ≡ q
         → Decides s c (if a then Err AlreadyLoaded else with_people s (if b then Err loads.AlreadyLoaded else loaded put q))
     decides_people put few true b is q h = decides_again is
     decides_people put few false true is q h = decides_again is

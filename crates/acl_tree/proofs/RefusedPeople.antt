@@ -7,8 +7,8 @@ use Rattle.acl_files.specs.acl_syntax.Rows.{most_rows}
 use Rattle.acl_files.specs.declared.fault.TreeFault.{TreeFault}
 use Rattle.acl_files.specs.declared.fault.TreeFault.TheVariants.{NoSuchUser, NoSuchGroup, NotMember, UserExists, UidExists, TooManyUsers}
 use Rattle.acl_people.specs.Changes.{is_member, without_member, with_primary_group, with_user}
-use Rattle.acl_people.specs.Registers.{users_of, groups_of}
-use Rattle.acl_people.specs.Rolls.{place_of_word, has_name, has_id}
+use Rattle.acl_people.specs.KnownPeople.{users_of, groups_of}
+use Rattle.acl_people.specs.NameTables.{place_of_word, has_name, has_id}
 use Rattle.acl_tree.specs.declared.command.Command.{Command}
 use Rattle.acl_tree.specs.declared.command.Command.TheVariants.{Gpasswd, Usermod, Useradd, Userdel}
 use Rattle.acl_tree.specs.declared.command.Membership.{Membership}

@@ -1,7 +1,7 @@
 -- What a staged state reports of its changes.
 use Rattle.std.proofs.Common.{◌≡◌, ◌≢◌, ℕ, List, [], ◌∷◌, filter, true, false, refl, sym, ap, subst, ◌∙◌}
 use Rattle.std.specs.List.{AllByRecursion}
-use Rattle.acl_people.specs.Registers.{Register, persons}
+use Rattle.acl_people.specs.KnownPeople.{KnownPeople, persons}
 use Rattle.acl_people.specs.Moves.{MovesUser}
 use Rattle.acl_tree.specs.declared.user_change.UserChange.TheVariants.{Unchanged}
 use Rattle.acl_files.specs.Files.{Files, Recorded, IsInOrder}
@@ -64,7 +64,7 @@ reported_people old s order same changed gone users =
     }
 
 -- a user who joined or left no group did not move
-pub user_moved : (tree : Recorded) (known next : Register) (user : ℕ) (ids : List ℕ) → MovesUser (persons known) (persons next) user ids → (ids ≡ [] → persons next ≡ persons known)
+pub user_moved : (tree : Recorded) (known next : KnownPeople) (user : ℕ) (ids : List ℕ) → MovesUser (persons known) (persons next) user ids → (ids ≡ [] → persons next ≡ persons known)
     → UsersMoved (state_from tree known) (state_from tree next) (move_of user ids)
 user_moved tree known next user [] moves none = none refl
 user_moved tree known next user (g ∷ gs) moves none = (refl, moves, λ empty. some g gs empty)

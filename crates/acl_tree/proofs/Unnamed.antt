@@ -9,7 +9,7 @@ use Rattle.acl_files.specs.acl_syntax.declared.rows.PasswdRow.{PasswdRow}
 use Rattle.acl_files.specs.acl_edit.Creation.{inherit}
 use Rattle.acl_files.specs.acl_edit.Nodes as nodes
 use Rattle.acl_files.specs.acl_edit.declared.node.Node.{Node}
-use Rattle.acl_people.specs.Registers.{Register, load_passwd, load_group}
+use Rattle.acl_people.specs.KnownPeople.{KnownPeople, load_passwd, load_group}
 use Rattle.acl_people.specs.declared.fault.LoadFault.{LoadFault}
 use Rattle.acl_tree.specs.declared.command.Command.{Command}
 use Rattle.acl_tree.specs.declared.command.Command.TheVariants.{Load, Chmod, Edit, Restore, Creat, Rm, Gpasswd, Usermod, Useradd, Userdel}
@@ -60,11 +60,11 @@ tree_after s new r h = (only_tree s new r h).tree
 
 -- ---- commands on the people alone
 
-same_tree : (s new : State) (r : Result Register LoadFault) → with_people s r ≡ Ok new → new.tree ≡ s.tree
+same_tree : (s new : State) (r : Result KnownPeople LoadFault) → with_people s r ≡ Ok new → new.tree ≡ s.tree
 same_tree s new (Ok people) h = ap (λ r. (state_or s r).tree) (sym h)
 same_tree s new (Err fault) h = absurd (err_is_not_ok _ _ h)
 
-unless_loaded : (s new : State) (b : Bool) (r : Result Register LoadFault) → (if b then Err AlreadyLoaded else with_people s r) ≡ Ok new → new.tree ≡ s.tree
+unless_loaded : (s new : State) (b : Bool) (r : Result KnownPeople LoadFault) → (if b then Err AlreadyLoaded else with_people s r) ≡ Ok new → new.tree ≡ s.tree
 unless_loaded s new true r h = absurd (err_is_not_ok _ _ h)
 unless_loaded s new false r h = same_tree s new r h
 

@@ -7,8 +7,8 @@ use Rattle.acl_files.specs.acl_syntax.declared.rows.PasswdRow.{PasswdRow}
 use Rattle.acl_files.specs.acl_edit.Nodes.{is_directory}
 use Rattle.acl_files.specs.acl_edit.Creation.{inherit}
 use Rattle.acl_files.specs.acl_edit.declared.node.Node.{Node}
-use Rattle.acl_people.specs.Rolls.{place_of_word}
-use Rattle.acl_people.specs.Registers.{Register, users_of}
+use Rattle.acl_people.specs.NameTables.{place_of_word}
+use Rattle.acl_people.specs.KnownPeople.{KnownPeople, users_of}
 use Rattle.acl_tree.specs.declared.command.NewFile.{NewFile}
 use Rattle.acl_files.specs.declared.fault.TreeFault.{TreeFault}
 use Rattle.acl_files.specs.declared.fault.TreeFault.TheVariants.{NoSuchFile, NotDirectory, Exists, NoSuchUser, TooMany}
@@ -16,7 +16,7 @@ use Rattle.acl_files.specs.Files.{PathOf, Files, Recorded, max_files}
 use Rattle.acl_files.specs.acl_names.Below.{is_within, parent}
 
 -- the row of the user that a word means
-abbrev pub row_of : Register → List ℕ → Option PasswdRow
+abbrev pub row_of : KnownPeople → List ℕ → Option PasswdRow
 row_of known word = option_and_then (slice_get known.users) (place_of_word word (users_of known))
 
 -- whether a file is recorded at a path or below it
@@ -45,5 +45,5 @@ creat_by new t None = Err (NoSuchUser new.user)
 creat_by new t (Some row) = if exists new.path t.files then Err (Exists new.path) else creat_in new row t (directory_at (parent new.path) t.files)
 
 -- the files with the new one of a user, or the first fault
-abbrev pub creat : NewFile → Register → Recorded → Result Recorded TreeFault
+abbrev pub creat : NewFile → KnownPeople → Recorded → Result Recorded TreeFault
 creat new known t = creat_by new t (row_of known new.user)

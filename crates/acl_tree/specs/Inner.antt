@@ -12,7 +12,7 @@ use Rattle.acl_files.specs.acl_names.Below.{parent}
 use Rattle.acl_tree.specs.Creat.{exists}
 use Rattle.acl_tree.specs.Step.{State, state_from, step, Stages}
 use Rattle.acl_tree.specs.Reports.{StagedState, Reports, users_move}
-use Rattle.acl_tree.specs.declared.borrowed_state.BorrowedState.{BorrowedState}
+use Rattle.acl_tree.specs.declared.state.BorrowedState.{BorrowedState}
 use Rattle.acl_tree.specs.declared.command.Command.{Command}
 
 -- ---- a command

@@ -6,7 +6,7 @@ use Rattle.acl_files.specs.acl_names.Paths.{path_cmp}
 use Rattle.acl_files.specs.acl_dump.declared.record.DumpRecord.{DumpRecord}
 use Rattle.acl_files.specs.acl_edit.Edits.{no_flags}
 use Rattle.acl_files.specs.acl_edit.Laws.{ShowsRecalculated, BoundsRecalculated, MakesMask}
-use Rattle.acl_files.specs.acl_edit.Changes.{Change}
+use Rattle.acl_files.specs.acl_edit.declared.edit.Change.{Change}
 use Rattle.acl_files.specs.acl_edit.declared.edit.EditFault.{EditFault}
 use Rattle.acl_files.specs.acl_edit.declared.node.Node.{Node}
 use Rattle.acl_tree.specs.declared.command.Command.{Command}

@@ -1,8 +1,8 @@
 -- gpasswd(1) and usermod(8): the groups of one user.
 use Rattle.std.specs.Prelude.{ℕ, List, if◌then◌else◌, Result, Ok, Err}
 use Rattle.std.specs.Option.{ok_or}
-use Rattle.acl_people.specs.Rolls.{place_of_word}
-use Rattle.acl_people.specs.Registers.{Register, users_of, groups_of}
+use Rattle.acl_people.specs.NameTables.{place_of_word}
+use Rattle.acl_people.specs.KnownPeople.{KnownPeople, users_of, groups_of}
 use Rattle.acl_people.specs.Changes.{is_member, with_member, without_member, with_primary_group}
 use Rattle.acl_tree.specs.declared.command.Membership.{Membership}
 use Rattle.acl_tree.specs.declared.command.Membership.TheVariants.{Add, Remove}
@@ -12,35 +12,35 @@ use Rattle.acl_files.specs.declared.fault.TreeFault.TheVariants.{NoSuchUser, NoS
 -- a user's place, and the people after a change of that user
 pub record ChangedUser : Type 0 where
   pub user : ℕ
-  pub people : Register
+  pub people : KnownPeople
 
 -- the place of the user that a word means
-abbrev pub user_at : Register → List ℕ → Result ℕ TreeFault
+abbrev pub user_at : KnownPeople → List ℕ → Result ℕ TreeFault
 user_at known word = ok_or (place_of_word word (users_of known)) (NoSuchUser word)
 
 -- the place of the group that a word means
-abbrev pub group_at : Register → List ℕ → Result ℕ TreeFault
+abbrev pub group_at : KnownPeople → List ℕ → Result ℕ TreeFault
 group_at known word = ok_or (place_of_word word (groups_of known)) (NoSuchGroup word)
 
-abbrev pub change_of : ℕ → Result Register TreeFault → Result ChangedUser TreeFault
+abbrev pub change_of : ℕ → Result KnownPeople TreeFault → Result ChangedUser TreeFault
 change_of user (Ok people) = Ok (record { user = user; people = people })
 change_of user (Err fault) = Err fault
 
 -- a change of a user and a group, which are looked up in this order
-abbrev pub change_found : Result ℕ TreeFault → Result ℕ TreeFault → (ℕ → ℕ → Result Register TreeFault) → Result ChangedUser TreeFault
+abbrev pub change_found : Result ℕ TreeFault → Result ℕ TreeFault → (ℕ → ℕ → Result KnownPeople TreeFault) → Result ChangedUser TreeFault
 change_found (Err fault) group change = Err fault
 change_found (Ok user) (Err fault) change = Err fault
 change_found (Ok user) (Ok group) change = change_of user (change user group)
 
 -- the people with a user added to the row of a group, or removed from it
-abbrev pub membership_changed : ℕ → ℕ → Membership → Register → Result Register TreeFault
+abbrev pub membership_changed : ℕ → ℕ → Membership → KnownPeople → Result KnownPeople TreeFault
 membership_changed user group Add known = Ok (with_member user group known)
 membership_changed user group Remove known = if is_member user group known then Ok (without_member user group known) else Err NotMember
 
 -- gpasswd -a, -d
-abbrev pub gpasswd : List ℕ → List ℕ → Membership → Register → Result ChangedUser TreeFault
+abbrev pub gpasswd : List ℕ → List ℕ → Membership → KnownPeople → Result ChangedUser TreeFault
 gpasswd user group change known = change_found (user_at known user) (group_at known group) (λ u g. membership_changed u g change known)
 
 -- usermod -g
-abbrev pub usermod : List ℕ → List ℕ → Register → Result ChangedUser TreeFault
+abbrev pub usermod : List ℕ → List ℕ → KnownPeople → Result ChangedUser TreeFault
 usermod user group known = change_found (user_at known user) (group_at known group) (λ u g. Ok (with_primary_group u g known))

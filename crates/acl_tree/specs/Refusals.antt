@@ -17,8 +17,8 @@ use Rattle.acl_files.specs.Restoring.{restore_one, paths_of}
 use Rattle.acl_files.specs.declared.fault.TreeFault.{TreeFault}
 use Rattle.acl_files.specs.declared.fault.TreeFault.TheVariants as faults
 use Rattle.acl_people.specs.Changes.{is_member}
-use Rattle.acl_people.specs.Registers.{Register, users_of, groups_of}
-use Rattle.acl_people.specs.Rolls.{place_of_word, has_name, has_id}
+use Rattle.acl_people.specs.KnownPeople.{KnownPeople, users_of, groups_of}
+use Rattle.acl_people.specs.NameTables.{place_of_word, has_name, has_id}
 use Rattle.acl_tree.specs.declared.command.Command.{Command}
 use Rattle.acl_tree.specs.declared.command.Command.TheVariants as commands
 use Rattle.acl_tree.specs.declared.command.Membership.TheVariants.{Remove}
@@ -30,15 +30,15 @@ use Rattle.acl_tree.specs.Step.{State, is_loaded, dump_records, step}
 -- ---- what a fault is about
 
 -- a word means no user
-abbrev pub MeansNoUser : Register → List ℕ → Type 0
+abbrev pub MeansNoUser : KnownPeople → List ℕ → Type 0
 MeansNoUser known word = place_of_word word (users_of known) ≡ None
 
 -- a word means no group
-abbrev pub MeansNoGroup : Register → List ℕ → Type 0
+abbrev pub MeansNoGroup : KnownPeople → List ℕ → Type 0
 MeansNoGroup known word = place_of_word word (groups_of known) ≡ None
 
 -- two words mean a user and a group whose row does not name the user
-pub record MeanNoMember (known : Register) (user group : List ℕ) : Type 0 where
+pub record MeanNoMember (known : KnownPeople) (user group : List ℕ) : Type 0 where
   pub user_place : ℕ
   pub group_place : ℕ
   pub means_user : place_of_word user (users_of known) ≡ Some user_place
@@ -74,13 +74,13 @@ pub record IsEditRefused (edit : PathOf → Node → Result Node EditFault) (rec
   pub refused : edit p node ≡ Err fault
 
 -- a text that is loaded has this fault
-abbrev pub IsTextFault : Register → Table → List ℕ → TextFault → Type 0
+abbrev pub IsTextFault : KnownPeople → Table → List ℕ → TextFault → Type 0
 IsTextFault known Passwd bytes fault = passwd_of bytes ≡ Err fault
 IsTextFault known Group bytes fault = group_of bytes ≡ Err fault
 IsTextFault known Dump bytes fault = dump_records known bytes ≡ Err fault
 
 -- a dump has more records than a tree may have files
-pub record IsTooLong (known : Register) (bytes : List ℕ) : Type 0 where
+pub record IsTooLong (known : KnownPeople) (bytes : List ℕ) : Type 0 where
   pub records : List DumpRecord
   pub read : dump_records known bytes ≡ Ok records
   pub many : max_files < length records

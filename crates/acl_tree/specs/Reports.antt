@@ -3,7 +3,7 @@ use Rattle.std.specs.Prelude.{◌≡◌, ◌≢◌, ◌==◌, ◌-◌, if◌then
 use Rattle.std.specs.List.{AllByRecursion}
 use Rattle.std.specs.Coded.{Coded, code_by, coded×, coded_ℕ, coded_list}
 use Rattle.acl_files.specs.acl_edit.contracts.node.Node as node_contracts
-use Rattle.acl_people.specs.Registers.{Register, persons}
+use Rattle.acl_people.specs.KnownPeople.{KnownPeople, persons}
 use Rattle.acl_people.specs.Moves.{moved_groups, MovesUser, JoinsUser, LeavesUser}
 use Rattle.acl_tree.specs.declared.user_change.UserChange.{UserChange}
 use Rattle.acl_tree.specs.declared.user_change.UserChange.TheVariants.{Unchanged, Loaded, Memberships, Added, Removed}
@@ -46,7 +46,7 @@ move_of user [] = Unchanged
 move_of user (g ∷ gs) = Memberships user (g ∷ gs)
 
 -- how a change of one user's groups moves the users
-abbrev pub change_moves : Register → Result ChangedUser TreeFault → UserChange
+abbrev pub change_moves : KnownPeople → Result ChangedUser TreeFault → UserChange
 change_moves known (Ok change) = move_of change.user (moved_groups known change.people change.user)
 change_moves known (Err fault) = Unchanged
 

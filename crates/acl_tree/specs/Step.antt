@@ -10,7 +10,7 @@ use Rattle.acl_files.specs.acl_edit.Nodes as nodes
 use Rattle.acl_people.specs.declared.fault.LoadFault.{LoadFault}
 use Rattle.acl_people.specs.declared.fault.LoadFault.TheVariants as loads
 use Rattle.acl_people.specs.contracts.people.People as people_contracts
-use Rattle.acl_people.specs.Registers.{Register, nobody, load_passwd, load_group, naming_of}
+use Rattle.acl_people.specs.KnownPeople.{KnownPeople, nobody, load_passwd, load_group, naming_of}
 use Rattle.acl_tree.specs.declared.command.Command.{Command}
 use Rattle.acl_tree.specs.declared.command.Command.TheVariants.{Load, Chmod, Edit, Restore, Creat, Rm, Gpasswd, Usermod, Useradd, Userdel}
 use Rattle.acl_tree.specs.declared.command.Table.{Table}
@@ -30,13 +30,13 @@ use Rattle.acl_files.specs.Restoring.{restored_tree}
 -- the recorded files, and the users and groups
 pub record State : Type 0 where
   pub tree : Recorded
-  pub people : Register
+  pub people : KnownPeople
 
 abbrev pub coded_state : Coded State
 coded_state =
-    code_by (Recorded × Register) (coded× coded_recorded people_contracts.the_row.coded) (λ s. (s.tree, s.people)) (λ p. record { tree = p.0; people = p.1 }) (λ _. refl)
+    code_by (Recorded × KnownPeople) (coded× coded_recorded people_contracts.the_row.coded) (λ s. (s.tree, s.people)) (λ p. record { tree = p.0; people = p.1 }) (λ _. refl)
 
-abbrev pub state_from : Recorded → Register → State
+abbrev pub state_from : Recorded → KnownPeople → State
 state_from tree people = record { tree = tree; people = people }
 
 -- no file is recorded, and nobody is known
@@ -72,7 +72,7 @@ tree_fault loads.AlreadyLoaded = AlreadyLoaded
 tree_fault (loads.Text fault) = Text fault
 tree_fault loads.NoMemory = NoMemory
 
-abbrev pub with_people : State → Result Register LoadFault → Result State TreeFault
+abbrev pub with_people : State → Result KnownPeople LoadFault → Result State TreeFault
 with_people s (Ok people) = Ok (record s { people = people })
 with_people s (Err fault) = Err (tree_fault fault)
 
@@ -83,7 +83,7 @@ with_records s (Ok records) =
     else Ok (record s { tree = record { files = files_of records; loaded = true } })
 
 -- the records of a dump, whose users and groups are looked up
-abbrev pub dump_records : Register → List ℕ → Result (List DumpRecord) TextFault
+abbrev pub dump_records : KnownPeople → List ℕ → Result (List DumpRecord) TextFault
 dump_records known bytes = dump_of (naming_of known) uses.Load bytes
 
 abbrev pub load_dump : State → List ℕ → Result State TreeFault

@@ -15,7 +15,7 @@ pub enum Table {
 }
 
 /// A new file: see [`Command::Creat`].
-#[derive(Debug, Drop)]
+#[derive(Drop)]
 pub struct NewFile {
     pub path: Path,
     pub kind: Kind,
@@ -26,7 +26,7 @@ pub struct NewFile {
 }
 
 /// What becomes of a user and the row of a group.
-#[derive(Clone, Copy, Debug, PartialEq, Eq)]
+#[derive(Clone, Copy, PartialEq, Eq)]
 pub enum Membership {
     /// The row names the user, last where it did not before.
     Add,
@@ -35,7 +35,7 @@ pub enum Membership {
 }
 
 /// A new user: see [`Command::Useradd`].
-#[derive(Debug, Drop)]
+#[derive(Drop)]
 pub struct NewUser {
     pub name: UserName,
     pub uid: Id,
@@ -44,7 +44,7 @@ pub struct NewUser {
 }
 
 /// A command on the whole state. It borrows the text that it loads.
-#[derive(Debug, Drop)]
+#[derive(Drop)]
 pub enum Command<'a> {
     /// Loads a text. Each kind is loaded once, and people before files.
     Load {

@@ -1,6 +1,6 @@
 //! creat: a new file in a directory.
 
-ghost use Rattle.std.specs.Prelude.{◌≡◌, ◌≢◌, ◌∷◌, [], None, Some, Ok, Err, IfOk, IfErr, OnErr};
+ghost use Rattle.std.specs.Prelude.{◌≡◌, ◌≢◌, None, Some, Ok, Err, IfOk, IfErr, OnErr};
 ghost use Rattle.std.specs.FinMap.{put};
 ghost use Rattle.acl_files.specs.acl_names.Paths.{path_cmp};
 ghost use Rattle.acl_files.specs.acl_edit.Creation.{inherit};
@@ -11,10 +11,10 @@ ghost use Rattle.acl_tree.specs.Inner.{Prepares, IsNewIn, whole};
 ghost use Rattle.acl_files.specs.declared.fault.TreeFault.TheVariants.{NoMemory, NoSuchUser};
 ghost use Rattle.acl_tree.specs.declared.command.Command.TheVariants.{Creat};
 
-use crate::borrowed_state::BorrowedState;
 use crate::command::NewFile;
 use crate::dump::MAX_FILES;
-use crate::staged::Staged;
+use crate::state::BorrowedState;
+use crate::step::Staged;
 use crate::user_change::UserChange;
 use acl_files::{Files, Kind, Name, Node, PasswdRow, Path, Record, TreeFault, create};
 use acl_people::People;
@@ -84,11 +84,12 @@ fn new_file(
     new: &NewFile,
     owner: &PasswdRow,
 ) -> Result<Rc<Record>, TreeFault>
-    ensures made { IfOk result (λ file. creat_by new.now tree.now (Some owner.now) ≡ Ok (record tree.now { files = put path_cmp file.value.0 file.value.1 tree.now.files })) }
+    ensures made { IfOk result (λ file. creat_by new.now tree.now (Some owner.now)
+        ≡ Ok (record tree.now { files = put path_cmp file.value.0 file.value.1 tree.now.files })) }
     ensures fits { IfOk result (λ file. IsNewIn tree.now.files file.value) }
     ensures fault { IfErr result (λ fault. fault ≢ NoMemory → creat_by new.now tree.now (Some owner.now) ≡ Err fault) }
 {
-    tree.is_sound();
+    tree.soundness_law();
     if exists(tree, &new.path) {
         return Err(TreeFault::Exists {
             path: new.path.try_clone(alloc)?,

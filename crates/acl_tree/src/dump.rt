@@ -7,8 +7,8 @@ ghost use Rattle.acl_tree.specs.Step.{load_dump, Stages};
 ghost use Rattle.acl_tree.specs.Reports.{Reports};
 ghost use Rattle.acl_tree.specs.declared.user_change.UserChange.TheVariants.{Unchanged};
 
-use crate::borrowed_state::BorrowedState;
-use crate::staged::Staged;
+use crate::state::BorrowedState;
+use crate::step::Staged;
 use crate::user_change::UserChange;
 use acl_files::{
     DumpUse, FaultKind, Files, PathMap, Record, TextFault, TreeFault, files_of, read_dump,

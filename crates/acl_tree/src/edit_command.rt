@@ -1,4 +1,4 @@
-//! setfacl(1) and chacl(1): files are edited.
+//! Files are edited: setfacl(1) and chacl(1), `setfacl --restore`, chmod(1).
 
 ghost use Rattle.std.specs.Prelude.{◌≡◌, ◌≢◌, Ok, Err, IfOk, IfErr};
 ghost use Rattle.acl_files.specs.Edits.{edit_all};
@@ -8,13 +8,14 @@ ghost use Rattle.acl_tree.specs.Inner.{Prepares, whole};
 ghost use Rattle.acl_tree.specs.Reports.{Reports};
 ghost use Rattle.acl_tree.specs.declared.command.Command.TheVariants as commands;
 ghost use Rattle.acl_tree.specs.declared.user_change.UserChange.TheVariants.{Unchanged};
+ghost use Rattle.acl_tree.specs.declared.command.Command.TheVariants.{Restore};
 
-use crate::borrowed_state::BorrowedState;
-use crate::staged::Staged;
+use crate::state::BorrowedState;
+use crate::step::Staged;
 use crate::user_change::UserChange;
 use acl_files::{
-    Edit, EditFault, FileFault, Node, NodeEdit, Path, Selection, TreeFault, apply, edit_files,
-    look_up,
+    DumpRecords, Edit, EditFault, FileFault, Node, NodeEdit, Path, Selection, TreeFault, apply,
+    chmod, edit_files, look_up, restore_files,
 };
 use std::alloc::Global;
 
@@ -39,15 +40,17 @@ impl NodeEdit for EachFile<'_> {
 }
 
 /// The state with the files of a command edited. The people stay as they are.
-fn stage_edits<E: NodeEdit>(
+pub(crate) fn stage_edits<E: NodeEdit>(
     alloc: Global,
     state: &BorrowedState<'_>,
     selection: &Selection<'_>,
     edit: &E,
 ) -> Result<Staged, FileFault>
-    ensures made { IfOk result (λ staged. edit_all (E.edited edit.now) selection.now.recursive selection.now.operands.now state.now.tree.now ≡ Ok staged.state.tree) }
+    ensures made { IfOk result (λ staged. edit_all (E.edited edit.now) selection.now.recursive selection.now.operands.now state.now.tree.now
+        ≡ Ok staged.state.tree) }
     ensures people { IfOk result (λ staged. staged.state.people ≡ state.now.people.now) }
-    ensures fault { IfErr result (λ fault. fault ≢ NoMemory → edit_all (E.edited edit.now) selection.now.recursive selection.now.operands.now state.now.tree.now ≡ Err fault) }
+    ensures fault { IfErr result (λ fault. fault ≢ NoMemory
+        → edit_all (E.edited edit.now) selection.now.recursive selection.now.operands.now state.now.tree.now ≡ Err fault) }
     ensures sound { IfOk result (λ staged. IsSoundTree staged.state.tree) }
     ensures reports { IfOk result (λ staged. Reports (whole state.now) staged) }
     ensures moved { IfOk result (λ staged. staged.user_change ≡ Unchanged) }
@@ -78,4 +81,62 @@ pub(crate) fn prepare_edit(
         recursive: selection.recursive,
     };
     Ok(stage_edits(alloc, state, selection, &each)?)
+}
+
+/// The low twelve bits of a mode, to be put into a file.
+#[derive(Clone, Copy)]
+struct Mode {
+    bits: u16,
+}
+
+impl NodeEdit for Mode {
+    ghost use Rattle.std.specs.Prelude.{Ok};
+    ghost use Rattle.acl_files.specs.acl_edit.Nodes as nodes;
+
+    ghost edited = { λ mode _ n. Ok (nodes.chmod n mode.bits) };
+
+    fn edited(&self, alloc: Global, _path: &Path, node: &Node) -> Result<Node, EditFault> {
+        let mut node = node.try_clone(alloc)?;
+        chmod(&mut node, self.bits);
+        Ok(node)
+    }
+
+    /// Proof only: a directory stays one, and only directories have default lists.
+    fn keeps_place(&self) {}
+}
+
+/// Puts a mode into the files of a command.
+pub(crate) fn prepare_chmod(
+    alloc: Global,
+    state: &BorrowedState<'_>,
+    selection: &Selection<'_>,
+    mode: u16,
+) -> Result<Staged, TreeFault>
+    ensures { Prepares (whole state.now) (commands.Chmod selection.now.operands.now mode selection.now.recursive) result }
+{
+    state.tree.soundness_law();
+    look_up(alloc, state.tree, selection.operands.as_slice())?;
+    match stage_edits(alloc, state, selection, &Mode { bits: mode }) {
+        Ok(staged) => Ok(staged),
+        Err(_) => Err(TreeFault::NoMemory),
+    }
+}
+
+/// Restores the files of records.
+pub(crate) fn prepare_restore(
+    alloc: Global,
+    state: &BorrowedState<'_>,
+    records: &DumpRecords,
+) -> Result<Staged, TreeFault>
+    ensures { Prepares (whole state.now) (Restore records.now) result }
+{
+    let mut changed = Vec::new(alloc);
+    let restored = restore_files(alloc, state.tree, &mut changed, records)?;
+    Ok(Staged::of(
+        restored,
+        state.people.share()?,
+        changed,
+        Vec::new(alloc),
+        UserChange::Unchanged,
+    ))
 }

@@ -1,7 +1,7 @@
 //! gpasswd(1): a user joins or leaves the row of a group.
 
 ghost use Rattle.std.specs.Prelude.{◌≡◌, ◌≢◌, ◌<◌, length, Ok, Err, IfOk, IfErr, IfSome};
-ghost use Rattle.acl_people.specs.Registers.{persons};
+ghost use Rattle.acl_people.specs.KnownPeople.{persons};
 ghost use Rattle.acl_people.specs.Moves.{ChangesUser};
 ghost use Rattle.acl_tree.specs.Inner.{Prepares, whole};
 ghost use Rattle.acl_tree.specs.Memberships.{membership_changed};
@@ -9,11 +9,10 @@ ghost use Rattle.acl_tree.specs.Step.{refused_at_once};
 ghost use Rattle.acl_tree.specs.declared.command.Command.TheVariants.{Gpasswd};
 ghost use Rattle.acl_files.specs.declared.fault.TreeFault.TheVariants.{NoMemory};
 
-use crate::borrowed_state::BorrowedState;
 use crate::command::Membership;
-use crate::find_people::{find_group, find_user};
-use crate::stage_people::stage_user_change;
-use crate::staged::Staged;
+use crate::stage_people::{find_group, find_user, stage_user_change};
+use crate::state::BorrowedState;
+use crate::step::Staged;
 use acl_files::{Name, TreeFault};
 use acl_people::People;
 use std::alloc::Global;

@@ -1,7 +1,7 @@
 //! The loads of users, groups and files.
 
 ghost use Rattle.std.specs.Prelude.{◌≡◌, [], true, IfOk, IfErr, OnOk, Err};
-ghost use Rattle.acl_people.specs.Registers.{Register};
+ghost use Rattle.acl_people.specs.KnownPeople.{KnownPeople};
 ghost use Rattle.acl_tree.specs.Step.{tree_fault, is_loaded, state_from};
 ghost use Rattle.acl_files.specs.declared.fault.TreeFault.TheVariants.{AlreadyLoaded, NoMemory};
 ghost use Rattle.acl_tree.specs.Inner.{Prepares, whole};
@@ -10,16 +10,17 @@ ghost use Rattle.acl_tree.specs.Reports.{Reports};
 ghost use Rattle.acl_tree.specs.declared.command.Command.TheVariants.{Load};
 ghost use Rattle.acl_tree.specs.declared.user_change.UserChange.TheVariants.{Loaded};
 
-use crate::borrowed_state::BorrowedState;
 use crate::command::Table;
 use crate::dump::prepare_dump;
 use crate::stage_people::stage_people;
-use crate::staged::Staged;
+use crate::state::BorrowedState;
+use crate::step::Staged;
 use crate::user_change::UserChange;
 use acl_files::{Files, TreeFault};
 use acl_people::{LoadFault, People};
 use std::alloc::Global;
 
+/// Why a load is refused, as the fault of the command.
 fn load_fault(fault: LoadFault) -> TreeFault
     ensures { result ≡ tree_fault fault }
 {
@@ -41,7 +42,7 @@ pub(crate) fn prepare_load(
     ensures loaded { is_loaded (whole state.now) which ≡ true → result ≡ Err AlreadyLoaded }
 {
     let (tree, people) = (state.tree, state.people);
-    tree.is_sound();
+    tree.soundness_law();
     if tree.is_loaded() {
         return Err(TreeFault::AlreadyLoaded);
     }
@@ -52,15 +53,17 @@ pub(crate) fn prepare_load(
     }
 }
 
+/// The state with people that were loaded.
 fn with_people(
     alloc: Global,
     tree: &Files,
     loaded: Result<People, LoadFault>,
 ) -> Result<Staged, TreeFault>
-    ensures ok { IfOk loaded (λ people. IfOk result (λ staged. staged ≡ record { state = state_from tree.now people; changed = []; gone = []; user_change = Loaded })) }
+    ensures ok { IfOk loaded (λ people. IfOk result (λ staged. staged
+        ≡ record { state = state_from tree.now people; changed = []; gone = []; user_change = Loaded })) }
     ensures moved { IfOk result (λ staged. staged.user_change ≡ Loaded) }
     ensures sound { IfOk result (λ staged. IsSoundTree staged.state.tree) }
-    ensures reports { IfOk result (λ staged. (people : Register) → tree.now.files ≡ [] → Reports (state_from tree.now people) staged) }
+    ensures reports { IfOk result (λ staged. (people : KnownPeople) → tree.now.files ≡ [] → Reports (state_from tree.now people) staged) }
     ensures err { IfErr loaded (λ fault. result ≡ Err (tree_fault fault)) }
     ensures memory { OnOk loaded (IfErr result (λ fault. fault ≡ NoMemory)) }
 {

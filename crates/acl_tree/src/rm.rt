@@ -9,8 +9,8 @@ ghost use Rattle.acl_tree.specs.Rm.{refusal, first_refused};
 ghost use Rattle.acl_files.specs.declared.fault.TreeFault.TheVariants.{NoMemory};
 ghost use Rattle.acl_tree.specs.declared.command.Command.TheVariants.{Rm};
 
-use crate::borrowed_state::BorrowedState;
-use crate::staged::Staged;
+use crate::state::BorrowedState;
+use crate::step::Staged;
 use crate::user_change::UserChange;
 use acl_files::{Files, Found, Kind, Path, Record, Selection, TreeFault, select};
 use std::alloc::{AllocError, Global};

@@ -1,17 +1,19 @@
-//! A change of people, staged: no file changes.
+//! The users and groups that words mean, and a change of people, staged: no file changes.
 
-ghost use Rattle.std.specs.Prelude.{◌≡◌, [], IfOk};
-ghost use Rattle.acl_people.specs.Registers.{Register, persons};
+ghost use Rattle.std.specs.Prelude.{◌≡◌, [], IfOk, ◌≢◌, ◌<◌, length, Ok, Err, IfErr, OnErr};
+ghost use Rattle.acl_people.specs.KnownPeople.{KnownPeople, persons};
 ghost use Rattle.acl_people.specs.Moves.{ChangesUser, moved_groups};
 ghost use Rattle.acl_files.specs.Sound.{IsSoundTree};
 ghost use Rattle.acl_tree.specs.Inner.{whole};
 ghost use Rattle.acl_tree.specs.Step.{state_from};
 ghost use Rattle.acl_tree.specs.Reports.{move_of, UsersMoved, Reports};
+ghost use Rattle.acl_tree.specs.Memberships.{user_at, group_at};
+ghost use Rattle.acl_files.specs.declared.fault.TreeFault.TheVariants.{NoSuchUser, NoSuchGroup, NoMemory};
 
-use crate::borrowed_state::BorrowedState;
-use crate::staged::Staged;
+use crate::state::BorrowedState;
+use crate::step::Staged;
 use crate::user_change::{GroupIds, UserChange};
-use acl_files::{Files, Id};
+use acl_files::{Files, Id, Name, TreeFault};
 use acl_people::People;
 use std::alloc::{AllocError, Global};
 
@@ -24,9 +26,10 @@ pub(crate) fn stage_people(
 ) -> Result<Staged, AllocError>
     ensures all { IfOk result (λ staged. staged ≡ record { state = state_from tree.now people; changed = []; gone = []; user_change = user_change }) }
     ensures sound { IfOk result (λ staged. IsSoundTree staged.state.tree) }
-    ensures reports { IfOk result (λ staged. (old : Register) → UsersMoved (state_from tree.now old) (state_from tree.now people) user_change → Reports (state_from tree.now old) staged) }
+    ensures reports { IfOk result (λ staged. (old : KnownPeople) → UsersMoved (state_from tree.now old) (state_from tree.now people) user_change
+        → Reports (state_from tree.now old) staged) }
 {
-    tree.is_sound();
+    tree.soundness_law();
     Ok(Staged::of(
         tree.share()?,
         people,
@@ -66,4 +69,34 @@ pub(crate) fn stage_user_change(
     let groups = state.people.moved_groups(alloc, &next, user)?;
     let staged = stage_people(alloc, state.tree, next, move_of(user, groups))?;
     Ok(staged)
+}
+
+/// The place of the user that a word means.
+pub(crate) fn find_user(alloc: Global, people: &People, word: &Name) -> Result<usize, TreeFault>
+    ensures found { IfOk result (λ user. user_at people.now word.now ≡ Ok user) }
+    ensures within { IfOk result (λ user. user < length people.now.users) }
+    ensures fault { IfErr result (λ fault. fault ≢ NoMemory → user_at people.now word.now ≡ Err fault) }
+    ensures unknown { OnErr result (user_at people.now word.now ≡ Err (NoSuchUser word.now)) }
+{
+    match people.find_user(word.as_bytes()) {
+        Some(user) => Ok(user),
+        None => Err(TreeFault::NoSuchUser {
+            name: word.try_clone(alloc)?,
+        }),
+    }
+}
+
+/// The place of the group that a word means.
+pub(crate) fn find_group(alloc: Global, people: &People, word: &Name) -> Result<usize, TreeFault>
+    ensures found { IfOk result (λ group. group_at people.now word.now ≡ Ok group) }
+    ensures within { IfOk result (λ group. group < length people.now.groups) }
+    ensures fault { IfErr result (λ fault. fault ≢ NoMemory → group_at people.now word.now ≡ Err fault) }
+    ensures unknown { OnErr result (group_at people.now word.now ≡ Err (NoSuchGroup word.now)) }
+{
+    match people.find_group(word.as_bytes()) {
+        Some(group) => Ok(group),
+        None => Err(TreeFault::NoSuchGroup {
+            name: word.try_clone(alloc)?,
+        }),
+    }
 }

@@ -1,4 +1,4 @@
-//! The whole state: the recorded files, and the users and groups.
+//! The whole state: the recorded files, and the users and groups; and the state that a command starts from.
 
 ghost use Rattle.std.specs.Prelude.{◌≡◌, IfOk, IfSome, Err};
 ghost use Rattle.acl_files.specs.Sound.{IsSoundTree};
@@ -6,9 +6,9 @@ ghost use Rattle.acl_tree.specs.Step.{nothing, refused_at_once, step, Stages};
 ghost use Rattle.acl_tree.specs.Reports.{users_move, Reports};
 
 use crate::command::Command;
-use crate::staged::Staged;
+use crate::step::Staged;
 use crate::tree::Tree;
-use acl_files::TreeFault;
+use acl_files::{Files, TreeFault};
 use acl_people::People;
 use std::alloc::{AllocError, Global};
 use std::marker::Model;
@@ -81,4 +81,11 @@ impl State {
     {
         self.tree.commit(&mut self.people, staged);
     }
+}
+
+/// The recorded files, and the users and groups, before a command.
+#[derive(Clone, Copy)]
+pub(crate) struct BorrowedState<'a> {
+    pub(crate) tree: &'a Files,
+    pub(crate) people: &'a People,
 }

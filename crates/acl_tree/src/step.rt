@@ -1,27 +1,41 @@
-//! Commands on the whole state: each is prepared whole, or refused.
+//! Commands on the whole state: each is prepared whole, or refused; and a prepared command, before it is put in place.
 
-ghost use Rattle.std.specs.Prelude.{◌≡◌, IfSome, Err};
+ghost use Rattle.std.specs.Prelude.{◌≡◌, IfSome, Err, length, map, option_map};
 ghost use Rattle.acl_tree.specs.Inner.{Prepares, whole};
 ghost use Rattle.acl_tree.specs.Step.{refused_at_once};
+ghost use Rattle.acl_files.specs.Sound.{IsSoundTree};
+ghost use Rattle.acl_tree.specs.Reports.{memberships_moved, place_joined, place_left};
 
-use crate::borrowed_state::BorrowedState;
-use crate::chmod::prepare_chmod;
 use crate::command::Command;
 use crate::creat::prepare_creat;
-use crate::edit_command::prepare_edit;
+use crate::edit_command::{prepare_chmod, prepare_edit, prepare_restore};
 use crate::gpasswd::prepare_gpasswd;
 use crate::load::prepare_load;
-use crate::restore::prepare_restore;
 use crate::rm::prepare_rm;
-use crate::staged::Staged;
+use crate::state::BorrowedState;
+use crate::tree::Tree;
+use crate::user_change::UserChange;
 use crate::useradd::prepare_useradd;
 use crate::userdel::prepare_userdel;
 use crate::usermod::prepare_usermod;
-use acl_files::{Selection, TreeFault};
+use acl_files::{Files, Id, Paths, Record, Selection, TreeFault};
+use acl_people::People;
 use std::alloc::Global;
+use std::marker::Model;
+use std::rc::Rc;
+
+/// The operands of a command, with whether files below them are meant too.
+fn selection_of(operands: &Paths, recursive: bool) -> Selection<'_>
+    ensures { result ≡ record { operands = operands.entry; recursive = recursive } }
+{
+    Selection {
+        operands,
+        recursive,
+    }
+}
 
 /// The state after a command: [`crate::Tree::prepare`], by commands.
-pub(crate) fn prepare(
+pub(crate) fn prepare_command(
     alloc: Global,
     state: &BorrowedState<'_>,
     command: &Command<'_>,
@@ -35,33 +49,19 @@ pub(crate) fn prepare(
             paths,
             mode,
             recursive,
-        } => {
-            let selection = Selection {
-                operands: paths,
-                recursive: *recursive,
-            };
-            prepare_chmod(alloc, state, &selection, *mode)
-        }
+        } => prepare_chmod(alloc, state, &selection_of(paths, *recursive), *mode),
         Command::Edit {
             paths,
             edit,
             recursive,
-        } => {
-            let selection = Selection {
-                operands: paths,
-                recursive: *recursive,
-            };
-            prepare_edit(alloc, state, &selection, edit)
-        }
+        } => prepare_edit(alloc, state, &selection_of(paths, *recursive), edit),
         Command::Restore { records } => prepare_restore(alloc, state, records),
         Command::Creat(new) => prepare_creat(alloc, state, new),
-        Command::Rm { paths, recursive } => {
-            let selection = Selection {
-                operands: paths,
-                recursive: *recursive,
-            };
-            prepare_rm(alloc, state, &selection)
-        }
+        Command::Rm { paths, recursive } => prepare_rm(
+            alloc,
+            state,
+            &selection_of(paths, *recursive),
+        ),
         Command::Gpasswd {
             user,
             group,
@@ -70,5 +70,156 @@ pub(crate) fn prepare(
         Command::Usermod { user, group } => prepare_usermod(alloc, state, user, group),
         Command::Useradd(new) => prepare_useradd(alloc, state, new),
         Command::Userdel { user } => prepare_userdel(alloc, state, user),
+    }
+}
+
+/// The whole state after a command, and what it changes. It is put in place by [`Tree::commit`], or discarded:
+/// one of these has to be done with it.
+pub struct Staged {
+    tree: Tree,
+    people: People,
+    changed: Vec<Rc<Record>>,
+    gone: Vec<Rc<Record>>,
+    user_change: UserChange,
+}
+
+impl Model for Staged {
+    ghost use Rattle.std.specs.Prelude.{map};
+    ghost use Rattle.acl_tree.specs.Reports.{StagedState, coded_staged};
+
+    ghost Value = { StagedState };
+
+    ghost coded = { coded_staged };
+
+    ghost view = { λ s. record {
+      state = record { tree = s.tree; people = s.people };
+      changed = map (λ r. r.value) s.changed.items;
+      gone = map (λ r. r.value) s.gone.items;
+      user_change = s.user_change;
+    } };
+}
+
+impl Staged {
+    /// The state after a command, with what the command changed.
+    pub(crate) fn of(
+        files: Files,
+        people: People,
+        changed: Vec<Rc<Record>>,
+        gone: Vec<Rc<Record>>,
+        user_change: UserChange,
+    ) -> Staged
+        ensures all { result ≡ record {
+          state = record { tree = files; people = people };
+          changed = map (λ r. r.value) changed.items;
+          gone = map (λ r. r.value) gone.items;
+          user_change = user_change;
+        } }
+        ensures sound { IsSoundTree files }
+    {
+        files.soundness_law();
+        Staged {
+            tree: Tree::of(files),
+            people,
+            changed,
+            gone,
+            user_change,
+        }
+    }
+
+    /// The tree after the command.
+    pub fn tree(&self) -> &Tree
+        ensures { result.now ≡ self.now.state.tree }
+    {
+        &self.tree
+    }
+
+    /// The people after the command.
+    pub fn people(&self) -> &People
+        ensures { result.now ≡ self.now.state.people }
+    {
+        &self.people
+    }
+
+    /// The files after the command that are new, or whose owner, group or access list is another than
+    /// before, in path order. It allocates nothing.
+    pub fn changed(&self) -> &[Rc<Record>]
+        ensures { map (λ r. r.value) result.now ≡ self.now.changed }
+    {
+        &self.changed
+    }
+
+    /// The files before the command that are recorded no more, in path order. It allocates nothing.
+    pub fn gone(&self) -> &[Rc<Record>]
+        ensures { map (λ r. r.value) result.now ≡ self.now.gone }
+    {
+        &self.gone
+    }
+
+    /// The user who joined or left groups, and the ids of these groups, rising; `None` where nobody did. It allocates
+    /// nothing.
+    pub fn moved(&self) -> Option<(usize, &[Id])>
+        ensures { option_map (λ moved. (moved.0, moved.1.now)) result ≡ memberships_moved self.now.user_change }
+    {
+        match &self.user_change {
+            UserChange::Memberships { user, groups } => Some((*user, groups.as_slice())),
+            _ => None,
+        }
+    }
+
+    /// The place of the user who was added, among the users after the command; `None` where nobody was. It allocates
+    /// nothing.
+    pub fn joined(&self) -> Option<usize>
+        ensures { result ≡ place_joined self.now.user_change (length self.now.state.people.users) }
+    {
+        let users = self.people.users();
+        match self.user_change {
+            UserChange::Added if users > 0 => Some(users - 1),
+            _ => None,
+        }
+    }
+
+    /// The place of the user who was removed, among the users before the command; `None` where nobody was. It
+    /// allocates nothing.
+    pub fn left(&self) -> Option<usize>
+        ensures { result ≡ place_left self.now.user_change }
+    {
+        match self.user_change {
+            UserChange::Removed { user } => Some(user),
+            _ => None,
+        }
+    }
+
+    /// What changed of the users: the same as [`Staged::moved`], [`Staged::joined`] and [`Staged::left`] as one value,
+    /// and whether users were loaded. It allocates nothing.
+    pub fn user_change(&self) -> &UserChange
+        ensures { result.now ≡ self.now.user_change }
+    {
+        &self.user_change
+    }
+
+    /// Discards the prepared state, and leaves the present one as it is. It allocates nothing.
+    pub fn give_up(self) {
+        let Staged {
+            tree: _tree,
+            people: _people,
+            changed: _changed,
+            gone: _gone,
+            user_change: _user_change,
+        } = self;
+    }
+
+    /// The tree and the people after the command.
+    pub(crate) fn into_parts(self) -> (Tree, People)
+        ensures tree { result.0 ≡ self.state.tree }
+        ensures people { result.1 ≡ self.state.people }
+    {
+        let Staged {
+            tree,
+            people,
+            changed: _changed,
+            gone: _gone,
+            user_change: _user_change,
+        } = self;
+        (tree, people)
     }
 }

@@ -13,17 +13,16 @@ ghost use Rattle.acl_files.specs.declared.fault.TreeFault.TheVariants.{NoMemory}
 ghost use Rattle.acl_tree.specs.Step.{refused_at_once, step, Stages, state_from};
 ghost use Rattle.acl_tree.specs.Reports.{users_move, Reports};
 
-use crate::borrowed_state::BorrowedState;
 use crate::command::Command;
-use crate::staged::Staged;
-use crate::step::prepare;
+use crate::state::BorrowedState;
+use crate::step::{Staged, prepare_command};
 use acl_files::{Files, FilesIter, Found, NoMemory, Node, Path, Selection, TreeFault};
 use acl_people::People;
 use std::alloc::Global;
 use std::marker::Model;
 
 /// The files that a dump recorded, in path order. A tree and the trees made from it share the files that are the same.
-/// What is true of every tree is the clause of [`Tree::is_sound`].
+/// What is true of every tree is the clause of [`Tree::soundness_law`].
 #[derive(Drop)]
 pub struct Tree {
     files: Files,
@@ -117,10 +116,10 @@ impl Tree {
     /// Proof only: the files are in path order, each path once, and there are at most 1,048,576; there is none
     /// before a dump is loaded; the root and what has a file below it are directories, and only directories
     /// have default lists.
-    pub fn is_sound(&self)
+    pub fn soundness_law(&self)
         ensures { IsSoundTree self.now }
     {
-        self.files.is_sound();
+        self.files.soundness_law();
     }
 
     /// The state after a command on these files and these people. Both stay as they are: a refused command changes
@@ -157,7 +156,7 @@ impl Tree {
             tree: &self.files,
             people,
         };
-        prepare(alloc, &state, command)
+        prepare_command(alloc, &state, command)
     }
 
     /// Puts a prepared state in place of this tree and of its people. Allocates nothing and succeeds.

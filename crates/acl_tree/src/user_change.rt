@@ -6,7 +6,7 @@ use acl_files::Id;
 use std::marker::Model;
 
 /// What a command changes of the users, their ids and groups.
-#[derive(Debug, Drop)]
+#[derive(Drop)]
 pub enum UserChange {
     /// Each user has the same id and the same groups as before.
     Unchanged,
@@ -21,7 +21,7 @@ pub enum UserChange {
 }
 
 /// Ids of groups, rising, each once.
-#[derive(Debug, Drop)]
+#[derive(Drop)]
 pub struct GroupIds {
     ids: Vec<Id>,
 }

@@ -1,7 +1,7 @@
 //! useradd(8): one user more.
 
 ghost use Rattle.std.specs.Prelude.{◌≡◌, ◌≢◌, length, Ok, Err, IfOk, IfErr, IfSome};
-ghost use Rattle.acl_people.specs.Registers.{persons};
+ghost use Rattle.acl_people.specs.KnownPeople.{persons};
 ghost use Rattle.acl_people.specs.Moves.{JoinsUser};
 ghost use Rattle.acl_tree.specs.Accounts.{useradd};
 ghost use Rattle.acl_tree.specs.Inner.{Prepares, whole};
@@ -9,11 +9,10 @@ ghost use Rattle.acl_tree.specs.Step.{nameless, refused_at_once};
 ghost use Rattle.acl_files.specs.declared.fault.TreeFault.TheVariants.{NoMemory};
 ghost use Rattle.acl_tree.specs.declared.command.Command.TheVariants.{Useradd};
 
-use crate::borrowed_state::BorrowedState;
 use crate::command::NewUser;
-use crate::find_people::find_group;
-use crate::stage_people::stage_people;
-use crate::staged::Staged;
+use crate::stage_people::{find_group, stage_people};
+use crate::state::BorrowedState;
+use crate::step::Staged;
 use crate::user_change::UserChange;
 use acl_files::TreeFault;
 use acl_people::People;

@@ -3,10 +3,9 @@
 ghost use Rattle.acl_tree.specs.Inner.{Prepares, whole};
 ghost use Rattle.acl_tree.specs.declared.command.Command.TheVariants.{Userdel};
 
-use crate::borrowed_state::BorrowedState;
-use crate::find_people::find_user;
-use crate::stage_people::stage_people;
-use crate::staged::Staged;
+use crate::stage_people::{find_user, stage_people};
+use crate::state::BorrowedState;
+use crate::step::Staged;
 use crate::user_change::UserChange;
 use acl_files::{Name, TreeFault};
 use std::alloc::Global;

@@ -3,10 +3,9 @@
 ghost use Rattle.acl_tree.specs.Inner.{Prepares, whole};
 ghost use Rattle.acl_tree.specs.declared.command.Command.TheVariants.{Usermod};
 
-use crate::borrowed_state::BorrowedState;
-use crate::find_people::{find_group, find_user};
-use crate::stage_people::stage_user_change;
-use crate::staged::Staged;
+use crate::stage_people::{find_group, find_user, stage_user_change};
+use crate::state::BorrowedState;
+use crate::step::Staged;
 use acl_files::{Name, TreeFault};
 use std::alloc::Global;
 

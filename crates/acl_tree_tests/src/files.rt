@@ -30,7 +30,7 @@ fn expect_prepared(rt: &impl Abort, alloc: Global, state: &State, line: &Line, w
 fn files_come_in_path_order(rt: HostRuntime) {
     each_record_is_a_file();
     let state = after(&rt, rt.alloc(), &[&PEOPLE, &FOUR]);
-    state.tree().is_sound();
+    state.tree().soundness_law();
     let text = listing(&rt, rt.alloc(), state.tree(), state.people());
     expect_text(&rt, text, BEFORE);
 }

@@ -3,8 +3,9 @@
 //! A row is data. What comes of a command and what a file is are compared as texts, so a new test needs no code.
 use crate::shown::{expect_files, expect_text, listing, outcome};
 use acl_tree::{
-    Command, DumpRecords, DumpUse, Edit, Id, Kind, Membership, Name, NewFile, NewUser, Path, Paths,
-    People, Sep, Specs, State, Table, UserName, Want, read_dump, read_entries, read_path,
+    Change, ChangeEntries, ChangeFlags, Command, DumpRecords, DumpUse, Edit, Id, Kind, Membership,
+    Name, NewFile, NewUser, Path, Paths, People, Sep, Specs, State, Table, UserName, Want,
+    read_dump, read_entries, read_path,
 };
 use std::alloc::Global;
 use std::process::Abort;
@@ -57,16 +58,20 @@ fn entries(rt: &impl Abort, alloc: Global, text: &[u8], want: Want, people: &Peo
 }
 
 fn change(rt: &impl Abort, alloc: Global, people: &People, remove: &[u8], modify: &[u8]) -> Edit {
-    Edit::Change {
-        strip: false,
-        drop_default: false,
-        as_default: false,
-        no_mask: false,
-        remask: false,
-        remove: entries(rt, alloc, remove, Want::WithoutPerms, people),
-        set: Specs::new(Vec::new(alloc)),
-        modify: entries(rt, alloc, modify, Want::WithPerms, people),
-    }
+    Edit::Change(Change {
+        flags: ChangeFlags {
+            strip: false,
+            drop_default: false,
+            as_default: false,
+            no_mask: false,
+            remask: false,
+        },
+        entries: ChangeEntries {
+            removed: entries(rt, alloc, remove, Want::WithoutPerms, people),
+            set: Specs::new(Vec::new(alloc)),
+            modified: entries(rt, alloc, modify, Want::WithPerms, people),
+        },
+    })
 }
 
 fn records(rt: &impl Abort, alloc: Global, people: &People, text: &[u8]) -> DumpRecords {

@@ -174,14 +174,3 @@ module _ {R : Type 0} {A : Type 0} (f : R → PathOf × A) where
   none_left xs depth q none kept =
       ap (λ k. last_of (take k (map f xs))) none ∙ ap last_of (take_none (map f xs)) ∙ sym (ap (nearest q) (take_none (map f xs))) ∙ ap (λ k. nearest q (take k (map f xs))) (sym none)
       ∙ kept q (ap is_gt (tied_itself path_total q))
-
-pub cut_step : (above : Option (List ℕ)) (cells : List ℕ) (at x cell : ℕ) (new more all : List ℕ) → at < length cells → x ≡ get_or cells at x → cell ≡ (if lets above at then x else 0) → more ≡ new ++ cell ∷ []
-    → new ++ cut_from above at (drop at cells) ≡ all → more ++ cut_from above (at + 1) (drop (at + 1) cells) ≡ all
-cut_step above cells at x cell new more all lt is made pushed so_far =
-    let later = cut_from above (at + 1) (drop (at + 1) cells) in
-    let next : suc at ≡ at + 1 = omega arith in
-    ap (λ l. l ++ later) pushed ∙ append_assoc new (cell ∷ []) later
-    ∙ ap (λ c. new ++ c ∷ later) made
-    ∙ ap (λ k. new ++ (if lets above at then x else 0) ∷ cut_from above k (drop (at + 1) cells)) (sym next)
-    ∙ ap (λ l. new ++ cut_from above at l) (sym (drop_more cells at x lt ∙ ap (λ y. y ∷ drop (at + 1) cells) (sym is)))
-    ∙ so_far

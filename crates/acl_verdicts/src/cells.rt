@@ -1,10 +1,12 @@
-//! The verdicts of all users on one file.
+//! The verdicts of all users on one file, and a row without those of users who cannot search above.
 
-ghost use Rattle.std.specs.Prelude.{◌≡◌, ◌+◌, ◌*◌, ◌++◌, ◌∷◌, [], ◌<◌, ◌≤◌, ◌^◌, true, length, map, IfOk, OnOk, slice_set, slice_get};
+ghost use Rattle.std.specs.Prelude.{◌≡◌, ◌+◌, ◌*◌, ◌++◌, ◌∷◌, [], ◌<◌, ◌≤◌, ◌^◌, true, length, map, IfOk, OnOk, slice_set, slice_get, Some, if◌then◌else◌};
 ghost use Rattle.std.specs.List.{remove};
+ghost use Rattle.acl_verdicts.specs.Reach.{execute};
+ghost use Rattle.acl_verdicts.specs.Walks.{lets, cut_from};
 
 use crate::judge::Judge;
-use acl_files::{Label, Requests, Subject};
+use acl_files::{Label, Perm, Requests, Subject};
 use acl_subjects::Subjects;
 use std::alloc::{AllocError, Global};
 use std::marker::Model;
@@ -177,4 +179,90 @@ pub fn without(
     new.extend_from_slice(cells)?;
     let _gone = new.remove(at);
     Cells::new_or_shared(alloc, new, other)
+}
+
+/// The request to search.
+fn search() -> Perm
+    ensures { result ≡ execute }
+{
+    match Perm::from_number(1) {
+        Some(perm) => perm,
+        None => unreachable!(),
+    }
+}
+
+/// Whether a row lets a user search.
+fn can_search(above: &[Requests], user: usize) -> bool
+    ensures { result ≡ lets (Some above.now) user }
+{
+    match above.get(user) {
+        Some(cell) => cell.has(search()),
+        None => false,
+    }
+}
+
+/// A user's verdict, or nothing where the row above does not let the user search.
+fn let_through(above: &[Requests], user: usize, cell: Requests) -> Requests
+    ensures { result ≡ if lets (Some above.now) user then cell else 0 }
+{
+    if can_search(above, user) {
+        cell
+    } else {
+        Requests::none()
+    }
+}
+
+/// Takes everything from those who cannot search above.
+fn clear_others(row: &mut [Requests], above: &[Requests])
+    ensures { row.new ≡ cut_from (Some above.now) 0 row.old }
+{
+    for at in 0..row.len() {
+        row[at] = let_through(above, at, row[at]);
+    }
+}
+
+/// The verdicts of those who can search above, and nothing for others.
+fn cut(alloc: Global, cells: &[Requests], above: &[Requests]) -> Result<Cells, AllocError>
+    ensures { IfOk result (λ new. new ≡ cut_from (Some above.now) 0 cells.now) }
+{
+    let mut new = Vec::from_slice(alloc, cells)?;
+    clear_others(&mut new, above);
+    Cells::new(alloc, new)
+}
+
+/// Whether a row has the verdicts of those who can search above, and nothing for others, where it says so. The loop does not
+/// end early, so that it compares many at a time.
+fn is_cut(row: &[Requests], cells: &[Requests], above: &[Requests]) -> bool
+    ensures { result ≡ true → row.now ≡ cut_from (Some above.now) 0 cells.now }
+{
+    if row.len() != cells.len() || above.len() < cells.len() {
+        return false;
+    }
+    let mut is_same = true;
+    for at in 0..cells.len() {
+        is_same &= row[at].bits() == let_through(above, at, cells[at]).bits();
+    }
+    is_same
+}
+
+/// The verdicts of those who can search above, and nothing for others: shared with the row itself or with another one,
+/// where one of them is the same.
+pub(crate) fn cut_or_shared(
+    alloc: Global,
+    cells: &Cells,
+    above: &[Requests],
+    other: Option<&Cells>,
+) -> Result<Cells, AllocError>
+    ensures { IfOk result (λ new. new ≡ cut_from (Some above.now) 0 cells.now) }
+{
+    let row = cells.as_slice();
+    if is_cut(row, row, above) {
+        return cells.share();
+    }
+    if let Some(other) = other {
+        if is_cut(other.as_slice(), row, above) {
+            return other.share();
+        }
+    }
+    cut(alloc, row, above)
 }

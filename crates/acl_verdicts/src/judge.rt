@@ -1,12 +1,13 @@
-//! Who decides on a user and a file.
+//! Who decides on a user and a file; and the access check of acl(5) as a judge.
 
 ghost use Rattle.std.specs.Prelude.{◌≡◌, ◌+◌, ◌*◌, ◌<◌, ◌^◌, ℕ, length, map};
 ghost use Rattle.acl_files.specs.acl_entry.Person.{Person};
 ghost use Rattle.acl_files.specs.acl_entry.declared.label.Label.{Label};
-ghost use Rattle.acl_files.specs.acl_entry.Mentions.{AgreeOnMentions};
+ghost use Rattle.acl_files.specs.acl_entry.Mentions.{AgreeOnMentions, rights_local};
+ghost use Rattle.acl_files.specs.acl_entry.Check.{rights};
 
-use acl_files::{Label, Requests, Subject};
-use acl_subjects::Subjects;
+use acl_files::{Label, Requests, Subject, granted};
+use acl_subjects::{Subjects, granted_to_all};
 
 /// Decides what a user may do with a file, by one definition for all values of the type, and counts its
 /// verdicts.
@@ -48,4 +49,41 @@ pub trait Judge {
     /// Locality: the verdicts on two users of one id are the same where their groups agree on those that the
     /// label mentions.
     ghost local: { (u w : Person) (f : Label) → AgreeOnMentions u w f → verdict_of u f ≡ verdict_of w f };
+}
+
+/// The access check of acl(5).
+#[derive(Drop)]
+pub struct Posix {
+    asked: u64,
+}
+
+impl Posix {
+    /// No verdict was asked for yet.
+    pub fn new() -> Posix
+        ensures { result.asked ≡ 0 }
+    {
+        Posix { asked: 0 }
+    }
+}
+
+impl Judge for Posix {
+    ghost verdict_of = { rights };
+
+    ghost asked_of = { λ judge. judge.asked };
+
+    fn verdict(&mut self, subject: &Subject, label: &Label) -> Requests {
+        self.asked += 1;
+        granted(subject, label)
+    }
+
+    fn verdicts(&mut self, users: &Subjects, label: &Label, files: u64, row: &mut [Requests]) {
+        self.asked += files * users.len() as u64;
+        granted_to_all(users, label, row);
+    }
+
+    fn asked(&self) -> u64 {
+        self.asked
+    }
+
+    ghost local = { rights_local };
 }

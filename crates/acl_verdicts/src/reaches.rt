@@ -5,8 +5,7 @@ ghost use Rattle.std.specs.Option.{option_copied, option_map_or};
 ghost use Rattle.acl_verdicts.specs.Walks.{cut_from};
 ghost use Rattle.acl_verdicts.specs.Ways.{reach_on, reaches_of, AreFirst, WereReached};
 
-use crate::cells::Cells;
-use crate::cut::cut_or_shared;
+use crate::cells::{Cells, cut_or_shared};
 use crate::numbered::Numbered;
 use crate::steps::Step;
 use std::alloc::{AllocError, Global};
@@ -114,7 +113,7 @@ fn may_differ(rows: &[bool], steps: &[bool], step: Step) -> bool
 }
 
 /// What is reached at a step: shared with what was reached there, unless that may differ.
-fn reach_again(
+fn updated_reach(
     alloc: Global,
     cells: &Numbered<Cells>,
     more: &[Cells],
@@ -136,7 +135,7 @@ fn reach_again(
 
 /// What is reached at each step after the rows that are marked were replaced: where neither a step's row nor one above it is
 /// marked, what was reached there is shared. Fails only if memory runs out.
-pub fn reaches_again(
+pub fn updated_reaches(
     alloc: Global,
     cells: &Numbered<Cells>,
     steps: &Numbered<Step>,
@@ -153,7 +152,7 @@ pub fn reaches_again(
             unreachable!();
         };
         let differs = may_differ(marks, &differing, *step);
-        let reach = reach_again(alloc, cells, &new, *step, old.get(number), differs)?;
+        let reach = updated_reach(alloc, cells, &new, *step, old.get(number), differs)?;
         differing.push(differs)?;
         new.push(reach)?;
     }

@@ -11,7 +11,7 @@ use Rattle.facl_tools.specs.facl_messages.Faults.{run_fault_of_script}
 use Rattle.facl_tools.specs.facl_messages.declared.fault.RunFault.{RunFault}
 use Rattle.facl_tools.specs.Tools.{Verdict}
 use Rattle.facl.specs.Costs.{all_pairs}
-use Rattle.facl.specs.declared.states.States.{States}
+use Rattle.facl.specs.declared.indexed_states.States.{States}
 use Rattle.facl.specs.Units.{answered, from_start}
 use Rattle.facl.specs.Runs.{Devices, EndsBy}
 

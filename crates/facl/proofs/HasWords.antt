@@ -1,8 +1,8 @@
 -- A line that is neither blank nor a comment has a word.
 use Rattle.std.proofs.Common.{◌≡◌, ℕ, Bool, true, false, List, [], ◌∷◌, Option, Some, None, if◌then◌else◌, option_map, true≢false}
 use Rattle.std.specs.Prelude.{◌==◌}
-use Rattle.facl_tools.specs.facl_script.Words.{is_white, is_quote, onto_word, words_at, words_of, has_no_words}
-use Rattle.facl_tools.specs.facl_script.declared.place.Place.TheVariants.{Between, Within, Quoted}
+use Rattle.facl_tools.specs.facl_script.Words.{is_blank, is_quote, onto_word, words_at, words_of, has_no_words}
+use Rattle.facl_tools.specs.facl_script.declared.words.Place.TheVariants.{Between, Within, Quoted}
 
 none_is_not_some : {A : Type 0} (a : A) → None ≡ Some a → ⊥
 none_is_not_some a h = cc
@@ -22,7 +22,7 @@ onto b (Some (word ∷ words)) h = some_word_is_not_none (b ∷ word) words h
 -- within a word or a quote there is a word
 within : (bs : List ℕ) → (words_at Within bs ≡ Some [] → ⊥) × (words_at Quoted bs ≡ Some [] → ⊥)
 within [] = ((λ h. some_word_is_not_none [] [] h), (λ h. none_is_not_some [] h))
-within (b ∷ bs) = by (is_white b) (is_quote b) (within bs)
+within (b ∷ bs) = by (is_blank b) (is_quote b) (within bs)
   where
     by : (w q : Bool) → (words_at Within bs ≡ Some [] → ⊥) × (words_at Quoted bs ≡ Some [] → ⊥)
         → ((if w then option_map (λ words. [] ∷ words) (words_at Between bs) else (if q then words_at Quoted bs else option_map (onto_word b) (words_at Within bs))) ≡ Some [] → ⊥)
@@ -34,7 +34,7 @@ within (b ∷ bs) = by (is_white b) (is_quote b) (within bs)
 
 pub has_a_word : (line : List ℕ) → has_no_words line ≡ false → words_of line ≡ Some [] → ⊥
 has_a_word [] e h = true≢false e
-has_a_word (b ∷ bs) e h = by (is_white b) (is_quote b) e h (λ e h. has_a_word bs e h)
+has_a_word (b ∷ bs) e h = by (is_blank b) (is_quote b) e h (λ e h. has_a_word bs e h)
   where
     by : (w q : Bool) → (if w then has_no_words bs else b == 35) ≡ false
         → (if w then words_at Between bs else (if q then words_at Quoted bs else option_map (onto_word b) (words_at Within bs))) ≡ Some []

@@ -7,13 +7,13 @@ use Rattle.facl_tools.specs.facl_script.Units.{ScriptUnit}
 use Rattle.facl_tools.specs.facl_messages.Messages.{message}
 use Rattle.facl_tools.specs.facl_messages.declared.fault.LineFault.{LineFault}
 use Rattle.facl_tools.specs.facl_messages.declared.fault.LineFault.TheVariants.{NoMemory}
-use Rattle.facl.specs.declared.session.Facl.{Facl}
-use Rattle.facl.specs.declared.states.States.{States}
+use Rattle.facl.specs.declared.session.FaclSession.{FaclSession}
+use Rattle.facl.specs.declared.indexed_states.States.{States}
 use Rattle.facl.specs.Sessions.{states_of, out_of, err_of, IsAtAnswer}
 use Rattle.facl.specs.Units.{is_silent, words_of_line, refused, answer_of_words, unless_out_of_memory, answered_line, answered}
 
 -- a line without words is refused as one, unless memory runs out for it
-pub refused_line : {J : Type 0} (V : Verdict) (u : ScriptUnit) (ran_out : Bool) (number : ℕ) (fault : LineFault) (s : States) (f : Facl J)
+pub refused_line : {J : Type 0} (V : Verdict) (u : ScriptUnit) (ran_out : Bool) (number : ℕ) (fault : LineFault) (s : States) (f : FaclSession J)
     → u.number ≡ number → (fault ≡ NoMemory → ran_out ≡ true) → (fault ≢ NoMemory → words_of_line u.line ≡ Err fault)
     → IsAtAnswer (unless_out_of_memory ran_out number s (refused number [] fault s)) f true → IsAtAnswer (answered_line V ran_out u s) f true
 refused_line V u true number fault s f same memory content h = record {
@@ -27,7 +27,7 @@ refused_line V u false number fault s f same memory content h =
     ∙ ap (answer_of_words V u s) (sym (content (λ e. true≢false (sym (memory e)))))) h
 
 -- what a session returns for an answer, where it asked for no more verdicts than the answer costs
-pub is_answer : {J : Type 0} (a : Answer States) (f : Facl J) (asked asked' : ℕ) (is_refused : Bool) → IsAtAnswer a f is_refused → asked' ≤ asked + a.cost
+pub is_answer : {J : Type 0} (a : Answer States) (f : FaclSession J) (asked asked' : ℕ) (is_refused : Bool) → IsAtAnswer a f is_refused → asked' ≤ asked + a.cost
     → IsAnswer a (states_of f) asked asked' (out_of f) (err_of f) is_refused
 is_answer a f asked asked' is_refused h le = record {
   state_is = h.state;

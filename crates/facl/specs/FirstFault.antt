@@ -14,7 +14,7 @@ use Rattle.facl_tools.specs.Replies.{Reply, after}
 use Rattle.facl_tools.specs.Tools.{Verdict, row_of, read_line, tool_named}
 use Rattle.facl_tools.specs.declared.tools.Tool.{Tool}
 use Rattle.facl_tools.specs.declared.tools.ToolLine.{ToolLine}
-use Rattle.facl.specs.declared.states.States.{States}
+use Rattle.facl.specs.declared.indexed_states.States.{States}
 use Rattle.facl.specs.Units.{answered, answer_of, reply, text_or_fault, tool_word, words_of_line}
 
 -- ---- the parts of a line, and their order

@@ -15,7 +15,7 @@ use Rattle.facl.specs.declared.status.Status.{Status}
 use Rattle.facl.specs.declared.status.Status.TheVariants.{Accepted, Refused}
 use Rattle.facl_tools.specs.Tools.{Verdict}
 use Rattle.facl.specs.Costs.{all_pairs}
-use Rattle.facl.specs.declared.states.States.{States}
+use Rattle.facl.specs.declared.indexed_states.States.{States}
 use Rattle.facl.specs.Units.{answered, from_start}
 
 -- what the reader has left, and what the two writers hold, where it is known

@@ -1,7 +1,6 @@
 -- What a unit of a script does: a line, with its text if it takes one.
 use Rattle.std.specs.Prelude.{ℕ, Bool, true, false, if◌then◌else◌, List, [], ◌∷◌, Option, None, Some, Result, Ok, Err}
-use Rattle.std.specs.Prelude.{codes}
-use Rattle.std.specs.Str.{bytes_eq}
+use Rattle.std.specs.Option.{option_map_or}
 use Rattle.facl_tools.specs.facl_script.Play.{Answer, quiet}
 use Rattle.facl_tools.specs.facl_script.Units.{ScriptUnit, UnitText, none, whole, too_long, unended}
 use Rattle.facl_tools.specs.facl_script.Words.{has_no_words, line_words}
@@ -14,9 +13,9 @@ use Rattle.facl_tools.specs.facl_messages.Messages.{message, warning}
 use Rattle.facl_tools.specs.facl_messages.declared.fault.LineFault.{LineFault}
 use Rattle.facl_tools.specs.facl_messages.declared.fault.LineFault.TheVariants.{LineTooLong, UnknownTool, UnendedText, TextLineTooLong, Usage, NoMemory}
 use Rattle.facl_tools.specs.Replies.{Reply, after, or_fault, printed}
-use Rattle.facl_tools.specs.Tools.{Verdict, tool_line, tool_named}
+use Rattle.facl_tools.specs.Tools.{Verdict, loads, tool_line, tool_named}
 use Rattle.facl_tools.specs.declared.tools.Tool.{Tool}
-use Rattle.facl.specs.declared.states.States.{States}
+use Rattle.facl.specs.declared.indexed_states.States.{States}
 use Rattle.facl.specs.Costs.{most_between}
 
 -- ---- the states that lines see: the one after the texts were loaded, and the present one
@@ -25,9 +24,9 @@ use Rattle.facl.specs.Costs.{most_between}
 abbrev pub from_start : State → States
 from_start s = record { loaded = s; now = s }
 
--- the tool `load`, by its name
-abbrev pub is_load : Text → Bool
-is_load tool = bytes_eq tool (codes "load")
+-- whether the tool of this name loads a text
+abbrev pub loads_by_name : Text → Bool
+loads_by_name name = option_map_or loads (tool_named name) false
 
 -- both after an accepted line: a load begins again
 abbrev pub states_after : (loads : Bool) → States → (new : State) → States
@@ -84,12 +83,12 @@ abbrev pub warning_if : Bool → ℕ → List ℕ
 warning_if warns number = if warns then warning number else []
 
 -- an accepted line costs the verdicts that its change can have changed
-abbrev pub accepted : ℕ → Text → States → Reply → Answer States
-accepted number tool w r =
-    record { out = r.out; err = warning_if r.warns number; state = states_after (is_load tool) w r.state; refused = false; cost = most_between w.now r.state r.user_change }
+abbrev pub accepted : ℕ → (loads : Bool) → States → Reply → Answer States
+accepted number loads w r =
+    record { out = r.out; err = warning_if r.warns number; state = states_after loads w r.state; refused = false; cost = most_between w.now r.state r.user_change }
 
 abbrev pub answer_of : ℕ → Text → States → Result Reply LineFault → Answer States
-answer_of number tool w (Ok r) = accepted number tool w r
+answer_of number tool w (Ok r) = accepted number (loads_by_name tool) w r
 answer_of number tool w (Err fault) = refused number tool fault w
 
 -- the first word, which names the tool

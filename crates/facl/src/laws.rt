@@ -4,7 +4,7 @@ ghost use Rattle.std.specs.Prelude.{◌≡◌, false};
 ghost use Rattle.facl_tools.specs.facl_script.Units.{ScriptUnit};
 ghost use Rattle.facl_tools.specs.Tools.{Verdict};
 ghost use Rattle.facl.specs.FirstFault.{IsAnsweredByFirst};
-ghost use Rattle.facl.specs.declared.states.States.{States};
+ghost use Rattle.facl.specs.declared.indexed_states.States.{States};
 ghost use Rattle.facl.specs.Units.{is_silent};
 
 /// Proof only: which parts of a line are at fault is defined for each part by itself, without an order: its length, its

@@ -5,16 +5,14 @@
 //! whole: what is written are the bytes of a session made from scratch.
 #![tactic(auto)]
 
-mod answer;
+mod indexed_states;
 mod laws;
 mod line;
 mod program;
 mod session;
 mod setup;
-mod states;
 mod status;
 mod words;
-mod world;
 
 pub use facl_tools::{
     Feed, Flags, Judge, Key, Label, LineFault, LineRows, LineWord, OperandRow, Operands, Perm,

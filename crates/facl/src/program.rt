@@ -7,8 +7,7 @@ ghost use Rattle.facl_tools.specs.facl_script.Streams.{streams};
 ghost use Rattle.facl.specs.Setups.{initial_state};
 ghost use Rattle.facl.specs.Runs.{RunsTo, EndsBy, devices};
 
-use crate::answer::Judged;
-use crate::session::Facl;
+use crate::session::{FaclSession, JudgedSession};
 use crate::setup::{Setup, start};
 use crate::status::Status;
 use facl_tools::{Feed, Judge, Posix, RunFault, Sink, run_session};
@@ -52,8 +51,8 @@ pub fn run_judged<J: Judge, R: Feed, O: Sink, E: Sink>(
     ensures write { result ≡ Err RunFault.Write → (O.has_failed out.new ≡ true) ⊎ (E.has_failed err.new ≡ true) }
 {
     let state = start(alloc, setup)?;
-    let session = Facl::new(alloc, judge, state)?;
-    let mut judged = Judged { judge, session };
+    let session = FaclSession::new(alloc, judge, state)?;
+    let mut judged = JudgedSession { judge, session };
     let is_refused = run_session(alloc, &mut judged, reader, out, err)?;
     Ok(Status::of(is_refused))
 }

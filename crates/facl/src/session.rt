@@ -1,31 +1,33 @@
-//! The session of a script: its states with their indexes, and the output and the message of the last line.
+//! The session of a script: its states with their indexes, and the output and the message of the last line. Lines are
+//! answered one by one.
 
-ghost use Rattle.std.specs.Prelude.{◌≡◌, ◌+◌, ◌≤◌, ℕ, [], true, false, map, string_bytes, IfOk, OnOk, OnErr};
+ghost use Rattle.std.specs.Prelude.{◌≡◌, ◌+◌, ◌≤◌, [], ◌∷◌, true, false, Some, map, string_bytes, IfOk, OnOk, OnErr};
 ghost use Rattle.facl_tools.specs.facl_script.Units.{ScriptUnit, UnitText};
-ghost use Rattle.facl_tools.specs.facl_script.ReadText.{IsTextFound};
-ghost use Rattle.facl_tools.specs.facl_script.ReadUnit.{IsUnitFound};
+ghost use Rattle.facl_tools.specs.facl_script.Held.{IsTextHeld, IsUnitHeld};
 ghost use Rattle.facl_tools.specs.facl_words.TextWords.{line_asks};
 ghost use Rattle.facl_tools.specs.facl_messages.declared.fault.LineFault.TheVariants.{NoMemory};
 ghost use Rattle.facl_tools.specs.Replies.{reply_of, IsPrepared};
 ghost use Rattle.facl.specs.Costs.{IsReady, IsReadyAfter, all_pairs};
-ghost use Rattle.facl.specs.Units.{accepted, refused, from_start, answer_of, reply, tool_word, unless_out_of_memory, warning_if, answered_line};
-ghost use Rattle.facl.specs.Sessions.{states_of, loaded_index_of, index_of, out_of, err_of, ran_out_of_memory, IsQuiet, IsAtAnswer};
+ghost use Rattle.facl_tools.specs.Tools.{tool_named};
+ghost use Rattle.facl.specs.Units.{accepted, refused, from_start, answer_of, reply, tool_reply, tool_word, unless_out_of_memory, warning_if, answered_line, answered};
+ghost use Rattle.facl.specs.Sessions.{states_of, out_of, err_of, ran_out_of_memory, IsQuiet, IsAtAnswer};
 
-use crate::line::{is_load, reply, tool_word, words_of_line};
-use crate::world::World;
+use crate::indexed_states::{IndexedStates, States};
+use crate::line::{is_silent, tool_reply, words_of_line};
 use facl_tools::{
-    Effect, Judge, LineFault, Spare, State, TextFound, UnitFound, append_message, append_warning,
+    Effect, HeldLine, HeldUnit, Judge, LineFault, ReservedMessage, Session, State, Tool,
+    append_message, append_warning, asks_for_text,
 };
 use std::alloc::{AllocError, Global};
 
 /// The states of a script with their indexes, and the output and the message of its last line.
 #[derive(Drop)]
-pub(crate) struct Facl<J> {
+pub(crate) struct FaclSession<J: Judge> {
     alloc: Global,
-    world: World<J>,
+    indexed_states: IndexedStates<J>,
     out: Vec<u8>,
     err: Vec<u8>,
-    spare: Spare,
+    reserved_message: ReservedMessage,
     lacks_memory: bool,
 }
 
@@ -40,23 +42,23 @@ fn warning_if(alloc: Global, warns: bool, number: u64) -> Result<Vec<u8>, AllocE
     Ok(text)
 }
 
-impl<J: Judge> Facl<J> {
+impl<J: Judge> FaclSession<J> {
     /// A session that starts at a state: the judge is asked about every user and every file.
-    pub fn new(alloc: Global, judge: &mut J, state: State) -> Result<Facl<J>, AllocError>
+    pub fn new(alloc: Global, judge: &mut J, state: State) -> Result<FaclSession<J>, AllocError>
         requires { J.asked_of judge.old ≡ 0 }
         ensures state { IfOk result (λ facl. states_of facl ≡ from_start state) }
-        ensures ready { IfOk result (λ facl. IsReady J.verdict_of (J.asked_of judge.new) 1 (states_of facl) (loaded_index_of facl) (index_of facl)) }
+        ensures ready { OnOk result (IsReady (J.asked_of judge.new) 1) }
         ensures asked { OnOk result (J.asked_of judge.new ≡ all_pairs state) }
         ensures at_most { J.asked_of judge.new ≤ all_pairs state }
     {
-        let spare = Spare::new(alloc)?;
-        let world = World::new(alloc, judge, state)?;
-        Ok(Facl {
+        let reserved_message = ReservedMessage::new(alloc)?;
+        let indexed_states = IndexedStates::new(alloc, judge, state)?;
+        Ok(FaclSession {
             alloc,
-            world,
+            indexed_states,
             out: Vec::new(alloc),
             err: Vec::new(alloc),
-            spare,
+            reserved_message,
             lacks_memory: false,
         })
     }
@@ -64,7 +66,7 @@ impl<J: Judge> Facl<J> {
     /// Discards the output and the message of the last line.
     pub fn fall_silent(&mut self)
         ensures quiet { IsQuiet self.new }
-        ensures world { self.new.world ≡ self.old.world }
+        ensures indexed_states { self.new.indexed_states ≡ self.old.indexed_states }
     {
         self.out.clear();
         self.err.clear();
@@ -77,13 +79,13 @@ impl<J: Judge> Facl<J> {
         ensures answer { IsAtAnswer (unless_out_of_memory (ran_out_of_memory self.new) number (states_of self.old)
             (refused number tool.now fault.now (states_of self.old))) self.new true }
         ensures memory { fault.now ≡ NoMemory → ran_out_of_memory self.new ≡ true }
-        ensures world { self.new.world ≡ self.old.world }
+        ensures indexed_states { self.new.indexed_states ≡ self.old.indexed_states }
     {
         let has_message = !matches!(fault, LineFault::NoMemory)
             && append_message(&mut self.err, number, tool, fault).is_ok();
         if !has_message {
             self.lacks_memory = true;
-            self.spare.put_no_memory(number);
+            self.reserved_message.put_no_memory(number);
         }
     }
 
@@ -93,23 +95,23 @@ impl<J: Judge> Facl<J> {
         &mut self,
         judge: &mut J,
         number: u64,
-        tool: &[u8],
+        loads: bool,
         effect: Effect,
     ) -> Result<(), AllocError>
         requires quiet { IsQuiet self.old }
-        requires ready { IsReady J.verdict_of (J.asked_of judge.old) number (states_of self.old) (loaded_index_of self.old) (index_of self.old) }
+        requires ready { IsReady (J.asked_of judge.old) number }
         requires prepared { IsPrepared (states_of self.old).now effect.staged }
-        ensures answer { OnOk result (IsAtAnswer (accepted number tool.now (states_of self.old) (reply_of (states_of self.old).now effect)) self.new false) }
+        ensures answer { OnOk result (IsAtAnswer (accepted number loads (states_of self.old) (reply_of (states_of self.old).now effect)) self.new false) }
         ensures memory { ran_out_of_memory self.new ≡ false }
         ensures quiet { OnErr result (IsQuiet self.new) }
         ensures unchanged { OnErr result (states_of self.new ≡ states_of self.old) }
-        ensures asked { J.asked_of judge.new ≤ J.asked_of judge.old + (accepted number tool.now (states_of self.old) (reply_of (states_of self.old).now effect)).cost }
-        ensures ready { IsReadyAfter J.verdict_of (J.asked_of judge.new) number (states_of self.new) (loaded_index_of self.new) (index_of self.new) }
+        ensures asked { J.asked_of judge.new ≤ J.asked_of judge.old + (accepted number loads (states_of self.old) (reply_of (states_of self.old).now effect)).cost }
+        ensures ready { IsReadyAfter (J.asked_of judge.new) number }
     {
         let warning = match warning_if(self.alloc, effect.warns, number) {
             Ok(warning) => warning,
             Err(refused) => {
-                effect.discard();
+                effect.give_up();
                 return Err(refused);
             }
         };
@@ -118,72 +120,125 @@ impl<J: Judge> Facl<J> {
             staged,
             warns: _,
         } = effect;
-        self.world
-            .accept_if(self.alloc, judge, staged, is_load(tool))?;
+        self.indexed_states
+            .accept_if(self.alloc, judge, staged, loads)?;
         self.out = out;
         self.err = warning;
         Ok(())
     }
 
     /// Does what an accepted line does, or refuses it if memory runs out. Returns whether it is refused.
-    fn accept(&mut self, judge: &mut J, number: u64, tool: &[u8], effect: Effect) -> bool
+    fn accept(&mut self, judge: &mut J, number: u64, loads: bool, effect: Effect) -> bool
         requires quiet { IsQuiet self.old }
-        requires ready { IsReady J.verdict_of (J.asked_of judge.old) number (states_of self.old) (loaded_index_of self.old) (index_of self.old) }
+        requires ready { IsReady (J.asked_of judge.old) number }
         requires prepared { IsPrepared (states_of self.old).now effect.staged }
         ensures answer { IsAtAnswer (unless_out_of_memory (ran_out_of_memory self.new) number (states_of self.old)
-            (accepted number tool.now (states_of self.old) (reply_of (states_of self.old).now effect))) self.new result }
-        ensures asked { J.asked_of judge.new ≤ J.asked_of judge.old + (accepted number tool.now (states_of self.old) (reply_of (states_of self.old).now effect)).cost }
-        ensures ready { IsReadyAfter J.verdict_of (J.asked_of judge.new) number (states_of self.new) (loaded_index_of self.new) (index_of self.new) }
+            (accepted number loads (states_of self.old) (reply_of (states_of self.old).now effect))) self.new result }
+        ensures asked { J.asked_of judge.new ≤ J.asked_of judge.old + (accepted number loads (states_of self.old) (reply_of (states_of self.old).now effect)).cost }
+        ensures ready { IsReadyAfter (J.asked_of judge.new) number }
     {
-        let is_refused = self.do_line(judge, number, tool, effect).is_err();
+        let is_refused = self.do_line(judge, number, loads, effect).is_err();
         if is_refused {
             self.refuse(number, b"", &LineFault::NoMemory);
         }
         is_refused
     }
 
-    /// Answers a line by its words, and returns whether it is refused.
-    fn answer_words(
+    /// Answers a line of a tool by the words after the tool's name, and returns whether it is refused.
+    fn answer_tool(
         &mut self,
         judge: &mut J,
-        number: u64,
-        found: TextFound,
-        text: &[u8],
+        unit: &HeldUnit<'_>,
+        tool: Tool,
+        name: &[u8],
         words: &[String],
     ) -> bool
         requires quiet { IsQuiet self.old }
-        requires ready { IsReady J.verdict_of (J.asked_of judge.old) number (states_of self.old) (loaded_index_of self.old) (index_of self.old) }
-        ensures answer { (content : UnitText) → IsTextFound found text.now content
-            → IsAtAnswer (unless_out_of_memory (ran_out_of_memory self.new) number (states_of self.old)
-            (answer_of number (tool_word (map string_bytes words.now)) (states_of self.old)
-            (reply J.verdict_of (states_of self.old) content (map string_bytes words.now)))) self.new result }
-        ensures asked { (content : UnitText) → IsTextFound found text.now content
+        requires ready { IsReady (J.asked_of judge.old) unit.now.number }
+        requires named { tool_named name.now ≡ Some tool }
+        ensures answer { (content : UnitText) → IsTextHeld unit.now.text content
+            → IsAtAnswer (unless_out_of_memory (ran_out_of_memory self.new) unit.now.number (states_of self.old)
+            (answer_of unit.now.number name.now (states_of self.old)
+            (tool_reply J.verdict_of (states_of self.old) content (map string_bytes words.now) tool))) self.new result }
+        ensures asked { (content : UnitText) → IsTextHeld unit.now.text content
             → J.asked_of judge.new ≤ J.asked_of judge.old
-            + (answer_of number (tool_word (map string_bytes words.now)) (states_of self.old)
-            (reply J.verdict_of (states_of self.old) content (map string_bytes words.now))).cost }
-        ensures ready { IsReadyAfter J.verdict_of (J.asked_of judge.new) number (states_of self.new) (loaded_index_of self.new) (index_of self.new) }
+            + (answer_of unit.now.number name.now (states_of self.old)
+            (tool_reply J.verdict_of (states_of self.old) content (map string_bytes words.now) tool)).cost }
+        ensures ready { IsReadyAfter (J.asked_of judge.new) unit.now.number }
     {
-        match reply(self.alloc, &self.world, found, text, words) {
-            Ok(effect) => self.accept(judge, number, tool_word(words), effect),
+        match tool_reply(self.alloc, &self.indexed_states, &unit.text, words, tool) {
+            Ok(effect) => self.accept(judge, unit.number, tool.loads(), effect),
             Err(fault) => {
-                self.refuse(number, tool_word(words), &fault);
+                self.refuse(unit.number, name, &fault);
                 true
             }
         }
     }
 
-    /// Answers a line that is neither blank nor a comment, and returns whether it is refused.
-    pub fn answer_line(&mut self, judge: &mut J, unit: &UnitFound, line: &[u8], text: &[u8]) -> bool
+    /// Answers a line by the name of its tool and the words after it, and returns whether it is refused.
+    fn answer_named(
+        &mut self,
+        judge: &mut J,
+        unit: &HeldUnit<'_>,
+        name: &str,
+        words: &[String],
+    ) -> bool
         requires quiet { IsQuiet self.old }
-        requires ready { IsReady J.verdict_of (J.asked_of judge.old) unit.now.number (states_of self.old) (loaded_index_of self.old) (index_of self.old) }
-        ensures answer { (u : ScriptUnit) → IsUnitFound line_asks unit.now line.now text.now u
-            → IsAtAnswer (answered_line J.verdict_of (ran_out_of_memory self.new) u (states_of self.old)) self.new result }
-        ensures asked { (u : ScriptUnit) → IsUnitFound line_asks unit.now line.now text.now u
-            → J.asked_of judge.new ≤ J.asked_of judge.old + (answered_line J.verdict_of (ran_out_of_memory self.new) u (states_of self.old)).cost }
-        ensures ready { IsReadyAfter J.verdict_of (J.asked_of judge.new) unit.now.number (states_of self.new) (loaded_index_of self.new) (index_of self.new) }
+        requires ready { IsReady (J.asked_of judge.old) unit.now.number }
+        ensures answer { (content : UnitText) → IsTextHeld unit.now.text content
+            → IsAtAnswer (unless_out_of_memory (ran_out_of_memory self.new) unit.now.number (states_of self.old)
+            (answer_of unit.now.number name.now (states_of self.old)
+            (reply J.verdict_of (states_of self.old) content (name.now ∷ map string_bytes words.now)))) self.new result }
+        ensures asked { (content : UnitText) → IsTextHeld unit.now.text content
+            → J.asked_of judge.new ≤ J.asked_of judge.old
+            + (answer_of unit.now.number name.now (states_of self.old)
+            (reply J.verdict_of (states_of self.old) content (name.now ∷ map string_bytes words.now))).cost }
+        ensures ready { IsReadyAfter (J.asked_of judge.new) unit.now.number }
     {
-        match words_of_line(self.alloc, unit.is_too_long, line) {
-            Ok(words) => self.answer_words(judge, unit.number, unit.text, text, &words),
+        match Tool::named(name) {
+            Some(tool) => self.answer_tool(judge, unit, tool, name.as_bytes(), words),
+            None => {
+                self.refuse(unit.number, name.as_bytes(), &LineFault::UnknownTool);
+                true
+            }
+        }
+    }
+
+    /// Answers a line by its words, and returns whether it is refused.
+    fn answer_words(&mut self, judge: &mut J, unit: &HeldUnit<'_>, words: &[String]) -> bool
+        requires quiet { IsQuiet self.old }
+        requires ready { IsReady (J.asked_of judge.old) unit.now.number }
+        ensures answer { (content : UnitText) → IsTextHeld unit.now.text content
+            → IsAtAnswer (unless_out_of_memory (ran_out_of_memory self.new) unit.now.number (states_of self.old)
+            (answer_of unit.now.number (tool_word (map string_bytes words.now)) (states_of self.old)
+            (reply J.verdict_of (states_of self.old) content (map string_bytes words.now)))) self.new result }
+        ensures asked { (content : UnitText) → IsTextHeld unit.now.text content
+            → J.asked_of judge.new ≤ J.asked_of judge.old
+            + (answer_of unit.now.number (tool_word (map string_bytes words.now)) (states_of self.old)
+            (reply J.verdict_of (states_of self.old) content (map string_bytes words.now))).cost }
+        ensures ready { IsReadyAfter (J.asked_of judge.new) unit.now.number }
+    {
+        match words {
+            [name, words @ ..] => self.answer_named(judge, unit, name, words),
+            [] => {
+                let nothing = Effect::prints(Vec::new(self.alloc));
+                self.accept(judge, unit.number, false, nothing)
+            }
+        }
+    }
+
+    /// Answers a line that is neither blank nor a comment, and returns whether it is refused.
+    pub fn answer_line(&mut self, judge: &mut J, unit: &HeldUnit<'_>) -> bool
+        requires quiet { IsQuiet self.old }
+        requires ready { IsReady (J.asked_of judge.old) unit.now.number }
+        ensures answer { (u : ScriptUnit) → IsUnitHeld line_asks unit.now u
+            → IsAtAnswer (answered_line J.verdict_of (ran_out_of_memory self.new) u (states_of self.old)) self.new result }
+        ensures asked { (u : ScriptUnit) → IsUnitHeld line_asks unit.now u
+            → J.asked_of judge.new ≤ J.asked_of judge.old + (answered_line J.verdict_of (ran_out_of_memory self.new) u (states_of self.old)).cost }
+        ensures ready { IsReadyAfter (J.asked_of judge.new) unit.now.number }
+    {
+        match words_of_line(self.alloc, &unit.line) {
+            Ok(words) => self.answer_words(judge, unit, &words),
             Err(fault) => {
                 self.refuse(unit.number, b"", &fault);
                 true
@@ -203,9 +258,67 @@ impl<J: Judge> Facl<J> {
         ensures { result.now ≡ err_of self.now }
     {
         if self.lacks_memory {
-            self.spare.as_bytes()
+            self.reserved_message.as_bytes()
         } else {
             &self.err
         }
+    }
+}
+
+/// A session with the judge that it asks, who is borrowed for the whole script. The session is a type parameter so that
+/// the owner of the borrowed judge learns what became of it.
+pub(crate) struct JudgedSession<'a, J, S> {
+    pub judge: &'a mut J,
+    pub session: S,
+}
+
+impl<'a, J, S: Drop> Drop for JudgedSession<'a, J, S> {
+    fn drop(self)
+        ensures { self.exit.0.now ≡ self.entry.judge.now }
+    {
+        let JudgedSession {
+            judge: _judge,
+            session: _session,
+        } = self;
+    }
+}
+
+impl<'a, J: Judge> Session for JudgedSession<'a, J, FaclSession<J>> {
+    type State = States;
+
+    ghost state = { λ f. states_of f.session };
+
+    ghost asks = { line_asks };
+
+    ghost answered = { answered J.verdict_of };
+
+    ghost spent = { λ f. J.asked_of f.judge.now };
+
+    ghost is_ready = { λ n f. IsReady (J.asked_of f.judge.now) n };
+
+    ghost held = { λ f. f.judge.ghost_name };
+
+    ghost to_out = { λ f. out_of f.session };
+
+    ghost to_err = { λ f. err_of f.session };
+
+    fn asks_for_text(line: &HeldLine<'_>) -> bool {
+        asks_for_text(line)
+    }
+
+    fn answer(&mut self, unit: &HeldUnit<'_>) -> bool {
+        self.session.fall_silent();
+        if is_silent(&unit.line) {
+            return false;
+        }
+        self.session.answer_line(self.judge, unit)
+    }
+
+    fn out(&self) -> &[u8] {
+        self.session.printed()
+    }
+
+    fn err(&self) -> &[u8] {
+        self.session.message()
     }
 }

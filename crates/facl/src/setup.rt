@@ -10,7 +10,7 @@ use facl_tools::{Command, RunFault, Staged, State, Table, TreeFault};
 use std::alloc::Global;
 
 /// The texts that are loaded before the first line of a script, each if it is there, in this order.
-#[derive(Clone, Copy, Debug)]
+#[derive(Clone, Copy)]
 pub struct Setup<'a> {
     /// The users: passwd(5).
     pub passwd: Option<&'a [u8]>,

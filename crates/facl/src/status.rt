@@ -13,6 +13,7 @@ pub enum Status {
 }
 
 impl Status {
+    /// How a run ends, by whether a line was refused.
     pub(crate) fn of(is_refused: bool) -> Status
         ensures { has_refused result ≡ is_refused }
     {

@@ -1,7 +1,7 @@
 -- The files that the program reads.
 use Rattle.std.specs.Prelude.{◌≡◌, ◌⊎◌, ℕ, List, [], ◌∷◌, Option, None, Some, option_map, string_bytes, vec_items, ⊤}
 use Rattle.facl.specs.declared.setup.Setup.{Setup}
-use Rattle.facl_cli.specs.Shelves.{Bytes, IsText, HasNoText}
+use Rattle.facl_cli.specs.FileStores.{Bytes, IsText, HasNoText}
 use Rattle.facl_cli.specs.declared.fault.ProgramFault.{ProgramFault}
 use Rattle.facl_cli.specs.declared.fault.ProgramFault.TheVariants.{CannotRead, NoMemory}
 use Rattle.facl_cli.specs.declared.files.Texts.{Texts}

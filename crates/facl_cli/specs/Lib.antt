@@ -1,4 +1,4 @@
-pub mod Shelves
+pub mod FileStores
 pub mod Files
 pub mod Lines
 pub mod Words

@@ -8,7 +8,7 @@ use Rattle.facl.specs.Setups.{initial_state}
 use Rattle.facl.specs.declared.setup.Setup.{Setup}
 use Rattle.facl.specs.declared.status.Status.{Status}
 use Rattle.facl_cli.specs.Files.{AreTextsOf, IsFirstUnread, setup_texts}
-use Rattle.facl_cli.specs.Shelves.{Bytes}
+use Rattle.facl_cli.specs.FileStores.{Bytes}
 use Rattle.facl_cli.specs.Words.{files_named}
 use Rattle.facl_cli.specs.declared.fault.ProgramFault.{ProgramFault}
 use Rattle.facl_cli.specs.declared.fault.ProgramFault.TheVariants.{Usage, CannotRead, Run, NoMemory}

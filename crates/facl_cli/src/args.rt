@@ -24,7 +24,7 @@ fn words_fault(error: &io::Error) -> ProgramFault
 }
 
 /// The words of the program, its name first. No contract can state which words the system gives.
-pub fn words_given(rt: &(impl Env + AllocGlobal)) -> Result<Vec<String>, ProgramFault> {
+pub(crate) fn words_given(rt: &(impl Env + AllocGlobal)) -> Result<Vec<String>, ProgramFault> {
     match env::args(rt) {
         Ok(words) => Ok(words.collect(rt.alloc())?),
         Err(error) => Err(words_fault(&error)),
@@ -33,7 +33,7 @@ pub fn words_given(rt: &(impl Env + AllocGlobal)) -> Result<Vec<String>, Program
 
 /// The files that are loaded before the script, each if it is given.
 #[derive(Drop)]
-pub struct Files {
+pub(crate) struct Files {
     /// Of `--passwd`.
     pub passwd: Option<String>,
     /// Of `--group`.
@@ -43,7 +43,7 @@ pub struct Files {
 }
 
 /// The files that the words name. The first of the words is the program's name.
-pub fn files_named(alloc: Global, words: &[String]) -> Result<Files, ProgramFault>
+pub(crate) fn files_named(alloc: Global, words: &[String]) -> Result<Files, ProgramFault>
     ensures { MatchResult result
         (λ files. files_named (map string_bytes words.now) ≡ Some (names_of files))
         (λ fault. (fault ≡ faults.NoMemory) ⊎ ((fault ≡ faults.Usage) × (files_named (map string_bytes words.now) ≡ None))) }

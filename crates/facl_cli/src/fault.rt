@@ -10,8 +10,8 @@ use facl_words::WordsFault;
 use std::alloc::{AllocError, Global};
 
 /// Why the program ends with 2.
-#[derive(Debug, Drop)]
-pub enum ProgramFault {
+#[derive(Drop)]
+pub(crate) enum ProgramFault {
     /// The words after the program's name are not such as it takes.
     Usage,
     /// A file cannot be read, or has more bytes than the limit.
@@ -92,7 +92,7 @@ fn write_unread<E: Sink>(file: &str, err: &mut E) -> Result<(), ScriptFault>
 
 /// Writes the line of a fault. It allocates nothing, but for a fault of the setup: where memory runs out for its line,
 /// that of `no memory` is written.
-pub fn write_fault<E: Sink>(
+pub(crate) fn write_fault<E: Sink>(
     alloc: Global,
     fault: &ProgramFault,
     err: &mut E,

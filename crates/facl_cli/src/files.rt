@@ -5,12 +5,12 @@ ghost use Rattle.std.specs.IoError.{error_kind};
 ghost use Rattle.facl_cli.specs.declared.files.Unread.TheVariants as unread;
 ghost use Rattle.facl_cli.specs.Words.{names_of};
 ghost use Rattle.facl_cli.specs.Lines.{ran_out_of_memory};
-ghost use Rattle.facl_cli.specs.Shelves.{HasNoText, IsText};
+ghost use Rattle.facl_cli.specs.FileStores.{HasNoText, IsText};
 ghost use Rattle.facl_cli.specs.Files.{AreTextsOf, IsFirstUnread, IsTextOf, IsUnread, file_limit, setup_texts, texts_of};
 
 use crate::args::Files;
 use crate::fault::ProgramFault;
-use crate::shelf::Shelf;
+use crate::file_store::FileStore;
 use facl::Setup;
 use std::alloc::{AllocError, Global};
 use std::io;
@@ -52,7 +52,7 @@ impl From<io::Error> for Unread {
 
 /// The texts that are loaded before the script.
 #[derive(Drop)]
-pub struct Texts {
+pub(crate) struct Texts {
     passwd: Option<Vec<u8>>,
     group: Option<Vec<u8>>,
     dump: Option<Vec<u8>>,
@@ -72,18 +72,18 @@ impl Texts {
 }
 
 /// All bytes that the open file has left. Past the limit one byte is read.
-fn read_within<S: Shelf>(alloc: Global, shelf: &mut S) -> Result<Vec<u8>, Unread>
-    requires { S.has_failed shelf.old ≡ false }
-    ensures ok { IfOk result (λ text. IsText file_limit (S.left shelf.old) text.items) }
-    ensures works { OnOk result (S.has_failed shelf.new ≡ false) }
-    ensures err { IfErr result (λ why. why ≢ Unread.NoMemory → HasNoText file_limit (S.left shelf.old)) }
-    ensures same { S.bytes_of shelf.new ≡ S.bytes_of shelf.old }
+fn read_within<S: FileStore>(alloc: Global, file_store: &mut S) -> Result<Vec<u8>, Unread>
+    requires { S.has_failed file_store.old ≡ false }
+    ensures ok { IfOk result (λ text. IsText file_limit (S.left file_store.old) text.items) }
+    ensures works { OnOk result (S.has_failed file_store.new ≡ false) }
+    ensures err { IfErr result (λ why. why ≢ Unread.NoMemory → HasNoText file_limit (S.left file_store.old)) }
+    ensures same { S.bytes_of file_store.new ≡ S.bytes_of file_store.old }
 {
     let mut text = Vec::new(alloc);
     let mut chunk = [0; CHUNK];
     loop {
         let room = CHUNK.min(FILE_LIMIT + 1 - text.len());
-        let count = shelf.read(&mut chunk[..room])?;
+        let count = file_store.read(&mut chunk[..room])?;
         if count == 0 {
             return Ok(text);
         }
@@ -95,26 +95,30 @@ fn read_within<S: Shelf>(alloc: Global, shelf: &mut S) -> Result<Vec<u8>, Unread
 }
 
 /// All bytes of a file.
-fn read_file<S: Shelf>(alloc: Global, shelf: &mut S, file: &str) -> Result<Vec<u8>, Unread>
-    requires { S.has_failed shelf.old ≡ false }
-    ensures ok { IfOk result (λ text. IsText file_limit (S.bytes_of shelf.old file.now) text.items) }
-    ensures works { OnOk result (S.has_failed shelf.new ≡ false) }
-    ensures err { IfErr result (λ why. why ≢ Unread.NoMemory → HasNoText file_limit (S.bytes_of shelf.old file.now)) }
-    ensures same { S.bytes_of shelf.new ≡ S.bytes_of shelf.old }
+fn read_file<S: FileStore>(alloc: Global, file_store: &mut S, file: &str) -> Result<Vec<u8>, Unread>
+    requires { S.has_failed file_store.old ≡ false }
+    ensures ok { IfOk result (λ text. IsText file_limit (S.bytes_of file_store.old file.now) text.items) }
+    ensures works { OnOk result (S.has_failed file_store.new ≡ false) }
+    ensures err { IfErr result (λ why. why ≢ Unread.NoMemory → HasNoText file_limit (S.bytes_of file_store.old file.now)) }
+    ensures same { S.bytes_of file_store.new ≡ S.bytes_of file_store.old }
 {
-    shelf.open(file)?;
-    read_within(alloc, shelf)
+    file_store.open(file)?;
+    read_within(alloc, file_store)
 }
 
 /// The text of a file. Where there is none, the fault names the file, unless memory ran out.
-fn read_text<S: Shelf>(alloc: Global, shelf: &mut S, file: String) -> Result<Vec<u8>, ProgramFault>
-    requires { S.has_failed shelf.old ≡ false }
-    ensures ok { IfOk result (λ text. IsText file_limit (S.bytes_of shelf.old (string_bytes file)) text.items) }
-    ensures works { OnOk result (S.has_failed shelf.new ≡ false) }
-    ensures err { IfErr result (λ fault. IsUnread (S.bytes_of shelf.old) fault (Some (string_bytes file))) }
-    ensures same { S.bytes_of shelf.new ≡ S.bytes_of shelf.old }
+fn read_text<S: FileStore>(
+    alloc: Global,
+    file_store: &mut S,
+    file: String,
+) -> Result<Vec<u8>, ProgramFault>
+    requires { S.has_failed file_store.old ≡ false }
+    ensures ok { IfOk result (λ text. IsText file_limit (S.bytes_of file_store.old (string_bytes file)) text.items) }
+    ensures works { OnOk result (S.has_failed file_store.new ≡ false) }
+    ensures err { IfErr result (λ fault. IsUnread (S.bytes_of file_store.old) fault (Some (string_bytes file))) }
+    ensures same { S.bytes_of file_store.new ≡ S.bytes_of file_store.old }
 {
-    match read_file(alloc, shelf, &file) {
+    match read_file(alloc, file_store, &file) {
         Ok(text) => Ok(text),
         Err(Unread::NoText) => Err(ProgramFault::CannotRead { file }),
         Err(Unread::NoMemory) => Err(ProgramFault::NoMemory),
@@ -122,38 +126,38 @@ fn read_text<S: Shelf>(alloc: Global, shelf: &mut S, file: String) -> Result<Vec
 }
 
 /// The text of a file, if one is given.
-fn read_given<S: Shelf>(
+fn read_given<S: FileStore>(
     alloc: Global,
-    shelf: &mut S,
+    file_store: &mut S,
     file: Option<String>,
 ) -> Result<Option<Vec<u8>>, ProgramFault>
-    requires { S.has_failed shelf.old ≡ false }
+    requires { S.has_failed file_store.old ≡ false }
     ensures ok { IfOk result (λ text.
-        IsTextOf (S.bytes_of shelf.old) (option_map string_bytes file) (option_map vec_items text)) }
-    ensures works { OnOk result (S.has_failed shelf.new ≡ false) }
-    ensures err { IfErr result (λ fault. IsUnread (S.bytes_of shelf.old) fault (option_map string_bytes file)) }
-    ensures same { S.bytes_of shelf.new ≡ S.bytes_of shelf.old }
+        IsTextOf (S.bytes_of file_store.old) (option_map string_bytes file) (option_map vec_items text)) }
+    ensures works { OnOk result (S.has_failed file_store.new ≡ false) }
+    ensures err { IfErr result (λ fault. IsUnread (S.bytes_of file_store.old) fault (option_map string_bytes file)) }
+    ensures same { S.bytes_of file_store.new ≡ S.bytes_of file_store.old }
 {
     match file {
-        Some(file) => Ok(Some(read_text(alloc, shelf, file)?)),
+        Some(file) => Ok(Some(read_text(alloc, file_store, file)?)),
         None => Ok(None),
     }
 }
 
 /// The texts of the files of users, of groups and of a dump, each if it is given, read in this order. The fault is that
 /// of the first file that has no text.
-pub fn read_texts<S: Shelf>(
+pub(crate) fn read_texts<S: FileStore>(
     alloc: Global,
-    shelf: &mut S,
+    file_store: &mut S,
     files: Files,
 ) -> Result<Texts, ProgramFault>
-    requires { S.has_failed shelf.old ≡ false }
-    ensures ok { IfOk result (λ texts. AreTextsOf (S.bytes_of shelf.old) (names_of files) (texts_of texts)) }
-    ensures err { IfErr result (λ fault. IsFirstUnread (S.bytes_of shelf.old) fault (names_of files)) }
+    requires { S.has_failed file_store.old ≡ false }
+    ensures ok { IfOk result (λ texts. AreTextsOf (S.bytes_of file_store.old) (names_of files) (texts_of texts)) }
+    ensures err { IfErr result (λ fault. IsFirstUnread (S.bytes_of file_store.old) fault (names_of files)) }
 {
-    let passwd = read_given(alloc, shelf, files.passwd)?;
-    let group = read_given(alloc, shelf, files.group)?;
-    let dump = read_given(alloc, shelf, files.dump)?;
+    let passwd = read_given(alloc, file_store, files.passwd)?;
+    let group = read_given(alloc, file_store, files.group)?;
+    let dump = read_given(alloc, file_store, files.dump)?;
     Ok(Texts {
         passwd,
         group,

@@ -6,28 +6,28 @@
 
 mod args;
 mod fault;
+mod file_store;
 mod files;
 mod program;
-mod shelf;
 
 use crate::args::words_given;
 use crate::fault::ProgramFault;
+use crate::file_store::SystemFiles;
 use crate::program::{answer_words, end};
-use crate::shelf::SystemShelf;
 use facl::{Status, StdFeed, StdSink};
 use std::process::ExitCode;
 
 /// Answers the script on standard input.
 fn answer(rt: &HostRuntime) -> Result<Status, ProgramFault> {
     let words = words_given(rt)?;
-    let mut shelf = SystemShelf::new(rt);
+    let mut file_store = SystemFiles::new(rt);
     let mut reader = StdFeed::new(rt.stdin());
     let mut out = StdSink::new(rt.stdout());
     let mut err = StdSink::new(rt.stderr());
     answer_words(
         rt.alloc(),
         &words,
-        &mut shelf,
+        &mut file_store,
         &mut reader,
         &mut out,
         &mut err,

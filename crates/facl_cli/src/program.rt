@@ -12,8 +12,8 @@ ghost use Rattle.facl.specs.facl_script.Streams.{streams};
 
 use crate::args::files_named;
 use crate::fault::{ProgramFault, write_fault};
+use crate::file_store::FileStore;
 use crate::files::{Texts, read_texts};
-use crate::shelf::Shelf;
 use facl::{Feed, Sink, Status, run};
 use std::alloc::Global;
 use std::process::ExitCode;
@@ -22,40 +22,40 @@ use std::process::ExitCode;
 const FAULT_STATUS: u8 = 2;
 
 /// The texts of the files that the words name.
-fn texts_named<S: Shelf>(
+fn texts_named<S: FileStore>(
     alloc: Global,
     words: &[String],
-    shelf: &mut S,
+    file_store: &mut S,
 ) -> Result<Texts, ProgramFault>
-    requires { S.has_failed shelf.old ≡ false }
+    requires { S.has_failed file_store.old ≡ false }
     ensures ok { IfOk result (λ texts.
-        HaveTexts (S.bytes_of shelf.old) (map string_bytes words.now) (texts_of texts)) }
-    ensures err { IfErr result (IsUnloaded (S.bytes_of shelf.old) (map string_bytes words.now)) }
+        HaveTexts (S.bytes_of file_store.old) (map string_bytes words.now) (texts_of texts)) }
+    ensures err { IfErr result (IsUnloaded (S.bytes_of file_store.old) (map string_bytes words.now)) }
 {
     let files = files_named(alloc, words)?;
-    read_texts(alloc, shelf, files)
+    read_texts(alloc, file_store, files)
 }
 
 /// Loads the texts of the files that the words name, then answers the script. The first of the words is the program's
 /// name.
-pub fn answer_words<S: Shelf, R: Feed, O: Sink, E: Sink>(
+pub(crate) fn answer_words<S: FileStore, R: Feed, O: Sink, E: Sink>(
     alloc: Global,
     words: &[String],
-    shelf: &mut S,
+    file_store: &mut S,
     reader: &mut R,
     out: &mut O,
     err: &mut E,
 ) -> Result<Status, ProgramFault>
-    requires shelf { S.has_failed shelf.old ≡ false }
+    requires file_store { S.has_failed file_store.old ≡ false }
     requires reader { R.has_failed reader.old ≡ false }
     requires out { O.has_failed out.old ≡ false }
     requires err { E.has_failed err.old ≡ false }
 
     ensures ok { IfOk result (λ status. IfSome (R.remaining reader.old) (λ script.
-        Ran (S.bytes_of shelf.old) (map string_bytes words.now) script status
+        Ran (S.bytes_of file_store.old) (map string_bytes words.now) script status
         (streams (O.contents out.old) (E.contents err.old)) (streams (O.contents out.new) (E.contents err.new)))) }
     ensures fault { IfErr result (λ fault.
-        FailsBy fault (S.bytes_of shelf.old) (map string_bytes words.now)
+        FailsBy fault (S.bytes_of file_store.old) (map string_bytes words.now)
         (devices (R.remaining reader.old) (O.contents out.old) (E.contents err.old))
         (devices (R.remaining reader.new) (O.contents out.new) (E.contents err.new))) }
 
@@ -69,14 +69,18 @@ pub fn answer_words<S: Shelf, R: Feed, O: Sink, E: Sink>(
     ensures write { result ≡ Err (ProgramFault.Run runs.Write)
         → (O.has_failed out.new ≡ true) ⊎ (E.has_failed err.new ≡ true) }
 {
-    let texts = texts_named(alloc, words, shelf)?;
+    let texts = texts_named(alloc, words, file_store)?;
     let status = run(alloc, &texts.setup(), reader, out, err)?;
     Ok(status)
 }
 
 /// Prints the line of a fault, and returns what the program ends with: 0 where every line was accepted, 1 where some
 /// line was refused, 2 at a fault. A fault of standard error itself cannot be printed.
-pub fn end<E: Sink>(alloc: Global, outcome: &Result<Status, ProgramFault>, err: &mut E) -> ExitCode
+pub(crate) fn end<E: Sink>(
+    alloc: Global,
+    outcome: &Result<Status, ProgramFault>,
+    err: &mut E,
+) -> ExitCode
     requires { E.has_failed err.old ≡ false }
     ensures status { exit_status result ≡ status_of outcome.now }
     ensures reported { IsReported outcome.now (E.contents err.old) (E.contents err.new) (E.has_failed err.new) }

@@ -8,7 +8,7 @@ use Rattle.facl.specs.acl_entry.Lists.{entries, perm_at}
 use Rattle.facl.specs.acl_entry.Check.{byte_of}
 use Rattle.facl.specs.acl_entry.Mentions.{AgreeOnMentions, is_one_of, named_groups}
 use Rattle.facl.specs.acl_entry.Person.{Person}
-use Rattle.facl.specs.acl_entry.declared.key.Key.TheVariants.{Owner, OwningGroup, Other}
+use Rattle.facl.specs.acl_entry.declared.entry.Key.TheVariants.{Owner, OwningGroup, Other}
 use Rattle.facl.specs.acl_entry.declared.label.Label.{Label}
 
 -- the owner is granted what the owner's entry contains, and nobody else is granted anything

@@ -8,7 +8,7 @@ use Rattle.acl_rights.specs.acl_entry.Person.{Person}
 use Rattle.acl_rights.specs.acl_names.Paths.{path_cmp}
 use Rattle.acl_rights.specs.acl_syntax.declared.rows.PasswdRow.{PasswdRow}
 use Rattle.acl_rights.specs.acl_edit.declared.node.Node.{Node}
-use Rattle.acl_rights.specs.acl_people.Registers.{person, persons}
+use Rattle.acl_rights.specs.acl_people.KnownPeople.{person, persons}
 use Rattle.acl_rights.specs.acl_tree.Files.{PathOf}
 use Rattle.acl_rights.specs.acl_tree.Step.{State}
 use Rattle.acl_rights.specs.Tables.{Verdict, places_from, verdict_at}

@@ -10,7 +10,7 @@ use Rattle.acl_rights.specs.acl_edit.declared.node.Node.{Node}
 use Rattle.acl_rights.specs.acl_entry.Lists.{KeyMap, entries}
 use Rattle.acl_rights.specs.acl_entry.Perms.{number}
 use Rattle.acl_rights.specs.acl_entry.declared.entry.Entry.{Entry}
-use Rattle.acl_rights.specs.acl_people.Registers.{Register, naming_of}
+use Rattle.acl_rights.specs.acl_people.KnownPeople.{KnownPeople, naming_of}
 use Rattle.acl_rights.specs.acl_tree.Files.{PathOf, Files}
 use Rattle.hex.proofs.HexLemmas.{decode_of-encode_lower}
 use Rattle.hex.specs.Hex.{IsBytes}
@@ -50,19 +50,19 @@ entries_are_bytes (e ∷ es) = append_bytes (entry_bytes e) (flat_map entry_byte
 attribute_is_bytes : (acl : KeyMap) → IsBytes (attr_bytes acl)
 attribute_is_bytes acl = append_bytes (bytes_low_first 0 4 2) (flat_map entry_bytes (entries acl)) (low_bytes 0 4 2) (entries_are_bytes (entries acl))
 
-attribute_again : (known : Register) (acl : KeyMap) → IsListAgain known acl → IsAttributeAgain acl
+attribute_again : (known : KnownPeople) (acl : KeyMap) → IsListAgain known acl → IsAttributeAgain acl
 attribute_again known acl h = record {
   digits = decode_of-encode_lower (attr_bytes acl) (attribute_is_bytes acl);
   list = attr_again acl h.valid h.ids;
 }
 
-default_again : (known : Register) (o : Option KeyMap) → IsListIf (naming_of known) o → IfSome o IsAttributeAgain
+default_again : (known : KnownPeople) (o : Option KeyMap) → IsListIf (naming_of known) o → IfSome o IsAttributeAgain
 default_again known None h = tt
 default_again known (Some acl) h = attribute_again known acl h
 
-node_again : (known : Register) (e : PathOf × Node) → IsReadAgain known e → AreAttributesAgain e.1
+node_again : (known : KnownPeople) (e : PathOf × Node) → IsReadAgain known e → AreAttributesAgain e.1
 node_again known e h = record { access = attribute_again known e.1.label.acl h.access; dacl = default_again known e.1.dacl h.dacl }
 
-pub attributes_again : (known : Register) (es : Files) → AllByRecursion (IsReadAgain known) es → AllByRecursion (λ e. AreAttributesAgain e.1) es
+pub attributes_again : (known : KnownPeople) (es : Files) → AllByRecursion (IsReadAgain known) es → AllByRecursion (λ e. AreAttributesAgain e.1) es
 attributes_again known [] h = tt
 attributes_again known (e ∷ es) h = (node_again known e h.0, attributes_again known es h.1)

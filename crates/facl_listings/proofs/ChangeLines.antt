@@ -1,5 +1,5 @@
 -- What two walks over the rows of two whole tables print is what differs between the states.
-use Rattle.std.proofs.Common.{◌≡◌, ℕ, zero, suc, ◌+◌, arith, Bool, true, false, not, cond, take, List, [], ◌∷◌, ◌++◌, append_assoc, map, filter, Option, Some, None, Ordering, Less, Equal, Greater, refl, sym, ap, subst, ◌∙◌}
+use Rattle.std.proofs.Common.{◌≡◌, ℕ, zero, suc, ◌+◌, arith, Bool, true, false, not, cond, length, take, List, [], ◌∷◌, ◌++◌, append_assoc, map, filter, Option, Some, None, Ordering, Less, Equal, Greater, refl, sym, ap, subst, ◌∙◌}
 use Rattle.std.specs.Prelude.{option_map, option_and_then, slice_get, unwrap_or, ◌&&◌}
 use Rattle.std.specs.List.{flat_map}
 use Rattle.std.specs.Option.{option_map_or}
@@ -11,14 +11,14 @@ use Rattle.acl_rights.specs.acl_files.path_map.Entries.{PathOf, IsInOrder, first
 use Rattle.acl_rights.specs.acl_files.path_map.Merged.{put_all}
 use Rattle.acl_rights.specs.acl_names.Names.{escaped}
 use Rattle.acl_rights.specs.acl_names.Paths.{path_cmp}
-use Rattle.acl_rights.specs.acl_people.Registers.{Register, persons, users_of}
-use Rattle.acl_rights.specs.acl_people.Rolls.{has_name}
+use Rattle.acl_rights.specs.acl_people.KnownPeople.{KnownPeople, persons, users_of}
+use Rattle.acl_rights.specs.acl_people.NameTables.{has_name}
 use Rattle.acl_rights.specs.acl_tree.Files.{Files}
 use Rattle.acl_rights.specs.acl_tree.Found.{FoundFile, found_file, found_in}
 use Rattle.acl_rights.specs.acl_tree.Sound.{holds_below}
 use Rattle.acl_rights.specs.acl_tree.Step.{State}
 use Rattle.acl_rights.proofs.of_acl_files.Follows.{known_by_next}
-use Rattle.acl_rights.specs.Tables.{Verdict, Rows, Table, IsWhole}
+use Rattle.acl_rights.specs.Tables.{Verdict, Rows, VerdictTable, IsWhole, rows_of}
 use Rattle.acl_rights.specs.Reach.{rows_along, reached_from}
 use Rattle.acl_rights.proofs.Asked.{cell_is}
 use Rattle.acl_rights.proofs.Reached.{reach_is}
@@ -26,7 +26,7 @@ use Rattle.facl_listings.specs.declared.placed_users.PlacedUser.{PlacedUser}
 use Rattle.facl_listings.specs.Listings.{path_shown}
 use Rattle.facl_listings.specs.Answers.{can_requests}
 use Rattle.facl_listings.specs.Changes.{change_lines, users_of_both, place_of, granted_to, changes_text}
-use Rattle.facl_listings.specs.Inner.{Placed, placed_of, placed_in, cell_at, lines_between, Walked, has_next_below, shown_before, walked, row_in, lines_of_both}
+use Rattle.facl_listings.specs.Inner.{Placed, placed_of, placed_in, rows_granted, cell_at, lines_between, Walked, has_next_below, shown_before, walk_of, row_in, lines_of_both}
 use Rattle.facl_listings.proofs.Asked.{can_alone, can_along}
 
 flat-map : {A B C : Type 0} (h : B → List C) (f : A → B) (xs : List A) → flat_map h (map f xs) ≡ flat_map (λ x. h (f x)) xs
@@ -105,7 +105,7 @@ module _ {A B : Type 0} (f : A → B) where
 
 -- ---- a walk
 
-walked_paths : (es : Files) (rows : Rows) → paths rows ≡ paths es → paths (walked es rows) ≡ paths es
+walked_paths : (es : Files) (rows : Rows) → paths rows ≡ paths es → paths (walk_of es rows) ≡ paths es
 walked_paths [] [] h = refl
 walked_paths [] (row ∷ rows) h = absurd (cc h)
 walked_paths (e ∷ es) [] h = absurd (cc h)
@@ -114,10 +114,10 @@ walked_paths (e ∷ es) (row ∷ rows) h =
     let later : paths rows ≡ paths es = cc in
     λ i. here i ∷ walked_paths es rows later i
 
-pub walked_order : (es : Files) (rows : Rows) → paths rows ≡ paths es → IsInOrder es → IsInOrder (walked es rows)
-walked_order es rows h order = subst (λ b. b ≡ true) (sym (order_by_paths (walked es rows) es (walked_paths es rows h))) order
+pub walked_order : (es : Files) (rows : Rows) → paths rows ≡ paths es → IsInOrder es → IsInOrder (walk_of es rows)
+walked_order es rows h order = subst (λ b. b ≡ true) (sym (order_by_paths (walk_of es rows) es (walked_paths es rows h))) order
 
-walked_rows : (es : Files) (rows : Rows) → paths rows ≡ paths es → (p : PathOf) → option_map (λ (f : List ℕ × List ℕ). f.1) (find path_cmp p (walked es rows)) ≡ find path_cmp p rows
+walked_rows : (es : Files) (rows : Rows) → paths rows ≡ paths es → (p : PathOf) → option_map (λ (f : List ℕ × List ℕ). f.1) (find path_cmp p (walk_of es rows)) ≡ find path_cmp p rows
 walked_rows [] [] h p = refl
 walked_rows [] (row ∷ rows) h p = absurd (cc h)
 walked_rows (e ∷ es) [] h p = absurd (cc h)
@@ -126,12 +126,12 @@ walked_rows (e ∷ es) (row ∷ rows) h p = by (is_eq (path_cmp p row.0)) (walke
     later : paths rows ≡ paths es
     later = cc
 
-    by : (b : Bool) → option_map (λ (f : List ℕ × List ℕ). f.1) (find path_cmp p (walked es rows)) ≡ find path_cmp p rows
-        → option_map (λ (f : List ℕ × List ℕ). f.1) (cond b (Some (shown_before (first es) e, row.1)) (find path_cmp p (walked es rows))) ≡ cond b (Some row.1) (find path_cmp p rows)
+    by : (b : Bool) → option_map (λ (f : List ℕ × List ℕ). f.1) (find path_cmp p (walk_of es rows)) ≡ find path_cmp p rows
+        → option_map (λ (f : List ℕ × List ℕ). f.1) (cond b (Some (shown_before (first es) e, row.1)) (find path_cmp p (walk_of es rows))) ≡ cond b (Some row.1) (find path_cmp p rows)
     by true more = refl
     by false more = more
 
-pub no_files : (rows : Rows) → walked [] rows ≡ []
+pub no_files : (rows : Rows) → walk_of [] rows ≡ []
 no_files [] = refl
 no_files (row ∷ rows) = refl
 
@@ -143,7 +143,7 @@ abbrev pub shown : FoundFile → PathOf × List ℕ
 shown file = (file.path, path_shown file)
 
 walked_shown : (t done es : Files) (rows : Rows) → t ≡ done ++ es → IsInOrder t → paths rows ≡ paths es
-    → map (part (λ (f : List ℕ × List ℕ). f.0)) (walked es rows) ≡ map shown (found_in t es)
+    → map (part (λ (f : List ℕ × List ℕ). f.0)) (walk_of es rows) ≡ map shown (found_in t es)
 walked_shown t done [] [] all order h = refl
 walked_shown t done [] (row ∷ rows) all order h = absurd (cc h)
 walked_shown t done (e ∷ es) [] all order h = absurd (cc h)
@@ -156,7 +156,14 @@ walked_shown t done (e ∷ es) (row ∷ rows) all order h =
 
 -- ---- of a state with its table
 
-module _ (V : Verdict) (along : Bool) (s : State) (t : Table) (whole : IsWhole V s t) where
+-- the table of a state
+abbrev pub table_of : Verdict → State → VerdictTable
+table_of V s = record { users = length s.people.users; files = s.tree.files; rows = rows_of V (persons s.people) s.tree.files }
+
+pub whole_table : (V : Verdict) (s : State) → IsWhole V s (table_of V s)
+whole_table V s = record { users = refl; files = refl; rows = refl }
+
+module _ (V : Verdict) (along : Bool) (s : State) (t : VerdictTable) (whole : IsWhole V s t) where
   pub rows_paths : paths (rows_along along t.rows) ≡ paths s.tree.files
   rows_paths = by along
     where
@@ -176,7 +183,7 @@ module _ (V : Verdict) (along : Bool) (s : State) (t : Table) (whole : IsWhole V
       by false = cell_is V s t whole user p ∙ can_alone V s user p
 
   abbrev files_walked : Walked
-  files_walked = walked s.tree.files (rows_along along t.rows)
+  files_walked = walk_of s.tree.files (rows_along along t.rows)
 
   -- what a row grants a user is what the user is granted
   cell_granted : (name : List ℕ) (p : PathOf) → cell_at (row_in files_walked p) (place_of s name) ≡ granted_to V along s name p
@@ -196,14 +203,14 @@ module _ (V : Verdict) (along : Bool) (s : State) (t : Table) (whole : IsWhole V
 
 -- ---- of two states
 
-module _ (V : Verdict) (along : Bool) (loaded now : State) (before after : Table) (was : IsWhole V loaded before) (is : IsWhole V now after)
+module _ (V : Verdict) (along : Bool) (loaded now : State) (before after : VerdictTable) (was : IsWhole V loaded before) (is : IsWhole V now after)
     (before_order : IsInOrder loaded.tree.files) (after_order : IsInOrder now.tree.files) (users : List PlacedUser)
     (known : map placed_of users ≡ map (λ row. placed_in loaded.people now.people row.name) (users_of_both loaded now)) where
   abbrev walked_before : Walked
-  walked_before = walked loaded.tree.files (rows_along along before.rows)
+  walked_before = walk_of loaded.tree.files (rows_along along before.rows)
 
   abbrev walked_after : Walked
-  walked_after = walked now.tree.files (rows_along along after.rows)
+  walked_after = walk_of now.tree.files (rows_along along after.rows)
 
   abbrev lines_at : PathOf → List ℕ → List ℕ
   lines_at p path = flat_map (λ row. change_lines path (escaped row.name) (granted_to V along loaded row.name p) (granted_to V along now row.name p)) (users_of_both loaded now)
@@ -228,14 +235,14 @@ module _ (V : Verdict) (along : Bool) (loaded now : State) (before after : Table
       ∙ (λ i. put_all (walked_shown now.tree.files [] now.tree.files (rows_along along after.rows) refl after_order (rows_paths V along now after is) i) (walked_shown loaded.tree.files [] loaded.tree.files (rows_along along before.rows) refl before_order (rows_paths V along loaded before was) i)))
 
 -- what is printed of both, out of the users and the walks that were found
-pub all_lines : (V : Verdict) (along : Bool) (loaded now : State) (before after : Table) → IsWhole V loaded before → IsWhole V now after → IsInOrder loaded.tree.files → IsInOrder now.tree.files
-    → (were are : Register) → were ≡ loaded.people → are ≡ now.people
+pub all_lines : (V : Verdict) (along : Bool) (loaded now : State) → IsInOrder loaded.tree.files → IsInOrder now.tree.files
+    → (were are : KnownPeople) → were ≡ loaded.people → are ≡ now.people
     → (users known : List PlacedUser) → known ≡ users
     → map placed_of users ≡ map (λ row. placed_in were are row.name) (are.users ++ filter (λ row. not (has_name row.name (users_of are))) were.users)
-    → (left right : Walked) → left ≡ walked loaded.tree.files (rows_along along before.rows) → right ≡ walked now.tree.files (rows_along along after.rows)
+    → (left right : Walked) → left ≡ walk_of loaded.tree.files (rows_granted V along loaded) → right ≡ walk_of now.tree.files (rows_granted V along now)
     → (start text : List ℕ) → start ≡ [] → text ≡ start ++ lines_of_both known left right → text ≡ changes_text V along loaded now
-all_lines V along loaded now before after was is before_order after_order were are p q users known same placed left right l r start text empty pushed =
+all_lines V along loaded now before_order after_order were are p q users known same placed left right l r start text empty pushed =
     pushed
     ∙ (λ i. empty i ++ lines_of_both (same i) (l i) (r i))
-    ∙ lines_are V along loaded now before after was is before_order after_order users
+    ∙ lines_are V along loaded now (table_of V loaded) (table_of V now) (whole_table V loaded) (whole_table V now) before_order after_order users
     (placed ∙ (λ i. map (λ row. placed_in (p i) (q i) row.name) ((q i).users ++ filter (λ row. not (has_name row.name (users_of (q i)))) (p i).users)))

@@ -14,13 +14,13 @@ use Rattle.acl_rights.specs.acl_entry.Perms.{Perms, none, contains}
 use Rattle.acl_rights.specs.acl_entry.Person.{Person}
 use Rattle.acl_rights.specs.acl_entry.declared.entry.Entry.{Entry}
 use Rattle.acl_rights.specs.acl_entry.declared.entry.ListFault.TheVariants.{TooLong, Repeated, MissingBase, MissingMask}
-use Rattle.acl_rights.specs.acl_entry.declared.key.Key.{Key}
-use Rattle.acl_rights.specs.acl_entry.declared.key.Key.TheVariants.{Owner, User, OwningGroup, Group, Mask, Other}
+use Rattle.acl_rights.specs.acl_entry.declared.entry.Key.{Key}
+use Rattle.acl_rights.specs.acl_entry.declared.entry.Key.TheVariants.{Owner, User, OwningGroup, Group, Mask, Other}
 use Rattle.acl_rights.specs.acl_entry.declared.label.Label.{Label}
 use Rattle.acl_rights.proofs.of_acl_entry.Faults.{is_among-keys}
 use Rattle.acl_rights.proofs.of_acl_entry.KeyLaws.{exact_keys}
 use Rattle.acl_rights.proofs.of_acl_entry.Maps.{get-map_of, map_of-entries, true_T}
-use Rattle.facl_listings.specs.Why.{listed, some_decides}
+use Rattle.facl_listings.specs.Why.{perms_listed, some_decides}
 
 -- ---- the entry of a key
 
@@ -121,7 +121,7 @@ in_class u owning e h = by e.key h
 
 module _ (u : Person) (f : Label) (q : Perms) where
   abbrev grants : Entry → Bool
-  grants e = contains (listed f.acl e) q
+  grants e = contains (perms_listed f.acl e) q
 
   alone : (o : Option Perms) → is_some o ≡ true → contains (unwrap_or o none) q ≡ option_map_or (λ s. contains s q) o false
   alone None h = cc

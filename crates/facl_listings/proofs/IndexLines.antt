@@ -1,21 +1,21 @@
--- The lines of all files, by the rows of a whole table.
+-- The lines of all files, by the verdicts on all users.
 use Rattle.std.proofs.Common.{◌≡◌, ℕ, zero, suc, ◌+◌, ◌<◌, ◌++◌, append_assoc, arith, false, length, take, List, [], ◌∷◌, map, Some, None, refl, sym, ap, subst, ◌∙◌}
 use Rattle.std.specs.Prelude.{slice_get}
 use Rattle.std.specs.List.{flat_map}
 use Rattle.acl_rights.specs.acl_names.Names.{escaped}
 use Rattle.acl_rights.specs.acl_syntax.declared.rows.PasswdRow.{PasswdRow}
 use Rattle.acl_rights.specs.acl_edit.declared.node.Node.{Node}
-use Rattle.acl_rights.specs.acl_people.Registers.{person, persons}
+use Rattle.acl_rights.specs.acl_people.KnownPeople.{person, persons}
 use Rattle.acl_rights.specs.acl_tree.Files.{Files, IsInOrder}
 use Rattle.acl_rights.specs.acl_tree.Found.{FoundFile, found_file, found_in}
 use Rattle.acl_rights.specs.acl_tree.Sound.{holds_below}
 use Rattle.acl_rights.specs.acl_tree.Step.{State}
 use Rattle.acl_rights.proofs.of_acl_files.Follows.{known_by_next}
 use Rattle.acl_rights.specs.acl_files.path_map.Entries.{first}
-use Rattle.acl_rights.specs.Tables.{Verdict, Rows, Table, IsWhole, cells_of, rows_of}
+use Rattle.acl_rights.specs.Tables.{Verdict, cells_of, rows_of}
 use Rattle.facl_listings.specs.Listings.{path_shown}
 use Rattle.facl_listings.specs.Answers.{granted, verdict_line, index_text}
-use Rattle.facl_listings.specs.Inner.{row_lines, walked, has_next_below, shown_before, lines_of_walk}
+use Rattle.facl_listings.specs.Inner.{row_lines, rows_granted, walk_of, has_next_below, shown_before, lines_of_walk}
 use Rattle.facl_listings.proofs.ChangeLines.{next_below}
 
 -- one more of some rows
@@ -38,7 +38,7 @@ pub no_cell_left : (path : List ℕ) (names : List (List ℕ)) → row_lines pat
 no_cell_left path [] = refl
 no_cell_left path (name ∷ names) = refl
 
-module _ (V : Verdict) (s : State) (t : Table) (whole : IsWhole V s t) (order : IsInOrder s.tree.files) where
+module _ (V : Verdict) (s : State) (order : IsInOrder s.tree.files) where
   abbrev written : List (List ℕ)
   written = map (λ row. escaped row.name) s.people.users
 
@@ -52,7 +52,7 @@ module _ (V : Verdict) (s : State) (t : Table) (whole : IsWhole V s t) (order : 
   each_user path n [] = refl
   each_user path n (row ∷ rows) = ap (λ l. verdict_line (V (person s.people.groups row) n.label) (escaped row.name) path ++ l) (each_user path n rows)
 
-  each_file : (done es : Files) → s.tree.files ≡ done ++ es → lines_of_walk written (walked es (rows_of V (persons s.people) es)) ≡ flat_map file_lines (found_in s.tree.files es)
+  each_file : (done es : Files) → s.tree.files ≡ done ++ es → lines_of_walk written (walk_of es (rows_of V (persons s.people) es)) ≡ flat_map file_lines (found_in s.tree.files es)
   each_file done [] all = refl
   each_file done (e ∷ es) all =
       let is_below : has_next_below e.0 (first es) ≡ holds_below s.tree.files e.0 =
@@ -66,5 +66,5 @@ module _ (V : Verdict) (s : State) (t : Table) (whole : IsWhole V s t) (order : 
       λ i. here i ++ more i
 
   -- the lines of all files
-  pub index_lines : lines_of_walk written (walked s.tree.files t.rows) ≡ index_text V s
-  index_lines = ap (λ (rows : Rows). lines_of_walk written (walked s.tree.files rows)) whole.rows ∙ each_file [] s.tree.files refl
+  pub index_lines : lines_of_walk written (walk_of s.tree.files (rows_granted V false s)) ≡ index_text V s
+  index_lines = each_file [] s.tree.files refl

@@ -16,10 +16,10 @@ use Rattle.acl_rights.specs.acl_entry.Keys.{id_of}
 use Rattle.acl_rights.specs.acl_entry.Lists.{KeyMap, entries, fault, IsValid, most_entries}
 use Rattle.acl_rights.specs.acl_entry.Perms.{text}
 use Rattle.acl_rights.specs.acl_entry.declared.entry.Entry.{Entry}
-use Rattle.acl_rights.specs.acl_entry.declared.key.Key.{Key}
-use Rattle.acl_rights.specs.acl_entry.declared.key.Key.TheVariants as keys
+use Rattle.acl_rights.specs.acl_entry.declared.entry.Key.{Key}
+use Rattle.acl_rights.specs.acl_entry.declared.entry.Key.TheVariants as keys
 use Rattle.acl_rights.specs.acl_names.Pieces.{pieces}
-use Rattle.acl_rights.specs.acl_people.Registers.{Register, naming_of}
+use Rattle.acl_rights.specs.acl_people.KnownPeople.{KnownPeople, naming_of}
 use Rattle.acl_rights.specs.acl_syntax.Blanks.{is_blank, trimmed}
 use Rattle.acl_rights.specs.acl_syntax.Entries.{rules_of, tagged, entry_from, entry_of, wanted_perms, key_of, allowed_key, most_text_entries, one_more, entries_of}
 use Rattle.acl_rights.specs.acl_syntax.Fields.{EntryRow, entry_fields, row_of, is_default_word}
@@ -34,7 +34,7 @@ use Rattle.acl_rights.specs.acl_syntax.declared.entries.Want.TheVariants as want
 use Rattle.acl_rights.specs.acl_syntax.declared.fault.FaultKind.{FaultKind}
 use Rattle.acl_rights.specs.acl_syntax.declared.fault.FaultKind.TheVariants.{BadTag}
 use Rattle.acl_rights.specs.acl_syntax.declared.fault.TextFault.{TextFault}
-use Rattle.acl_rights.specs.acl_syntax.declared.form.Form.TheVariants.{Short}
+use Rattle.acl_rights.specs.acl_syntax.declared.entries.Form.TheVariants.{Short}
 use Rattle.facl_listings.specs.Again.{IsListAgain, IsShortAgain, entries_for, dacl_entries, all_entries, specs_of}
 use Rattle.facl_listings.specs.TestListing.{default_entry, default_entries, lists_text}
 
@@ -210,11 +210,11 @@ module _ (naming : Naming) where
       ∙ each_read (all_entries n) 1 [] are
       (omega (arith, length-append (entries_for false es) (dacl_entries n.dacl), few_for false n.label.acl is.valid, few_dacl n.dacl default)))
 
-pub both_again : (known : Register) (n : Node) → IsListAgain known n.label.acl → IsListIf (naming_of known) n.dacl
+pub both_again : (known : KnownPeople) (n : Node) → IsListAgain known n.label.acl → IsListIf (naming_of known) n.dacl
     → entries_of (naming_of known) Comma wants.WithPerms (lists_text (naming_of known) n) ≡ Ok (specs_of 1 (all_entries n))
 both_again known n is default = both_read (naming_of known) n is default
 
-pub short_is_again : (known : Register) (acl : KeyMap) → IsListAgain known acl → IsShortAgain known acl
+pub short_is_again : (known : KnownPeople) (acl : KeyMap) → IsListAgain known acl → IsShortAgain known acl
 short_is_again known acl is = record {
   valid = is.valid;
   read = short_again (naming_of known) acl is.valid is.ids is.named wants.Plain refl;

@@ -10,7 +10,8 @@ use Rattle.acl_rights.proofs.of_acl_entry.Faults.{fault_short}
 use Rattle.acl_rights.proofs.of_acl_entry.Maps.{map_of-entries, in_order-entries}
 use Rattle.acl_rights.proofs.of_acl_files.of_acl_edit.Kept.{checked_valid, default_unnamed}
 use Rattle.acl_rights.specs.acl_dump.Again.{IsListIf}
-use Rattle.acl_rights.specs.acl_edit.Changes.{Change, options}
+use Rattle.acl_rights.specs.acl_edit.declared.edit.Change.{Change}
+use Rattle.acl_rights.specs.acl_edit.Changes.{options}
 use Rattle.acl_rights.specs.acl_syntax.InTurn.{◌>>=◌}
 use Rattle.acl_rights.specs.acl_edit.Edits.{worked, access_after, default_after, checked, checked_default, changed_access, changed_default, change}
 use Rattle.acl_rights.specs.acl_edit.Masks.{has_mask, has_named, add_mask, recalculate, is_recalculated, takes_mask, with_mask}
@@ -27,9 +28,9 @@ use Rattle.acl_rights.specs.acl_entry.Perms.{Perms}
 use Rattle.acl_rights.specs.acl_entry.declared.entry.Entry.{Entry}
 use Rattle.acl_rights.specs.acl_entry.declared.entry.ListFault.{ListFault}
 use Rattle.acl_rights.specs.acl_entry.declared.entry.ListFault.TheVariants.{Repeated, MissingBase, MissingMask}
-use Rattle.acl_rights.specs.acl_entry.declared.key.Key.{Key}
-use Rattle.acl_rights.specs.acl_entry.declared.key.Key.TheVariants.{Owner, User, OwningGroup, Group, Mask, Other}
-use Rattle.acl_rights.specs.acl_people.Registers.{Register, naming_of}
+use Rattle.acl_rights.specs.acl_entry.declared.entry.Key.{Key}
+use Rattle.acl_rights.specs.acl_entry.declared.entry.Key.TheVariants.{Owner, User, OwningGroup, Group, Mask, Other}
+use Rattle.acl_rights.specs.acl_people.KnownPeople.{KnownPeople, naming_of}
 use Rattle.acl_rights.specs.acl_syntax.declared.entries.Spec.{Spec}
 use Rattle.acl_rights.specs.acl_syntax.declared.fault.Which.{Which}
 use Rattle.acl_rights.specs.acl_syntax.declared.fault.Which.TheVariants.{Access, Default}
@@ -255,7 +256,7 @@ not_misplaced : (in_recursion b : Bool) → b ≡ false → (not false && not in
 not_misplaced true b h = refl
 not_misplaced false b h = h
 
-valid_dacl : (known : Register) (o : Option KeyMap) (d : KeyMap) → o ≡ Some d → IsListIf (naming_of known) o → IsValid d
+valid_dacl : (known : KnownPeople) (o : Option KeyMap) (d : KeyMap) → o ≡ Some d → IsListIf (naming_of known) o → IsValid d
 valid_dacl known o d e is = (subst (IsListIf (naming_of known)) e is).valid
 
 module _ (n : Node) (sound : IsSound n) (valid : IsValid n.label.acl) (valid_default : (d : KeyMap) → n.dacl ≡ Some d → IsValid d) where
@@ -296,11 +297,11 @@ module _ (n : Node) (sound : IsSound n) (valid : IsValid n.label.acl) (valid_def
 
 -- ---- all files
 
-default_short : (known : Register) (o : Option KeyMap) → IsListIf (naming_of known) o → IfSome o (IsShortAgain known)
+default_short : (known : KnownPeople) (o : Option KeyMap) → IsListIf (naming_of known) o → IfSome o (IsShortAgain known)
 default_short known None is = tt
 default_short known (Some dacl) is = short_is_again known dacl is
 
-node_again : (known : Register) (e : PathOf × Node) → IsSound e.1 → IsReadAgain known e → AreListsAgain known e.1
+node_again : (known : KnownPeople) (e : PathOf × Node) → IsSound e.1 → IsReadAgain known e → AreListsAgain known e.1
 node_again known e sound is = record {
   access = short_is_again known e.1.label.acl is.access;
   dacl = default_short known e.1.dacl is.dacl;
@@ -308,6 +309,6 @@ node_again known e sound is = record {
   set = set_again e.1 sound is.access.valid (λ d same. valid_dacl known e.1.dacl d same is.dacl);
 }
 
-pub lists_again : (known : Register) (whole es : Files) → ArePlaced whole es → AllByRecursion (IsReadAgain known) es → AllByRecursion (λ e. AreListsAgain known e.1) es
+pub lists_again : (known : KnownPeople) (whole es : Files) → ArePlaced whole es → AllByRecursion (IsReadAgain known) es → AllByRecursion (λ e. AreListsAgain known e.1) es
 lists_again known whole [] placed are = tt
 lists_again known whole (e ∷ es) placed are = (node_again known e placed.0.default are.0, lists_again known whole es placed.1 are.1)

@@ -11,7 +11,7 @@ use Rattle.acl_rights.specs.acl_edit.Nodes as nodes
 use Rattle.acl_rights.specs.acl_edit.declared.node.Kind.{Kind}
 use Rattle.acl_rights.specs.acl_edit.declared.node.Kind.TheVariants.{Plain, Directory}
 use Rattle.acl_rights.specs.acl_edit.declared.node.Node.{Node}
-use Rattle.acl_rights.specs.acl_people.Registers.{Register, naming_of}
+use Rattle.acl_rights.specs.acl_people.KnownPeople.{KnownPeople, naming_of}
 use Rattle.acl_rights.specs.acl_dump.declared.record.DumpRecord.{DumpRecord}
 use Rattle.acl_rights.specs.acl_dump.declared.record.DumpUse.{DumpUse}
 use Rattle.acl_rights.specs.acl_dump.declared.record.DumpUse.TheVariants.{Load, Restore}
@@ -115,7 +115,7 @@ node_again all e at is three =
 
 -- ---- all files
 
-files_again : (known : Register) (all : Files) (records : List DumpRecord) → ((p : PathOf) → has_below records p ≡ holds_below all p) → (at : ℕ) (es : Files) → ArePlaced all es → AllByRecursion (IsReadAgain known) es
+files_again : (known : KnownPeople) (all : Files) (records : List DumpRecord) → ((p : PathOf) → has_below records p ≡ holds_below all p) → (at : ℕ) (es : Files) → ArePlaced all es → AllByRecursion (IsReadAgain known) es
     → as_files records (placed at (records_of all es)) ≡ es
 files_again known all records same at [] are again = refl
 files_again known all records same at (e ∷ es) are again =
@@ -145,7 +145,7 @@ headers_printed : (dump_use : DumpUse) (f : FoundFile) → HasHeaders dump_use (
 headers_printed Load f = (refl, refl)
 headers_printed Restore f = tt
 
-pub readable : (dump_use : DumpUse) (known : Register) (all es : Files) → AllByRecursion (IsReadAgain known) es → AllByRecursion (IsReadable (naming_of known) dump_use) (records_of all es)
+pub readable : (dump_use : DumpUse) (known : KnownPeople) (all es : Files) → AllByRecursion (IsReadAgain known) es → AllByRecursion (IsReadable (naming_of known) dump_use) (records_of all es)
 readable dump_use known all [] again = tt
 readable dump_use known all (e ∷ es) again = (
   record { path = again.0.path; headers = headers_printed dump_use (found all e); owner = again.0.owner; group = again.0.group; flags = three_flags e.1.flags again.0.flags; access = again.0.access; dacl = again.0.dacl },
@@ -156,7 +156,7 @@ few : (n : ℕ) → n ≤ 1048576 → nat_lt 1048576 n ≡ false
 few n h = grind arith
 
 -- what is printed of all files is loaded as these files
-module _ (known : Register) (es : Files) (order : IsInOrder es) (are : ArePlaced es es) (again : AllByRecursion (IsReadAgain known) es) (within : length es ≤ 1048576) where
+module _ (known : KnownPeople) (es : Files) (order : IsInOrder es) (are : ArePlaced es es) (again : AllByRecursion (IsReadAgain known) es) (within : length es ≤ 1048576) where
   dump_loaded : IsLoadedAs known (dump_text (naming_of known) (records_of es es)) es
   dump_loaded =
       let empty : State = record { tree = no_files; people = known } in

@@ -6,7 +6,7 @@ use Rattle.acl_rights.specs.acl_dump.declared.record.DumpUse.TheVariants.{Restor
 use Rattle.acl_rights.specs.acl_dump.Again.{AreApart, IsReadable, paths, placed, dump_text, line_count}
 use Rattle.acl_rights.specs.acl_dump.Records.{dump_of}
 use Rattle.acl_rights.specs.acl_edit.declared.node.Node.{Node}
-use Rattle.acl_rights.specs.acl_people.Registers.{Register, naming_of}
+use Rattle.acl_rights.specs.acl_people.KnownPeople.{KnownPeople, naming_of}
 use Rattle.acl_rights.proofs.of_acl_tree.AsItIs.{Leads, leads_all}
 use Rattle.acl_rights.proofs.of_acl_tree.Removals.{in_order-filter}
 use Rattle.acl_rights.specs.acl_tree.declared.command.Command.TheVariants as commands
@@ -35,7 +35,7 @@ module _ (test : PathOf × Node → Bool) where
   ]
 
 -- each record that is printed contains what its file is
-as_recorded : (known : Register) (all es : Files) (at : ℕ) → Leads all es → AllByRecursion (IsReadAgain known) es → AllByRecursion (IsAsRecorded all) (placed at (records_of all es))
+as_recorded : (known : KnownPeople) (all es : Files) (at : ℕ) → Leads all es → AllByRecursion (IsReadAgain known) es → AllByRecursion (IsAsRecorded all) (placed at (records_of all es))
 as_recorded known all [] at leads again = tt
 as_recorded known all (e ∷ es) at leads again = (
   record { node = e.1; recorded = leads.0; contains = record { access = refl; default = refl; owner = refl; group = refl; flags = flags_again e.1.flags again.0.flags } },
@@ -43,7 +43,7 @@ as_recorded known all (e ∷ es) at leads again = (
 )
 
 module _ (state : State) (recursive : Bool) (operands : List PathOf) (order : IsInOrder state.tree.files) (again : AllByRecursion (IsReadAgain state.people) state.tree.files) where
-  abbrev known : Register
+  abbrev known : KnownPeople
   known = state.people
 
   abbrev all : Files

@@ -16,8 +16,8 @@ use Rattle.acl_rights.specs.acl_files.path_map.Entries.{PathOf, IsInOrder}
 use Rattle.acl_rights.specs.acl_names.Names.{escaped}
 use Rattle.acl_rights.specs.acl_names.Paths.{path_cmp}
 use Rattle.acl_rights.specs.acl_people.Entries.{user_entry}
-use Rattle.acl_rights.specs.acl_people.Registers.{users_of}
-use Rattle.acl_rights.specs.acl_people.Rolls.{Named, is_name, has_name}
+use Rattle.acl_rights.specs.acl_people.KnownPeople.{users_of}
+use Rattle.acl_rights.specs.acl_people.NameTables.{Named, is_name, has_name}
 use Rattle.acl_rights.specs.acl_syntax.declared.rows.PasswdRow.{PasswdRow}
 use Rattle.acl_rights.specs.acl_tree.Files.{Files}
 use Rattle.acl_rights.specs.acl_tree.Found.{found_file, found_in}

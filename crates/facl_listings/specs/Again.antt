@@ -10,11 +10,12 @@ use Rattle.acl_rights.specs.acl_syntax.Writing.{short, spec_of, specs_from}
 use Rattle.acl_rights.specs.acl_syntax.declared.entries.Sep.TheVariants.{Comma}
 use Rattle.acl_rights.specs.acl_syntax.declared.entries.Spec.{Spec}
 use Rattle.acl_rights.specs.acl_syntax.declared.entries.Want.TheVariants as wants
+use Rattle.acl_rights.specs.acl_edit.Changes.{options}
 use Rattle.acl_rights.specs.acl_edit.Edits.{edit}
 use Rattle.acl_rights.specs.acl_edit.Nodes.{with_lists}
 use Rattle.acl_rights.specs.acl_edit.declared.edit.Edit.TheVariants as edits
 use Rattle.acl_rights.specs.acl_edit.declared.node.Node.{Node}
-use Rattle.acl_rights.specs.acl_people.Registers.{Register, naming_of}
+use Rattle.acl_rights.specs.acl_people.KnownPeople.{KnownPeople, naming_of}
 use Rattle.acl_rights.specs.acl_dump.declared.record.DumpRecord.{DumpRecord}
 use Rattle.acl_rights.specs.acl_dump.declared.record.DumpUse.TheVariants as uses
 use Rattle.acl_rights.specs.acl_dump.Again.{IsFound, IsList, IsListIf}
@@ -29,12 +30,12 @@ use Rattle.facl_listings.specs.Listings.{listing, plain}
 use Rattle.facl_listings.specs.TestListing.{lists_text}
 
 -- a list whose names these people find again
-abbrev pub IsListAgain : Register → KeyMap → Type 0
+abbrev pub IsListAgain : KnownPeople → KeyMap → Type 0
 IsListAgain known acl = IsList (naming_of known) acl
 
 -- a file that these people read as it is written: the path is one, owner and group are found again, there are three
 -- flags, and the lists are valid ones whose names are found again
-pub record IsReadAgain (known : Register) (e : PathOf × Node) : Type 0 where
+pub record IsReadAgain (known : KnownPeople) (e : PathOf × Node) : Type 0 where
   pub path : list_all is_component e.0 ≡ true
   pub owner : IsFound (naming_of known).user_id (naming_of known).user_name e.1.label.owner
   pub group : IsFound (naming_of known).group_id (naming_of known).group_name e.1.label.group
@@ -43,19 +44,19 @@ pub record IsReadAgain (known : Register) (e : PathOf × Node) : Type 0 where
   pub dacl : IsListIf (naming_of known) e.1.dacl
 
 -- what getfacl prints without options
-abbrev pub listing_of : Register → List FoundFile → List ℕ
+abbrev pub listing_of : KnownPeople → List FoundFile → List ℕ
 listing_of known files = listing (naming_of known) plain files
 
 -- its operands are all paths
-abbrev pub all_paths_listing : Register → Files → List ℕ
+abbrev pub all_paths_listing : KnownPeople → Files → List ℕ
 all_paths_listing known es = listing_of known (files_found false (map (λ e. e.0) es) es)
 
 -- its operand is the root, with all below it
-abbrev pub root_listing : Register → Files → List ℕ
+abbrev pub root_listing : KnownPeople → Files → List ℕ
 root_listing known es = listing_of known (files_found true ([] ∷ []) es)
 
 -- Where no dump is loaded, the text is loaded as a dump of these files. The people stay.
-abbrev pub IsLoadedAs : Register → List ℕ → Files → Type 0
+abbrev pub IsLoadedAs : KnownPeople → List ℕ → Files → Type 0
 IsLoadedAs known text es =
     load (record { tree = no_files; people = known }) Dump text ≡ Ok (record { tree = record { files = es; loaded = true }; people = known })
 
@@ -79,7 +80,7 @@ pub record AreAttributesAgain (n : Node) : Type 0 where
 
 -- what chacl prints of a list is read by chacl as the list's entries, in list order; and the list is a valid one, so it is
 -- the list that these entries make
-pub record IsShortAgain (known : Register) (acl : KeyMap) : Type 0 where
+pub record IsShortAgain (known : KnownPeople) (acl : KeyMap) : Type 0 where
   pub valid : IsValid acl
   pub read : entries_of (naming_of known) Comma wants.Plain (short (naming_of known) (entries acl)) ≡ Ok (specs_from 1 (entries acl))
 
@@ -105,11 +106,11 @@ specs_of at (e ∷ es) = record (spec_of at e.1) { dflt = e.0 } ∷ specs_of (at
 abbrev pub AreSetAs : List Spec → Node → Type 0
 AreSetAs specs n =
     (m : Node) (in_recursion : Bool) → m.kind ≡ n.kind → (n.dacl ≡ None → m.dacl ≡ None)
-    → edit m (edits.Change false false false false false [] specs []) in_recursion ≡ Ok (with_lists m n.label.acl n.dacl)
+    → edit m (edits.Change (options false false false false false [] specs [])) in_recursion ≡ Ok (with_lists m n.label.acl n.dacl)
 
 -- each list of a file is read again as chacl prints it; and what `setfacl --test` prints of both is read by
 -- `setfacl --set` as the entries of both, which give these lists back
-pub record AreListsAgain (known : Register) (n : Node) : Type 0 where
+pub record AreListsAgain (known : KnownPeople) (n : Node) : Type 0 where
   pub access : IsShortAgain known n.label.acl
   pub dacl : IfSome n.dacl (IsShortAgain known)
   pub both : entries_of (naming_of known) Comma wants.WithPerms (lists_text (naming_of known) n) ≡ Ok (specs_of 1 (all_entries n))

@@ -6,8 +6,8 @@ use Rattle.acl_rights.specs.acl_entry.Check.{has}
 use Rattle.acl_rights.specs.acl_entry.Perms.{Perms, text}
 use Rattle.acl_rights.specs.acl_files.path_map.Merged.{put_all}
 use Rattle.acl_rights.specs.acl_names.Names.{escaped}
-use Rattle.acl_rights.specs.acl_people.Registers.{users_of}
-use Rattle.acl_rights.specs.acl_people.Rolls.{is_name, has_name}
+use Rattle.acl_rights.specs.acl_people.KnownPeople.{users_of}
+use Rattle.acl_rights.specs.acl_people.NameTables.{is_name, has_name}
 use Rattle.acl_rights.specs.acl_syntax.declared.rows.PasswdRow.{PasswdRow}
 use Rattle.acl_rights.specs.acl_tree.Files.{PathOf}
 use Rattle.acl_rights.specs.acl_tree.Step.{State}

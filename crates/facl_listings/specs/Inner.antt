@@ -13,8 +13,8 @@ use Rattle.acl_rights.specs.acl_entry.Lists.{IsValid, entries}
 use Rattle.acl_rights.specs.acl_entry.Perms.{Perms}
 use Rattle.acl_rights.specs.acl_entry.Person.{Person}
 use Rattle.acl_rights.specs.acl_entry.declared.entry.Entry.{Entry}
-use Rattle.acl_rights.specs.acl_entry.declared.key.Key.{Key}
-use Rattle.acl_rights.specs.acl_entry.declared.key.Key.TheVariants.{Owner, User, Other}
+use Rattle.acl_rights.specs.acl_entry.declared.entry.Key.{Key}
+use Rattle.acl_rights.specs.acl_entry.declared.entry.Key.TheVariants.{Owner, User, Other}
 use Rattle.acl_rights.specs.acl_entry.declared.label.Label.{Label}
 use Rattle.acl_rights.specs.acl_names.Paths.{path_cmp}
 use Rattle.acl_rights.specs.acl_edit.declared.node.Node.{Node}
@@ -24,16 +24,17 @@ use Rattle.acl_rights.specs.acl_names.Below.{is_below}
 use Rattle.acl_rights.specs.acl_files.path_map.Entries.{first}
 use Rattle.acl_rights.specs.acl_files.path_map.Merged.{put_all}
 use Rattle.acl_rights.specs.acl_names.Names.{escaped}
-use Rattle.acl_rights.specs.acl_people.Registers.{Register, users_of}
-use Rattle.acl_rights.specs.acl_people.Rolls.{is_name}
+use Rattle.acl_rights.specs.acl_people.KnownPeople.{KnownPeople, persons, users_of}
+use Rattle.acl_rights.specs.acl_people.NameTables.{is_name}
 use Rattle.acl_rights.specs.acl_tree.Found.{FoundFile, found_file}
 use Rattle.acl_rights.specs.acl_tree.Step.{State}
-use Rattle.acl_rights.specs.acl_verdicts.Rows.{Verdict, Rows, places_from}
+use Rattle.acl_rights.specs.Tables.{Verdict, Rows, places_from, rows_of}
+use Rattle.acl_rights.specs.Reach.{rows_along}
 use Rattle.facl_listings.specs.Listings.{path_shown}
 use Rattle.facl_listings.specs.Answers.{user_line, verdict_line, granted}
 use Rattle.facl_listings.specs.Changes.{change_lines}
 use Rattle.facl_listings.specs.declared.placed_users.PlacedUser.{PlacedUser}
-use Rattle.facl_listings.specs.declared.row_walk.Step.{Step}
+use Rattle.facl_listings.specs.declared.row_walk.FileWithRow.{FileWithRow}
 
 -- ---- what is asked of the index
 
@@ -44,6 +45,10 @@ users_granted V along s p q = option_map (λ n. places_from (λ row. has (grante
 -- the paths of the files on which a user is granted a request
 abbrev pub paths_granted : Verdict → Bool → State → ℕ → Perms → Option (List PathOf)
 paths_granted V along s user q = option_map (λ row. map (λ e. e.0) (filter (λ e. has (granted V along s row e) q) s.tree.files)) (slice_get s.people.users user)
+
+-- for each file the verdicts on all users
+abbrev pub rows_granted : Verdict → Bool → State → Rows
+rows_granted V along s = rows_along along (rows_of V (persons s.people) s.tree.files)
 
 -- ---- what `why` looks at
 
@@ -74,7 +79,7 @@ HasValidList e = IsValid e.1.label.acl
 -- ---- lines
 
 -- the line of the user at a place
-abbrev pub line_at : Register → ℕ → List ℕ
+abbrev pub line_at : KnownPeople → ℕ → List ℕ
 line_at known user = option_map_or user_line (slice_get known.users user) []
 
 -- the first of some paths is this one
@@ -102,7 +107,7 @@ abbrev pub placed_of : PlacedUser → Placed
 placed_of user = (user.name.items, (user.before, user.after))
 
 -- the user of a name, in two states
-abbrev pub placed_in : (loaded now : Register) → List ℕ → Placed
+abbrev pub placed_in : (loaded now : KnownPeople) → List ℕ → Placed
 placed_in loaded now name = (escaped name, (position (is_name name) (users_of loaded), position (is_name name) (users_of now)))
 
 abbrev pub same_place : Option ℕ → Option ℕ → Bool
@@ -136,17 +141,17 @@ abbrev pub shown_before : Option (PathOf × Node) → PathOf × Node → List �
 shown_before next e = path_shown (found_file (has_next_below e.0 next) e)
 
 -- files with their rows, where both are in the same order
-abbrev pub walked : Files → Rows → Walked
-walked es [] = []
-walked [] (row ∷ rows) = []
-walked (e ∷ es) (row ∷ rows) = (row.0, (shown_before (first es) e, row.1)) ∷ walked es rows
+abbrev pub walk_of : Files → Rows → Walked
+walk_of es [] = []
+walk_of [] (row ∷ rows) = []
+walk_of (e ∷ es) (row ∷ rows) = (row.0, (shown_before (first es) e, row.1)) ∷ walk_of es rows
 
 -- the lines of files, by the verdicts on the users of these names
 abbrev pub lines_of_walk : List (List ℕ) → Walked → List ℕ
 lines_of_walk names files = flat_map (λ file. row_lines file.1.0 names file.1.1) files
 
-abbrev pub step_of : Step → List ℕ × List ℕ
-step_of step = (shown_before (option_map (λ next. next.now.value) step.next) step.file.now.value, step.requests.now)
+abbrev pub shown_row : FileWithRow → List ℕ × List ℕ
+shown_row step = (shown_before (option_map (λ next. next.now.value) step.next) step.file.now.value, step.requests.now)
 
 -- ---- two walks side by side
 

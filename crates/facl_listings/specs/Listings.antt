@@ -10,7 +10,7 @@ use Rattle.acl_rights.specs.acl_dump.declared.effective.Effective.TheVariants.{W
 use Rattle.acl_rights.specs.acl_names.Paths.{path_text}
 use Rattle.acl_rights.specs.acl_dump.Writing.{header_text, list_text, default_text, slash_text}
 use Rattle.acl_rights.specs.acl_tree.Found.{FoundFile}
-use Rattle.facl_listings.specs.declared.options.Options.{Options}
+use Rattle.facl_listings.specs.declared.listing.Options.{Options}
 
 -- a file has no more than its mode shows: a minimal access list and no default list
 abbrev pub has_base_alone : Node → Bool

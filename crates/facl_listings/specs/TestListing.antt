@@ -5,7 +5,7 @@ use Rattle.acl_rights.specs.acl_entry.declared.entry.Entry.{Entry}
 use Rattle.acl_rights.specs.acl_entry.Lists.{KeyMap, entries}
 use Rattle.acl_rights.specs.acl_edit.declared.node.Node.{Node}
 use Rattle.acl_rights.specs.acl_syntax.Naming.{Naming}
-use Rattle.acl_rights.specs.acl_syntax.declared.form.Form.TheVariants.{Short}
+use Rattle.acl_rights.specs.acl_syntax.declared.entries.Form.TheVariants.{Short}
 use Rattle.acl_rights.specs.acl_syntax.Writing.{entry_text, short}
 use Rattle.acl_rights.specs.acl_tree.Found.{FoundFile}
 use Rattle.facl_listings.specs.Listings.{path_shown}

@@ -9,7 +9,7 @@ use Rattle.acl_rights.specs.acl_entry.Lists.{KeyMap, entries, masked}
 use Rattle.acl_rights.specs.acl_entry.Perms.{Perms, contains}
 use Rattle.acl_rights.specs.acl_entry.Person.{Person}
 use Rattle.acl_rights.specs.acl_entry.declared.entry.Entry.{Entry}
-use Rattle.acl_rights.specs.acl_entry.declared.key.Key.TheVariants.{Owner, User, Mask, Other}
+use Rattle.acl_rights.specs.acl_entry.declared.entry.Key.TheVariants.{Owner, User, Mask, Other}
 use Rattle.acl_rights.specs.acl_entry.declared.label.Label.{Label}
 use Rattle.acl_rights.specs.acl_names.Paths.{path_cmp}
 use Rattle.acl_rights.specs.acl_syntax.Naming.{Naming}
@@ -62,12 +62,12 @@ module _ (naming : Naming) where
 -- ---- that these entries are the check
 
 -- what an entry of a list grants, as it is listed: of the group class what the mask leaves
-abbrev pub listed : KeyMap → Entry → Perms
-listed acl e = if is_class e.key then masked acl e.perm else e.perm
+abbrev pub perms_listed : KeyMap → Entry → Perms
+perms_listed acl e = if is_class e.key then masked acl e.perm else e.perm
 
 -- some entry that decides contains a request
 abbrev pub some_decides : Person → Label → Perms → Bool
-some_decides u f q = list_any (λ e. contains (listed f.acl e) q) (deciding u f)
+some_decides u f q = list_any (λ e. contains (perms_listed f.acl e) q) (deciding u f)
 
 -- what has to be contained in an entry of each file that is printed for a path: the request in one of the file's, and
 -- search in one of each directory's

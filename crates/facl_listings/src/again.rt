@@ -2,7 +2,7 @@
 
 ghost use Rattle.std.specs.Prelude.{◌≡◌, length};
 ghost use Rattle.std.specs.List.{AllByRecursion};
-ghost use Rattle.acl_rights.specs.acl_people.Registers.{naming_of};
+ghost use Rattle.acl_rights.specs.acl_people.KnownPeople.{naming_of};
 ghost use Rattle.acl_rights.specs.acl_syntax.Writing.{IsKeyNamed};
 ghost use Rattle.acl_rights.specs.acl_dump.Again.{IsFound};
 ghost use Rattle.facl_listings.specs.Again.{IsListAgain, IsReadAgain};

@@ -20,6 +20,7 @@ fn digits(alloc: Global, acl: &Acl) -> Result<String, AllocError>
     hex::encode(alloc, bytes.as_slice())
 }
 
+/// Adds the line of one attribute.
 fn push_line(alloc: Global, text: &mut Vec<u8>, name: &[u8], acl: &Acl) -> Result<(), AllocError>
     ensures { OnOk result (text.new.items ≡ text.old.items ++ attr_line name.now acl.now) }
 {
@@ -31,6 +32,7 @@ fn push_line(alloc: Global, text: &mut Vec<u8>, name: &[u8], acl: &Acl) -> Resul
     Ok(())
 }
 
+/// Adds the line of the default list, if there is one.
 fn push_default(alloc: Global, text: &mut Vec<u8>, dacl: &Option<Acl>) -> Result<(), AllocError>
     ensures { OnOk result (text.new.items ≡ text.old.items ++ default_line dacl.now) }
 {
@@ -40,6 +42,7 @@ fn push_default(alloc: Global, text: &mut Vec<u8>, dacl: &Option<Acl>) -> Result
     }
 }
 
+/// Adds the lines of a file's attributes.
 fn push_attributes(alloc: Global, text: &mut Vec<u8>, node: &Node) -> Result<(), AllocError>
     ensures { OnOk result (text.new.items ≡ text.old.items ++ attr_lines node.now) }
 {
@@ -62,6 +65,7 @@ pub(crate) fn push_path(text: &mut Vec<u8>, file: &Found) -> Result<(), AllocErr
     append_header(text, &header, &NoNames)
 }
 
+/// Adds what `attr` prints of a file.
 fn push_file(alloc: Global, text: &mut Vec<u8>, file: &Found) -> Result<(), AllocError>
     ensures { OnOk result (text.new.items ≡ text.old.items ++ attr_text file.now) }
 {
@@ -71,6 +75,7 @@ fn push_file(alloc: Global, text: &mut Vec<u8>, file: &Found) -> Result<(), Allo
     Ok(())
 }
 
+/// Adds what `attr` prints of files.
 fn push_files(alloc: Global, text: &mut Vec<u8>, files: &[Found]) -> Result<(), AllocError>
     ensures { OnOk result (text.new.items ≡ text.old.items ++ attr_listing files.now) }
 {

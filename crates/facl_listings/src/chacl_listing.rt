@@ -7,6 +7,7 @@ use crate::listing::push_path_shown;
 use acl_rights::{Acl, Found, Names, append_short};
 use std::alloc::{AllocError, Global};
 
+/// Adds a slash and the default list, if there is one.
 fn push_default<N: Names>(
     text: &mut Vec<u8>,
     names: &N,
@@ -21,6 +22,7 @@ fn push_default<N: Names>(
     Ok(())
 }
 
+/// Adds the line of a file.
 fn push_line<N: Names>(text: &mut Vec<u8>, names: &N, file: &Found) -> Result<(), AllocError>
     ensures { OnOk result (text.new.items ≡ text.old.items ++ chacl_line (N.naming names.now) file.now) }
 {
@@ -33,6 +35,7 @@ fn push_line<N: Names>(text: &mut Vec<u8>, names: &N, file: &Found) -> Result<()
     Ok(())
 }
 
+/// Adds the lines of files.
 fn push_lines<N: Names>(text: &mut Vec<u8>, names: &N, files: &[Found]) -> Result<(), AllocError>
     ensures { OnOk result (text.new.items ≡ text.old.items ++ chacl_listing (N.naming names.now) files.now) }
 {

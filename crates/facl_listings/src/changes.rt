@@ -1,17 +1,18 @@
-//! The tool `changes`: what each user may do with each file, beside what the user might do before.
+//! The tool `changes`: what each user may do with each file, beside what the user might do before; and its lines.
 
-ghost use Rattle.std.specs.Prelude.{◌≡◌, ◌++◌, ◌&&◌, true, not, drop, IfOk, OnOk};
-ghost use Rattle.std.specs.List.{list_all};
+ghost use Rattle.std.specs.Prelude.{◌≡◌, ◌++◌, ◌&&◌, true, drop, IfOk, OnOk, ◌∷◌, not};
+ghost use Rattle.std.specs.List.{list_all, flat_map};
 ghost use Rattle.acl_rights.specs.acl_files.path_map.Entries.{first, IsInOrder};
-ghost use Rattle.acl_rights.specs.Tables.{IsWhole};
-ghost use Rattle.facl_listings.specs.Changes.{changes_text};
-ghost use Rattle.facl_listings.specs.Inner.{keeps_place, step_of, lines_between, lines_of_both, next_order, gone_lines, new_lines, kept_lines, next_lines, left_before, left_after};
+ghost use Rattle.facl_listings.specs.Changes.{changes_text, requests_gained, after_comma, change_line, change_lines};
+ghost use Rattle.facl_listings.specs.Inner.{keeps_place, shown_row, lines_between, lines_of_both, next_order, gone_lines, new_lines, kept_lines, next_lines, left_before, left_after, cell_at};
+ghost use Rattle.acl_rights.specs.acl_entry.Check.{has};
 
-use crate::change_lines::push_rows;
+use crate::indexed::{IndexedState, Verdicts};
 use crate::placed_users::{PlacedUser, keep_places, users_of_both};
-use crate::row_walk::{Step, Walk};
+use crate::requests::NUMBERS;
+use crate::row_walk::{FileWithRow, Walk};
 use crate::table::shown;
-use acl_rights::{Index, Judge, Requests, State, same_row};
+use acl_rights::{Judge, Perm, Requests, same_row};
 use std::alloc::{AllocError, Global};
 use std::cmp::Ordering;
 
@@ -20,11 +21,11 @@ fn push_file(
     alloc: Global,
     text: &mut Vec<u8>,
     users: &[PlacedUser],
-    file: &Step<'_>,
+    file: &FileWithRow<'_>,
     before: &[Requests],
     after: &[Requests],
 ) -> Result<(), AllocError>
-    ensures { OnOk result (text.new.items ≡ text.old.items ++ lines_between users.now (step_of file.now).0 before.now after.now) }
+    ensures { OnOk result (text.new.items ≡ text.old.items ++ lines_between users.now (shown_row file.now).0 before.now after.now) }
 {
     let found = file.found()?;
     let path = shown(alloc, &found)?;
@@ -167,25 +168,151 @@ fn push_both(
 }
 
 /// What `changes` prints: for each file of either state in path order, and each user of either state, a line of the
-/// requests that the user gains on it, and one of those that the user loses. With `along` those count that the user is
-/// granted who can search each recorded directory above. It is one walk over both states' files. Fails only if memory
+/// requests that the user gains on it, and one of those that the user loses; with those verdicts that are asked of the
+/// present state, on the files alone or along their paths. It is one walk over both states' files. Fails only if memory
 /// runs out.
 pub fn write_changes<J: Judge>(
     alloc: Global,
-    loaded: &State,
-    loaded_index: &Index<J>,
-    state: &State,
-    index: &Index<J>,
-    along: bool,
+    loaded: &IndexedState<J>,
+    verdicts: &Verdicts<'_, J>,
 ) -> Result<Vec<u8>, AllocError>
-    requires loaded { IsWhole J.verdict_of loaded.now loaded_index.now }
-    requires whole { IsWhole J.verdict_of state.now index.now }
-    ensures { IfOk result (λ text. text.items ≡ changes_text J.verdict_of along loaded.now state.now) }
+    ensures { IfOk result (λ text. text.items ≡ changes_text J.verdict_of verdicts.now.along loaded.now verdicts.now.state.now) }
 {
-    let users = users_of_both(alloc, loaded.people(), state.people())?;
-    let before = Walk::of_state(loaded, loaded_index, along);
-    let after = Walk::of_state(state, index, along);
+    let people = verdicts.state.state().people();
+    let users = users_of_both(alloc, loaded.state().people(), people)?;
+    let verdicts_before = loaded.verdicts(verdicts.along);
+    let before = Walk::of_verdicts(&verdicts_before);
+    let after = Walk::of_verdicts(verdicts);
     let mut text = Vec::new(alloc);
     push_both(alloc, &mut text, &users, before, after)?;
     Ok(text)
+}
+
+/// Whether a request is granted after, and was not before.
+fn is_gained(before: Requests, after: Requests, request: Perm) -> bool
+    ensures { result ≡ (has after request && not (has before request)) }
+{
+    after.has(request) && !before.has(request)
+}
+
+/// The requests that are granted after and were not before, in rising number. Fails only if memory runs out.
+fn requests_gained(
+    alloc: Global,
+    before: Requests,
+    after: Requests,
+) -> Result<Vec<Perm>, AllocError>
+    ensures { IfOk result (λ requests. requests.items ≡ requests_gained before after) }
+{
+    let mut requests = Vec::new(alloc);
+    for number in &NUMBERS {
+        if let Some(request) = Perm::from_number(*number) {
+            if is_gained(before, after, request) {
+                requests.push(request)?;
+            }
+        }
+    }
+    Ok(requests)
+}
+
+/// Adds the requests after the first one, each after a comma.
+fn push_more(text: &mut Vec<u8>, requests: &[Perm]) -> Result<(), AllocError>
+    ensures { OnOk result (text.new.items ≡ text.old.items ++ flat_map after_comma requests.now) }
+{
+    for request in requests {
+        text.push(b',')?;
+        text.extend_from_slice(&request.text())?;
+    }
+    Ok(())
+}
+
+/// Adds a line of a request and others that a user gains or loses on a file.
+fn push_line(
+    text: &mut Vec<u8>,
+    path: &[u8],
+    user: &[u8],
+    word: &[u8],
+    request: Perm,
+    more: &[Perm],
+) -> Result<(), AllocError>
+    ensures { OnOk result (text.new.items ≡ text.old.items ++ change_line path.now user.now word.now (request ∷ more.now)) }
+{
+    text.extend_from_slice(user)?;
+    text.push(b' ')?;
+    text.extend_from_slice(word)?;
+    text.push(b' ')?;
+    text.extend_from_slice(&request.text())?;
+    push_more(text, more)?;
+    text.push(b' ')?;
+    text.extend_from_slice(path)?;
+    text.push(b'\n')?;
+    Ok(())
+}
+
+/// Adds a line of the requests that a user gains or loses on a file, if there are any.
+fn push_change(
+    text: &mut Vec<u8>,
+    path: &[u8],
+    user: &[u8],
+    word: &[u8],
+    requests: &[Perm],
+) -> Result<(), AllocError>
+    ensures { OnOk result (text.new.items ≡ text.old.items ++ change_line path.now user.now word.now requests.now) }
+{
+    if let Some((request, more)) = requests.split_first() {
+        push_line(text, path, user, word, *request, more)?;
+    }
+    Ok(())
+}
+
+/// Adds what a user gains on a file, and what the user loses there.
+fn push_user(
+    alloc: Global,
+    text: &mut Vec<u8>,
+    path: &[u8],
+    user: &[u8],
+    before: Requests,
+    after: Requests,
+) -> Result<(), AllocError>
+    ensures { OnOk result (text.new.items ≡ text.old.items ++ change_lines path.now user.now before after) }
+{
+    let gained = requests_gained(alloc, before, after)?;
+    push_change(text, path, user, b"gains", &gained)?;
+    let lost = requests_gained(alloc, after, before)?;
+    push_change(text, path, user, b"loses", &lost)?;
+    Ok(())
+}
+
+/// What a row grants the user at a place, if there is one.
+fn cell_at(row: &[Requests], place: Option<usize>) -> Requests
+    ensures { result ≡ cell_at row.now place }
+{
+    let Some(at) = place else {
+        return Requests::none();
+    };
+    match row.get(at) {
+        Some(requests) => *requests,
+        None => Requests::none(),
+    }
+}
+
+/// Adds the lines of a file, by its rows before and after.
+#[tactic(auto, using(crate::proofs::Unchanged::no_change))]
+pub(crate) fn push_rows(
+    alloc: Global,
+    text: &mut Vec<u8>,
+    users: &[PlacedUser],
+    path: &[u8],
+    before: &[Requests],
+    after: &[Requests],
+) -> Result<(), AllocError>
+    ensures { OnOk result (text.new.items ≡ text.old.items ++ lines_between users.now path.now before.now after.now) }
+{
+    for user in users {
+        let had = cell_at(before, user.before);
+        let has = cell_at(after, user.after);
+        if had.bits() != has.bits() {
+            push_user(alloc, text, path, &user.name, had, has)?;
+        }
+    }
+    Ok(())
 }

@@ -29,16 +29,17 @@ pub fn listing_is_loaded_again(people: &People, tree: &Tree)
     ensures all_paths { IsLoadedAs people.now (all_paths_listing people.now tree.now.files) tree.now.files }
     ensures from_root { IsLoadedAs people.now (root_listing people.now tree.now.files) tree.now.files }
 {
-    tree.is_sound();
+    tree.soundness_law();
     files_are_read_again(people, tree);
 }
 
 /// Proof only: what getfacl(1) prints without options of files of a tree, whatever operands it has, read by the
 /// same people for `setfacl --restore`, changes nothing when it is restored.
 pub fn listing_is_restored_as_it_is(people: &People, tree: &Tree)
-    ensures { (recursive : Bool) (paths : List PathOf) → IsRestoredAsItIs (state_from tree.now people.now) (listing_of people.now (files_found recursive paths tree.now.files)) }
+    ensures { (recursive : Bool) (paths : List PathOf)
+        → IsRestoredAsItIs (state_from tree.now people.now) (listing_of people.now (files_found recursive paths tree.now.files)) }
 {
-    tree.is_sound();
+    tree.soundness_law();
     files_are_read_again(people, tree);
     records_are_read_again();
     restore_of_what_is_changes_nothing();
@@ -75,7 +76,7 @@ fn lists_are_valid(tree: &Tree)
 pub fn deciding_entries_are_the_reach(subject: &Subject, tree: &Tree)
     ensures { (q : Perms) (p : PathOf) (n : Node) → find path_cmp p tree.now.files ≡ Some n → IsDecidedAlong subject.now tree.now.files q (p, n) }
 {
-    tree.is_sound();
+    tree.soundness_law();
     lists_are_valid(tree);
     let _subject = subject;
 }
@@ -88,7 +89,7 @@ pub fn changes_print_all_that_differs(loaded: &State, state: &State)
     ensures complete { (V : Verdict) (along : Bool) → changes_text V along loaded.now state.now ≡ [] → IsUnchanged V along loaded.now state.now }
 {
     let _same = loaded;
-    state.tree().is_sound();
+    state.tree().soundness_law();
 }
 
 /// Proof only: the hex digits that `attr` prints of each list of each file are those of bytes that are read as this
@@ -105,6 +106,6 @@ pub fn attributes_are_read_again(people: &People, tree: &Tree)
 pub fn lists_are_read_again(people: &People, tree: &Tree)
     ensures { AllByRecursion (λ file. AreListsAgain people.now file.1) tree.now.files }
 {
-    tree.is_sound();
+    tree.soundness_law();
     files_are_read_again(people, tree);
 }

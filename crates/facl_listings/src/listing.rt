@@ -1,22 +1,23 @@
-//! The listings of getfacl(1).
+//! The listings of getfacl(1), by its options.
 
-ghost use Rattle.std.specs.Prelude.{◌≡◌, ◌++◌, OnOk, OnErr};
-ghost use Rattle.std.specs.Io.{StartsWith};
+ghost use Rattle.std.specs.Prelude.{◌≡◌};
 ghost use Rattle.acl_rights.specs.acl_names.Appends.{Appends, AppendsWhole};
 ghost use Rattle.facl_listings.specs.Listings.{has_base_alone, is_listed, has_slash, path_shown, flags_shown, headers, default_entries, file_text, files_text, listing};
 
-use crate::options::Options;
 use acl_rights::{
-    Found, Header, Kind, Names, NoNames, Node, Which, append_header, append_list, append_path,
+    Effective, Found, Header, Kind, Names, NoNames, Node, Which, append_header, append_list,
+    append_path,
 };
 use std::alloc::AllocError;
 
+/// Whether a file has base entries alone, and no default list.
 fn has_base_alone(node: &Node) -> bool
     ensures { result ≡ has_base_alone node.now }
 {
     node.label.acl.is_minimal() && node.dacl.is_none()
 }
 
+/// Whether a file is listed: an option leaves out files that have base entries alone.
 fn is_listed(options: &Options, file: &Found) -> bool
     ensures { result ≡ is_listed options.now file.now }
 {
@@ -45,6 +46,7 @@ pub fn push_path_shown(text: &mut Vec<u8>, file: &Found) -> Result<(), AllocErro
     Ok(())
 }
 
+/// The flags, where one of them is set.
 fn flags_shown(flags: [bool; 3]) -> Option<[bool; 3]>
     ensures { result ≡ flags_shown flags }
 {
@@ -56,6 +58,7 @@ fn flags_shown(flags: [bool; 3]) -> Option<[bool; 3]>
     }
 }
 
+/// Adds the header lines of a file, unless the options leave them out.
 fn push_headers<N: Names>(
     text: &mut Vec<u8>,
     names: &N,
@@ -78,6 +81,7 @@ fn push_headers<N: Names>(
     append_header(text, &header, names)
 }
 
+/// Adds the lines of the default list, as the options have it.
 fn push_default<N: Names>(
     text: &mut Vec<u8>,
     names: &N,
@@ -94,6 +98,7 @@ fn push_default<N: Names>(
     }
 }
 
+/// Adds the record of a file.
 fn push_file<N: Names>(
     text: &mut Vec<u8>,
     names: &N,
@@ -116,6 +121,7 @@ fn push_file<N: Names>(
     Ok(())
 }
 
+/// Adds the records of the files that are listed.
 fn push_files<N: Names>(
     text: &mut Vec<u8>,
     names: &N,
@@ -132,6 +138,7 @@ fn push_files<N: Names>(
     Ok(())
 }
 
+/// Adds the listing of files.
 fn push_listing<N: Names>(
     text: &mut Vec<u8>,
     names: &N,
@@ -168,4 +175,20 @@ pub fn append_listing<N: Names>(
         return Err(refused);
     }
     Ok(())
+}
+
+/// What getfacl(1) prints of its files.
+#[derive(Clone, Copy, PartialEq, Eq)]
+pub struct Options {
+    /// No default entries (`-a`).
+    pub access_only: bool,
+    /// No header lines (`-c`).
+    pub omit_header: bool,
+    /// Where effective permissions are printed: where the mask takes something from an entry, at each entry of
+    /// the group class of a list with a mask (`-e`), or nowhere (`-E`).
+    pub effective: Effective,
+    /// Leaves out the files that have the three base entries alone and no default list (`-s`).
+    pub skip_base: bool,
+    /// Ids as numbers (`-n`).
+    pub numeric: bool,
 }

@@ -2,14 +2,13 @@
 
 ghost use Rattle.std.specs.Prelude.{◌≡◌, ◌++◌, map, IfOk, OnOk, option_map};
 ghost use Rattle.std.specs.List.{flat_map};
-ghost use Rattle.acl_rights.specs.Tables.{IsWhole};
 ghost use Rattle.acl_rights.specs.acl_tree.Found.{found_in};
 ghost use Rattle.facl_listings.specs.Answers.{file_line, may_text};
 ghost use Rattle.facl_listings.specs.Inner.{is_first, in_step};
 
-use crate::granted::paths_granted;
+use crate::indexed::Verdicts;
 use crate::listing::push_path_shown;
-use acl_rights::{Found, Index, Judge, Path, Perm, State, Tree};
+use acl_rights::{Found, Judge, Path, Perm, Tree};
 use std::alloc::{AllocError, Global};
 use std::cmp::Ordering;
 use std::rc::Rc;
@@ -24,6 +23,7 @@ fn is_first(paths: &[Rc<Path>], path: &Path) -> bool
     }
 }
 
+/// Adds the line of a file.
 fn push_file(text: &mut Vec<u8>, file: &Found) -> Result<(), AllocError>
     ensures { OnOk result (text.new.items ≡ text.old.items ++ file_line file.now) }
 {
@@ -34,9 +34,10 @@ fn push_file(text: &mut Vec<u8>, file: &Found) -> Result<(), AllocError>
 
 /// Adds the files of some paths, in one walk over both.
 fn push_files(text: &mut Vec<u8>, tree: &Tree, paths: &[Rc<Path>]) -> Result<(), AllocError>
-    ensures { OnOk result (text.new.items ≡ text.old.items ++ flat_map file_line (in_step (map (λ p. p.value) paths.now) (found_in tree.now.files tree.now.files))) }
+    ensures { OnOk result (text.new.items ≡ text.old.items ++ flat_map file_line (in_step
+        (map (λ p. p.value) paths.now) (found_in tree.now.files tree.now.files))) }
 {
-    tree.is_sound();
+    tree.soundness_law();
     let mut rest = paths;
     let mut files = tree.iter();
     while let Some(file) = files.next() {
@@ -49,24 +50,21 @@ fn push_files(text: &mut Vec<u8>, tree: &Tree, paths: &[Rc<Path>]) -> Result<(),
     Ok(())
 }
 
-/// What `may` prints: the files on which a user is granted a request, a line each, in path order. With `along` only
-/// those whose recorded directories above the user can search. None past the last user. Fails only if memory runs
-/// out.
+/// What `may` prints: the files on which a user is granted a request, a line each, in path order. None past the last
+/// user. Fails only if memory runs out.
 pub fn write_may<J: Judge>(
     alloc: Global,
-    state: &State,
-    index: &Index<J>,
+    verdicts: &Verdicts<'_, J>,
     user: usize,
     request: Perm,
-    along: bool,
 ) -> Result<Option<Vec<u8>>, AllocError>
-    requires whole { IsWhole J.verdict_of state.now index.now }
-    ensures { IfOk result (λ text. option_map (λ t. t.items) text ≡ may_text J.verdict_of along state.now request user) }
+    ensures { IfOk result (λ text. option_map (λ t. t.items) text ≡ may_text J.verdict_of verdicts.now.along verdicts.now.state.now request user) }
 {
-    let Some(paths) = paths_granted(alloc, index, user, request, along)? else {
+    let Some(paths) = verdicts.may(alloc, user, request)? else {
         return Ok(None);
     };
-    state.tree().is_sound();
+    let state = verdicts.state.state();
+    state.tree().soundness_law();
     let mut text = Vec::new(alloc);
     push_files(&mut text, state.tree(), &paths)?;
     Ok(Some(text))

@@ -2,8 +2,8 @@
 
 ghost use Rattle.std.specs.Prelude.{◌≡◌, ◌++◌, ◌∷◌, not, map, filter, IfOk, OnOk, if◌then◌else◌, []};
 ghost use Rattle.std.specs.List.{list_all};
-ghost use Rattle.acl_rights.specs.acl_people.Registers.{users_of};
-ghost use Rattle.acl_rights.specs.acl_people.Rolls.{has_name};
+ghost use Rattle.acl_rights.specs.acl_people.KnownPeople.{users_of};
+ghost use Rattle.acl_rights.specs.acl_people.NameTables.{has_name};
 ghost use Rattle.facl_listings.specs.Inner.{placed_of, placed_in, same_place, keeps_place};
 
 use acl_rights::{People, write_name};
@@ -11,14 +11,14 @@ use std::alloc::{AllocError, Global};
 
 /// A user of either state: the name as it is printed, and the places of the user's rows in both.
 #[derive(Drop)]
-pub struct PlacedUser {
+pub(crate) struct PlacedUser {
     pub name: Vec<u8>,
     pub before: Option<usize>,
     pub after: Option<usize>,
 }
 
 /// The user of a name, who is in either state.
-fn placed(
+fn placed_user(
     alloc: Global,
     name: &[u8],
     loaded: &People,
@@ -44,7 +44,7 @@ fn present_users(
     let mut users = Vec::new(alloc);
     for user in 0..now.users() {
         if let Some(row) = now.user_row(user) {
-            users.push(placed(alloc, row.name.as_bytes(), loaded, now)?)?;
+            users.push(placed_user(alloc, row.name.as_bytes(), loaded, now)?)?;
         }
     }
     Ok(users)
@@ -58,10 +58,11 @@ fn add_if_gone(
     loaded: &People,
     now: &People,
 ) -> Result<(), AllocError>
-    ensures { OnOk result (map placed_of users.new.items ≡ map placed_of users.old.items ++ (if has_name name.now (users_of now.now) then [] else placed_in loaded.now now.now name.now ∷ [])) }
+    ensures { OnOk result (map placed_of users.new.items ≡ map placed_of users.old.items
+        ++ (if has_name name.now (users_of now.now) then [] else placed_in loaded.now now.now name.now ∷ [])) }
 {
     if !now.has_user_named(name) {
-        users.push(placed(alloc, name, loaded, now)?)?;
+        users.push(placed_user(alloc, name, loaded, now)?)?;
     }
     Ok(())
 }
@@ -73,7 +74,8 @@ fn add_gone(
     loaded: &People,
     now: &People,
 ) -> Result<(), AllocError>
-    ensures { OnOk result (map placed_of users.new.items ≡ map placed_of users.old.items ++ map (λ row. placed_in loaded.now now.now row.name) (filter (λ row. not (has_name row.name (users_of now.now))) loaded.now.users)) }
+    ensures { OnOk result (map placed_of users.new.items ≡ map placed_of users.old.items
+        ++ map (λ row. placed_in loaded.now now.now row.name) (filter (λ row. not (has_name row.name (users_of now.now))) loaded.now.users)) }
 {
     for user in 0..loaded.users() {
         if let Some(row) = loaded.user_row(user) {
@@ -84,12 +86,13 @@ fn add_gone(
 }
 
 /// The users of both states, by their names.
-pub fn users_of_both(
+pub(crate) fn users_of_both(
     alloc: Global,
     loaded: &People,
     now: &People,
 ) -> Result<Vec<PlacedUser>, AllocError>
-    ensures { IfOk result (λ users. map placed_of users.items ≡ map (λ row. placed_in loaded.now now.now row.name) (now.now.users ++ filter (λ row. not (has_name row.name (users_of now.now))) loaded.now.users)) }
+    ensures { IfOk result (λ users. map placed_of users.items ≡ map (λ row. placed_in loaded.now now.now row.name) (now.now.users
+        ++ filter (λ row. not (has_name row.name (users_of now.now))) loaded.now.users)) }
 {
     let mut users = present_users(alloc, loaded, now)?;
     add_gone(alloc, &mut users, loaded, now)?;
@@ -110,7 +113,7 @@ fn same_place(before: Option<usize>, after: Option<usize>) -> bool
 }
 
 /// Whether the users are the same, and in the same order.
-pub fn keep_places(users: &[PlacedUser]) -> bool
+pub(crate) fn keep_places(users: &[PlacedUser]) -> bool
     ensures { result ≡ list_all keeps_place users.now }
 {
     users.iter().all(|user| same_place(user.before, user.after))

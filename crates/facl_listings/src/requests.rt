@@ -1,7 +1,5 @@
 //! The requests that a user is granted, as a line.
 
-ghost use Rattle.std.specs.Prelude.{◌≡◌, ◌++◌, OnOk, OnErr};
-ghost use Rattle.std.specs.Io.{StartsWith};
 ghost use Rattle.acl_rights.specs.acl_names.Appends.{Appends, AppendsWhole};
 ghost use Rattle.facl_listings.specs.Requests.{request_text, requests_granted, requests_text, requests_line};
 
@@ -22,6 +20,7 @@ fn push_request(text: &mut Vec<u8>, request: Perm, is_first: bool) -> Result<(),
     Ok(())
 }
 
+/// Adds the requests that are granted, with a space between each two, or `none`.
 fn push_requests(text: &mut Vec<u8>, granted: Requests) -> Result<(), AllocError>
     ensures { Appends result text.old text.new (requests_text (requests_granted granted)) }
 {
@@ -40,6 +39,7 @@ fn push_requests(text: &mut Vec<u8>, granted: Requests) -> Result<(), AllocError
     Ok(())
 }
 
+/// Adds the line of what a user is granted.
 fn push_line(text: &mut Vec<u8>, granted: Requests) -> Result<(), AllocError>
     ensures { Appends result text.old text.new (requests_line granted) }
 {

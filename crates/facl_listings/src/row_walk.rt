@@ -3,18 +3,17 @@
 ghost use Rattle.std.specs.Prelude.{◌≡◌, IfOk, drop, option_map};
 ghost use Rattle.acl_rights.specs.acl_files.path_map.Entries.{first, IsInOrder};
 ghost use Rattle.acl_rights.specs.acl_tree.Found.{found_file};
-ghost use Rattle.acl_rights.specs.Reach.{rows_along};
-ghost use Rattle.acl_rights.specs.Tables.{IsWhole};
-ghost use Rattle.facl_listings.specs.Inner.{has_next_below, walked, step_of};
+ghost use Rattle.facl_listings.specs.Inner.{has_next_below, rows_granted, walk_of, shown_row};
 
-use acl_rights::{FileRows, FilesIter, Found, Index, Judge, Path, Record, Requests, State, Tree};
+use crate::indexed::Verdicts;
+use acl_rights::{FileRows, FilesIter, Found, Judge, Path, Record, Requests, Tree};
 use std::alloc::AllocError;
 use std::marker::Model;
 use std::rc::Rc;
 
 /// A file, the next one after it, and what each user may do with it.
 #[derive(Clone, Copy)]
-pub(crate) struct Step<'a> {
+pub(crate) struct FileWithRow<'a> {
     pub file: &'a Rc<Record>,
     pub next: Option<&'a Rc<Record>>,
     pub requests: &'a [Requests],
@@ -30,10 +29,11 @@ fn is_above(path: &Path, next: Option<&Rc<Record>>) -> bool
     }
 }
 
-impl<'a> Step<'a> {
+impl<'a> FileWithRow<'a> {
     /// The file, with whether another one is below it. Fails only if memory runs out.
     pub fn found(&self) -> Result<Found, AllocError>
-        ensures { IfOk result (λ found. found ≡ found_file (has_next_below self.now.file.now.value.0 (option_map (λ next. next.now.value) self.now.next)) self.now.file.now.value) }
+        ensures { IfOk result (λ found. found ≡ found_file (has_next_below self.now.file.now.value.0
+            (option_map (λ next. next.now.value) self.now.next)) self.now.file.now.value) }
     {
         let has_below = is_above(self.file.path(), self.next);
         Ok(Found::new(self.file.clone()?, has_below))
@@ -48,17 +48,17 @@ pub(crate) struct Walk<'a> {
 }
 
 impl<'a> Model for Walk<'a> {
-    ghost use Rattle.facl_listings.specs.Inner.{Walked, walked};
+    ghost use Rattle.facl_listings.specs.Inner.{Walked, walk_of};
 
     ghost Value = { Walked };
 
-    ghost view = { λ w. walked w.files w.rows };
+    ghost view = { λ w. walk_of w.files w.rows };
 }
 
 impl<'a> Walk<'a> {
     /// All files of a tree, with their rows.
     pub fn of(tree: &'a Tree, rows: FileRows<'a>) -> Walk<'a>
-        ensures { result ≡ walked tree.now.files rows.entry }
+        ensures { result ≡ walk_of tree.now.files rows.entry }
     {
         Walk {
             files: tree.iter(),
@@ -66,15 +66,15 @@ impl<'a> Walk<'a> {
         }
     }
 
-    /// The files of a state with their rows, or with what is left of these along paths.
-    pub fn of_state<J: Judge>(state: &'a State, index: &'a Index<J>, along: bool) -> Walk<'a>
-        requires whole { IsWhole J.verdict_of state.now index.now }
-        ensures all { result ≡ walked state.now.tree.files (rows_along along index.now.rows) }
+    /// The files of a state with their rows of verdicts.
+    pub fn of_verdicts<J: Judge>(verdicts: &Verdicts<'a, J>) -> Walk<'a>
+        ensures all { result ≡ walk_of verdicts.now.state.now.tree.files (rows_granted J.verdict_of verdicts.now.along verdicts.now.state.now) }
         ensures order { IsInOrder result }
-        ensures tree { IsInOrder state.now.tree.files }
+        ensures tree { IsInOrder verdicts.now.state.now.tree.files }
     {
-        state.tree().is_sound();
-        Walk::of(state.tree(), index.file_rows(along))
+        let state = verdicts.state.state();
+        state.tree().soundness_law();
+        Walk::of(state.tree(), verdicts.rows())
     }
 
     /// The path of the next file.
@@ -89,13 +89,13 @@ impl<'a> Walk<'a> {
     }
 
     /// The next file.
-    pub fn next(&mut self) -> Option<Step<'a>>
-        ensures first { option_map step_of result ≡ option_map (λ file. file.1) (first self.old) }
+    pub fn next(&mut self) -> Option<FileWithRow<'a>>
+        ensures first { option_map shown_row result ≡ option_map (λ file. file.1) (first self.old) }
         ensures rest { self.new ≡ drop 1 self.old }
     {
         let row = self.rows.next()?;
         let file = self.files.next()?;
-        Some(Step {
+        Some(FileWithRow {
             file,
             next: self.files.peek(),
             requests: row.requests,

@@ -2,14 +2,14 @@
 
 ghost use Rattle.std.specs.Prelude.{◌≡◌, ◌++◌, map, IfOk, OnOk};
 ghost use Rattle.acl_rights.specs.acl_names.Names.{escaped};
-ghost use Rattle.acl_rights.specs.Tables.{IsWhole};
 ghost use Rattle.facl_listings.specs.Listings.{path_shown};
 ghost use Rattle.facl_listings.specs.Answers.{hex_digits, verdict_line, index_text};
-ghost use Rattle.facl_listings.specs.Inner.{row_lines, lines_of_walk, step_of};
+ghost use Rattle.facl_listings.specs.Inner.{row_lines, lines_of_walk, shown_row};
 
+use crate::indexed::IndexedState;
 use crate::listing::push_path_shown;
-use crate::row_walk::{Step, Walk};
-use acl_rights::{Found, Index, Judge, People, Requests, State, write_name};
+use crate::row_walk::{FileWithRow, Walk};
+use acl_rights::{Found, Judge, People, Requests, write_name};
 use std::alloc::{AllocError, Global};
 
 const DIGITS: [u8; 16] = *b"0123456789abcdef";
@@ -23,6 +23,7 @@ fn push_hex(text: &mut Vec<u8>, byte: u8) -> Result<(), AllocError>
     Ok(())
 }
 
+/// Adds the line of a user and a file.
 fn push_line(
     text: &mut Vec<u8>,
     granted: Requests,
@@ -74,9 +75,9 @@ fn push_file(
     alloc: Global,
     text: &mut Vec<u8>,
     names: &[Vec<u8>],
-    file: &Step<'_>,
+    file: &FileWithRow<'_>,
 ) -> Result<(), AllocError>
-    ensures { OnOk result (text.new.items ≡ text.old.items ++ row_lines (step_of file.now).0 (map (λ n. n.items) names.now) (step_of file.now).1) }
+    ensures { OnOk result (text.new.items ≡ text.old.items ++ row_lines (shown_row file.now).0 (map (λ n. n.items) names.now) (shown_row file.now).1) }
 {
     let found = file.found()?;
     let path = shown(alloc, &found)?;
@@ -117,15 +118,14 @@ fn written_names(alloc: Global, people: &People) -> Result<Vec<Vec<u8>>, AllocEr
 /// that the user is granted, as two hex digits, the user's name and the path. Fails only if memory runs out.
 pub fn write_index<J: Judge>(
     alloc: Global,
-    state: &State,
-    index: &Index<J>,
+    indexed: &IndexedState<J>,
 ) -> Result<Vec<u8>, AllocError>
-    requires whole { IsWhole J.verdict_of state.now index.now }
-    ensures { IfOk result (λ text. text.items ≡ index_text J.verdict_of state.now) }
+    ensures { IfOk result (λ text. text.items ≡ index_text J.verdict_of indexed.now) }
 {
-    let names = written_names(alloc, state.people())?;
+    let names = written_names(alloc, indexed.state().people())?;
     let mut text = Vec::new(alloc);
-    let files = Walk::of_state(state, index, false);
+    let verdicts = indexed.verdicts(false);
+    let files = Walk::of_verdicts(&verdicts);
     push_files(alloc, &mut text, &names, files)?;
     Ok(text)
 }

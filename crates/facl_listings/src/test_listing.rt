@@ -1,7 +1,6 @@
 //! What setfacl(1) prints with `--test`.
 
-ghost use Rattle.std.specs.Prelude.{◌≡◌, ◌++◌, ◌∷◌, [], OnOk, OnErr, codes};
-ghost use Rattle.std.specs.Io.{StartsWith};
+ghost use Rattle.std.specs.Prelude.{◌++◌, ◌∷◌, [], codes};
 ghost use Rattle.std.specs.List.{flat_map};
 ghost use Rattle.acl_rights.specs.acl_names.Appends.{Appends, AppendsWhole};
 ghost use Rattle.facl_listings.specs.TestListing.{default_entry, default_entries, lists_text, file_line, test_listing};
@@ -10,6 +9,7 @@ use crate::listing::push_path_shown;
 use acl_rights::{Acl, Entry, Form, Found, Names, Node, append_entry, append_short};
 use std::alloc::AllocError;
 
+/// Adds an entry of the default list, a comma before it.
 fn push_default_entry<N: Names>(
     text: &mut Vec<u8>,
     names: &N,
@@ -22,6 +22,7 @@ fn push_default_entry<N: Names>(
     Ok(())
 }
 
+/// Adds entries of the default list, a comma before each.
 fn push_default_entries<N: Names>(
     text: &mut Vec<u8>,
     names: &N,
@@ -35,6 +36,7 @@ fn push_default_entries<N: Names>(
     Ok(())
 }
 
+/// Adds the default list, if there is one.
 fn push_default<N: Names>(
     text: &mut Vec<u8>,
     names: &N,
@@ -48,6 +50,7 @@ fn push_default<N: Names>(
     }
 }
 
+/// Adds a file's lists.
 fn push_lists<N: Names>(text: &mut Vec<u8>, names: &N, node: &Node) -> Result<(), AllocError>
     ensures { Appends result text.old text.new (lists_text (N.naming names.now) node.now) }
 {
@@ -66,6 +69,7 @@ fn push_lists_of<N: Names>(text: &mut Vec<u8>, names: &N, node: &Node) -> Result
     Ok(())
 }
 
+/// Adds the line of a file.
 fn push_file<N: Names>(text: &mut Vec<u8>, names: &N, file: &Found) -> Result<(), AllocError>
     ensures { Appends result text.old text.new (file_line (N.naming names.now) file.now) }
 {
@@ -74,6 +78,7 @@ fn push_file<N: Names>(text: &mut Vec<u8>, names: &N, file: &Found) -> Result<()
     Ok(())
 }
 
+/// Adds the lines of files.
 fn push_files<N: Names>(text: &mut Vec<u8>, names: &N, files: &[Found]) -> Result<(), AllocError>
     ensures { Appends result text.old text.new (test_listing (N.naming names.now) files.now) }
 {

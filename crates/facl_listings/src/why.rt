@@ -1,11 +1,8 @@
 //! The tool `why`: the entries that decide on a user.
 
 ghost use Rattle.std.specs.Prelude.{◌≡◌, ◌≢◌, ◌++◌, ◌∷◌, [], None, IfOk, IfErr, OnOk, false};
-ghost use Rattle.std.specs.FinMap as maps;
-ghost use Rattle.std.specs.FinSet as sets;
 ghost use Rattle.std.specs.List.{list_any};
-ghost use Rattle.std.specs.Option.{option_map_or};
-ghost use Rattle.acl_rights.specs.acl_entry.Check.{group_of, is_for};
+ghost use Rattle.acl_rights.specs.acl_entry.Check.{is_for};
 ghost use Rattle.acl_rights.specs.acl_entry.Lists.{entries};
 ghost use Rattle.acl_rights.specs.acl_files.Walks.{ancestors};
 ghost use Rattle.acl_rights.specs.acl_files.declared.fault.TreeFault.TheVariants.{NoMemory};
@@ -21,23 +18,12 @@ use acl_rights::{
 use std::alloc::{AllocError, Global};
 use std::cmp::Ordering;
 
-/// Whether an entry of the key is for one of the user's groups.
-fn is_for(subject: &Subject, owning: Id, key: &Key) -> bool
-    ensures { result ≡ option_map_or (sets.contains subject.now.groups) (group_of owning key.now) false }
-{
-    match *key {
-        Key::OwningGroup => subject.is_of(owning),
-        Key::Group(group) => subject.is_of(group),
-        Key::Owner | Key::User(_) | Key::Mask | Key::Other => false,
-    }
-}
-
 /// Whether some entry is for one of the user's groups.
 fn is_matched(subject: &Subject, label: &Label) -> bool
     ensures { result ≡ list_any (is_for subject.now label.now.group) (entries label.now.acl) }
 {
     for entry in label.acl.entries() {
-        if is_for(subject, label.group, &entry.key) {
+        if subject.matches(label.group, &entry.key) {
             return true;
         }
     }
@@ -67,7 +53,7 @@ fn is_chosen(subject: &Subject, owning: Id, sole: &Option<Key>, entry: &Entry) -
 {
     match sole {
         Some(key) => key.order(entry.key) == Ordering::Equal,
-        None => is_for(subject, owning, &entry.key),
+        None => subject.matches(owning, &entry.key),
     }
 }
 
@@ -191,7 +177,7 @@ pub fn files_asked(
     ensures there { OnOk result (first_missing paths tree.now.files ≡ None) }
     ensures reported { IfErr result (λ fault. fault ≢ NoMemory → IsMissing fault (first_missing paths tree.now.files)) }
 {
-    tree.is_sound();
+    tree.soundness_law();
     let asked = asked_paths(alloc, tree, paths, along)?;
     let selection = Selection {
         operands: &asked,

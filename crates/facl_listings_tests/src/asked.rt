@@ -2,13 +2,13 @@
 //!
 //! A row is data, so a new one needs no code.
 
-ghost use Rattle.facl_listings.specs.acl_entry.Check.{rights};
-ghost use Rattle.facl_listings.specs.acl_rights.Tables.{IsWhole};
+ghost use Rattle.std.specs.Prelude.{IfSome};
+ghost use Rattle.facl_listings.specs.acl_tree.Reports.{Reports};
 
-use acl_rights_tests::{Line, World, command, nothing, play};
+use acl_rights_tests::{Line, command};
 use facl_listings::{
-    Path, Paths, Perm, can_requests, files_asked, read_path, write_changes, write_index, write_may,
-    write_who, write_why,
+    IndexedState, Judge, Path, Paths, Perm, Posix, Staged, State, Verdicts, files_asked, read_path,
+    write_changes, write_index, write_may, write_who, write_why,
 };
 use std::alloc::Global;
 use std::process::Abort;
@@ -38,32 +38,35 @@ pub struct Row {
     pub answer: Option<&'static [u8]>,
 }
 
+/// A state with its index, and the judge of the index.
+#[derive(Drop)]
+struct World {
+    indexed: IndexedState<Posix>,
+    judge: Posix,
+}
+
 fn path(alloc: Global, text: &[u8]) -> Option<Path> {
     read_path(alloc, text).ok()?
 }
 
-fn can(alloc: Global, world: &World, user: &[u8], text: &[u8], along: bool) -> Option<Vec<u8>> {
-    let user = world.state.people().find_user(user)?;
-    let requests = can_requests(&world.index, user, &path(alloc, text)?, along)?;
+fn can(alloc: Global, verdicts: &Verdicts<'_, Posix>, user: &[u8], text: &[u8]) -> Option<Vec<u8>> {
+    let user = verdicts.state.state().people().find_user(user)?;
+    let requests = verdicts.get(user, &path(alloc, text)?)?;
     let mut answer = Vec::new(alloc);
     answer.push(requests.bits()).ok()?;
     Some(answer)
 }
 
-fn who(alloc: Global, world: &World, request: u8, text: &[u8], along: bool) -> Option<Vec<u8>>
-    requires { IsWhole rights world.now.state world.now.index }
-{
+fn who(alloc: Global, verdicts: &Verdicts<'_, Posix>, request: u8, text: &[u8]) -> Option<Vec<u8>> {
     let path = path(alloc, text)?;
     let request = Perm::from_number(request)?;
-    write_who(alloc, &world.state, &world.index, &path, request, along).ok()?
+    write_who(alloc, verdicts, &path, request).ok()?
 }
 
-fn may(alloc: Global, world: &World, user: &[u8], request: u8, along: bool) -> Option<Vec<u8>>
-    requires { IsWhole rights world.now.state world.now.index }
-{
-    let user = world.state.people().find_user(user)?;
+fn may(alloc: Global, verdicts: &Verdicts<'_, Posix>, user: &[u8], request: u8) -> Option<Vec<u8>> {
+    let user = verdicts.state.state().people().find_user(user)?;
     let request = Perm::from_number(request)?;
-    write_may(alloc, &world.state, &world.index, user, request, along).ok()?
+    write_may(alloc, verdicts, user, request).ok()?
 }
 
 fn one_path(alloc: Global, text: &[u8]) -> Option<Paths> {
@@ -72,53 +75,30 @@ fn one_path(alloc: Global, text: &[u8]) -> Option<Paths> {
     Some(Paths::new(paths))
 }
 
-fn why(alloc: Global, world: &World, user: &[u8], text: &[u8], along: bool) -> Option<Vec<u8>> {
-    let user = world.state.people().find_user(user)?;
-    let subject = world.state.people().subject_at(user)?;
+fn why(alloc: Global, state: &State, user: &[u8], text: &[u8], along: bool) -> Option<Vec<u8>> {
+    let user = state.people().find_user(user)?;
+    let subject = state.people().subject_at(user)?;
     let paths = one_path(alloc, text)?;
-    let files = files_asked(alloc, world.state.tree(), paths, along).ok()?;
-    write_why(alloc, world.state.people(), subject, &files).ok()
-}
-
-fn index(alloc: Global, world: &World) -> Option<Vec<u8>>
-    requires { IsWhole rights world.now.state world.now.index }
-{
-    write_index(alloc, &world.state, &world.index).ok()
-}
-
-fn changes(alloc: Global, loaded: &World, world: &World, along: bool) -> Option<Vec<u8>>
-    requires loaded { IsWhole rights loaded.now.state loaded.now.index }
-    requires whole { IsWhole rights world.now.state world.now.index }
-{
-    write_changes(
-        alloc,
-        &loaded.state,
-        &loaded.index,
-        &world.state,
-        &world.index,
-        along,
-    )
-    .ok()
+    let files = files_asked(alloc, state.tree(), paths, along).ok()?;
+    write_why(alloc, state.people(), subject, &files).ok()
 }
 
 /// What a question prints; none where it is not answered.
 fn answer(
     alloc: Global,
-    loaded: &World,
-    world: &World,
+    loaded: &IndexedState<Posix>,
+    indexed: &IndexedState<Posix>,
     question: &Question,
     along: bool,
-) -> Option<Vec<u8>>
-    requires loaded { IsWhole rights loaded.now.state loaded.now.index }
-    requires whole { IsWhole rights world.now.state world.now.index }
-{
+) -> Option<Vec<u8>> {
+    let verdicts = indexed.verdicts(along);
     match question {
-        Question::Index => index(alloc, world),
-        Question::Can(user, text) => can(alloc, world, user, text, along),
-        Question::Who(request, text) => who(alloc, world, *request, text, along),
-        Question::May(user, request) => may(alloc, world, user, *request, along),
-        Question::Why(user, text) => why(alloc, world, user, text, along),
-        Question::Changes => changes(alloc, loaded, world, along),
+        Question::Index => write_index(alloc, indexed).ok(),
+        Question::Can(user, text) => can(alloc, &verdicts, user, text),
+        Question::Who(request, text) => who(alloc, &verdicts, *request, text),
+        Question::May(user, request) => may(alloc, &verdicts, user, *request),
+        Question::Why(user, text) => why(alloc, indexed.state(), user, text, along),
+        Question::Changes => write_changes(alloc, loaded, &verdicts).ok(),
     }
 }
 
@@ -129,16 +109,50 @@ fn is_answered(found: Option<Vec<u8>>, wanted: Option<&[u8]>) -> bool {
     }
 }
 
-/// Runs some lines; whether all of them are accepted.
-fn are_accepted(alloc: Global, world: &mut World, lines: &[Line]) -> bool
-    requires { IsWhole rights world.old.state world.old.index }
-    ensures { IsWhole rights world.new.state world.new.index }
+/// No file, and nobody.
+fn nothing(alloc: Global) -> Option<World> {
+    let state = State::new(alloc).ok()?;
+    let mut judge = Posix::new();
+    let indexed = IndexedState::build(alloc, &mut judge, state).ok()?;
+    Some(World { indexed, judge })
+}
+
+/// The prepared state after a line; none where the line is refused.
+fn prepared(alloc: Global, state: &State, line: &Line) -> Option<Staged>
+    ensures { IfSome result (λ staged. Reports state.now staged) }
 {
+    let command = command(alloc, state.people(), line)?;
+    match state.prepare(alloc, &command) {
+        Ok(staged) => Some(staged),
+        Err(_) => None,
+    }
+}
+
+/// Runs a line; whether it is accepted.
+fn is_accepted(alloc: Global, world: &mut World, line: &Line) -> bool {
+    let before = world.judge.asked();
+    if before > 1_000_000 {
+        return false;
+    }
+    let staged = match prepared(alloc, world.indexed.state(), line) {
+        Some(staged) => staged,
+        None => return false,
+    };
+    staged.tree().soundness_law();
+    staged.people().soundness_law();
+    match world.indexed.after(alloc, &mut world.judge, staged) {
+        Ok(indexed) => {
+            world.indexed = indexed;
+            true
+        }
+        Err(_) => false,
+    }
+}
+
+/// Runs some lines; whether all of them are accepted.
+fn are_accepted(alloc: Global, world: &mut World, lines: &[Line]) -> bool {
     for line in lines {
-        let Some(command) = command(alloc, world.state.people(), line) else {
-            return false;
-        };
-        if play(alloc, world, &command).is_none() {
+        if !is_accepted(alloc, world, line) {
             return false;
         }
     }
@@ -146,9 +160,7 @@ fn are_accepted(alloc: Global, world: &mut World, lines: &[Line]) -> bool
 }
 
 /// The state after the setup and some lines.
-fn after(rt: &impl Abort, alloc: Global, setup: &[Line], lines: &[Line]) -> World
-    ensures { IsWhole rights result.state result.index }
-{
+fn after(rt: &impl Abort, alloc: Global, setup: &[Line], lines: &[Line]) -> World {
     let mut world = nothing(alloc).expect(rt, "memory");
     assert!(rt; are_accepted(alloc, &mut world, setup), "the setup");
     assert!(rt; are_accepted(alloc, &mut world, lines), "the lines");
@@ -159,7 +171,13 @@ fn after(rt: &impl Abort, alloc: Global, setup: &[Line], lines: &[Line]) -> Worl
 fn expect_row(rt: &impl Abort, alloc: Global, setup: &[Line], row: &Row, at: usize) {
     let loaded = after(rt, alloc, setup, &[]);
     let world = after(rt, alloc, setup, row.lines);
-    let found = answer(alloc, &loaded, &world, &row.question, row.along);
+    let found = answer(
+        alloc,
+        &loaded.indexed,
+        &world.indexed,
+        &row.question,
+        row.along,
+    );
     assert!(rt; is_answered(found, row.answer), "row {at}");
 }
 

@@ -7,7 +7,7 @@ use Rattle.acl_tree.specs.acl_edit.declared.edit.EditFault.{EditFault}
 use Rattle.acl_tree.specs.acl_edit.declared.edit.EditFault.TheVariants as edits
 use Rattle.acl_tree.specs.acl_names.Names.{escaped}
 use Rattle.acl_tree.specs.acl_names.Paths.{path_text}
-use Rattle.acl_tree.specs.acl_syntax.declared.form.Form.TheVariants.{Long}
+use Rattle.acl_tree.specs.acl_syntax.declared.entries.Form.TheVariants.{Long}
 use Rattle.acl_tree.specs.acl_syntax.declared.fault.FaultKind.{FaultKind}
 use Rattle.acl_tree.specs.acl_syntax.declared.fault.FaultKind.TheVariants as kinds
 use Rattle.acl_tree.specs.acl_syntax.declared.fault.TextFault.{TextFault}

@@ -1,15 +1,15 @@
 //! What the program prints of a run that ended early.
 
-ghost use Rattle.std.specs.Prelude.{◌≡◌, ◌++◌, OnOk, OnErr};
-ghost use Rattle.std.specs.Io.{StartsWith};
+ghost use Rattle.std.specs.Prelude.{◌≡◌};
 ghost use Rattle.acl_tree.specs.acl_names.Appends.{Appends};
 ghost use Rattle.facl_messages.specs.Messages.{run_fault_text, setup_text, table_name};
 
 use crate::fault::RunFault;
-use crate::trees::push_tree_fault;
+use crate::message::push_tree_fault;
 use acl_tree::{Table, TreeFault};
 use std::alloc::AllocError;
 
+/// The name of a text of the setup.
 fn table_name(which: Table) -> &'static [u8]
     ensures { result.now ≡ table_name which }
 {
@@ -20,6 +20,7 @@ fn table_name(which: Table) -> &'static [u8]
     }
 }
 
+/// Adds why the setup is refused.
 fn push_setup(text: &mut Vec<u8>, which: Table, fault: &TreeFault) -> Result<(), AllocError>
     ensures { Appends result text.old text.new (setup_text which fault.now) }
 {

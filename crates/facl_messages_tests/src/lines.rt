@@ -1,6 +1,6 @@
 //! The messages of lines and of runs, but for those of texts and commands.
 use facl_messages::{
-    LineFault, RunFault, Spare, Table, TreeFault, append_message, append_run_fault,
+    LineFault, ReservedMessage, RunFault, Table, TreeFault, append_message, append_run_fault,
 };
 use std::alloc::Global;
 use std::process::Abort;
@@ -74,10 +74,12 @@ fn runs(rt: HostRuntime) {
 
 #[test]
 fn without_memory(rt: HostRuntime) {
-    let mut spare = Spare::new(rt.alloc()).expect(&rt, "memory");
-    assert!(rt; spare.as_bytes().is_empty());
-    spare.put_no_memory(u64::MAX);
-    assert!(rt; spare.as_bytes() == b"line 18446744073709551615: facl: no memory\n".as_slice());
-    spare.put_no_memory(7);
-    assert!(rt; spare.as_bytes() == b"line 7: facl: no memory\n".as_slice());
+    let mut reserved_message = ReservedMessage::new(rt.alloc()).expect(&rt, "memory");
+    assert!(rt; reserved_message.as_bytes().is_empty());
+    reserved_message.put_no_memory(u64::MAX);
+    assert!(rt;
+        reserved_message.as_bytes() == b"line 18446744073709551615: facl: no memory\n".as_slice()
+    );
+    reserved_message.put_no_memory(7);
+    assert!(rt; reserved_message.as_bytes() == b"line 7: facl: no memory\n".as_slice());
 }

@@ -2,9 +2,9 @@
 use Rattle.std.proofs.Common.{◌≡◌, ℕ, Bool, true, false, not, cond, List, [], ◌∷◌, length, Option, None, Some, refl, sym, ap, ◌∙◌, arith, true≢false, filter, ◌%◌}
 use Rattle.std.specs.Prelude.{option_map}
 use Rattle.std.proofs.lemmas.Bool.Decides.{nat_tests}
-use Rattle.facl_script.specs.declared.place.Place.{Place}
-use Rattle.facl_script.specs.declared.place.Place.TheVariants.{Between, Within, Quoted}
-use Rattle.facl_script.specs.Words.{is_white, is_quote, onto_word, words_at, words_of}
+use Rattle.facl_script.specs.declared.words.Place.{Place}
+use Rattle.facl_script.specs.declared.words.Place.TheVariants.{Between, Within, Quoted}
+use Rattle.facl_script.specs.Words.{is_blank, is_quote, onto_word, words_at, words_of}
 
 odd : List ℕ → Bool
 odd [] = false
@@ -24,7 +24,7 @@ odd_at Between line = odd line
 odd_at Within line = odd line
 odd_at Quoted line = not (odd line)
 
-white_no_quote : (b : ℕ) → is_white b ≡ true → is_quote b ≡ false
+white_no_quote : (b : ℕ) → is_blank b ≡ true → is_quote b ≡ false
 white_no_quote b h = grind (arith, nat_tests, h)
 
 not_not : (b : Bool) → b ≡ not (not b)
@@ -33,13 +33,13 @@ not_not false = refl
 
 open_more : (place : Place) (b : ℕ) (rest : List ℕ) → ((p : Place) → is_open (words_at p rest) ≡ odd_at p rest) → is_open (words_at place (b ∷ rest)) ≡ odd_at place (b ∷ rest)
 unfolding odd_at odd
-open_more Between b rest ih = by_tests (is_white b) (is_quote b) (white_no_quote b)
+open_more Between b rest ih = by_tests (is_blank b) (is_quote b) (white_no_quote b)
   where
     by_tests : (w q : Bool) → (w ≡ true → q ≡ false) → is_open (cond w (words_at Between rest) (cond q (words_at Quoted rest) (option_map (onto_word b) (words_at Within rest)))) ≡ cond q (not (odd rest)) (odd rest)
     by_tests true q h = rw (h refl) (ih Between)
     by_tests false true h = ih Quoted
     by_tests false false h = open_mapped (onto_word b) (words_at Within rest) ∙ ih Within
-open_more Within b rest ih = by_tests (is_white b) (is_quote b) (white_no_quote b)
+open_more Within b rest ih = by_tests (is_blank b) (is_quote b) (white_no_quote b)
   where
     by_tests : (w q : Bool) → (w ≡ true → q ≡ false) → is_open (cond w (option_map (λ words. [] ∷ words) (words_at Between rest)) (cond q (words_at Quoted rest) (option_map (onto_word b) (words_at Within rest)))) ≡ cond q (not (odd rest)) (odd rest)
     by_tests true q h = rw (h refl) (open_mapped (λ words. [] ∷ words) (words_at Between rest) ∙ ih Between)

@@ -7,10 +7,10 @@ use Rattle.std.proofs.KnownBytes.{Appends-trans}
 use Rattle.std.proofs.lemmas.Option.{none-some}
 use Rattle.facl_script.specs.declared.fault.ScriptFault.{ScriptFault}
 use Rattle.facl_script.specs.declared.fault.ScriptFault.TheVariants.{Read, Write, TooLong, NoMemory}
-use Rattle.facl_script.specs.declared.source.Source.{Source}
+use Rattle.facl_script.specs.declared.source.ByteSource.{ByteSource}
 use Rattle.facl_script.specs.Limits.{script_limit, chunk_limit}
 use Rattle.facl_script.specs.declared.unit.Script.{Script}
-use Rattle.facl_script.specs.Source.{pending, taken_count, StopsAfter}
+use Rattle.facl_script.specs.ByteSource.{pending, taken_count, StopsAfter}
 use Rattle.facl_script.specs.Script.{script_left, script_taken, ScriptStopsAfter}
 use Rattle.facl_script.specs.Lines.{lines_of}
 use Rattle.facl_script.specs.Units.{ScriptUnit, outside, cut, units_of, full_units, HasNoUnit}
@@ -18,7 +18,7 @@ use Rattle.facl_script.specs.ReadUnit.{IsNextUnit}
 use Rattle.facl_script.specs.Play.{Answer, joined, play, session}
 use Rattle.facl_script.specs.Streams.{Streams, Moment}
 use Rattle.facl_script.specs.Write.{Writes}
-use Rattle.facl_script.specs.Run.{Gives, Breaks, Ends, IsAnswered, StopsWith}
+use Rattle.facl_script.specs.Run.{IsGiven, Breaks, Ends, IsAnswered, StopsWith}
 use Rattle.facl_script.proofs.Progress.{Progress}
 use Rattle.facl_script.proofs.SourceLemmas.{stops_later}
 use Rattle.facl_script.proofs.ProgressLemmas.{full_answer, next_splits, updated, updated_at, updated_agrees}
@@ -35,20 +35,20 @@ pub Keeps-refl : (a : Option (List ℕ)) → Keeps a a
 Keeps-refl None = tt
 Keeps-refl (Some x) = refl
 
-pub gives_same : {S : Type 0} (a b : Answer S) (old new : Moment S) → a ≡ b → Gives a old new → Gives b old new
-gives_same a b old new h g = subst (λ (x : Answer _). Gives x old new) h g
+pub gives_same : {S : Type 0} (a b : Answer S) (old new : Moment S) → a ≡ b → IsGiven a old new → IsGiven b old new
+gives_same a b old new h g = subst (λ (x : Answer _). IsGiven x old new) h g
 
-pending_short : (s : Source) → length (pending s) ≤ chunk_limit
+pending_short : (s : ByteSource) → length (pending s) ≤ chunk_limit
 pending_short s = omega (arith, s.in_chunk, length-take (s.end - s.start) (drop s.start s.chunk))
 
 units_answered : {S : Type 0} (asks : List ℕ → Bool) (answered : Bool → ScriptUnit → S → Answer S) (old new : Moment S) (taken : List ℕ) (number : ℕ) (answer_so_far : Answer S) → Progress asks answered old.state taken number false answer_so_far
-    → (tail : List ℕ) → HasNoUnit asks tail → Gives answer_so_far old new → IsAnswered answered (full_units (units_of asks (taken ++ tail))) old new
+    → (tail : List ℕ) → HasNoUnit asks tail → IsGiven answer_so_far old new → IsAnswered answered (full_units (units_of asks (taken ++ tail))) old new
 units_answered asks answered old new taken number answer_so_far p tail none g =
     record { m = p.m; gives = gives_same answer_so_far _ old new (sym (full_answer asks answered old.state taken number answer_so_far p tail none)) g }
 
-stops_known : {S : Type 0} (asks : List ℕ → Bool) (answered : Bool → ScriptUnit → S → Answer S) (old new : Moment S) (fault : ScriptFault) (script : List ℕ) (r : Option (List ℕ)) (s : Source) (failed : Bool)
+stops_known : {S : Type 0} (asks : List ℕ → Bool) (answered : Bool → ScriptUnit → S → Answer S) (old new : Moment S) (fault : ScriptFault) (script : List ℕ) (r : Option (List ℕ)) (s : ByteSource) (failed : Bool)
     (taken : List ℕ) (number : ℕ) (answer_so_far : Answer S) → Progress asks answered old.state taken number false answer_so_far → (tail : List ℕ) → HasNoUnit asks tail
-    → StopsAfter fault (Some script) s r failed (taken ++ tail) → taken_count s ≡ length (taken ++ tail) → Gives answer_so_far old new → StopsWith asks fault answered script r old new
+    → StopsAfter fault (Some script) s r failed (taken ++ tail) → taken_count s ≡ length (taken ++ tail) → IsGiven answer_so_far old new → StopsWith asks fault answered script r old new
 stops_known asks answered old new Read script r s failed taken number answer_so_far p tail none stop count g =
     (taken ++ tail, stop.0, units_answered asks answered old new taken number answer_so_far p tail none g)
 stops_known asks answered old new TooLong script None s failed taken number answer_so_far p tail none stop count g = absurd stop.0.2
@@ -66,7 +66,7 @@ stops_known asks answered old new Write script r s failed taken number answer_so
 -- the source stopped: what was written is the answer to the units done
 pub stops_reading : {S : Type 0} (asks : List ℕ → Bool) (answered : Bool → ScriptUnit → S → Answer S) (old new : Moment S) (fault : ScriptFault) (a mid r : Option (List ℕ)) (s : Script) (failed : Bool)
     (taken : List ℕ) (number : ℕ) (answer_so_far : Answer S) → Progress asks answered old.state taken number false answer_so_far → (tail : List ℕ) → HasNoUnit asks tail
-    → Consumes a mid taken → ScriptStopsAfter fault mid s r failed tail → script_taken s ≡ length taken + length tail → Gives answer_so_far old new → IfSome a (λ script. StopsWith asks fault answered script r old new)
+    → Consumes a mid taken → ScriptStopsAfter fault mid s r failed tail → script_taken s ≡ length taken + length tail → IsGiven answer_so_far old new → IfSome a (λ script. StopsWith asks fault answered script r old new)
 stops_reading asks answered old new fault None mid r s failed taken number answer_so_far p tail none c stop count g = tt
 stops_reading asks answered old new fault (Some script) mid r s failed taken number answer_so_far p tail none c stop count g =
     stops_known asks answered old new fault script r s.source failed taken number answer_so_far p tail none (stops_later fault s.source (Some script) mid r failed taken tail c stop) (omega (arith, count, length-append taken tail)) g
@@ -79,7 +79,7 @@ Writes-joined old mid new a_out a_err b_out b_err v w = record {
 
 fails_known : {S : Type 0} (asks : List ℕ → Bool) (answered : Bool → ScriptUnit → S → Answer S) (old mid new : Moment S) (script : List ℕ) (r : Option (List ℕ)) (s : Script) (taken : List ℕ) (number number' : ℕ) (answer_so_far : Answer S)
     → Progress asks answered old.state taken number false answer_so_far → (before : Option (List ℕ)) (old_count new_count : ℕ) (piece : List ℕ) (u : ScriptUnit) → IsNextUnit asks before (script_left s r) old_count new_count number number' piece u
-    → Consumes (Some script) (script_left s r) (taken ++ piece) → Gives answer_so_far old mid → (ran_out : Bool) → Breaks (answered ran_out u mid.state) mid new
+    → Consumes (Some script) (script_left s r) (taken ++ piece) → IsGiven answer_so_far old mid → (ran_out : Bool) → Breaks (answered ran_out u mid.state) mid new
     → StopsWith asks Write answered script r old new
 fails_known asks answered old mid new script None s taken number number' answer_so_far p before old_count new_count piece u next c g ran_out h = absurd c
 fails_known asks answered old mid new script (Some rest) s taken number number' answer_so_far p before old_count new_count piece u next c g ran_out h =
@@ -106,7 +106,7 @@ fails_known asks answered old mid new script (Some rest) s taken number number' 
 -- a writer failed in the midst of the unit that was found
 pub fails_writing : {S : Type 0} (asks : List ℕ → Bool) (answered : Bool → ScriptUnit → S → Answer S) (old mid new : Moment S) (a r : Option (List ℕ)) (s : Script) (taken : List ℕ) (number number' : ℕ) (answer_so_far : Answer S)
     → Progress asks answered old.state taken number false answer_so_far → (before : Option (List ℕ)) (old_count new_count : ℕ) (piece : List ℕ) (u : ScriptUnit) → IsNextUnit asks before (script_left s r) old_count new_count number number' piece u
-    → Consumes a (script_left s r) (taken ++ piece) → Gives answer_so_far old mid → (ran_out : Bool) → Breaks (answered ran_out u mid.state) mid new
+    → Consumes a (script_left s r) (taken ++ piece) → IsGiven answer_so_far old mid → (ran_out : Bool) → Breaks (answered ran_out u mid.state) mid new
     → IfSome a (λ script. StopsWith asks Write answered script r old new)
 fails_writing asks answered old mid new None r s taken number number' answer_so_far p before old_count new_count piece u next c g ran_out h = tt
 fails_writing asks answered old mid new (Some script) r s taken number number' answer_so_far p before old_count new_count piece u next c g ran_out h =
@@ -114,7 +114,7 @@ fails_writing asks answered old mid new (Some script) r s taken number number' a
 
 -- nothing is left
 pub ends_here : {S : Type 0} (asks : List ℕ → Bool) (answered : Bool → ScriptUnit → S → Answer S) (old new : Moment S) (a mid after : Option (List ℕ)) (taken : List ℕ) (number : ℕ) (over : Bool) (answer_so_far : Answer S)
-    → Progress asks answered old.state taken number over answer_so_far → Consumes a mid taken → Keeps mid after → IsAtEnd after → length taken ≤ script_limit → Gives answer_so_far old new → (refused : Bool) → refused ≡ answer_so_far.refused
+    → Progress asks answered old.state taken number over answer_so_far → Consumes a mid taken → Keeps mid after → IsAtEnd after → length taken ≤ script_limit → IsGiven answer_so_far old new → (refused : Bool) → refused ≡ answer_so_far.refused
     → IfSome a (λ script. Ends asks answered script refused old new)
 ends_here asks answered old new None mid after taken number over answer_so_far p c k last short g refused same = tt
 ends_here asks answered old new (Some script) None after taken number over answer_so_far p c k last short g refused same = absurd c
@@ -163,8 +163,8 @@ not_full true h = sym h
 not_full false h = refl
 
 -- one unit was answered at a state
-abbrev pub GivesAt : {S : Type 0} → (Bool → ScriptUnit → S → Answer S) → ScriptUnit → S → Bool → (old new : Moment S) → Type 0
-GivesAt answered unit state refused old new = (ran_out : Bool) × Gives (answered ran_out unit state) old new × (refused ≡ (answered ran_out unit state).refused)
+abbrev pub IsGivenAt : {S : Type 0} → (Bool → ScriptUnit → S → Answer S) → ScriptUnit → S → Bool → (old new : Moment S) → Type 0
+IsGivenAt answered unit state refused old new = (ran_out : Bool) × IsGiven (answered ran_out unit state) old new × (refused ≡ (answered ran_out unit state).refused)
 
-pub Gives-joined : {S : Type 0} (a b : Answer S) (old mid new : Moment S) → Gives a old mid → Gives b mid new → Gives (joined a b) old new
-Gives-joined a b old mid new v w = record { spends = omega (arith, v.spends, w.spends); writes = Writes-joined old.streams mid.streams new.streams a.out a.err b.out b.err v.writes w.writes; state_is = w.state_is }
+pub IsGiven-joined : {S : Type 0} (a b : Answer S) (old mid new : Moment S) → IsGiven a old mid → IsGiven b mid new → IsGiven (joined a b) old new
+IsGiven-joined a b old mid new v w = record { spends = omega (arith, v.spends, w.spends); writes = Writes-joined old.streams mid.streams new.streams a.out a.err b.out b.err v.writes w.writes; state_is = w.state_is }

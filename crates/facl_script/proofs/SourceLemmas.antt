@@ -1,6 +1,6 @@
 -- Lemmas on what a source hands out.
-use Rattle.facl_script.specs.Source.{StopsAfter}
-use Rattle.facl_script.specs.declared.source.Source.{Source}
+use Rattle.facl_script.specs.ByteSource.{StopsAfter}
+use Rattle.facl_script.specs.declared.source.ByteSource.{ByteSource}
 use Rattle.facl_script.specs.declared.fault.ScriptFault.{ScriptFault}
 use Rattle.facl_script.specs.declared.fault.ScriptFault.TheVariants.{Read, Write, TooLong, NoMemory}
 use Rattle.std.proofs.Common.{◌≡◌, ℕ, Bool, List, ◌++◌, Option, None, Some, sym, ap, ◌∙◌, append_assoc}
@@ -16,7 +16,7 @@ handed (Some x) (Some y) (Some z) all front rest text p q e =
     p ∙ ap (λ l. text ++ l) (sym q ∙ ap (λ l. l ++ z) e ∙ append_assoc front rest z) ∙ sym (append_assoc text front (rest ++ z))
 
 -- a source that stops after some more of the script stops after all that was handed out
-pub stops_later : (fault : ScriptFault) (s : Source) (before mid r : Option (List ℕ)) (failed : Bool) (text more : List ℕ) → Consumes before mid text → StopsAfter fault mid s r failed more → StopsAfter fault before s r failed (text ++ more)
+pub stops_later : (fault : ScriptFault) (s : ByteSource) (before mid r : Option (List ℕ)) (failed : Bool) (text more : List ℕ) → Consumes before mid text → StopsAfter fault mid s r failed more → StopsAfter fault before s r failed (text ++ more)
 stops_later Read s before mid r failed text more p h = (Consumes-trans before mid r text more p h.0, h.1, h.2)
 stops_later TooLong s before mid r failed text more p h = ((h.0.0, h.0.1, rw append_assoc (Consumes-trans before mid r text _ p h.0.2)), h.1, h.2)
 stops_later NoMemory s before mid r failed text more p h = Consumes-trans before mid _ text more p h

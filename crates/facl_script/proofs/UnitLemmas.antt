@@ -1,11 +1,10 @@
 -- Lemmas on the units of a script.
-use Rattle.std.proofs.Common.{◌≡◌, ◌<◌, ◌≤◌, ◌+◌, ℕ, Bool, true, false, ◌&&◌, cond, List, [], ◌∷◌, ◌++◌, refl, sym, ap, ◌∙◌, append_assoc, append-nil, length, arith, Some, true≢false}
+use Rattle.std.proofs.Common.{◌≡◌, ◌<◌, ◌≤◌, ◌+◌, ℕ, Bool, true, false, ◌&&◌, cond, List, [], ◌∷◌, ◌++◌, refl, sym, ap, ◌∙◌, append_assoc, append-nil, length, arith, None, Some, if◌then◌else◌, true≢false}
 use Rattle.std.specs.Prelude.{nat_le}
 use Rattle.std.proofs.lemmas.Bool.{le-leb, leb-true}
 use Rattle.std.proofs.lemmas.Bool.Decides.{nat_tests}
 use Rattle.facl_script.specs.Lines.{lines_of, HasNoLineFeed, spelled, Held}
-use Rattle.facl_script.specs.Units.{ScriptUnit, takes_text, within, outside, none, unended, cut, within_limit, opened, closed, HasNoUnit, full_units}
-use Rattle.facl_script.specs.ReadUnit.{IsLineFound}
+use Rattle.facl_script.specs.Units.{ScriptUnit, takes_text, within, outside, none, unended, cut, within_limit, opened, closed, HasNoUnit, full_units, line_takes}
 use Rattle.facl_script.proofs.LineLemmas.{lines_of-ended, lines_of-rest}
 
 -- a unit that is a line alone
@@ -46,10 +45,21 @@ within_limit_short line h = rw (le-leb (length line) 65536 h) refl
 lt_leb : (n : ℕ) → 65536 < n → nat_le n 65536 ≡ false
 lt_leb n h = grind (arith, nat_tests)
 
+-- a line over the limit is none of a unit's
+pub over_limit : (held line : List ℕ) → Held true held line → within_limit line ≡ None
+over_limit held line h = rw (lt_leb (length line) h) refl
+
 -- the line that is held is the unit's
-pub line_found : (long : Bool) (held line : List ℕ) → Held long held line → IsLineFound long held (within_limit line)
-line_found true held line h = rw (lt_leb (length line) h) refl
-line_found false held line h = rw h.0 (within_limit_short line h.1)
+pub line_held : (held line : List ℕ) → Held false held line → within_limit line ≡ Some held
+line_held held line h = rw h.0 (within_limit_short line h.1)
+
+-- a line that is within the limit takes a text where it asks for one
+pub takes_within : (asks : List ℕ → Bool) (line : List ℕ) → line_takes asks (within_limit line) ≡ takes_text asks line
+takes_within asks line = by (nat_le (length line) 65536)
+  where
+    by : (b : Bool) → line_takes asks (if b then Some line else None) ≡ (b && asks line)
+    by true = refl
+    by false = refl
 
 left_true : (a b : Bool) → (a && b) ≡ true → a ≡ true
 left_true true b h = refl
@@ -58,7 +68,6 @@ left_true false b h = absurd (true≢false (sym h))
 takes_text_short : (asks : List ℕ → Bool) (line : List ℕ) → takes_text asks line ≡ true → length line ≤ 65536
 takes_text_short asks line h = leb-true (length line) 65536 (left_true (nat_le (length line) 65536) (asks line) h)
 
--- a line that takes a text is held
-pub takes_held : (asks : List ℕ → Bool) (long : Bool) (held line : List ℕ) → Held long held line → takes_text asks line ≡ true → Some line ≡ Some held
-takes_held asks true held line h takes = absurd (omega (arith, h, takes_text_short asks line takes))
-takes_held asks false held line h takes = ap Some (sym h.0)
+-- a line that takes a text is within the limit
+pub takes_some : (asks : List ℕ → Bool) (line : List ℕ) → takes_text asks line ≡ true → within_limit line ≡ Some line
+takes_some asks line h = within_limit_short line (takes_text_short asks line h)

@@ -6,12 +6,12 @@ use Rattle.std.proofs.lemmas.Str.{encode_ascii, length-encode, len_utf8_bounds, 
 use Rattle.std.specs.Str.{IsUtf8, is_utf8}
 use Rattle.facl_script.specs.declared.words.SplitFault.TheVariants.{NotUtf8, OpenQuote}
 use lib.Utf8.{encode, next}
-use Rattle.facl_script.specs.declared.place.Place.{Place}
-use Rattle.facl_script.specs.declared.place.Place.TheVariants.{Between, Within, Quoted}
-use Rattle.facl_script.specs.declared.place.Effect.{Effect}
-use Rattle.facl_script.specs.declared.place.Effect.TheVariants.{Skips, Joins, Ends}
-use Rattle.facl_script.specs.Words.{is_white, is_quote, onto_word, words_at, words_of, has_no_words, line_words}
-use Rattle.facl_script.specs.Steps.{effect_of, place_after}
+use Rattle.facl_script.specs.declared.words.Place.{Place}
+use Rattle.facl_script.specs.declared.words.Place.TheVariants.{Between, Within, Quoted}
+use Rattle.facl_script.specs.declared.words.CharAction.{CharAction}
+use Rattle.facl_script.specs.declared.words.CharAction.TheVariants.{Skips, Joins, Ends}
+use Rattle.facl_script.specs.Words.{is_blank, is_quote, onto_word, words_at, words_of, split_line}
+use Rattle.facl_script.specs.Steps.{action_of, place_after}
 
 -- these bytes go to the front of the first word
 abbrev pub onto_first : List ℕ → List (List ℕ) → List (List ℕ)
@@ -32,7 +32,7 @@ onto_first_more [] b words = refl
 onto_first_more (a ∷ so_far) b words = ap (onto_word a) (onto_first_more so_far b words)
 
 -- the words seen, after a character whose bytes these are
-abbrev pub after_effect : Effect → List (List ℕ) → List ℕ → Place → List ℕ → List ℕ → Option (List (List ℕ))
+abbrev pub after_effect : CharAction → List (List ℕ) → List ℕ → Place → List ℕ → List ℕ → Option (List (List ℕ))
 after_effect Skips done so_far place bytes rest = words_seen done so_far place rest
 after_effect Joins done so_far place bytes rest = words_seen done (so_far ++ bytes) place rest
 after_effect Ends done so_far place bytes rest = words_seen (done ++ so_far ∷ []) [] place rest
@@ -58,24 +58,24 @@ pub record IsSeen (line : List ℕ) (done : List (List ℕ)) (so_far : List ℕ)
   pub words : words_of line ≡ words_seen done so_far place rest
   pub word : IsPartOfWord place so_far
 
-abbrev pub IsSeenAfter : Effect → List ℕ → List (List ℕ) → List ℕ → Place → List ℕ → List ℕ → Type 0
+abbrev pub IsSeenAfter : CharAction → List ℕ → List (List ℕ) → List ℕ → Place → List ℕ → List ℕ → Type 0
 IsSeenAfter Skips line done so_far place bytes rest = IsSeen line done so_far place rest
 IsSeenAfter Joins line done so_far place bytes rest = IsSeen line done (so_far ++ bytes) place rest
 IsSeenAfter Ends line done so_far place bytes rest = IsSeen line (done ++ so_far ∷ []) [] place rest
 
-abbrev IsPartOfWordAfter : Effect → Place → List ℕ → List ℕ → Type 0
+abbrev IsPartOfWordAfter : CharAction → Place → List ℕ → List ℕ → Type 0
 IsPartOfWordAfter Skips place so_far bytes = IsPartOfWord place so_far
 IsPartOfWordAfter Joins place so_far bytes = IsPartOfWord place (so_far ++ bytes)
 IsPartOfWordAfter Ends place so_far bytes = IsPartOfWord place []
 
-so_far_after : (place : Place) (c : ℕ) (so_far bytes : List ℕ) → IsPartOfWord place so_far → IsPartOfWordAfter (effect_of place c) (place_after place c) so_far bytes
-so_far_after Between c so_far bytes h = by_tests (is_white c) (is_quote c)
+so_far_after : (place : Place) (c : ℕ) (so_far bytes : List ℕ) → IsPartOfWord place so_far → IsPartOfWordAfter (action_of place c) (place_after place c) so_far bytes
+so_far_after Between c so_far bytes h = by_tests (is_blank c) (is_quote c)
   where
     by_tests : (w q : Bool) → IsPartOfWordAfter (cond w Skips (cond q Skips Joins)) (cond w Between (cond q Quoted Within)) so_far bytes
     by_tests true q = h
     by_tests false true = tt
     by_tests false false = tt
-so_far_after Within c so_far bytes h = by_tests (is_white c) (is_quote c)
+so_far_after Within c so_far bytes h = by_tests (is_blank c) (is_quote c)
   where
     by_tests : (w q : Bool) → IsPartOfWordAfter (cond w Ends (cond q Skips Joins)) (cond w Between (cond q Quoted Within)) so_far bytes
     by_tests true q = refl
@@ -87,7 +87,7 @@ so_far_after Quoted c so_far bytes h = by_tests (is_quote c)
     by_tests true = tt
     by_tests false = tt
 
-seen_after : (e : Effect) (line : List ℕ) (done : List (List ℕ)) (so_far : List ℕ) (place : Place) (bytes rest : List ℕ)
+seen_after : (e : CharAction) (line : List ℕ) (done : List (List ℕ)) (so_far : List ℕ) (place : Place) (bytes rest : List ℕ)
     → words_of line ≡ after_effect e done so_far place bytes rest → IsPartOfWordAfter e place so_far bytes → IsSeenAfter e line done so_far place bytes rest
 seen_after Skips line done so_far place bytes rest h b = record { words = h; word = b }
 seen_after Joins line done so_far place bytes rest h b = record { words = h; word = b }
@@ -95,15 +95,15 @@ seen_after Ends line done so_far place bytes rest h b = record { words = h; word
 
 -- one byte of a line
 pub seen_step : (done : List (List ℕ)) (so_far : List ℕ) (place : Place) (b : ℕ) (rest : List ℕ)
-    → words_seen done so_far place (b ∷ rest) ≡ after_effect (effect_of place b) done so_far (place_after place b) (b ∷ []) rest
-seen_step done so_far Between b rest = by_tests (is_white b) (is_quote b)
+    → words_seen done so_far place (b ∷ rest) ≡ after_effect (action_of place b) done so_far (place_after place b) (b ∷ []) rest
+seen_step done so_far Between b rest = by_tests (is_blank b) (is_quote b)
   where
     by_tests : (w q : Bool) → option_map (λ words. done ++ onto_first so_far words) (cond w (words_at Between rest) (cond q (words_at Quoted rest) (option_map (onto_word b) (words_at Within rest))))
         ≡ after_effect (cond w Skips (cond q Skips Joins)) done so_far (cond w Between (cond q Quoted Within)) (b ∷ []) rest
     by_tests true q = refl
     by_tests false true = refl
     by_tests false false = joins_map done so_far b (words_at Within rest)
-seen_step done so_far Within b rest = by_tests (is_white b) (is_quote b)
+seen_step done so_far Within b rest = by_tests (is_blank b) (is_quote b)
   where
     by_tests : (w q : Bool) → option_map (λ words. done ++ onto_first so_far words) (cond w (option_map (λ words. [] ∷ words) (words_at Between rest)) (cond q (words_at Quoted rest) (option_map (onto_word b) (words_at Within rest))))
         ≡ after_effect (cond w Ends (cond q Skips Joins)) done so_far (cond w Between (cond q Quoted Within)) (b ∷ []) rest
@@ -142,7 +142,7 @@ high_place Between = Within
 high_place Within = Within
 high_place Quoted = Quoted
 
-high_effect : (place : Place) (c : ℕ) → 128 ≤ c → effect_of place c ≡ Joins
+high_effect : (place : Place) (c : ℕ) → 128 ≤ c → action_of place c ≡ Joins
 high_effect Between c h = rw (ne_eqb c 32 (λ e. omega (arith, e, h)), ne_eqb c 9 (λ e. omega (arith, e, h)), ne_eqb c 39 (λ e. omega (arith, e, h))) refl
 high_effect Within c h = rw (ne_eqb c 32 (λ e. omega (arith, e, h)), ne_eqb c 9 (λ e. omega (arith, e, h)), ne_eqb c 39 (λ e. omega (arith, e, h))) refl
 high_effect Quoted c h = rw (ne_eqb c 39 (λ e. omega (arith, e, h))) refl
@@ -184,24 +184,24 @@ by_ascii c = tested (nat_lt c 128) refl
 
 -- one character of a line that is text
 pub seen_char : (done : List (List ℕ)) (so_far : List ℕ) (place : Place) (c : ℕ) (rest : List ℕ)
-    → words_seen done so_far place (encode c ++ rest) ≡ after_effect (effect_of place c) done so_far (place_after place c) (encode c) rest
+    → words_seen done so_far place (encode c ++ rest) ≡ after_effect (action_of place c) done so_far (place_after place c) (encode c) rest
 seen_char done so_far place c rest = elim (by_ascii c) [ inl low ↦ ascii low | inr high ↦ past high ]
   where
-    ascii : c < 128 → words_seen done so_far place (encode c ++ rest) ≡ after_effect (effect_of place c) done so_far (place_after place c) (encode c) rest
+    ascii : c < 128 → words_seen done so_far place (encode c ++ rest) ≡ after_effect (action_of place c) done so_far (place_after place c) (encode c) rest
     ascii low = rw (encode_ascii c low) (seen_step done so_far place c rest)
 
-    past : 128 ≤ c → words_seen done so_far place (encode c ++ rest) ≡ after_effect (effect_of place c) done so_far (place_after place c) (encode c) rest
+    past : 128 ≤ c → words_seen done so_far place (encode c ++ rest) ≡ after_effect (action_of place c) done so_far (place_after place c) (encode c) rest
     past high = rw (high_effect place c high, high_after place c high) (seen_all_high (encode c) done so_far place rest (encode_high c high) (encode_some c high))
 
 pub char_seen : (line : List ℕ) (done : List (List ℕ)) (so_far : List ℕ) (place : Place) (c : ℕ) (rest : List ℕ)
-    → IsSeen line done so_far place (encode c ++ rest) → IsSeenAfter (effect_of place c) line done so_far (place_after place c) (encode c) rest
+    → IsSeen line done so_far place (encode c ++ rest) → IsSeenAfter (action_of place c) line done so_far (place_after place c) (encode c) rest
 char_seen line done so_far place c rest h =
-    seen_after (effect_of place c) line done so_far (place_after place c) (encode c) rest (h.words ∙ seen_char done so_far place c rest) (so_far_after place c so_far (encode c) h.word)
+    seen_after (action_of place c) line done so_far (place_after place c) (encode c) rest (h.words ∙ seen_char done so_far place c rest) (so_far_after place c so_far (encode c) h.word)
 
 pub byte_seen : (line : List ℕ) (done : List (List ℕ)) (so_far : List ℕ) (place : Place) (b : ℕ) (rest : List ℕ)
-    → IsSeen line done so_far place (b ∷ rest) → IsSeenAfter (effect_of place b) line done so_far (place_after place b) (b ∷ []) rest
+    → IsSeen line done so_far place (b ∷ rest) → IsSeenAfter (action_of place b) line done so_far (place_after place b) (b ∷ []) rest
 byte_seen line done so_far place b rest h =
-    seen_after (effect_of place b) line done so_far (place_after place b) (b ∷ []) rest (h.words ∙ seen_step done so_far place b rest) (so_far_after place b so_far (b ∷ []) h.word)
+    seen_after (action_of place b) line done so_far (place_after place b) (b ∷ []) rest (h.words ∙ seen_step done so_far place b rest) (so_far_after place b so_far (b ∷ []) h.word)
 
 -- nothing of the line is read
 pub begins : (line : List ℕ) → words_of line ≡ words_seen [] [] Between line
@@ -225,12 +225,12 @@ pub nil_by_length : (xs : List ℕ) → length xs ≡ 0 → xs ≡ []
 nil_by_length [] h = refl
 nil_by_length (x ∷ xs) h = absurd (omega (arith, h))
 
--- what a line means that is not a comment and not blank
-pub line_words_text : (line : List ℕ) (words : List (List ℕ)) → has_no_words line ≡ false → IsUtf8 line → words_of line ≡ Some words → line_words line ≡ Ok words
-line_words_text line words n u h = rw (n, is_utf8-from_IsUtf8 line u, h) refl
+-- how a line is split that is not a comment and not blank
+pub split_text : (line : List ℕ) (words : List (List ℕ)) → IsUtf8 line → words_of line ≡ Some words → split_line line ≡ Ok words
+split_text line words u h = rw (is_utf8-from_IsUtf8 line u, h) refl
 
-pub line_words_open : (line : List ℕ) → has_no_words line ≡ false → IsUtf8 line → words_of line ≡ None → line_words line ≡ Err OpenQuote
-line_words_open line n u h = rw (n, is_utf8-from_IsUtf8 line u, h) refl
+pub split_open : (line : List ℕ) → IsUtf8 line → words_of line ≡ None → split_line line ≡ Err OpenQuote
+split_open line u h = rw (is_utf8-from_IsUtf8 line u, h) refl
 
 no_utf8 : (line : List ℕ) → (IsUtf8 line → ⊥) → is_utf8 line ≡ false
 no_utf8 line h = tested (is_utf8 line) refl
@@ -239,5 +239,5 @@ no_utf8 line h = tested (is_utf8 line) refl
     tested true e = absurd (h (IsUtf8-from_is_utf8 line e))
     tested false e = e
 
-pub line_words_bytes : (line : List ℕ) → has_no_words line ≡ false → (IsUtf8 line → ⊥) → line_words line ≡ Err NotUtf8
-line_words_bytes line n h = rw (n, no_utf8 line h) refl
+pub split_bytes : (line : List ℕ) → (IsUtf8 line → ⊥) → split_line line ≡ Err NotUtf8
+split_bytes line h = rw (no_utf8 line h) refl

@@ -4,9 +4,9 @@ use Rattle.std.specs.Prelude.{option_map}
 use Rattle.std.specs.List.{AllByRecursion, flat_map, join_with_byte}
 use Rattle.std.proofs.lemmas.Bool.{eqb-true}
 use Rattle.std.proofs.lemmas.Option.{none-some}
-use Rattle.facl_script.specs.declared.place.Place.{Place}
-use Rattle.facl_script.specs.declared.place.Place.TheVariants.{Between, Within, Quoted}
-use Rattle.facl_script.specs.Words.{is_white, is_quote, onto_word, words_at, words_of}
+use Rattle.facl_script.specs.declared.words.Place.{Place}
+use Rattle.facl_script.specs.declared.words.Place.TheVariants.{Between, Within, Quoted}
+use Rattle.facl_script.specs.Words.{is_blank, is_quote, onto_word, words_at, words_of}
 use Rattle.facl_script.proofs.WordLemmas.{words_seen, seen_step, begins, onto_first_word as first_word}
 use Rattle.facl_script.specs.Written.{Part, bare, quoted, written, part_text, IsPart, IsWhiteSpace, Word, word_written, word_text, AreWords, Spells}
 
@@ -43,7 +43,7 @@ seen_white : (gap rest : List ℕ) (done : List (List ℕ)) → IsWhiteSpace gap
 seen_white [] rest done h = refl
 seen_white (b ∷ gap) rest done h = rw h.0 (seen_white gap rest done h.1)
 
-seen_bare : (bytes rest : List ℕ) (done : List (List ℕ)) (so_far : List ℕ) → AllByRecursion (λ b. (is_white b ≡ false) × (is_quote b ≡ false)) bytes
+seen_bare : (bytes rest : List ℕ) (done : List (List ℕ)) (so_far : List ℕ) → AllByRecursion (λ b. (is_blank b ≡ false) × (is_quote b ≡ false)) bytes
     → words_seen done so_far Within (bytes ++ rest) ≡ words_seen done (so_far ++ bytes) Within rest
 seen_bare [] rest done so_far h = rw (append-nil so_far) refl
 seen_bare (b ∷ bytes) rest done so_far h =
@@ -119,7 +119,7 @@ has_joined words h = begins (join_with_byte 32 (map written words)) ∙ seen_joi
 
 -- B. A line that has words spells them.
 
-starts_with_white : (b : ℕ) (rest : List ℕ) (words : List (List ℕ)) → is_white b ≡ true → Spells rest words → Spells (b ∷ rest) words
+starts_with_white : (b : ℕ) (rest : List ℕ) (words : List (List ℕ)) → is_blank b ≡ true → Spells rest words → Spells (b ∷ rest) words
 starts_with_white b rest words white h = record {
   front = b ∷ h.front;
   spelled = h.spelled;
@@ -157,7 +157,7 @@ more_word part rest words is h = record {
 }
 
 -- white space ends a word
-ended_word : (b : ℕ) (rest : List ℕ) (words : List (List ℕ)) → is_white b ≡ true → Spells rest words → SpellsWithin (b ∷ rest) ([] ∷ words)
+ended_word : (b : ℕ) (rest : List ℕ) (words : List (List ℕ)) → is_blank b ≡ true → Spells rest words → SpellsWithin (b ∷ rest) ([] ∷ words)
 ended_word b rest words white h = record {
   parts = [];
   gap = b ∷ h.front;
@@ -233,18 +233,18 @@ mapped f (Some x) y h = (x, refl, ap (of_some y) h)
 -- one byte of the line, where the rest spells its words
 spells_more : (place : Place) (b : ℕ) (rest : List ℕ) (words : List (List ℕ)) → ((p : Place) (ws : List (List ℕ)) → words_at p rest ≡ Some ws → SpellsAt p rest ws)
     → words_at place (b ∷ rest) ≡ Some words → SpellsAt place (b ∷ rest) words
-spells_more Between b rest words ih h = by_tests (is_white b) (is_quote b) refl refl h
+spells_more Between b rest words ih h = by_tests (is_blank b) (is_quote b) refl refl h
   where
-    by_tests : (w q : Bool) → is_white b ≡ w → is_quote b ≡ q → cond w (words_at Between rest) (cond q (words_at Quoted rest) (option_map (onto_word b) (words_at Within rest))) ≡ Some words → Spells (b ∷ rest) words
+    by_tests : (w q : Bool) → is_blank b ≡ w → is_quote b ≡ q → cond w (words_at Between rest) (cond q (words_at Quoted rest) (option_map (onto_word b) (words_at Within rest))) ≡ Some words → Spells (b ∷ rest) words
     by_tests true q w_is q_is h = starts_with_white b rest words w_is (ih Between words h)
     by_tests false true w_is q_is h = starts_with_quote b rest words q_is (ih Quoted words h)
     by_tests false false w_is q_is h =
         let m = mapped (onto_word b) (words_at Within rest) words h in
         let s = ih Within m.0 m.1 in
         subst (λ (ws : List (List ℕ)). Spells (b ∷ rest) ws) (onto_one_word b rest m.0 s ∙ m.2) (starts_with_word (bare (b ∷ [])) rest m.0 (omega arith, ((w_is, q_is), tt)) s)
-spells_more Within b rest words ih h = by_tests (is_white b) (is_quote b) refl refl h
+spells_more Within b rest words ih h = by_tests (is_blank b) (is_quote b) refl refl h
   where
-    by_tests : (w q : Bool) → is_white b ≡ w → is_quote b ≡ q → cond w (option_map (λ words. [] ∷ words) (words_at Between rest)) (cond q (words_at Quoted rest) (option_map (onto_word b) (words_at Within rest))) ≡ Some words → SpellsWithin (b ∷ rest) words
+    by_tests : (w q : Bool) → is_blank b ≡ w → is_quote b ≡ q → cond w (option_map (λ words. [] ∷ words) (words_at Between rest)) (cond q (words_at Quoted rest) (option_map (onto_word b) (words_at Within rest))) ≡ Some words → SpellsWithin (b ∷ rest) words
     by_tests true q w_is q_is h =
         let m = mapped (λ (words : List (List ℕ)). [] ∷ words) (words_at Between rest) words h in
         subst (λ (ws : List (List ℕ)). SpellsWithin (b ∷ rest) ws) m.2 (ended_word b rest m.0 w_is (ih Between m.0 m.1))

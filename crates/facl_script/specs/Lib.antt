@@ -2,7 +2,7 @@ pub mod Limits
 pub mod Devices
 pub mod StdDevices
 pub mod Lines
-pub mod Source
+pub mod ByteSource
 pub mod Words
 pub mod Written
 pub mod Steps
@@ -11,6 +11,7 @@ pub mod Pieces
 pub mod ReadText
 pub mod Script
 pub mod ReadUnit
+pub mod Held
 pub mod Streams
 pub mod Write
 pub mod Play

@@ -4,18 +4,22 @@ use Rattle.std.specs.Io.KnownBytes.{Keeps, Consumes, IsAtEnd}
 use Rattle.facl_script.specs.Lines.{lines_of}
 use Rattle.facl_script.specs.Units.{ScriptUnit, takes_text, outside, cut}
 use Rattle.facl_script.specs.ReadText.{IsTextFound}
+use Rattle.facl_script.specs.Words.{has_no_words}
+use Rattle.facl_script.specs.declared.line.LineFound.{LineFound}
+use Rattle.facl_script.specs.declared.line.LineFound.TheVariants.{TooLong, Silent, WithWords}
 use Rattle.facl_script.specs.declared.unit.UnitFound.{UnitFound}
 use Rattle.facl_script.specs.declared.text.TextFound.TheVariants.{Lost}
 
--- the line of a unit: these bytes are held, unless it is over the limit
-abbrev pub IsLineFound : Bool → List ℕ → Option (List ℕ) → Type 0
-IsLineFound true held line = line ≡ None
-IsLineFound false held line = line ≡ Some held
+-- the line of a unit: these bytes are held, unless it is over the limit, and were looked at for words
+abbrev pub IsLineFound : LineFound → List ℕ → Option (List ℕ) → Type 0
+IsLineFound TooLong held line = line ≡ None
+IsLineFound Silent held line = (line ≡ Some held) × (has_no_words held ≡ true)
+IsLineFound WithWords held line = (line ≡ Some held) × (has_no_words held ≡ false)
 
 -- The code has this unit, with its line and its text. Where it lost the text, the line is one that takes a text.
 pub record IsUnitFound (asks : List ℕ → Bool) (found : UnitFound) (line text : List ℕ) (unit : ScriptUnit) : Type 0 where
   pub number : unit.number ≡ found.number
-  pub line_is : IsLineFound found.is_too_long line unit.line
+  pub line_is : IsLineFound found.line line unit.line
   pub text_is : IsTextFound found.text text unit.text
   pub full : unit.is_full ≡ found.is_full
   pub lost : found.text ≡ Lost → (l : List ℕ) × (unit.line ≡ Some l) × (takes_text asks l ≡ true)

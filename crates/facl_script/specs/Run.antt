@@ -18,7 +18,7 @@ pub record IsAnswer {S : Type 0} (a : Answer S) (state : S) (spent spent' : ℕ)
   pub refused_is : refused ≡ a.refused
 
 -- The answer was given: both writers grew by it, and its state is the new one.
-pub record Gives {S : Type 0} (a : Answer S) (old new : Moment S) : Type 0 where
+pub record IsGiven {S : Type 0} (a : Answer S) (old new : Moment S) : Type 0 where
   pub writes : Writes old.streams new.streams a.out a.err
   pub state_is : new.state ≡ a.state
   pub spends : new.spent ≤ old.spent + a.cost
@@ -33,13 +33,13 @@ pub record Breaks {S : Type 0} (a : Answer S) (old new : Moment S) : Type 0 wher
 pub record Ends {S : Type 0} (asks : List ℕ → Bool) (answered : Bool → ScriptUnit → S → Answer S) (script : List ℕ) (refused : Bool) (old new : Moment S) : Type 0 where
   pub m : ℕ → Bool
   pub within : length script ≤ script_limit
-  pub gives : Gives (session asks answered m script old.state) old new
+  pub gives : IsGiven (session asks answered m script old.state) old new
   pub refused_is : refused ≡ (session asks answered m script old.state).refused
 
 -- These units were answered, and no other.
 pub record IsAnswered {S : Type 0} (answered : Bool → ScriptUnit → S → Answer S) (units : List ScriptUnit) (old new : Moment S) : Type 0 where
   pub m : ℕ → Bool
-  pub gives : Gives (play answered m units old.state) old new
+  pub gives : IsGiven (play answered m units old.state) old new
 
 -- All units before one were answered, and a writer failed in the midst of that one. Past it, at most a chunk was read.
 pub record FailsAt {S : Type 0} (asks : List ℕ → Bool) (answered : Bool → ScriptUnit → S → Answer S) (script : List ℕ) (remaining : Option (List ℕ)) (old new : Moment S) : Type 0 where
@@ -54,7 +54,7 @@ pub record FailsAt {S : Type 0} (asks : List ℕ → Bool) (answered : Bool → 
   pub near : length pending ≤ chunk_limit
   pub units_read : units_of asks read ≡ before ++ unit ∷ []
   pub now : Moment S
-  pub answer_so_far : Gives (play answered m before old.state) old now
+  pub answer_so_far : IsGiven (play answered m before old.state) old now
   pub breaks : Breaks (answered (m unit.number) unit now.state) now new
 
 -- The run over a script stopped with this fault: what the reader has left, and what was answered by then.

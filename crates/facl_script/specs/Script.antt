@@ -1,6 +1,6 @@
 -- What a contract sees of a script that is read unit by unit.
 use Rattle.std.specs.Prelude.{ℕ, Bool, List, Option}
-use Rattle.facl_script.specs.Source.{unread, taken_count, StopsAfter}
+use Rattle.facl_script.specs.ByteSource.{unread, taken_count, StopsAfter}
 use Rattle.facl_script.specs.declared.fault.ScriptFault.{ScriptFault}
 use Rattle.facl_script.specs.declared.unit.Script.{Script}
 

@@ -26,6 +26,11 @@ within_limit line = if nat_le (length line) line_limit then Some line else None
 abbrev pub takes_text : (List ℕ → Bool) → List ℕ → Bool
 takes_text asks line = nat_le (length line) line_limit && asks line
 
+-- a line asks for a text, as far as it is within the limit
+abbrev pub line_takes : (List ℕ → Bool) → Option (List ℕ) → Bool
+line_takes asks None = false
+line_takes asks (Some line) = asks line
+
 -- the line `.`, which ends a text
 abbrev pub is_end : List ℕ → Bool
 is_end [] = false

@@ -9,8 +9,8 @@ pub record Writes (old new : Streams) (to_out to_err : List ℕ) : Type 0 where
   pub err_grows : Appends old.err new.err to_err
 
 -- A proper beginning of what is to be written. No byte of err comes before all of out.
-abbrev pub IsPart : (part_out part_err to_out to_err : List ℕ) → Type 0
-IsPart part_out part_err to_out to_err =
+abbrev pub IsPartOfBoth : (part_out part_err to_out to_err : List ℕ) → Type 0
+IsPartOfBoth part_out part_err to_out to_err =
     ((n : ℕ) × (n < length to_out) × (part_out ≡ take n to_out) × (part_err ≡ []))
     ⊎ ((n : ℕ) × (n < length to_err) × (part_out ≡ to_out) × (part_err ≡ take n to_err))
 
@@ -18,5 +18,5 @@ IsPart part_out part_err to_out to_err =
 pub record WritesPart (old new : Streams) (to_out to_err : List ℕ) : Type 0 where
   pub part_out : List ℕ
   pub part_err : List ℕ
-  pub part : IsPart part_out part_err to_out to_err
+  pub part : IsPartOfBoth part_out part_err to_out to_err
   pub writes : Writes old new part_out part_err

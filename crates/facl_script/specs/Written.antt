@@ -1,7 +1,7 @@
 -- How words are in a line: here the line is given by its words; in specs/Words.antt the words by the line.
 use Rattle.std.specs.Prelude.{◌≡◌, ◌<◌, ℕ, true, false, List, [], ◌∷◌, ◌++◌, length, map}
 use Rattle.std.specs.List.{AllByRecursion, flat_map}
-use Rattle.facl_script.specs.Words.{is_white, is_quote}
+use Rattle.facl_script.specs.Words.{is_blank, is_quote}
 
 -- a part of a word: bytes that are as they are, or bytes between two quotes
 pub data Part : Type 0 where
@@ -20,11 +20,11 @@ part_text (quoted bytes) = bytes
 
 -- Bare bytes are one or more, without white space or a quote. Between quotes there is no quote.
 abbrev pub IsPart : Part → Type 0
-IsPart (bare bytes) = (0 < length bytes) × AllByRecursion (λ b. (is_white b ≡ false) × (is_quote b ≡ false)) bytes
+IsPart (bare bytes) = (0 < length bytes) × AllByRecursion (λ b. (is_blank b ≡ false) × (is_quote b ≡ false)) bytes
 IsPart (quoted bytes) = AllByRecursion (λ b. is_quote b ≡ false) bytes
 
 abbrev pub IsWhiteSpace : List ℕ → Type 0
-IsWhiteSpace bytes = AllByRecursion (λ b. is_white b ≡ true) bytes
+IsWhiteSpace bytes = AllByRecursion (λ b. is_blank b ≡ true) bytes
 
 -- a word is one part or more, each right after the one before, and has white space after it
 pub record Word : Type 0 where

@@ -32,5 +32,6 @@ pub fn script_has_units_as_spelled()
 /// Proof only: the full units of the front of a script are the first units of the script, whatever comes after it. So what a run has answered
 /// that stops with a fault are the first units of its script.
 pub fn full_units_come_first()
-    ensures { (asks : List ℕ → Bool) (front rest : List ℕ) → (more : List ScriptUnit) × (units_of asks (front ++ rest) ≡ full_units (units_of asks front) ++ more) }
+    ensures { (asks : List ℕ → Bool) (front rest : List ℕ) → (more : List ScriptUnit)
+        × (units_of asks (front ++ rest) ≡ full_units (units_of asks front) ++ more) }
 {}

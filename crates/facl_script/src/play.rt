@@ -1,18 +1,17 @@
 //! A run over a whole script: each unit is answered, and its answer is written before the next is read.
-ghost use Rattle.std.specs.Prelude.{◌≡◌, ◌⊎◌, ◌<◌, ◌≤◌, ◌+◌, ℕ, Bool, List, true, false, IfOk, IfErr, IfSome, OnOk, OnErr};
+ghost use Rattle.std.specs.Prelude.{◌≡◌, ◌⊎◌, ◌<◌, ◌≤◌, ◌+◌, ℕ, Bool, List, Option, true, false, IfOk, IfErr, IfSome, OnOk, OnErr};
 ghost use Rattle.std.specs.Io.KnownBytes.{IsAtEnd};
-ghost use Rattle.facl_script.specs.Units.{ScriptUnit};
-ghost use Rattle.facl_script.specs.ReadUnit.{IsUnitFound};
-ghost use Rattle.facl_script.specs.Script.{line_held, text_held};
+ghost use Rattle.facl_script.specs.Units.{ScriptUnit, line_takes};
+ghost use Rattle.facl_script.specs.Held.{IsLineHeld, IsUnitHeld};
 ghost use Rattle.facl_script.specs.Play.{Answer};
 ghost use Rattle.facl_script.specs.Limits.{script_limit};
 ghost use Rattle.facl_script.specs.Streams.{streams, moment};
-ghost use Rattle.facl_script.specs.Run.{IsAnswer, Gives, Breaks, Ends, StopsWith};
+ghost use Rattle.facl_script.specs.Run.{IsAnswer, IsGiven, Breaks, Ends, StopsWith};
 
-use crate::devices::{Feed, Sink};
+use crate::devices::{Feed, Sink, write_answer};
 use crate::fault::ScriptFault;
-use crate::unit::{Script, UnitFound};
-use crate::write::write_answer;
+use crate::held::{HeldLine, HeldUnit};
+use crate::unit::Script;
 use std::alloc::Global;
 
 /// What answers the units of a script: it has a state, which each unit may change, and the answer to the last unit.
@@ -46,14 +45,14 @@ pub trait Session {
     ghost to_err: { Self → List ℕ };
 
     /// Whether a line asks for a text. It is decided without memory.
-    fn asks_for_text(line: &[u8]) -> bool
-        ensures { result ≡ asks line.now };
+    fn asks_for_text(line: &HeldLine<'_>) -> bool
+        ensures { (content : Option (List ℕ)) → IsLineHeld line.now content → result ≡ line_takes asks content };
 
-    /// Answers a unit, of which this line and this text are kept, and returns whether it is refused. All that it writes is
-    /// composed here. Where its text was lost, or an allocation fails, memory runs out for the unit.
-    fn answer(&mut self, unit: &UnitFound, line: &[u8], text: &[u8]) -> bool
+    /// Answers a unit, and returns whether it is refused. All that it writes is composed here. Where its text was lost,
+    /// or an allocation fails, memory runs out for the unit.
+    fn answer(&mut self, unit: &HeldUnit<'_>) -> bool
         requires { is_ready unit.now.number self.old }
-        ensures answers { (u : ScriptUnit) → IsUnitFound asks unit.now line.now text.now u
+        ensures answers { (u : ScriptUnit) → IsUnitHeld asks unit.now u
             → (ran_out : Bool)
             × IsAnswer (answered ran_out u (state self.old)) (state self.new) (spent self.old) (spent self.new)
             (to_out self.new) (to_err self.new) result }
@@ -72,8 +71,7 @@ pub trait Session {
 /// Answers one unit, and writes the answer.
 fn answer_unit<S: Session, O: Sink, E: Sink>(
     session: &mut S,
-    unit: &UnitFound,
-    script: &Script,
+    unit: &HeldUnit<'_>,
     out: &mut O,
     err: &mut E,
 ) -> Result<bool, ScriptFault>
@@ -81,15 +79,15 @@ fn answer_unit<S: Session, O: Sink, E: Sink>(
     requires out_works { O.has_failed out.old ≡ false }
     requires err_works { E.has_failed err.old ≡ false }
     ensures ok { IfOk result (λ refused. (u : ScriptUnit)
-        → IsUnitFound S.asks unit.now (line_held script.now) (text_held script.now) u
+        → IsUnitHeld S.asks unit.now u
         → (ran_out : Bool)
-        × Gives (S.answered ran_out u (S.state session.old))
+        × IsGiven (S.answered ran_out u (S.state session.old))
         (moment (S.state session.old) (S.spent session.old) (streams (O.contents out.old) (E.contents err.old)))
         (moment (S.state session.new) (S.spent session.new) (streams (O.contents out.new) (E.contents err.new)))
         × (refused ≡ (S.answered ran_out u (S.state session.old)).refused)) }
     ensures works { OnOk result ((O.has_failed out.new ≡ false) × (E.has_failed err.new ≡ false)) }
     ensures part { OnErr result ((u : ScriptUnit)
-        → IsUnitFound S.asks unit.now (line_held script.now) (text_held script.now) u
+        → IsUnitHeld S.asks unit.now u
         → (ran_out : Bool)
         × Breaks (S.answered ran_out u (S.state session.old))
         (moment (S.state session.old) (S.spent session.old) (streams (O.contents out.old) (E.contents err.old)))
@@ -99,7 +97,7 @@ fn answer_unit<S: Session, O: Sink, E: Sink>(
     ensures ready { (n : ℕ) → unit.now.number < n → n ≤ script_limit + 1 → S.is_ready n session.new }
     ensures held { S.held session.new ≡ S.held session.old }
 {
-    let is_refused = session.answer(unit, script.line(), script.text());
+    let is_refused = session.answer(unit);
     write_answer(out, err, session.out(), session.err())?;
     Ok(is_refused)
 }
@@ -145,7 +143,8 @@ pub fn run_session<S: Session, R: Feed, O: Sink, E: Sink>(
     let mut script = Script::new(alloc);
     let mut is_refused = false;
     while let Some(unit) = script.next_unit::<S, R>(reader)? {
-        is_refused |= answer_unit(session, &unit, &script, out, err)?;
+        let held = script.unit(&unit);
+        is_refused |= answer_unit(session, &held, out, err)?;
     }
     Ok(is_refused)
 }

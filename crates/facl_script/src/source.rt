@@ -1,7 +1,7 @@
 //! The script's bytes, read in chunks and handed out by lines.
-ghost use Rattle.std.specs.Prelude.{◌≡◌, ◌≤◌, ◌<◌, ◌+◌, ◌-◌, ℕ, true, false, List, [], ◌∷◌, ◌++◌, take, drop, length, vec_len, slice_range, IfOk, IfErr, OnOk, OnErr, MatchOption};
+ghost use Rattle.std.specs.Prelude.{◌≡◌, ◌≤◌, ◌<◌, ◌+◌, ◌-◌, ℕ, true, false, List, [], ◌∷◌, ◌++◌, take, drop, length, IfOk, IfErr, OnOk, OnErr, MatchOption};
 ghost use Rattle.std.specs.Io.KnownBytes.{Keeps, Consumes, IsAtEnd};
-ghost use Rattle.facl_script.specs.Lines.{HasNoLineFeed, Held, spelled};
+ghost use Rattle.facl_script.specs.Lines.{HasNoLineFeed, Held};
 ghost use Rattle.facl_script.specs.Limits.{chunk_limit, script_limit};
 
 use crate::devices::Feed;
@@ -18,11 +18,12 @@ const CHUNK: usize = 65_536;
 
 /// A line that was found.
 #[derive(Clone, Copy)]
-pub struct Found {
+pub(crate) struct LineRead {
     pub is_ended: bool,
     pub is_too_long: bool,
 }
 
+/// The place of the first LF, if there is one.
 fn line_feed_at(piece: &[u8]) -> Option<usize>
     ensures { MatchOption result (HasNoLineFeed piece.now) (λ n.
         (n < length piece.now) × HasNoLineFeed (take n piece.now)
@@ -69,7 +70,7 @@ fn read_some<R: Feed>(reader: &mut R, chunk: &mut [u8], room: usize) -> Result<u
 
 /// What was read and not yet handed out.
 #[derive(Drop)]
-pub struct Source {
+pub(crate) struct ByteSource {
     chunk: [u8; CHUNK],
     start: usize,
     end: usize,
@@ -79,14 +80,15 @@ pub struct Source {
     ghost within: { taken + (end - start) ≤ script_limit },
 }
 
-impl Source {
-    ghost use Rattle.facl_script.specs.Source.{pending, unread, StopsAfter, FindsLine, taken_count};
+impl ByteSource {
+    ghost use Rattle.facl_script.specs.ByteSource.{pending, unread, StopsAfter, FindsLine, taken_count};
 
-    pub fn new() -> Source
+    /// No bytes are read yet.
+    pub fn new() -> ByteSource
         ensures none { pending result ≡ [] }
         ensures count { taken_count result ≡ 0 }
     {
-        Source {
+        ByteSource {
             chunk: [0; CHUNK],
             start: 0,
             end: 0,
@@ -147,7 +149,7 @@ impl Source {
         &mut self,
         reader: &mut R,
         line: &mut Vec<u8>,
-    ) -> Result<Option<Found>, ScriptFault>
+    ) -> Result<Option<LineRead>, ScriptFault>
         requires { R.has_failed reader.old ≡ false }
         ensures ok { IfOk result (λ found. FindsLine found
             (unread self.old (R.remaining reader.old)) (unread self.new (R.remaining reader.new))
@@ -170,7 +172,7 @@ impl Source {
                 if is_empty {
                     return Ok(None);
                 }
-                return Ok(Some(Found {
+                return Ok(Some(LineRead {
                     is_ended: false,
                     is_too_long,
                 }));
@@ -179,7 +181,7 @@ impl Source {
                 Some(at) => {
                     is_too_long = hold(line, is_too_long, &piece[..at])?;
                     self.skip(at + 1);
-                    return Ok(Some(Found {
+                    return Ok(Some(LineRead {
                         is_ended: true,
                         is_too_long,
                     }));

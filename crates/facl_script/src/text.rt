@@ -1,13 +1,13 @@
 //! The text of a unit: the lines up to a line `.`.
-ghost use Rattle.std.specs.Prelude.{◌≡◌, ◌≤◌, ◌+◌, ℕ, List, [], ◌∷◌, ◌++◌, true, false, OnOk, IfOk, IfErr, Option, length};
-ghost use Rattle.facl_script.specs.Source.{unread, StopsAfter, taken_count};
+ghost use Rattle.std.specs.Prelude.{◌≡◌, ◌≤◌, ◌+◌, ℕ, List, [], ◌∷◌, ◌++◌, false, OnOk, IfOk, IfErr, Option, length};
+ghost use Rattle.facl_script.specs.ByteSource.{unread, StopsAfter, taken_count};
 ghost use Rattle.facl_script.specs.Units.{is_end as ends_text, more_text, HasNoUnitWithin};
 ghost use Rattle.facl_script.specs.Lines.{Held};
 ghost use Rattle.facl_script.specs.ReadText.{FindsText, HoldsText};
 
 use crate::devices::Feed;
 use crate::fault::ScriptFault;
-use crate::source::Source;
+use crate::source::ByteSource;
 use std::alloc::AllocError;
 
 /// What is held of the text of a unit.
@@ -77,7 +77,7 @@ fn keep(text: &mut Vec<u8>, held: TextFound, is_too_long: bool, line: &[u8]) -> 
 
 /// Reads a text to its end, line by line, and keeps it where it can.
 pub(crate) fn read_text<R: Feed>(
-    source: &mut Source,
+    source: &mut ByteSource,
     reader: &mut R,
     line: &mut Vec<u8>,
     text: &mut Vec<u8>,

@@ -1,14 +1,17 @@
 //! A script, read unit by unit: each line with its text, if it takes one.
-ghost use Rattle.std.specs.Prelude.{◌≡◌, ◌≤◌, ◌+◌, ℕ, List, [], ◌∷◌, ◌++◌, true, false, OnOk, OnErr, IfOk, IfErr, Option, is_none, length};
-ghost use Rattle.facl_script.specs.Lines.{Held};
-ghost use Rattle.facl_script.specs.Units.{HasNoUnit, takes_text};
-ghost use Rattle.facl_script.specs.Source.{taken_count};
+ghost use Rattle.std.specs.Prelude.{◌≡◌, ◌≤◌, ◌+◌, ℕ, Bool, List, true, false, OnOk, OnErr, IfOk, IfErr, Option, length};
+ghost use Rattle.facl_script.specs.Held.{IsUnitHeld};
+ghost use Rattle.facl_script.specs.ReadUnit.{IsLineFound, IsUnitFound};
+ghost use Rattle.facl_script.specs.Units.{HasNoUnit, ScriptUnit, line_takes};
+ghost use Rattle.facl_script.specs.ByteSource.{taken_count};
 ghost use Rattle.facl_script.specs.Limits.{script_limit};
 
 use crate::devices::Feed;
 use crate::fault::ScriptFault;
+use crate::held::{HeldLine, HeldText, HeldUnit};
+use crate::line::LineFound;
 use crate::play::Session;
-use crate::source::Source;
+use crate::source::ByteSource;
 use crate::text::{TextFound, read_text};
 use std::alloc::Global;
 
@@ -17,25 +20,25 @@ use std::alloc::Global;
 pub struct UnitFound {
     /// The number of its line, from 1 on; the lines of texts are counted too.
     pub number: u64,
-    /// Whether its line is over the limit.
-    pub is_too_long: bool,
+    /// What its line is.
+    pub line: LineFound,
     /// What is held of its text.
     pub text: TextFound,
     /// Whether the LF of its last line was there. Else it ends the script.
     pub is_full: bool,
 }
 
-/// Whether the line that is held takes a text.
-fn takes<S: Session>(is_too_long: bool, line: &[u8]) -> bool
-    ensures { (text : List ℕ) → Held is_too_long line.now text → result ≡ takes_text S.asks text }
+/// Whether the line that was found takes a text.
+fn takes<S: Session>(found: LineFound, line: &[u8]) -> bool
+    ensures { (content : Option (List ℕ)) → IsLineFound found line.now content → result ≡ line_takes S.asks content }
 {
-    !is_too_long && S::asks_for_text(line)
+    S::asks_for_text(&HeldLine::found(found, line))
 }
 
 /// A script that is read unit by unit, with the line and the text of the last one.
 #[derive(Drop)]
 pub struct Script {
-    source: Source,
+    source: ByteSource,
     line: Vec<u8>,
     text: Vec<u8>,
     text_line: Vec<u8>,
@@ -56,7 +59,7 @@ impl Script {
         ensures over { is_over result ≡ false }
     {
         Script {
-            source: Source::new(),
+            source: ByteSource::new(),
             line: Vec::new(alloc),
             text: Vec::new(alloc),
             text_line: Vec::new(alloc),
@@ -65,18 +68,18 @@ impl Script {
         }
     }
 
-    /// The line of the unit that was read last, without its LF. It means nothing where that line is over the limit.
-    pub fn line(&self) -> &[u8]
-        ensures { result.now ≡ line_held self.now }
+    /// The unit that was read last, as it was found.
+    pub fn unit(&self, found: &UnitFound) -> HeldUnit<'_>
+        ensures number { result.number ≡ found.now.number }
+        ensures held { (asks : List ℕ → Bool) (unit : ScriptUnit) → IsUnitFound asks found.now (line_held self.now) (text_held self.now) unit
+            → IsUnitHeld asks result unit }
     {
-        self.line.as_slice()
-    }
-
-    /// The lines of the text of that unit, each with its LF, without the line `.`. They mean something where the text is whole.
-    pub fn text(&self) -> &[u8]
-        ensures { result.now ≡ text_held self.now }
-    {
-        self.text.as_slice()
+        HeldUnit {
+            number: found.number,
+            line: HeldLine::found(found.line, self.line.as_slice()),
+            text: HeldText::found(found.text, self.text.as_slice()),
+            is_full: found.is_full,
+        }
     }
 
     /// The next unit, past the check for the end.
@@ -98,11 +101,13 @@ impl Script {
         let Some(found) = self.source.next_line(reader, &mut self.line)? else {
             return Ok(None);
         };
-        if !takes::<S>(found.is_too_long, &self.line) {
+        let bytes = self.line.as_slice();
+        let line = LineFound::of(found.is_too_long, bytes);
+        if !takes::<S>(line, bytes) {
             self.number += 1;
             return Ok(Some(UnitFound {
                 number,
-                is_too_long: found.is_too_long,
+                line,
                 text: TextFound::Absent,
                 is_full: found.is_ended,
             }));
@@ -111,7 +116,7 @@ impl Script {
             self.number += 1;
             return Ok(Some(UnitFound {
                 number,
-                is_too_long: false,
+                line,
                 text: TextFound::Unended,
                 is_full: false,
             }));
@@ -125,7 +130,7 @@ impl Script {
         self.number += 1 + read.lines;
         Ok(Some(UnitFound {
             number,
-            is_too_long: false,
+            line,
             text: read.text,
             is_full: read.is_full,
         }))

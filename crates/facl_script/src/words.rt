@@ -1,8 +1,9 @@
-//! The words of a line.
-ghost use Rattle.std.specs.Prelude.{◌≡◌, ◌≤◌, ◌⊎◌, length, map, string_bytes, Option, None, Some, MatchResult, Ok, Err};
-ghost use Rattle.facl_script.specs.Words.{line_words, words_of, has_no_words as is_silent};
+//! The words of a line, and what each of its characters does at its place.
 
-use crate::place::{Effect, Place};
+ghost use Rattle.std.specs.Prelude.{◌≡◌, ◌⊎◌, map, string_bytes, None, Some, MatchResult, Ok, Err};
+ghost use Rattle.facl_script.specs.Words.{split_line, words_of};
+ghost use Rattle.facl_script.specs.Steps.{action_of, place_after};
+
 use std::alloc::{AllocError, AllocFailed, Global};
 
 /// What is wrong with a line as such, before any tool looks at its words.
@@ -36,19 +37,6 @@ impl<T: Drop> From<AllocFailed<T>> for SplitFault {
     }
 }
 
-/// Whether a line is blank or a comment: whether its first byte after spaces and tabs is `#`, or there is none.
-pub fn has_no_words(line: &[u8]) -> bool
-    ensures { result ≡ is_silent line.now }
-{
-    for b in line {
-        match b {
-            b' ' | b'\t' => {}
-            _ => return *b == b'#',
-        }
-    }
-    true
-}
-
 /// The words of a text, in which quotes are taken off.
 fn split_text(alloc: Global, text: &str) -> Result<Vec<String>, SplitFault>
     ensures { MatchResult result
@@ -59,10 +47,10 @@ fn split_text(alloc: Global, text: &str) -> Result<Vec<String>, SplitFault>
     let mut word = String::new(alloc);
     let mut place = Place::Between;
     for c in text.chars() {
-        match place.effect(c) {
-            Effect::Skips => {}
-            Effect::Joins => word.push(c)?,
-            Effect::Ends => {
+        match place.char_action(c) {
+            CharAction::Skips => {}
+            CharAction::Joins => word.push(c)?,
+            CharAction::Ends => {
                 words.push(word)?;
                 word = String::new(alloc);
             }
@@ -79,18 +67,62 @@ fn split_text(alloc: Global, text: &str) -> Result<Vec<String>, SplitFault>
     }
 }
 
-/// The words of a line, split at spaces and tabs. From `'` to the next `'` all characters are kept as they are, inside a
-/// word too, and `''` is an empty word. A blank line or comment has no words, and is looked at no further.
+/// The words of a line that is neither blank nor a comment, split at spaces and tabs. From `'` to the next `'` all
+/// characters are kept as they are, inside a word too, and `''` is an empty word.
 pub fn split_words(alloc: Global, line: &[u8]) -> Result<Vec<String>, SplitFault>
     ensures { MatchResult result
-        (λ words. line_words line.now ≡ Ok (map string_bytes words.items))
-        (λ fault. (fault ≡ SplitFault.NoMemory) ⊎ (line_words line.now ≡ Err fault)) }
+        (λ words. split_line line.now ≡ Ok (map string_bytes words.items))
+        (λ fault. (fault ≡ SplitFault.NoMemory) ⊎ (split_line line.now ≡ Err fault)) }
 {
-    if has_no_words(line) {
-        return Ok(Vec::new(alloc));
-    }
     match str::from_utf8(line) {
         Ok(text) => split_text(alloc, text),
         Err(_) => Err(SplitFault::NotUtf8),
+    }
+}
+
+/// Where in a line a character is.
+#[derive(Clone, Copy)]
+pub enum Place {
+    /// Before a word, or after one.
+    Between,
+    /// In a word, and in no quote.
+    Within,
+    /// In a quote, which is part of a word.
+    Quoted,
+}
+
+/// What a character does to the word that is being read.
+#[derive(Clone, Copy)]
+pub enum CharAction {
+    /// It is white space between words, or a quote.
+    Skips,
+    /// It belongs to the word.
+    Joins,
+    /// It ends the word.
+    Ends,
+}
+
+impl Place {
+    /// What a character does to the word.
+    pub fn char_action(self, c: char) -> CharAction
+        ensures { result ≡ action_of self c }
+    {
+        match (self, c) {
+            (Place::Between, ' ' | '\t') | (_, '\'') => CharAction::Skips,
+            (Place::Within, ' ' | '\t') => CharAction::Ends,
+            _ => CharAction::Joins,
+        }
+    }
+
+    /// Where the next character is.
+    pub fn after(self, c: char) -> Place
+        ensures { result ≡ place_after self c }
+    {
+        match (self, c) {
+            (Place::Between | Place::Within, ' ' | '\t') => Place::Between,
+            (Place::Between | Place::Within, '\'') => Place::Quoted,
+            (Place::Quoted, '\'') | (Place::Between | Place::Within, _) => Place::Within,
+            (Place::Quoted, _) => Place::Quoted,
+        }
     }
 }

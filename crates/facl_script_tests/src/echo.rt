@@ -1,10 +1,10 @@
 //! A session that gives back each line and its text.
-ghost use Rattle.std.specs.Prelude.{◌≡◌, ◌++◌, ◌∷◌, [], true, false, codes, IfOk, OnOk};
+ghost use Rattle.std.specs.Prelude.{◌≡◌, ◌++◌, ◌∷◌, [], true, false, IfOk};
 ghost use Rattle.facl_script.specs.Units.{ScriptUnit};
-ghost use Rattle.facl_script.specs.ReadUnit.{IsUnitFound};
+ghost use Rattle.facl_script.specs.Held.{IsUnitHeld};
 ghost use Rattle.facl_script_tests.specs.Echo.{asks, echoed, echoed_there};
 
-use facl_script::{Session, TextFound, UnitFound, has_no_words};
+use facl_script::{HeldLine, HeldText, HeldUnit, Session};
 use std::alloc::{AllocError, Global};
 
 /// The answer to a unit.
@@ -49,27 +49,21 @@ fn give_back(out: &mut Vec<u8>, line: &[u8], text: &[u8]) -> Result<bool, AllocE
 }
 
 /// Composes the answer to a unit that is not silent.
-fn compose(
-    out: &mut Vec<u8>,
-    err: &mut Vec<u8>,
-    unit: &UnitFound,
-    line: &[u8],
-    text: &[u8],
-) -> Result<bool, AllocError>
+fn compose(out: &mut Vec<u8>, err: &mut Vec<u8>, unit: &HeldUnit<'_>) -> Result<bool, AllocError>
     requires out { out.old.items ≡ [] }
     requires err { err.old.items ≡ [] }
-    ensures { IfOk result (λ refused. (u : ScriptUnit) → IsUnitFound asks unit.now line.now text.now u
+    ensures { IfOk result (λ refused. (u : ScriptUnit) → IsUnitHeld asks unit.now u
         → (out.new.items ≡ (echoed_there u false).out) × (err.new.items ≡ (echoed_there u false).err) × (refused ≡ (echoed_there u false).refused)) }
 {
-    if unit.is_too_long {
+    let (HeldLine::Silent(line) | HeldLine::WithWords(line)) = unit.line else {
         return refuse(err, b"line too long\n");
-    }
+    };
     match unit.text {
-        TextFound::Absent => give_back(out, line, b""),
-        TextFound::Whole => give_back(out, line, text),
-        TextFound::TooLong => refuse(err, b"text line too long\n"),
-        TextFound::Unended => refuse(err, b"text without end\n"),
-        TextFound::Lost => Err(AllocError),
+        HeldText::Absent => give_back(out, line, b""),
+        HeldText::Whole(text) => give_back(out, line, text),
+        HeldText::TooLong => refuse(err, b"text line too long\n"),
+        HeldText::Unended => refuse(err, b"text without end\n"),
+        HeldText::Lost => Err(AllocError),
     }
 }
 
@@ -86,20 +80,22 @@ impl Session for Echo {
 
     ghost to_err = { λ s. s.err.items };
 
-    fn asks_for_text(line: &[u8]) -> bool {
+    fn asks_for_text(line: &HeldLine<'_>) -> bool {
         match line {
-            [] => false,
-            [first, ..] => *first == b'l' || *first == b'y',
+            HeldLine::Silent([first, ..]) | HeldLine::WithWords([first, ..]) => {
+                *first == b'l' || *first == b'y'
+            }
+            _ => false,
         }
     }
 
-    fn answer(&mut self, unit: &UnitFound, line: &[u8], text: &[u8]) -> bool {
+    fn answer(&mut self, unit: &HeldUnit<'_>) -> bool {
         self.out.clear();
         self.err.clear();
-        if !unit.is_too_long && has_no_words(line) {
+        if matches!(unit.line, HeldLine::Silent(_)) {
             return false;
         }
-        match compose(&mut self.out, &mut self.err, unit, line, text) {
+        match compose(&mut self.out, &mut self.err, unit) {
             Ok(is_refused) => {
                 self.has_refused |= is_refused;
                 is_refused

@@ -26,7 +26,7 @@ use Rattle.facl_tools.specs.Creat as creat
 use Rattle.facl_tools.specs.FirstFaults.{rank, place, OfNothing, OfPaths, OfListing, OfUser, OfUserAndFiles, OfSetfacl, OfTask, IsAtFault, file_at}
 use Rattle.facl_tools.specs.Firsts.{IsRefusedForFirst}
 use Rattle.facl_tools.specs.Getfacl as getfacl
-use Rattle.facl_tools.specs.Lists.{list_of}
+use Rattle.facl_tools.specs.Lists.{list_of_text}
 use Rattle.facl_tools.specs.Load as load
 use Rattle.facl_tools.specs.May as may
 use Rattle.facl_tools.specs.Operands.{path_at, paths_from, name_meant}
@@ -45,8 +45,8 @@ use Rattle.facl_tools.specs.declared.chacl.Task.{Task}
 use Rattle.facl_tools.specs.declared.chacl.Task.TheVariants as tasks
 use Rattle.facl_tools.specs.declared.creat.CreatLine.{CreatLine}
 use Rattle.facl_tools.specs.declared.may.MayLine.{MayLine}
-use Rattle.facl_tools.specs.declared.setfacl_line.SetfaclLine.{SetfaclLine}
-use Rattle.facl_tools.specs.declared.setfacl_line.SetfaclLine.TheVariants as setfacl
+use Rattle.facl_tools.specs.declared.setfacl.SetfaclLine.{SetfaclLine}
+use Rattle.facl_tools.specs.declared.setfacl.SetfaclLine.TheVariants as setfacl
 use Rattle.facl_tools.specs.declared.tools.ToolLine.{ToolLine}
 use Rattle.facl_tools.specs.declared.tools.ToolLine.TheVariants as lines
 use Rattle.facl_tools.specs.declared.who.WhoLine.{WhoLine}
@@ -72,17 +72,17 @@ edit_refused s recursive edit files = files_refused files (λ paths. done s (com
 
 task_refused : (s : State) (recursive : Bool) (task : Task) (files : List Text) → Refused (OfTask s recursive task files) (chacl.task_done s recursive task files)
 task_refused s recursive (tasks.PutAccess text) files =
-    text_and_files_refused (list_of s.people Entry Access text) files (λ access paths. done s (commands.Edit paths (Put (Some access) None) recursive))
+    text_and_files_refused (list_of_text s.people Entry Access text) files (λ access paths. done s (commands.Edit paths (Put (Some access) None) recursive))
 task_refused s recursive (tasks.PutDefault text) files =
-    text_and_files_refused (list_of s.people DefaultEntry Default text) files (λ dacl paths. done s (commands.Edit paths (Put None (Some dacl)) recursive))
+    text_and_files_refused (list_of_text s.people DefaultEntry Default text) files (λ dacl paths. done s (commands.Edit paths (Put None (Some dacl)) recursive))
 task_refused s recursive (tasks.PutBoth text default_text) files =
-    two_texts_refused (list_of s.people Entry Access text) (list_of s.people DefaultEntry Default default_text) files
+    two_texts_refused (list_of_text s.people Entry Access text) (list_of_text s.people DefaultEntry Default default_text) files
     (λ access dacl paths. done s (commands.Edit paths (Put (Some access) (Some dacl)) recursive))
 task_refused s recursive tasks.RemoveAccess files = edit_refused s recursive (Flatten true false) files
 task_refused s recursive tasks.RemoveDefault files = edit_refused s recursive (Flatten false true) files
 task_refused s recursive tasks.RemoveBoth files = edit_refused s recursive (Flatten true true) files
 task_refused s recursive tasks.List files =
-    listing_refused s.tree.files files (λ paths. printed s (chacl.named_listing s.people (files_found recursive paths s.tree.files)))
+    listing_refused s.tree.files files (λ paths. printed s (chacl.chacl_text s.people (files_found recursive paths s.tree.files)))
 
 creat_refused : (s : State) (line : CreatLine)
     → Refused (OfPaths (line.file ∷ []) (path_at 1 line.file) (λ path. done s (commands.Creat (file_at line path)))) (creat.answered s line)
@@ -121,7 +121,7 @@ pub first_fault_refuses : (verdict : Verdict) (loaded s : State) (line : ToolLin
 unfolding answered
 first_fault_refuses verdict loaded s (lines.Load line) text = command_refused (load.answered s line text)
 first_fault_refuses verdict loaded s (lines.Getfacl line) text =
-    listing_refused s.tree.files line.files (λ paths. printed s (getfacl.named_listing s.people line.options (files_found line.recursive paths s.tree.files)))
+    listing_refused s.tree.files line.files (λ paths. printed s (getfacl.getfacl_text s.people line.options (files_found line.recursive paths s.tree.files)))
 first_fault_refuses verdict loaded s (lines.Setfacl line) text = setfacl_refused s line text
 first_fault_refuses verdict loaded s (lines.Chacl line) text = task_refused s line.recursive line.task line.files
 first_fault_refuses verdict loaded s (lines.Chmod line) text = files_refused line.files (λ paths. done s (commands.Chmod paths line.mode line.recursive))
@@ -131,7 +131,7 @@ first_fault_refuses verdict loaded s (lines.Gpasswd line) text = command_refused
 first_fault_refuses verdict loaded s (lines.Usermod line) text = command_refused (done s (commands.Usermod (name_meant line.user) (name_meant line.group)))
 first_fault_refuses verdict loaded s (lines.Attr line) text = listing_refused s.tree.files line.files (λ paths. printed s (attr_listing (files_found false paths s.tree.files)))
 first_fault_refuses verdict loaded s (lines.Setattr line) text =
-    text_and_files_refused (setattr.list_of line.attribute.digits) line.files (λ acl paths. done s (commands.Edit paths (setattr.put_of line.attribute.which acl) false))
+    text_and_files_refused (setattr.list_of_digits line.attribute.digits) line.files (λ acl paths. done s (commands.Edit paths (setattr.put_of line.attribute.which acl) false))
 first_fault_refuses verdict loaded s (lines.Can line) text = can_refused verdict s line
 first_fault_refuses verdict loaded s (lines.Who line) text = who_refused verdict s line
 first_fault_refuses verdict loaded s (lines.May line) text = may_refused verdict s line

@@ -10,9 +10,9 @@ use Rattle.facl_messages.specs.facl_words.Forms.{Text}
 use Rattle.facl_tools.specs.FirstFaults.{Part, in_first_text, in_second_text, in_third_text, in_two_texts, in_operand, in_user, in_file, in_command, rank, OfCommand, OfPaths, OfText, OfTextAndFiles, OfTwoTextsAndFiles, OfChange, both_of, entries_put}
 use Rattle.facl_tools.specs.Operands.{paths_from}
 use Rattle.facl_tools.specs.Replies.{Reply, after}
-use Rattle.facl_tools.specs.Setfacl.{entries_given, given, both_at, unless_both, change_files, change_line, drops, warning_if}
-use Rattle.facl_tools.specs.declared.setfacl_line.ChangeLine.{ChangeLine}
-use Rattle.facl_tools.specs.declared.setfacl_entries.Given.{Given}
+use Rattle.facl_tools.specs.Setfacl.{entries_given, entries_of_line, both_at, unless_both, change_files, change_line, drops, with_warning_if}
+use Rattle.facl_tools.specs.declared.setfacl.ChangeLine.{ChangeLine}
+use Rattle.facl_listings.specs.acl_edit.declared.edit.ChangeEntries.{ChangeEntries}
 use Rattle.facl_tools.proofs.NoPaths.{Reads, reads_files}
 use Rattle.facl_tools.proofs.Outcomes.{ok_or_err, ok_eq, err_eq, err_before, some_or_none, same_two, same_three, same_found}
 use Rattle.facl_tools.proofs.Parts.{Refused, from_zero, refused_in, step, operands, last}
@@ -145,11 +145,11 @@ module _ (s : State) (line : ChangeLine) (text : List ℕ) where
   abbrev set_text : Result (List Spec) LineFault
   set_text = entries_given s.people WithPerms line.set text
 
-  abbrev given_of : Result (List Spec) LineFault → Result (List Spec) LineFault → Result (List Spec) LineFault → Result Given LineFault
+  abbrev given_of : Result (List Spec) LineFault → Result (List Spec) LineFault → Result (List Spec) LineFault → Result ChangeEntries LineFault
   given_of r m t = after r (λ removed. after m (λ modified. after t (λ set. Ok (record { removed = removed; modified = modified; set = set }))))
 
-  abbrev changed : Given → Result Reply LineFault
-  changed entries = unless_both (both_at line.as_default entries) (change_files s line entries)
+  abbrev changed : ChangeEntries → Result Reply LineFault
+  changed entries = unless_both (both_at line.flags.as_default entries) (change_files s line entries)
 
   modified_next : (r : List Spec) → entries_given s.people WithoutPerms line.removed text ≡ Ok r → (q : Part) (g : LineFault) → OfChange s line text q g → 1 ≤ rank q
   modified_next r is in_first_text g h = absurd (ok_or_err removed_text r g is h)
@@ -163,10 +163,10 @@ module _ (s : State) (line : ChangeLine) (text : List ℕ) where
 
   module _ (r m t : List Spec) (is : entries_given s.people WithoutPerms line.removed text ≡ Ok r) (also : entries_given s.people WithPerms line.modified text ≡ Ok m)
       (and_set : entries_given s.people WithPerms line.set text ≡ Ok t) where
-    abbrev entries : Given
+    abbrev entries : ChangeEntries
     entries = record { removed = r; modified = m; set = t }
 
-    given_is : given s.people line text ≡ Ok (record { removed = r; modified = m; set = t })
+    given_is : entries_of_line s.people line text ≡ Ok (record { removed = r; modified = m; set = t })
     given_is = λ i. given_of (is i) (also i) (and_set i)
 
     both_next : (q : Part) (g : LineFault) → OfChange s line text q g → 3 ≤ rank q
@@ -204,16 +204,16 @@ module _ (s : State) (line : ChangeLine) (text : List ℕ) where
     put_next none ps are in_command g h = omega arith
 
     abbrev with_warning : Reply → Reply
-    with_warning reply = record reply { warns = drops line.as_default entries }
+    with_warning reply = record reply { warns = drops line.flags.as_default entries }
 
     abbrev warned : Result Reply LineFault → Result Reply LineFault
-    warned reply = warning_if (drops line.as_default entries) reply
+    warned reply = with_warning_if (drops line.flags.as_default entries) reply
 
     put_refused : both_of line r m ≡ None → (ps : List PathOf) → paths_from 1 line.files ≡ Ok ps → Refused OfLine (warned (entries_put s line entries ps))
     put_refused none ps are =
         last OfLine (warned (entries_put s line entries ps))
         (λ f h. ap warned (same_two (entries_put s line) entries h.value ps h.other_value
-        (ok_eq (given s.people line text) entries h.value given_is h.is_read) (ok_eq (paths_from 1 line.files) ps h.other_value are h.is_other_read) ∙ h.refused))
+        (ok_eq (entries_of_line s.people line text) entries h.value given_is h.is_read) (ok_eq (paths_from 1 line.files) ps h.other_value are h.is_other_read) ∙ h.refused))
         (λ f e. record { value = entries; other_value = ps; is_read = given_is; is_other_read = are; refused = err_before with_warning (entries_put s line entries ps) f e })
         (put_next none ps are)
 

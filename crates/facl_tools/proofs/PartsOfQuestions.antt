@@ -6,8 +6,8 @@ use Rattle.facl_listings.specs.acl_edit.declared.node.Node.{Node}
 use Rattle.facl_listings.specs.acl_entry.Person.{Person}
 use Rattle.facl_listings.specs.acl_files.declared.fault.TreeFault.TheVariants.{NoSuchFile, NoSuchUser}
 use Rattle.facl_listings.specs.acl_names.Paths.{path_cmp}
-use Rattle.facl_listings.specs.acl_people.Registers.{Register, users_of}
-use Rattle.facl_listings.specs.acl_people.Rolls.{place_of_word}
+use Rattle.facl_listings.specs.acl_people.KnownPeople.{KnownPeople, users_of}
+use Rattle.facl_listings.specs.acl_people.NameTables.{place_of_word}
 use Rattle.facl_listings.specs.acl_syntax.declared.rows.PasswdRow.{PasswdRow}
 use Rattle.facl_listings.specs.acl_tree.Files.{PathOf, Files}
 use Rattle.facl_listings.specs.acl_tree.Operands.{first_missing}
@@ -92,7 +92,7 @@ module _ (t : Files) (word : Text) (look : PathOf → Node → List ℕ) (s : St
 
 -- ---- a question about a user
 
-module _ (known : Register) (word : Text) (look : PasswdRow → List ℕ) (s : State) where
+module _ (known : KnownPeople) (word : Text) (look : PasswdRow → List ℕ) (s : State) where
   abbrev OfAsked : Part → LineFault → Type 0
   OfAsked = OfUser known word
 

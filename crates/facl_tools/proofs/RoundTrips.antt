@@ -10,7 +10,7 @@ use Rattle.facl_listings.specs.acl_edit.Nodes.{IsSound}
 use Rattle.facl_listings.specs.acl_edit.declared.node.Node.{Node}
 use Rattle.facl_listings.specs.acl_entry.Lists.{KeyMap, entries, map_of}
 use Rattle.facl_listings.specs.acl_entry.declared.entry.Entry as entry
-use Rattle.facl_listings.specs.acl_people.Registers.{Register, naming_of}
+use Rattle.facl_listings.specs.acl_people.KnownPeople.{KnownPeople, naming_of}
 use Rattle.facl_listings.specs.acl_syntax.InTurn.{of_list}
 use Rattle.facl_listings.specs.acl_syntax.Writing.{short, specs_from}
 use Rattle.facl_listings.specs.acl_syntax.declared.entries.Spec.{Spec}
@@ -28,13 +28,12 @@ use Rattle.facl_messages.specs.facl_words.Forms.{Text}
 use Rattle.facl_messages.specs.declared.fault.LineFault.{LineFault}
 use Rattle.facl_messages.specs.declared.fault.Source.{Source}
 use Rattle.facl_messages.specs.declared.fault.Source.TheVariants.{Entry, DefaultEntry, AttributeEntry}
-use Rattle.facl_tools.specs.Lists.{text_or_fault, entry_of, list_from, list_of}
+use Rattle.facl_tools.specs.Lists.{at_source, entry_of, list_from, list_of_text}
 use Rattle.facl_tools.specs.Replies.{after}
-use Rattle.facl_tools.specs.RoundTrips.{listed, after_slash, IsReadByChacl, IsReadBySetattr, AreReadBySetattr, IsReadBySet}
+use Rattle.facl_tools.specs.RoundTrips.{file_listed, after_slash, IsReadByChacl, IsReadBySetattr, AreReadBySetattr, IsReadBySet}
 use Rattle.facl_tools.specs.Setattr as setattr
 use Rattle.facl_tools.specs.Setattr.{bytes_or_fault}
-use Rattle.facl_tools.specs.Setfacl.{at_source}
-use Rattle.facl_tools.specs.declared.setfacl_entries.Given.{Given}
+use Rattle.facl_listings.specs.acl_edit.declared.edit.ChangeEntries.{ChangeEntries}
 use Rattle.hex.specs.Hex.{encode_lower}
 
 -- ---- chacl
@@ -43,14 +42,14 @@ entries_again : (at : ℕ) (es : List entry.Entry) → map entry_of (specs_from 
 entries_again at [] = refl
 entries_again at (e ∷ es) = ap (λ (l : List entry.Entry). e ∷ l) (entries_again (at + 1) es)
 
-module _ (known : Register) where
+module _ (known : KnownPeople) where
   abbrev printed : KeyMap → Text
   printed acl = short (naming_of known) (entries acl)
 
-  list_again : (source : Source) (which : Which) (acl : KeyMap) → IsShortAgain known acl → list_of known source which (printed acl) ≡ Ok acl
-  unfolding list_of
+  list_again : (source : Source) (which : Which) (acl : KeyMap) → IsShortAgain known acl → list_of_text known source which (printed acl) ≡ Ok acl
+  unfolding list_of_text
   list_again source which acl is =
-      ap (λ r. after (text_or_fault source r) (λ specs. list_from source which (map entry_of specs))) is.read
+      ap (λ r. after (at_source source r) (λ specs. list_from source which (map entry_of specs))) is.read
       ∙ (ap (list_from source which) (entries_again 1 (entries acl))
       ∙ (ap (λ f. option_map_or (λ f. Err (line_fault_of_text source (record { kind = of_list which f; at = 0 }))) f (Ok (map_of (entries acl)))) is.valid
       ∙ ap (λ m. Ok m) (map_of-entries acl)))
@@ -59,7 +58,7 @@ module _ (known : Register) where
   default_shown None = refl
   default_shown (Some dacl) = refl
 
-  default_again : (dacl : Option KeyMap) → IfSome dacl (IsShortAgain known) → option_map (list_of known DefaultEntry Default) (option_map printed dacl) ≡ option_map Ok dacl
+  default_again : (dacl : Option KeyMap) → IfSome dacl (IsShortAgain known) → option_map (list_of_text known DefaultEntry Default) (option_map printed dacl) ≡ option_map Ok dacl
   default_again None is = refl
   default_again (Some dacl) is = ap (λ (r : Result KeyMap LineFault). Some r) (list_again DefaultEntry Default dacl is)
 
@@ -67,7 +66,7 @@ module _ (known : Register) where
   read_by_chacl e sound is = record {
     access_text = printed e.1.label.acl;
     default_text = option_map printed e.1.dacl;
-    line = λ has_below. ap (λ (text : List ℕ). path_shown (listed e has_below) ++ (codes " [" ++ (printed e.1.label.acl ++ (text ++ 93 ∷ 10 ∷ [])))) (default_shown e.1.dacl);
+    line = λ has_below. ap (λ (text : List ℕ). path_shown (file_listed e has_below) ++ (codes " [" ++ (printed e.1.label.acl ++ (text ++ 93 ∷ 10 ∷ [])))) (default_shown e.1.dacl);
     access = list_again Entry Access e.1.label.acl is.access;
     dacl = default_again e.1.dacl is.dacl;
     same = both_put e.1 sound;
@@ -79,7 +78,7 @@ module _ (known : Register) where
 
   -- ---- setfacl
 
-  abbrev only_set : List Spec → Given
+  abbrev only_set : List Spec → ChangeEntries
   only_set specs = record { removed = []; modified = []; set = specs }
 
   read_by_set : (e : PathOf × Node) → AreListsAgain known e.1 → IsReadBySet known e
@@ -97,10 +96,10 @@ module _ (known : Register) where
 
 -- ---- setattr
 
-attribute_again : (acl : KeyMap) → IsAttributeAgain acl → setattr.list_of (encode_lower (attr_bytes acl)) ≡ Ok acl
+attribute_again : (acl : KeyMap) → IsAttributeAgain acl → setattr.list_of_digits (encode_lower (attr_bytes acl)) ≡ Ok acl
 attribute_again acl is =
-    ap (λ r. after (bytes_or_fault r) (λ bytes. text_or_fault AttributeEntry (attr_of bytes))) is.digits
-    ∙ ap (text_or_fault AttributeEntry) is.list
+    ap (λ r. after (bytes_or_fault r) (λ bytes. at_source AttributeEntry (attr_of bytes))) is.digits
+    ∙ ap (at_source AttributeEntry) is.list
 
 access_by_setattr : (n : Node) → IsAttributeAgain n.label.acl → IsReadBySetattr n Access (codes "system.posix_acl_access") n.label.acl
 access_by_setattr n is = record {

@@ -8,11 +8,11 @@ use Rattle.facl_listings.proofs.of_acl_entry.KeyLaws.{key_total}
 use Rattle.facl_listings.specs.acl_entry.Keys.{key_cmp, same_key}
 use Rattle.facl_listings.specs.acl_entry.Lists.{KeyMap}
 use Rattle.facl_listings.specs.acl_entry.Perms.{Perms, none}
-use Rattle.facl_listings.specs.acl_entry.declared.key.Key.{Key}
+use Rattle.facl_listings.specs.acl_entry.declared.entry.Key.{Key}
 use Rattle.facl_listings.specs.acl_syntax.declared.entries.Spec.{Spec}
 use Rattle.facl_tools.specs.RemovedKeys.{keys_of, removes, with_key}
 use Rattle.facl_tools.specs.Setfacl.{is_same_entry}
-use Rattle.facl_tools.specs.declared.removed_keys.RemovedKeys.{RemovedKeys}
+use Rattle.facl_tools.specs.declared.setfacl_entries.RemovedKeys.{RemovedKeys}
 
 -- the entry is of this list and has this key
 abbrev has_key : Bool → Key → Spec → Bool

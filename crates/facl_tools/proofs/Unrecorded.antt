@@ -8,8 +8,8 @@ use Rattle.facl_listings.specs.acl_edit.declared.node.Node.{Node}
 use Rattle.facl_listings.specs.acl_files.declared.fault.TreeFault.TheVariants.{NoSuchFile, NoSuchUser}
 use Rattle.facl_listings.specs.acl_names.Paths.{path_of, path_cmp}
 use Rattle.facl_listings.specs.acl_people.Entries.{user_entry}
-use Rattle.facl_listings.specs.acl_people.Registers.{Register, users_of, person, subject}
-use Rattle.facl_listings.specs.acl_people.Rolls.{Named, is_id, is_name, place_of_word}
+use Rattle.facl_listings.specs.acl_people.KnownPeople.{KnownPeople, users_of, person, subject}
+use Rattle.facl_listings.specs.acl_people.NameTables.{Named, is_id, is_name, place_of_word}
 use Rattle.facl_listings.specs.acl_syntax.Ids.{is_number, id_of}
 use Rattle.facl_listings.specs.acl_syntax.declared.rows.PasswdRow.{PasswdRow}
 use Rattle.facl_listings.specs.acl_tree.Files.{PathOf, Files}
@@ -147,18 +147,18 @@ row_within word es i h = by (is_number word) (id_of word) h
     by true (Some id) h = (position-Some (is_id id) es i ([], 0) h).0
     by false o h = (position-Some (is_name word) es i ([], 0) h).0
 
-pub has_row : (known : Register) (word : List ℕ) (i : ℕ) → place_of_word word (users_of known) ≡ Some i → slice_get known.users i ≡ None → ⊥
+pub has_row : (known : KnownPeople) (word : List ℕ) (i : ℕ) → place_of_word word (users_of known) ≡ Some i → slice_get known.users i ≡ None → ⊥
 has_row known word i is none =
     let r : PasswdRow = record { name = []; uid = 0; gid = 0 } in
     let within : i < length known.users = subst (λ n. i < n) (length-map known.users user_entry) (row_within word (users_of known) i is) in
     some_or_none _ _ (slice_get-get_or known.users i r within) none
 
 -- the user of a word is read as this: as the fault that there is none, or as one who is there
-pub record ReadsUser {A : Type 0} (known : Register) (word : Text) (read : Result A LineFault) : Type 0 where
+pub record ReadsUser {A : Type 0} (known : KnownPeople) (word : Text) (read : Result A LineFault) : Type 0 where
   pub bad : (f : LineFault) → IsNoUser known word f → read ≡ Err f
   pub only : (f : LineFault) → read ≡ Err f → IsNoUser known word f
 
-module _ (known : Register) (word : Text) where
+module _ (known : KnownPeople) (word : Text) where
   abbrev no_user : LineFault
   no_user = Tree (NoSuchUser (name_meant word))
 

@@ -2,7 +2,7 @@
 use Rattle.std.specs.Prelude.{ℕ, ◌+◌, List, [], ◌∷◌, Bool, true, false, if◌then◌else◌, nat_le, codes, Option, Some, None, Result}
 use Rattle.facl_listings.specs.acl_edit.declared.edit.Edit.TheVariants.{Put, Flatten}
 use Rattle.facl_listings.specs.acl_syntax.declared.fault.Which.TheVariants.{Access, Default}
-use Rattle.facl_listings.specs.acl_people.Registers.{Register, naming_of}
+use Rattle.facl_listings.specs.acl_people.KnownPeople.{KnownPeople, naming_of}
 use Rattle.facl_listings.specs.acl_tree.Found.{FoundFile, files_found}
 use Rattle.facl_listings.specs.acl_tree.Operands.{first_missing}
 use Rattle.facl_listings.specs.acl_tree.Step.{State}
@@ -17,7 +17,7 @@ use Rattle.facl_tools.specs.Readers.{and_then}
 use Rattle.facl_tools.specs.Replies.{Reply, after, printed}
 use Rattle.facl_tools.specs.Operands.{paths_from, recorded_or_fault}
 use Rattle.facl_tools.specs.Edits.{edited}
-use Rattle.facl_tools.specs.Lists.{list_of}
+use Rattle.facl_tools.specs.Lists.{list_of_text}
 use Rattle.facl_tools.specs.declared.chacl.ChaclLine.{ChaclLine}
 use Rattle.facl_tools.specs.declared.chacl.Task.{Task}
 use Rattle.facl_tools.specs.declared.chacl.Task.TheVariants as tasks
@@ -86,30 +86,30 @@ read w =
 -- an access list is put into files
 abbrev pub put_access : State → Bool → Text → List Text → Result Reply LineFault
 put_access s recursive text files =
-    after (list_of s.people Entry Access text) (λ access. edited s recursive (Put (Some access) None) files)
+    after (list_of_text s.people Entry Access text) (λ access. edited s recursive (Put (Some access) None) files)
 
 -- a default list
 abbrev pub put_default : State → Bool → Text → List Text → Result Reply LineFault
 put_default s recursive text files =
-    after (list_of s.people DefaultEntry Default text) (λ dacl. edited s recursive (Put None (Some dacl)) files)
+    after (list_of_text s.people DefaultEntry Default text) (λ dacl. edited s recursive (Put None (Some dacl)) files)
 
 -- an access list and a default list, read in this order
 abbrev pub put_both : State → Bool → Text → Text → List Text → Result Reply LineFault
 put_both s recursive text default_text files =
-    after (list_of s.people Entry Access text)
-    (λ access. after (list_of s.people DefaultEntry Default default_text)
+    after (list_of_text s.people Entry Access text)
+    (λ access. after (list_of_text s.people DefaultEntry Default default_text)
     (λ dacl. edited s recursive (Put (Some access) (Some dacl)) files))
 
 -- ids print as the names that these people have
-abbrev pub named_listing : Register → List FoundFile → List ℕ
-named_listing known files = chacl_listing (naming_of known) files
+abbrev pub chacl_text : KnownPeople → List FoundFile → List ℕ
+chacl_text known files = chacl_listing (naming_of known) files
 
 -- the lists of files are printed
 abbrev pub list_files : State → Bool → List Text → Result Reply LineFault
 list_files s recursive files =
     after (paths_from 1 files)
     (λ paths. recorded_or_fault (first_missing paths s.tree.files)
-    (printed s (named_listing s.people (files_found recursive paths s.tree.files))))
+    (printed s (chacl_text s.people (files_found recursive paths s.tree.files))))
 
 -- a task is done with files
 abbrev pub task_done : State → Bool → Task → List Text → Result Reply LineFault

@@ -5,8 +5,8 @@ use Rattle.facl_listings.specs.acl_edit.declared.edit.Edit.{Edit}
 use Rattle.facl_listings.specs.acl_edit.declared.edit.Edit.TheVariants.{Put, Flatten}
 use Rattle.facl_listings.specs.acl_files.declared.fault.TreeFault.TheVariants.{NoSuchFile, NoSuchUser}
 use Rattle.facl_listings.specs.acl_names.Paths.{path_of, path_cmp}
-use Rattle.facl_listings.specs.acl_people.Registers.{Register, users_of}
-use Rattle.facl_listings.specs.acl_people.Rolls.{place_of_word}
+use Rattle.facl_listings.specs.acl_people.KnownPeople.{KnownPeople, users_of}
+use Rattle.facl_listings.specs.acl_people.NameTables.{place_of_word}
 use Rattle.facl_listings.specs.acl_syntax.declared.entries.Spec.{Spec}
 use Rattle.facl_listings.specs.acl_syntax.declared.entries.Want.TheVariants.{WithPerms, WithoutPerms}
 use Rattle.facl_listings.specs.acl_syntax.declared.fault.Which.TheVariants.{Access, Default}
@@ -18,20 +18,20 @@ use Rattle.facl_messages.specs.facl_words.Forms.{Text}
 use Rattle.facl_messages.specs.declared.fault.LineFault.{LineFault}
 use Rattle.facl_messages.specs.declared.fault.LineFault.TheVariants as faults
 use Rattle.facl_messages.specs.declared.fault.Source.TheVariants.{Entry, DefaultEntry}
-use Rattle.facl_tools.specs.Lists.{list_of}
+use Rattle.facl_tools.specs.Lists.{list_of_text}
 use Rattle.facl_tools.specs.Load as load
 use Rattle.facl_tools.specs.Operands.{bad_operand, path_at, paths_from, name_meant}
 use Rattle.facl_tools.specs.Replies.{Reply, done}
 use Rattle.facl_tools.specs.Setattr as setattr
-use Rattle.facl_tools.specs.Setfacl.{entries_given, given, both_at, edit_of, done_or_tested, records_or_fault}
+use Rattle.facl_tools.specs.Setfacl.{entries_given, entries_of_line, both_at, edit_of, done_or_tested, records_or_fault}
 use Rattle.facl_tools.specs.Useradd.{new_user}
 use Rattle.facl_tools.specs.declared.chacl.Task.{Task}
 use Rattle.facl_tools.specs.declared.chacl.Task.TheVariants as tasks
 use Rattle.facl_tools.specs.declared.creat.CreatLine.{CreatLine}
-use Rattle.facl_tools.specs.declared.setfacl_line.ChangeLine.{ChangeLine}
-use Rattle.facl_tools.specs.declared.setfacl_line.SetfaclLine.{SetfaclLine}
-use Rattle.facl_tools.specs.declared.setfacl_line.SetfaclLine.TheVariants as setfacl
-use Rattle.facl_tools.specs.declared.setfacl_entries.Given.{Given}
+use Rattle.facl_tools.specs.declared.setfacl.ChangeLine.{ChangeLine}
+use Rattle.facl_tools.specs.declared.setfacl.SetfaclLine.{SetfaclLine}
+use Rattle.facl_tools.specs.declared.setfacl.SetfaclLine.TheVariants as setfacl
+use Rattle.facl_listings.specs.acl_edit.declared.edit.ChangeEntries.{ChangeEntries}
 use Rattle.facl_tools.specs.declared.tools.ToolLine.{ToolLine}
 use Rattle.facl_tools.specs.declared.tools.ToolLine.TheVariants as lines
 
@@ -90,7 +90,7 @@ pub record IsUnrecorded (t : Files) (words : List Text) (n : ℕ) (fault : LineF
   pub is : fault ≡ faults.Tree (NoSuchFile path)
 
 -- a word means no user
-abbrev pub IsNoUser : Register → Text → LineFault → Type 0
+abbrev pub IsNoUser : KnownPeople → Text → LineFault → Type 0
 IsNoUser known word fault = (fault ≡ faults.Tree (NoSuchUser (name_meant word))) × (place_of_word (name_meant word) (users_of known) ≡ None)
 
 -- what is done with what is read, where it can be read, is refused
@@ -120,7 +120,7 @@ pub record IsUseOfAllRefused {A B C : Type 0} (read : Result A LineFault) (other
 
 -- the first entry of the modified ones that is removed too; whatever entries are set
 abbrev pub both_of : ChangeLine → List Spec → List Spec → Option ℕ
-both_of line removed modified = both_at line.as_default (record { removed = removed; modified = modified; set = [] })
+both_of line removed modified = both_at line.flags.as_default (record { removed = removed; modified = modified; set = [] })
 
 -- an entry is both removed and modified
 pub record IsInBoth (s : State) (line : ChangeLine) (text : List ℕ) (fault : LineFault) : Type 0 where
@@ -156,7 +156,7 @@ OfListing t words (in_file n) fault = IsUnrecorded t words n fault
 OfListing t words part fault = ⊥
 
 -- of a question about a user
-abbrev pub OfUser : Register → Text → Part → LineFault → Type 0
+abbrev pub OfUser : KnownPeople → Text → Part → LineFault → Type 0
 OfUser known word in_user fault = IsNoUser known word fault
 OfUser known word part fault = ⊥
 
@@ -189,7 +189,7 @@ OfTwoTextsAndFiles text other files use_of in_command fault = IsUseOfAllRefused 
 OfTwoTextsAndFiles text other files use_of part fault = ⊥
 
 -- the entries of a line are put into the files of these paths
-abbrev pub entries_put : State → ChangeLine → Given → List PathOf → Result Reply LineFault
+abbrev pub entries_put : State → ChangeLine → ChangeEntries → List PathOf → Result Reply LineFault
 entries_put s line entries paths = done_or_tested line.test s (commands.Edit paths (edit_of line entries) line.recursive)
 
 -- of a line of setfacl(1) that changes lists
@@ -199,7 +199,7 @@ OfChange s line text in_second_text fault = entries_given s.people WithPerms lin
 OfChange s line text in_third_text fault = entries_given s.people WithPerms line.set text ≡ Err fault
 OfChange s line text in_two_texts fault = IsInBoth s line text fault
 OfChange s line text (in_operand n) fault = IsBadOperand line.files n fault
-OfChange s line text in_command fault = IsUseOfBothRefused (given s.people line text) (paths_from 1 line.files) (entries_put s line) fault
+OfChange s line text in_command fault = IsUseOfBothRefused (entries_of_line s.people line text) (paths_from 1 line.files) (entries_put s line) fault
 OfChange s line text part fault = ⊥
 
 -- of a line of setfacl(1)
@@ -214,11 +214,11 @@ OfEdit s recursive edit files = OfPaths files (paths_from 1 files) (λ paths. do
 -- of a task of chacl(1)
 abbrev pub OfTask : State → Bool → Task → List Text → Part → LineFault → Type 0
 OfTask s recursive (tasks.PutAccess text) files =
-    OfTextAndFiles (list_of s.people Entry Access text) files (λ access paths. done s (commands.Edit paths (Put (Some access) None) recursive))
+    OfTextAndFiles (list_of_text s.people Entry Access text) files (λ access paths. done s (commands.Edit paths (Put (Some access) None) recursive))
 OfTask s recursive (tasks.PutDefault text) files =
-    OfTextAndFiles (list_of s.people DefaultEntry Default text) files (λ dacl paths. done s (commands.Edit paths (Put None (Some dacl)) recursive))
+    OfTextAndFiles (list_of_text s.people DefaultEntry Default text) files (λ dacl paths. done s (commands.Edit paths (Put None (Some dacl)) recursive))
 OfTask s recursive (tasks.PutBoth text default_text) files =
-    OfTwoTextsAndFiles (list_of s.people Entry Access text) (list_of s.people DefaultEntry Default default_text) files
+    OfTwoTextsAndFiles (list_of_text s.people Entry Access text) (list_of_text s.people DefaultEntry Default default_text) files
     (λ access dacl paths. done s (commands.Edit paths (Put (Some access) (Some dacl)) recursive))
 OfTask s recursive tasks.RemoveAccess files = OfEdit s recursive (Flatten true false) files
 OfTask s recursive tasks.RemoveDefault files = OfEdit s recursive (Flatten false true) files
@@ -242,7 +242,7 @@ IsAtFault s (lines.Gpasswd line) text = OfCommand (done s (commands.Gpasswd (nam
 IsAtFault s (lines.Usermod line) text = OfCommand (done s (commands.Usermod (name_meant line.user) (name_meant line.group)))
 IsAtFault s (lines.Attr line) text = OfListing s.tree.files line.files
 IsAtFault s (lines.Setattr line) text =
-    OfTextAndFiles (setattr.list_of line.attribute.digits) line.files
+    OfTextAndFiles (setattr.list_of_digits line.attribute.digits) line.files
     (λ acl paths. done s (commands.Edit paths (setattr.put_of line.attribute.which acl) false))
 IsAtFault s (lines.Can line) text = OfUserAndFiles s line.user (line.file ∷ [])
 IsAtFault s (lines.Who line) text = OfListing s.tree.files (line.file ∷ [])

@@ -2,12 +2,12 @@
 use Rattle.std.specs.Prelude.{ℕ, List, [], ◌∷◌, Bool, true, false, codes, Option, None, Some, Result}
 use Rattle.facl_listings.specs.acl_dump.declared.effective.Effective.{Effective}
 use Rattle.facl_listings.specs.acl_dump.declared.effective.Effective.TheVariants.{WhereMasked, Always, Never}
-use Rattle.facl_listings.specs.acl_people.Registers.{Register, naming_of}
+use Rattle.facl_listings.specs.acl_people.KnownPeople.{KnownPeople, naming_of}
 use Rattle.facl_listings.specs.acl_tree.Found.{FoundFile, files_found}
 use Rattle.facl_listings.specs.acl_tree.Operands.{first_missing}
 use Rattle.facl_listings.specs.acl_tree.Step.{State}
 use Rattle.facl_listings.specs.Listings.{listing}
-use Rattle.facl_listings.specs.declared.options.Options.{Options}
+use Rattle.facl_listings.specs.declared.listing.Options.{Options}
 use Rattle.facl_messages.specs.facl_words.Forms.{files_of}
 use Rattle.facl_messages.specs.facl_words.Lines.{Line, both, some}
 use Rattle.facl_messages.specs.facl_words.Naming.{has, operands_from}
@@ -55,12 +55,12 @@ read w =
     (λ files. Some (record { options = options_of w effective; recursive = has row w (codes "recursive"); files = files })))
 
 -- ids print as the names that these people have
-abbrev pub named_listing : Register → Options → List FoundFile → List ℕ
-named_listing known options files = listing (naming_of known) options files
+abbrev pub getfacl_text : KnownPeople → Options → List FoundFile → List ℕ
+getfacl_text known options files = listing (naming_of known) options files
 
 -- the files are listed
 abbrev pub answered : State → GetfaclLine → Result Reply LineFault
 answered s line =
     after (paths_from 1 line.files)
     (λ paths. recorded_or_fault (first_missing paths s.tree.files)
-    (printed s (named_listing s.people line.options (files_found line.recursive paths s.tree.files))))
+    (printed s (getfacl_text s.people line.options (files_found line.recursive paths s.tree.files))))

@@ -11,7 +11,7 @@ use Rattle.facl_listings.specs.acl_syntax.declared.entries.Spec.{Spec}
 use Rattle.facl_listings.specs.acl_syntax.declared.entries.Want.TheVariants.{Plain}
 use Rattle.facl_listings.specs.acl_syntax.declared.fault.TextFault.{TextFault}
 use Rattle.facl_listings.specs.acl_syntax.declared.fault.Which.{Which}
-use Rattle.facl_listings.specs.acl_people.Registers.{Register, naming_of}
+use Rattle.facl_listings.specs.acl_people.KnownPeople.{KnownPeople, naming_of}
 use Rattle.facl_messages.specs.facl_words.Forms.{Text}
 use Rattle.facl_messages.specs.Faults.{line_fault_of_text}
 use Rattle.facl_messages.specs.declared.fault.LineFault.{LineFault}
@@ -19,9 +19,9 @@ use Rattle.facl_messages.specs.declared.fault.Source.{Source}
 use Rattle.facl_tools.specs.Replies.{after}
 
 -- what a text contains, or its fault as one of the line
-abbrev pub text_or_fault : Source → {A : Type 0} → Result A TextFault → Result A LineFault
-text_or_fault source (Ok a) = Ok a
-text_or_fault source (Err fault) = Err (line_fault_of_text source fault)
+abbrev pub at_source : {A : Type 0} → Source → Result A TextFault → Result A LineFault
+at_source source (Ok a) = Ok a
+at_source source (Err fault) = Err (line_fault_of_text source fault)
 
 -- what a written entry gives
 abbrev pub entry_of : Spec → Entry
@@ -31,10 +31,10 @@ entry_of spec = record { key = spec.key; perm = option_map_or (λ perm. perm.fix
 abbrev pub list_from : Source → Which → List Entry → Result KeyMap LineFault
 list_from source which es = option_map_or (λ f. Err (line_fault_of_text source (record { kind = of_list which f; at = 0 }))) (fault es) (Ok (map_of es))
 
-abbrev pub specs_of : Register → Source → Text → Result (List Spec) LineFault
+abbrev pub specs_of : KnownPeople → Source → Text → Result (List Spec) LineFault
 specs_of known source text =
-    text_or_fault source (entries_of (naming_of known) Comma Plain text)
+    at_source source (entries_of (naming_of known) Comma Plain text)
 
 -- the list that a text names: entries with permissions, with a comma between each two
-unfoldable pub list_of : Register → Source → Which → Text → Result KeyMap LineFault
-list_of known source which text = after (specs_of known source text) (λ specs. list_from source which (map entry_of specs))
+unfoldable pub list_of_text : KnownPeople → Source → Which → Text → Result KeyMap LineFault
+list_of_text known source which text = after (specs_of known source text) (λ specs. list_from source which (map entry_of specs))

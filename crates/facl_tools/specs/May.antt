@@ -3,8 +3,8 @@ use Rattle.std.specs.Prelude.{[], ◌∷◌, Bool, codes, Option, Some, option_a
 use Rattle.facl_listings.specs.Answers.{may_text}
 use Rattle.facl_listings.specs.acl_entry.Perms.{Perms}
 use Rattle.facl_listings.specs.acl_files.declared.fault.TreeFault.TheVariants.{NoSuchUser}
-use Rattle.facl_listings.specs.acl_people.Registers.{users_of}
-use Rattle.facl_listings.specs.acl_people.Rolls.{place_of_word}
+use Rattle.facl_listings.specs.acl_people.KnownPeople.{users_of}
+use Rattle.facl_listings.specs.acl_people.NameTables.{place_of_word}
 use Rattle.facl_listings.specs.acl_tree.Step.{State}
 use Rattle.facl_listings.specs.acl_verdicts.Rows.{Verdict}
 use Rattle.facl_messages.specs.facl_words.Forms.{Text}

@@ -4,8 +4,8 @@ use Rattle.facl_listings.specs.acl_names.Names.{decoded}
 use Rattle.facl_listings.specs.acl_names.Paths.{path_of}
 use Rattle.facl_listings.specs.acl_syntax.Blanks.{trimmed}
 use Rattle.facl_listings.specs.acl_syntax.declared.fault.FaultKind.TheVariants.{BadPath}
-use Rattle.facl_listings.specs.acl_people.Registers.{Register, users_of}
-use Rattle.facl_listings.specs.acl_people.Rolls.{place_of_word}
+use Rattle.facl_listings.specs.acl_people.KnownPeople.{KnownPeople, users_of}
+use Rattle.facl_listings.specs.acl_people.NameTables.{place_of_word}
 use Rattle.facl_listings.specs.acl_files.declared.fault.TreeFault.TheVariants.{NoSuchFile, NoSuchUser}
 use Rattle.facl_listings.specs.acl_tree.Files.{PathOf}
 use Rattle.facl_messages.specs.facl_words.Forms.{Text}
@@ -32,7 +32,7 @@ abbrev pub name_meant : Text → Text
 name_meant word = decoded (trimmed word)
 
 -- the place of the user of a name; digits alone are always an id
-abbrev pub user_or_fault : Register → Text → Result ℕ LineFault
+abbrev pub user_or_fault : KnownPeople → Text → Result ℕ LineFault
 user_or_fault known name = or_fault (faults.Tree (NoSuchUser name)) (place_of_word name (users_of known))
 
 -- this, where no path is missing; else the fault of the first that is

@@ -5,7 +5,7 @@ use Rattle.std.specs.FinMap as maps
 use Rattle.facl_listings.specs.acl_entry.Lists.{KeyMap}
 use Rattle.facl_listings.specs.acl_entry.Perms.{none}
 use Rattle.facl_listings.specs.acl_syntax.declared.entries.Spec.{Spec}
-use Rattle.facl_tools.specs.declared.removed_keys.RemovedKeys.{RemovedKeys}
+use Rattle.facl_tools.specs.declared.setfacl_entries.RemovedKeys.{RemovedKeys}
 
 -- the keys of one list, once an entry is added
 abbrev pub with_key : Bool → KeyMap → Spec → KeyMap

@@ -19,7 +19,7 @@ use Rattle.facl_messages.specs.declared.fault.LineFault.{LineFault}
 use Rattle.facl_messages.specs.declared.fault.LineFault.TheVariants as faults
 use Rattle.facl_messages.specs.declared.fault.Source.TheVariants.{AttributeEntry}
 use Rattle.facl_tools.specs.Edits.{edited}
-use Rattle.facl_tools.specs.Lists.{text_or_fault}
+use Rattle.facl_tools.specs.Lists.{at_source}
 use Rattle.facl_tools.specs.Readers.{and_then}
 use Rattle.facl_tools.specs.Replies.{Reply, after}
 use Rattle.facl_tools.specs.declared.setattr.Attribute.{Attribute}
@@ -60,8 +60,8 @@ bytes_or_fault (Err e) = Err (faults.Text AttributeEntry (bad_attr 0))
 abbrev pub bytes_of : Text → Result (List ℕ) LineFault
 bytes_of digits = bytes_or_fault (decode_of digits)
 
-abbrev pub list_of : Text → Result KeyMap LineFault
-list_of digits = after (bytes_of digits) (λ bytes. text_or_fault AttributeEntry (attr_of bytes))
+abbrev pub list_of_digits : Text → Result KeyMap LineFault
+list_of_digits digits = after (bytes_of digits) (λ bytes. at_source AttributeEntry (attr_of bytes))
 
 abbrev pub put_of : Which → KeyMap → Edit
 put_of Access acl = Put (Some acl) None
@@ -70,4 +70,4 @@ put_of Default acl = Put None (Some acl)
 -- the list of the attribute is put into the file
 abbrev pub answered : State → SetattrLine → Result Reply LineFault
 answered s line =
-    after (list_of line.attribute.digits) (λ acl. edited s false (put_of line.attribute.which acl) line.files)
+    after (list_of_digits line.attribute.digits) (λ acl. edited s false (put_of line.attribute.which acl) line.files)

@@ -9,13 +9,12 @@ use Rattle.facl_listings.specs.acl_syntax.declared.entries.Sep.TheVariants.{Comm
 use Rattle.facl_listings.specs.acl_syntax.declared.entries.Spec.{Spec}
 use Rattle.facl_listings.specs.acl_syntax.declared.entries.Want.{Want}
 use Rattle.facl_listings.specs.acl_syntax.declared.entries.Want.TheVariants.{WithPerms, WithoutPerms}
-use Rattle.facl_listings.specs.acl_syntax.declared.fault.TextFault.{TextFault}
 use Rattle.facl_listings.specs.acl_dump.Records.{dump_of}
 use Rattle.facl_listings.specs.acl_dump.declared.record.DumpRecord.{DumpRecord}
 use Rattle.facl_listings.specs.acl_dump.declared.record.DumpUse.TheVariants as uses
 use Rattle.facl_listings.specs.acl_edit.declared.edit.Edit.{Edit as FileEdit}
 use Rattle.facl_listings.specs.acl_edit.declared.edit.Edit.TheVariants as edits
-use Rattle.facl_listings.specs.acl_people.Registers.{Register, naming_of}
+use Rattle.facl_listings.specs.acl_people.KnownPeople.{KnownPeople, naming_of}
 use Rattle.facl_listings.specs.acl_tree.Files.{Files}
 use Rattle.facl_listings.specs.acl_tree.Found.{FoundFile, files_found}
 use Rattle.facl_listings.specs.acl_tree.Restoring.{paths_of}
@@ -23,43 +22,38 @@ use Rattle.facl_listings.specs.acl_tree.Step.{State, step}
 use Rattle.facl_listings.specs.acl_tree.declared.command.Command.{Command}
 use Rattle.facl_listings.specs.acl_tree.declared.command.Command.TheVariants.{Chmod, Creat, Edit, Gpasswd, Load, Restore, Rm, Useradd, Userdel, Usermod}
 use Rattle.facl_listings.specs.acl_files.declared.fault.TreeFault.{TreeFault}
-use Rattle.facl_messages.specs.Faults.{line_fault_of_text, line_fault_of_tree}
+use Rattle.facl_messages.specs.Faults.{line_fault_of_tree}
 use Rattle.facl_messages.specs.declared.fault.LineFault.{LineFault}
 use Rattle.facl_messages.specs.declared.fault.LineFault.TheVariants as faults
-use Rattle.facl_messages.specs.declared.fault.Source.{Source}
 use Rattle.facl_messages.specs.declared.fault.Source.TheVariants.{Entry, TextLine}
 use Rattle.facl_listings.specs.TestListing.{test_listing}
 use Rattle.facl_tools.specs.Replies.{Reply, after, done, printed}
 use Rattle.facl_tools.specs.Operands.{paths_from}
-use Rattle.facl_tools.specs.declared.setfacl_line.ChangeLine.{ChangeLine}
-use Rattle.facl_tools.specs.declared.setfacl_line.Entries.{Entries}
-use Rattle.facl_tools.specs.declared.setfacl_line.Entries.TheVariants.{InText, InWord}
-use Rattle.facl_tools.specs.declared.setfacl_line.SetfaclLine.{SetfaclLine}
-use Rattle.facl_tools.specs.declared.setfacl_line.SetfaclLine.TheVariants as lines
-use Rattle.facl_tools.specs.declared.setfacl_entries.Given.{Given}
+use Rattle.facl_tools.specs.Lists.{at_source}
+use Rattle.facl_tools.specs.declared.setfacl.ChangeLine.{ChangeLine}
+use Rattle.facl_tools.specs.declared.setfacl.EntrySource.{EntrySource}
+use Rattle.facl_tools.specs.declared.setfacl.EntrySource.TheVariants.{InText, InWord}
+use Rattle.facl_tools.specs.declared.setfacl.SetfaclLine.{SetfaclLine}
+use Rattle.facl_tools.specs.declared.setfacl.SetfaclLine.TheVariants as lines
+use Rattle.facl_listings.specs.acl_edit.declared.edit.ChangeEntries.{ChangeEntries}
 
 -- ---- entry texts
 
--- what a text contains, or the line's fault with this source
-abbrev pub at_source : {A : Type 0} → Source → Result A TextFault → Result A LineFault
-at_source source (Ok a) = Ok a
-at_source source (Err fault) = Err (line_fault_of_text source fault)
-
 -- the entries of a text
-abbrev pub entries_in : Register → Want → Sep → List ℕ → Result (List Spec) LineFault
+abbrev pub entries_in : KnownPeople → Want → Sep → List ℕ → Result (List Spec) LineFault
 entries_in known want sep text =
     at_source Entry (entries_of (naming_of known) sep want text)
 
 -- the entries of an option, if it is given: in a word they are separated by commas, in the text after the line each has
 -- a line
-abbrev pub entries_given : Register → Want → Option Entries → List ℕ → Result (List Spec) LineFault
+abbrev pub entries_given : KnownPeople → Want → Option EntrySource → List ℕ → Result (List Spec) LineFault
 entries_given known want None text = Ok []
 entries_given known want (Some (InWord word)) text = entries_in known want Comma word
 entries_given known want (Some InText) text = entries_in known want Line text
 
 -- the entries of a line: the first fault is that of the removed ones, then of the modified ones, then of the set ones
-abbrev pub given : Register → ChangeLine → List ℕ → Result Given LineFault
-given known line text =
+abbrev pub entries_of_line : KnownPeople → ChangeLine → List ℕ → Result ChangeEntries LineFault
+entries_of_line known line text =
     after (entries_given known WithoutPerms line.removed text)
     (λ removed. after (entries_given known WithPerms line.modified text)
     (λ modified. after (entries_given known WithPerms line.set text)
@@ -70,7 +64,7 @@ abbrev pub is_same_entry : Bool → Spec → Spec → Bool
 is_same_entry as_default a b = not (as_default && a.dflt) && (beq a.dflt b.dflt && same_key a.key b.key)
 
 -- the first modified entry that is removed too
-abbrev pub both_at : Bool → Given → Option ℕ
+abbrev pub both_at : Bool → ChangeEntries → Option ℕ
 both_at as_default entries =
     option_map (λ m. m.at) (find (λ m. list_any (λ r. is_same_entry as_default m r) entries.removed) entries.modified)
 
@@ -83,7 +77,7 @@ abbrev pub has_default : List Spec → Bool
 has_default specs = list_any (λ s. s.dflt) specs
 
 -- `-d` drops a default entry of one of the texts
-abbrev pub drops : Bool → Given → Bool
+abbrev pub drops : Bool → ChangeEntries → Bool
 drops as_default entries = as_default && (has_default entries.removed || (has_default entries.modified || has_default entries.set))
 
 -- ---- what is done
@@ -102,7 +96,7 @@ command_files (Useradd new) files = []
 command_files (Userdel user) files = []
 
 -- ids print as the names that these people have
-abbrev pub named_test_listing : Register → List FoundFile → List ℕ
+abbrev pub named_test_listing : KnownPeople → List FoundFile → List ℕ
 named_test_listing known files = test_listing (naming_of known) files
 
 -- what `--test` prints of a command, from the files after it
@@ -119,30 +113,30 @@ abbrev pub done_or_tested : Bool → State → Command → Result Reply LineFaul
 done_or_tested test s command = if test then tested_or_fault s command (step s command) else done s command
 
 -- the same, with a warning
-abbrev pub warning_if : Bool → Result Reply LineFault → Result Reply LineFault
-warning_if warns r = after r (λ reply. Ok (record reply { warns = warns }))
+abbrev pub with_warning_if : Bool → Result Reply LineFault → Result Reply LineFault
+with_warning_if warns r = after r (λ reply. Ok (record reply { warns = warns }))
 
 -- ---- lists are changed
 
 -- what a line does with the lists of a file: its options, and its entries
-abbrev pub edit_of : ChangeLine → Given → FileEdit
+abbrev pub edit_of : ChangeLine → ChangeEntries → FileEdit
 edit_of line entries =
-    edits.Change line.strip line.drop_default line.as_default line.no_mask line.remask entries.removed entries.set entries.modified
+    edits.Change (record { flags = line.flags; entries = entries })
 
 -- these entries are put into the files
-abbrev pub change_files : State → ChangeLine → Given → Result Reply LineFault
+abbrev pub change_files : State → ChangeLine → ChangeEntries → Result Reply LineFault
 change_files s line entries =
     after (paths_from 1 line.files)
-    (λ paths. warning_if (drops line.as_default entries) (done_or_tested line.test s (Edit paths (edit_of line entries) line.recursive)))
+    (λ paths. with_warning_if (drops line.flags.as_default entries) (done_or_tested line.test s (Edit paths (edit_of line entries) line.recursive)))
 
 abbrev pub change_line : State → ChangeLine → List ℕ → Result Reply LineFault
 change_line s line text =
-    after (given s.people line text) (λ entries. unless_both (both_at line.as_default entries) (change_files s line entries))
+    after (entries_of_line s.people line text) (λ entries. unless_both (both_at line.flags.as_default entries) (change_files s line entries))
 
 -- ---- a dump is restored
 
 -- the records of a dump, of which none needs an owner or a group
-unfoldable pub records_or_fault : Register → List ℕ → Result (List DumpRecord) LineFault
+unfoldable pub records_or_fault : KnownPeople → List ℕ → Result (List DumpRecord) LineFault
 records_or_fault known text = at_source TextLine (dump_of (naming_of known) uses.Restore text)
 
 abbrev pub restore_line : State → Bool → List ℕ → Result Reply LineFault

@@ -1,16 +1,17 @@
 -- The words of setfacl(1), and the line that they give.
 use Rattle.std.specs.Prelude.{List, [], ◌∷◌, ◌&&◌, ◌||◌, Bool, not, codes, if◌then◌else◌, Option, None, Some}
 use Rattle.std.specs.Bool.{beq}
+use Rattle.facl_listings.specs.acl_edit.declared.edit.ChangeFlags.{ChangeFlags}
 use Rattle.facl_messages.specs.facl_words.Forms.{Text, files_of, is_empty}
 use Rattle.facl_messages.specs.facl_words.Lines.{Line, any, both, by_name, of_text}
 use Rattle.facl_messages.specs.facl_words.Naming.{gives, has, operands_from, value}
 use Rattle.facl_messages.specs.facl_words.declared.words.Words.{Words}
 use Rattle.facl_tools.specs.Readers.{and_then}
-use Rattle.facl_tools.specs.declared.setfacl_line.ChangeLine.{ChangeLine}
-use Rattle.facl_tools.specs.declared.setfacl_line.Entries.{Entries}
-use Rattle.facl_tools.specs.declared.setfacl_line.Entries.TheVariants.{InText, InWord}
-use Rattle.facl_tools.specs.declared.setfacl_line.SetfaclLine.{SetfaclLine}
-use Rattle.facl_tools.specs.declared.setfacl_line.SetfaclLine.TheVariants.{Change, Restore}
+use Rattle.facl_tools.specs.declared.setfacl.ChangeLine.{ChangeLine}
+use Rattle.facl_tools.specs.declared.setfacl.EntrySource.{EntrySource}
+use Rattle.facl_tools.specs.declared.setfacl.EntrySource.TheVariants.{InText, InWord}
+use Rattle.facl_tools.specs.declared.setfacl.SetfaclLine.{SetfaclLine}
+use Rattle.facl_tools.specs.declared.setfacl.SetfaclLine.TheVariants.{Change, Restore}
 
 abbrev pub row : Line
 row = record {
@@ -32,7 +33,7 @@ row = record {
 }
 
 -- the entries of an option: those of its word, or else those of the text, where the option for a file is given
-abbrev pub entries_from : Option Text → Bool → Option Entries
+abbrev pub entries_from : Option Text → Bool → Option EntrySource
 entries_from (Some word) in_text = Some (InWord word)
 entries_from None in_text = if in_text then Some InText else None
 
@@ -58,14 +59,20 @@ abbrev pub has_edit_flag : Words → Bool
 has_edit_flag w = has row w (codes "no-mask") || has row w (codes "mask")
     || has row w (codes "default") || has row w (codes "recursive")
 
--- the line that changes these files
-abbrev pub change_of : Words → List Text → ChangeLine
-change_of w files = record {
+-- the flags that say how lists are changed
+abbrev pub flags_of : Words → ChangeFlags
+flags_of w = record {
   strip = has row w (codes "remove-all");
   drop_default = has row w (codes "remove-default");
   as_default = has row w (codes "default");
   no_mask = has row w (codes "no-mask");
   remask = has row w (codes "mask");
+}
+
+-- the line that changes these files
+abbrev pub change_of : Words → List Text → ChangeLine
+change_of w files = record {
+  flags = flags_of w;
   recursive = has row w (codes "recursive");
   test = has row w (codes "test");
   removed = entries_from (value row w (codes "remove")) (gives row w (codes "remove-file"));

@@ -1,5 +1,5 @@
 -- The tools: their names, the words that each takes, the line that these give as a value of the tool's type, and what it does.
-use Rattle.std.specs.Prelude.{ℕ, List, [], ◌∷◌, Option, Some, option_map, codes, Result, Ok}
+use Rattle.std.specs.Prelude.{ℕ, Bool, true, false, List, [], ◌∷◌, Option, Some, option_map, codes, Result, Ok}
 use Rattle.std.specs.List.{find}
 use Rattle.std.specs.Str.{bytes_eq}
 pub use Rattle.facl_listings.specs.acl_rights.Tables.{Verdict}
@@ -36,26 +36,26 @@ use Rattle.facl_tools.specs.declared.tools.Tool.TheVariants as tools
 use Rattle.facl_tools.specs.declared.tools.ToolLine.{ToolLine}
 use Rattle.facl_tools.specs.declared.tools.ToolLine.TheVariants as lines
 
-abbrev pub name_of : Tool → Text
-name_of tools.Load = codes "load"
-name_of tools.Getfacl = codes "getfacl"
-name_of tools.Setfacl = codes "setfacl"
-name_of tools.Chacl = codes "chacl"
-name_of tools.Chmod = codes "chmod"
-name_of tools.Creat = codes "creat"
-name_of tools.Rm = codes "rm"
-name_of tools.Gpasswd = codes "gpasswd"
-name_of tools.Usermod = codes "usermod"
-name_of tools.Attr = codes "attr"
-name_of tools.Setattr = codes "setattr"
-name_of tools.Can = codes "can"
-name_of tools.Who = codes "who"
-name_of tools.May = codes "may"
-name_of tools.Why = codes "why"
-name_of tools.Index = codes "index"
-name_of tools.Changes = codes "changes"
-name_of tools.Useradd = codes "useradd"
-name_of tools.Userdel = codes "userdel"
+abbrev pub tool_name : Tool → Text
+tool_name tools.Load = codes "load"
+tool_name tools.Getfacl = codes "getfacl"
+tool_name tools.Setfacl = codes "setfacl"
+tool_name tools.Chacl = codes "chacl"
+tool_name tools.Chmod = codes "chmod"
+tool_name tools.Creat = codes "creat"
+tool_name tools.Rm = codes "rm"
+tool_name tools.Gpasswd = codes "gpasswd"
+tool_name tools.Usermod = codes "usermod"
+tool_name tools.Attr = codes "attr"
+tool_name tools.Setattr = codes "setattr"
+tool_name tools.Can = codes "can"
+tool_name tools.Who = codes "who"
+tool_name tools.May = codes "may"
+tool_name tools.Why = codes "why"
+tool_name tools.Index = codes "index"
+tool_name tools.Changes = codes "changes"
+tool_name tools.Useradd = codes "useradd"
+tool_name tools.Userdel = codes "userdel"
 
 abbrev pub all_tools : List Tool
 all_tools = tools.Load ∷ tools.Getfacl ∷ tools.Setfacl ∷ tools.Chacl ∷ tools.Chmod ∷ tools.Creat ∷ tools.Rm ∷ tools.Gpasswd
@@ -63,7 +63,29 @@ all_tools = tools.Load ∷ tools.Getfacl ∷ tools.Setfacl ∷ tools.Chacl ∷ t
 
 -- the tool of this name
 abbrev pub tool_named : Text → Option Tool
-tool_named name = find (λ tool. bytes_eq (name_of tool) name) all_tools
+tool_named name = find (λ tool. bytes_eq (tool_name tool) name) all_tools
+
+-- the tool loads a text: after a line of it, what a script has changed is counted anew
+abbrev pub loads : Tool → Bool
+loads tools.Load = true
+loads tools.Getfacl = false
+loads tools.Setfacl = false
+loads tools.Chacl = false
+loads tools.Chmod = false
+loads tools.Creat = false
+loads tools.Rm = false
+loads tools.Gpasswd = false
+loads tools.Usermod = false
+loads tools.Attr = false
+loads tools.Setattr = false
+loads tools.Can = false
+loads tools.Who = false
+loads tools.May = false
+loads tools.Why = false
+loads tools.Index = false
+loads tools.Changes = false
+loads tools.Useradd = false
+loads tools.Userdel = false
 
 -- the words that a tool takes
 abbrev pub row_of : Tool → Line

@@ -27,8 +27,8 @@ abbrev pub user_name : Text → Option Text
 user_name name = if is_user_name name then Some name else None
 
 -- the name of the new user: the operand is decoded, and not trimmed
-abbrev pub name_of : Words → Option Text
-name_of w = user_name (decoded (operand row w (codes "name")))
+abbrev pub decoded_name : Words → Option Text
+decoded_name w = user_name (decoded (operand row w (codes "name")))
 
 -- the line with this name
 abbrev pub line_with : Words → Text → Option UseraddLine
@@ -39,7 +39,7 @@ line_with w name =
 
 -- the line that words give, unless they are usage
 abbrev pub read : Words → Option UseraddLine
-read w = and_then (name_of w) (line_with w)
+read w = and_then (decoded_name w) (line_with w)
 
 abbrev pub new_user : UseraddLine → NewUser
 new_user line = record { name = line.name; uid = line.uid; group = name_meant line.group }

@@ -3,8 +3,8 @@ use Rattle.std.specs.Prelude.{List, [], ◌∷◌, Bool, codes, Option, Some, op
 use Rattle.facl_listings.specs.Why.{files_asked, why_text}
 use Rattle.facl_listings.specs.acl_entry.Person.{Person}
 use Rattle.facl_listings.specs.acl_files.declared.fault.TreeFault.TheVariants.{NoSuchUser}
-use Rattle.facl_listings.specs.acl_people.Registers.{Register, users_of, subject, naming_of}
-use Rattle.facl_listings.specs.acl_people.Rolls.{place_of_word}
+use Rattle.facl_listings.specs.acl_people.KnownPeople.{KnownPeople, users_of, subject, naming_of}
+use Rattle.facl_listings.specs.acl_people.NameTables.{place_of_word}
 use Rattle.facl_listings.specs.acl_tree.Files.{PathOf}
 use Rattle.facl_listings.specs.acl_tree.Found.{FoundFile}
 use Rattle.facl_listings.specs.acl_tree.Operands.{first_missing}
@@ -30,11 +30,11 @@ read w =
     (λ files. Some (record { reach = has row w (codes "reach"); user = operand row w (codes "user"); files = files }))
 
 -- the user of a name, as the check sees one, if there is one
-abbrev pub person_named : Register → Text → Option Person
+abbrev pub person_named : KnownPeople → Text → Option Person
 person_named known name = option_and_then (subject known) (place_of_word name (users_of known))
 
 -- the entries that decide on a user are printed with the names that these people have
-abbrev pub named_why : Register → Person → List FoundFile → Text
+abbrev pub named_why : KnownPeople → Person → List FoundFile → Text
 named_why known u files = why_text (naming_of known) u files
 
 -- what decides on a user on the files of these paths, with `along` on the directories above them too

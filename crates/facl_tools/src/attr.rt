@@ -19,7 +19,7 @@ pub(crate) static ROW: LineRows = LineRows {
 };
 
 /// A line of `attr`.
-#[derive(Debug, Drop)]
+#[derive(Drop)]
 pub struct AttrLine<'a> {
     /// The FILE.
     pub files: LineFiles<'a>,

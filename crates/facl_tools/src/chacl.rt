@@ -6,7 +6,7 @@ ghost use Rattle.facl_tools.specs.Replies.{Replies};
 
 use crate::edits::{NamedFiles, edit_files};
 use crate::effect::Effect;
-use crate::lists::list_of;
+use crate::lists::list_of_text;
 use crate::operands::paths_of;
 use crate::rows::{by_letter, some};
 use facl_listings::{Edit, Selection, State, Which, write_chacl_listing};
@@ -31,7 +31,7 @@ pub(crate) static ROW: LineRows = LineRows {
 };
 
 /// What a line does with its files.
-#[derive(Debug, Drop)]
+#[derive(Drop)]
 pub enum Task<'a> {
     /// Puts the access list that the word names.
     PutAccess(LineWord<'a>),
@@ -50,7 +50,7 @@ pub enum Task<'a> {
 }
 
 /// A line of chacl(1).
-#[derive(Debug, Drop)]
+#[derive(Drop)]
 pub struct ChaclLine<'a> {
     pub task: Task<'a>,
     /// `-r`: with all below.
@@ -152,6 +152,7 @@ pub(crate) fn read(words: &Words) -> Option<ChaclLine<'_>>
     }
 }
 
+/// Puts an access list into the files.
 fn put_access(
     alloc: Global,
     state: &State,
@@ -161,7 +162,7 @@ fn put_access(
     ensures { Replies state.now result (put_access state.now files.now.recursive text.now files.now.words.now) }
 {
     let people = state.people();
-    let access = list_of(alloc, people, Source::Entry, Which::Access, text)?;
+    let access = list_of_text(alloc, people, Source::Entry, Which::Access, text)?;
     let edit = Edit::Put {
         access: Some(access),
         dacl: None,
@@ -169,6 +170,7 @@ fn put_access(
     edit_files(alloc, state, files, edit)
 }
 
+/// Puts a default list into the files.
 fn put_default(
     alloc: Global,
     state: &State,
@@ -178,7 +180,7 @@ fn put_default(
     ensures { Replies state.now result (put_default state.now files.now.recursive text.now files.now.words.now) }
 {
     let people = state.people();
-    let dacl = list_of(alloc, people, Source::DefaultEntry, Which::Default, text)?;
+    let dacl = list_of_text(alloc, people, Source::DefaultEntry, Which::Default, text)?;
     let edit = Edit::Put {
         access: None,
         dacl: Some(dacl),
@@ -197,8 +199,8 @@ fn put_both(
     ensures { Replies state.now result (put_both state.now files.now.recursive text.now default_text.now files.now.words.now) }
 {
     let people = state.people();
-    let access = list_of(alloc, people, Source::Entry, Which::Access, text)?;
-    let dacl = list_of(
+    let access = list_of_text(alloc, people, Source::Entry, Which::Access, text)?;
+    let dacl = list_of_text(
         alloc,
         people,
         Source::DefaultEntry,

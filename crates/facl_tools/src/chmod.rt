@@ -4,8 +4,7 @@ ghost use Rattle.std.specs.Prelude.{◌≡◌};
 ghost use Rattle.facl_tools.specs.Chmod.{answered, read};
 ghost use Rattle.facl_tools.specs.Replies.{Replies};
 
-use crate::change::prepare;
-use crate::effect::Effect;
+use crate::effect::{Effect, effect_of};
 use crate::mode::mode_of;
 use crate::operands::paths_of;
 use crate::rows::{by_letter, one, some};
@@ -21,7 +20,7 @@ pub(crate) static ROW: LineRows = LineRows {
 };
 
 /// A line of chmod(1).
-#[derive(Debug, Drop)]
+#[derive(Drop)]
 pub struct ChmodLine<'a> {
     /// `-R`: with all below.
     pub recursive: bool,
@@ -53,5 +52,5 @@ pub(crate) fn answer(alloc: Global, state: &State, line: ChmodLine<'_>) -> Resul
         mode: line.mode,
         recursive: line.recursive,
     };
-    prepare(alloc, state, &command)
+    effect_of(alloc, state, &command)
 }

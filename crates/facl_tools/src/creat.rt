@@ -4,8 +4,7 @@ ghost use Rattle.std.specs.Prelude.{◌≡◌};
 ghost use Rattle.facl_tools.specs.Creat.{answered, kind_of, mode_given, new_file, read};
 ghost use Rattle.facl_tools.specs.Replies.{Gives, Replies};
 
-use crate::change::prepare;
-use crate::effect::Effect;
+use crate::effect::{Effect, effect_of};
 use crate::mode::permission_mode_of;
 use crate::operands::{name_meant, path_at};
 use crate::rows::{by_letter, by_name, one};
@@ -25,7 +24,7 @@ pub(crate) static ROW: LineRows = LineRows {
 };
 
 /// A line of `creat`.
-#[derive(Debug, Drop)]
+#[derive(Drop)]
 pub struct CreatLine<'a> {
     /// `-d`: a directory.
     pub kind: Kind,
@@ -45,6 +44,7 @@ fn mode_given(words: &Words, name: &str) -> Option<u16>
     permission_mode_of(words.value(&ROW, name)?.as_bytes())
 }
 
+/// A directory or a plain file.
 fn kind_of(is_directory: bool) -> Kind
     ensures { result ≡ kind_of is_directory }
 {
@@ -92,5 +92,5 @@ pub(crate) fn answer(alloc: Global, state: &State, line: CreatLine<'_>) -> Resul
     ensures { Replies state.now result (answered state.now line.entry) }
 {
     let new = new_file(alloc, line)?;
-    prepare(alloc, state, &Command::Creat(new))
+    effect_of(alloc, state, &Command::Creat(new))
 }

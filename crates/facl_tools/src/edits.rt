@@ -3,8 +3,7 @@
 ghost use Rattle.facl_tools.specs.Replies.{Replies};
 ghost use Rattle.facl_tools.specs.Edits.{edited};
 
-use crate::change::prepare;
-use crate::effect::Effect;
+use crate::effect::{Effect, effect_of};
 use crate::operands::paths_of;
 use facl_listings::{Command, Edit, State};
 use facl_messages::{LineFault, Word};
@@ -32,5 +31,5 @@ pub(crate) fn edit_files(
         edit,
         recursive: files.recursive,
     };
-    prepare(alloc, state, &command)
+    effect_of(alloc, state, &command)
 }

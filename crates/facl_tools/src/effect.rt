@@ -1,10 +1,11 @@
-//! What an accepted line does.
+//! What an accepted line does, and commands on the state.
 
 ghost use Rattle.std.specs.Prelude.{◌≡◌, [], false, Some, None};
 ghost use Rattle.facl_listings.specs.acl_tree.Step.{State};
-ghost use Rattle.facl_tools.specs.Replies.{reply_of, printed};
+ghost use Rattle.facl_tools.specs.Replies.{reply_of, printed, Replies, done};
 
-use facl_listings::Staged;
+use facl_listings::{Command, Staged, State};
+use facl_messages::LineFault;
 use std::alloc::Global;
 
 /// What an accepted line does. It is used up by whoever answers the line.
@@ -52,7 +53,7 @@ impl Effect {
     }
 
     /// Nothing is done, and the state stays as it is.
-    pub fn discard(self) {
+    pub fn give_up(self) {
         let Effect {
             out: _out,
             staged,
@@ -62,4 +63,16 @@ impl Effect {
             staged.give_up();
         }
     }
+}
+
+/// The state after a command, prepared. The present state is left as it is.
+pub(crate) fn effect_of(
+    alloc: Global,
+    state: &State,
+    command: &Command<'_>,
+) -> Result<Effect, LineFault>
+    ensures { Replies state.now result (done state.now command.now) }
+{
+    let staged = state.prepare(alloc, command)?;
+    Ok(Effect::changes(alloc, staged))
 }

@@ -27,7 +27,7 @@ pub(crate) static ROW: LineRows = LineRows {
 };
 
 /// A line of getfacl(1).
-#[derive(Debug, Drop)]
+#[derive(Drop)]
 pub struct GetfaclLine<'a> {
     pub options: Options,
     /// `-R`: with all below.

@@ -4,8 +4,7 @@ ghost use Rattle.std.specs.Prelude.{◌≡◌};
 ghost use Rattle.facl_tools.specs.Gpasswd.{answered, line_of, read};
 ghost use Rattle.facl_tools.specs.Replies.{Replies};
 
-use crate::change::prepare;
-use crate::effect::Effect;
+use crate::effect::{Effect, effect_of};
 use crate::operands::name_meant;
 use crate::rows::{by_letter, one};
 use facl_listings::{Command, Membership, State};
@@ -20,7 +19,7 @@ pub(crate) static ROW: LineRows = LineRows {
 };
 
 /// A line of gpasswd(1).
-#[derive(Debug, Drop)]
+#[derive(Drop)]
 pub struct GpasswdLine<'a> {
     pub change: Membership,
     /// The user who is added or removed.
@@ -77,5 +76,5 @@ pub(crate) fn answer(
         group,
         change: line.change,
     };
-    prepare(alloc, state, &command)
+    effect_of(alloc, state, &command)
 }

@@ -1,11 +1,10 @@
 //! The tool `index`: what each user may do with each file.
 
-ghost use Rattle.facl_listings.specs.acl_rights.Tables.{IsWhole};
 ghost use Rattle.facl_tools.specs.Index.{answered};
 ghost use Rattle.facl_tools.specs.Replies.{Replies};
 
 use crate::effect::Effect;
-use facl_listings::{Index, Judge, State, write_index};
+use facl_listings::{IndexedState, Judge, write_index};
 use facl_messages::{LineFault, LineRows};
 use std::alloc::Global;
 
@@ -19,12 +18,10 @@ pub(crate) static ROW: LineRows = LineRows {
 /// What each user may do with each file.
 pub(crate) fn answer<J: Judge>(
     alloc: Global,
-    state: &State,
-    index: &Index<J>,
+    indexed: &IndexedState<J>,
 ) -> Result<Effect, LineFault>
-    requires { IsWhole J.verdict_of state.now index.now }
-    ensures { Replies state.now result (answered J.verdict_of state.now) }
+    ensures { Replies indexed.now result (answered J.verdict_of indexed.now) }
 {
-    let out = write_index(alloc, state, index)?;
+    let out = write_index(alloc, indexed)?;
     Ok(Effect::prints(out))
 }

@@ -10,7 +10,6 @@
 mod attr;
 mod can;
 mod chacl;
-mod change;
 mod changes;
 mod chmod;
 mod creat;
@@ -25,14 +24,12 @@ mod load;
 mod may;
 mod mode;
 mod operands;
-mod removed_keys;
 mod rm;
 mod round_trips;
 mod rows;
 mod setattr;
 mod setfacl;
 mod setfacl_entries;
-mod setfacl_line;
 mod tested;
 mod tools;
 mod useradd;
@@ -41,19 +38,18 @@ mod usermod;
 mod who;
 mod why;
 
-pub use changes::Loaded;
 pub use effect::Effect;
 pub use facl_listings::{
-    Command, Index, Judge, Key, Label, Perm, Posix, Requests, Staged, State, Subject, Table,
+    Command, IndexedState, Judge, Key, Label, Perm, Posix, Requests, Staged, State, Subject, Table,
     TreeFault,
 };
 pub use facl_messages::{
-    Feed, Flags, LineFault, LineRows, LineWord, OperandRow, Operands, RunFault, ScriptFault,
-    Session, Sink, Source, Spare, StdFeed, StdSink, SwitchRow, TextFound, UnitFound, Values, Word,
-    Words, WordsFault, append_message, append_run_fault, append_warning, asks_for_text,
-    has_no_words, is_text_word, read_args, run_session, split_words, write_whole,
+    Feed, Flags, HeldLine, HeldText, HeldUnit, LineFault, LineRows, LineWord, OperandRow, Operands,
+    ReservedMessage, RunFault, ScriptFault, Session, Sink, Source, StdFeed, StdSink, SwitchRow,
+    Values, Word, Words, WordsFault, append_message, append_run_fault, append_warning,
+    asks_for_text, is_text_word, read_args, run_session, split_words, write_whole,
 };
-pub use laws::lines_are_refused_for_their_first_fault;
+pub use laws::tool_lines_are_refused_for_their_first_fault;
 pub use round_trips::{
     chacl_reads_what_it_lists, set_reads_what_test_prints, setattr_reads_what_attr_prints,
 };

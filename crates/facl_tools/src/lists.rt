@@ -2,7 +2,7 @@
 
 ghost use Rattle.std.specs.Prelude.{◌≡◌, IfOk, map};
 ghost use Rattle.facl_tools.specs.Replies.{Gives};
-ghost use Rattle.facl_tools.specs.Lists.{entry_of, list_from, specs_of, list_of};
+ghost use Rattle.facl_tools.specs.Lists.{entry_of, list_from, specs_of, list_of_text};
 
 use facl_listings::{
     Acl, Entry, FaultKind, People, Perm, Sep, Spec, TextFault, Want, Which, read_entries,
@@ -24,6 +24,7 @@ fn entry_of(spec: &Spec) -> Entry
     }
 }
 
+/// The entries that entry texts give.
 fn entries_of(alloc: Global, specs: &[Spec]) -> Result<Vec<Entry>, AllocError>
     ensures { IfOk result (λ entries. entries.items ≡ map entry_of specs.now) }
 {
@@ -68,15 +69,15 @@ fn specs_of(
 }
 
 /// The list that a text names. A fault of the list as a whole is reported at place 0.
-#[tactic(auto, unfolding(crate::specs::Lists::list_of))]
-pub(crate) fn list_of(
+#[tactic(auto, unfolding(crate::specs::Lists::list_of_text))]
+pub(crate) fn list_of_text(
     alloc: Global,
     people: &People,
     source: Source,
     which: Which,
     text: &[u8],
 ) -> Result<Acl, LineFault>
-    ensures { Gives (λ acl. acl) result (list_of people.now source which text.now) }
+    ensures { Gives (λ acl. acl) result (list_of_text people.now source which text.now) }
 {
     let specs = specs_of(alloc, people, source, text)?;
     let entries = entries_of(alloc, &specs)?;

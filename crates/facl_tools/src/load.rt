@@ -4,8 +4,7 @@ ghost use Rattle.std.specs.Prelude.{◌≡◌};
 ghost use Rattle.facl_tools.specs.Load.{answered, read, table_named};
 ghost use Rattle.facl_tools.specs.Replies.{Replies};
 
-use crate::change::prepare;
-use crate::effect::Effect;
+use crate::effect::{Effect, effect_of};
 use crate::rows::one;
 use facl_listings::{Command, State, Table};
 use facl_messages::{LineFault, LineRows, OperandRow, Words};
@@ -19,12 +18,13 @@ pub(crate) static ROW: LineRows = LineRows {
 };
 
 /// A line of `load`, but for its text.
-#[derive(Debug, Drop)]
+#[derive(Drop)]
 pub struct LoadLine {
     /// `passwd`, `group` or `dump`.
     pub table: Table,
 }
 
+/// The text that a word names.
 fn table_named(name: &[u8]) -> Option<Table>
     ensures { result ≡ table_named name.now }
 {
@@ -60,5 +60,5 @@ pub(crate) fn answer(
         which: line.table,
         bytes: text,
     };
-    prepare(alloc, state, &command)
+    effect_of(alloc, state, &command)
 }

@@ -1,14 +1,13 @@
 //! The tool `may`: the files with which a user may do something.
 
 ghost use Rattle.std.specs.Prelude.{◌≡◌, IfOk, option_map};
-ghost use Rattle.facl_listings.specs.acl_rights.Tables.{IsWhole};
 ghost use Rattle.facl_tools.specs.May.{answered, may_of, may_text_of, read};
 ghost use Rattle.facl_tools.specs.Replies.{Gives, Replies};
 
 use crate::effect::Effect;
 use crate::operands::name_meant;
 use crate::rows::{by_name, one};
-use facl_listings::{Index, Judge, Name, Perm, State, TreeFault, read_perms, write_may};
+use facl_listings::{IndexedState, Judge, Name, Perm, TreeFault, Verdicts, read_perms, write_may};
 use facl_messages::{LineFault, LineRows, LineWord, OperandRow, SwitchRow, Words};
 use std::alloc::{AllocError, Global};
 
@@ -20,7 +19,7 @@ pub(crate) static ROW: LineRows = LineRows {
 };
 
 /// A line of `may`.
-#[derive(Debug, Drop)]
+#[derive(Drop)]
 pub struct MayLine<'a> {
     /// `--reach`: search on the directories above is required too.
     pub reach: bool,
@@ -44,18 +43,15 @@ pub(crate) fn read(words: &Words) -> Option<MayLine<'_>>
 /// The files on which a request is granted to the user of a name, if there is one.
 fn may_text_of<J: Judge>(
     alloc: Global,
-    state: &State,
-    index: &Index<J>,
-    along: bool,
+    verdicts: &Verdicts<'_, J>,
     request: Perm,
     name: &Name,
 ) -> Result<Option<Vec<u8>>, AllocError>
-    requires { IsWhole J.verdict_of state.now index.now }
-    ensures { IfOk result
-        (λ text. option_map (λ out. out.items) text ≡ may_text_of J.verdict_of along state.now request name.now) }
+    ensures { IfOk result (λ text. option_map (λ out. out.items) text
+        ≡ may_text_of J.verdict_of verdicts.now.along verdicts.now.state.now request name.now) }
 {
-    match state.people().find_user(name.as_bytes()) {
-        Some(user) => write_may(alloc, state, index, user, request, along),
+    match verdicts.state.state().people().find_user(name.as_bytes()) {
+        Some(user) => write_may(alloc, verdicts, user, request),
         None => Ok(None),
     }
 }
@@ -63,17 +59,15 @@ fn may_text_of<J: Judge>(
 /// The files on which a request is granted to the user that a word means.
 fn may_of<J: Judge>(
     alloc: Global,
-    state: &State,
-    index: &Index<J>,
-    along: bool,
+    verdicts: &Verdicts<'_, J>,
     word: &LineWord<'_>,
     request: Perm,
 ) -> Result<Vec<u8>, LineFault>
-    requires { IsWhole J.verdict_of state.now index.now }
-    ensures { Gives (λ out. out.items) result (may_of J.verdict_of along state.now word.now request) }
+    ensures { Gives (λ out. out.items) result
+        (may_of J.verdict_of verdicts.now.along verdicts.now.state.now word.now request) }
 {
     let name = name_meant(alloc, word)?;
-    match may_text_of(alloc, state, index, along, request, &name)? {
+    match may_text_of(alloc, verdicts, request, &name)? {
         Some(out) => Ok(out),
         None => Err(LineFault::Tree(TreeFault::NoSuchUser { name })),
     }
@@ -83,13 +77,12 @@ fn may_of<J: Judge>(
 /// can search.
 pub(crate) fn answer<J: Judge>(
     alloc: Global,
-    state: &State,
-    index: &Index<J>,
+    indexed: &IndexedState<J>,
     line: MayLine<'_>,
 ) -> Result<Effect, LineFault>
-    requires { IsWhole J.verdict_of state.now index.now }
-    ensures { Replies state.now result (answered J.verdict_of state.now line.entry) }
+    ensures { Replies indexed.now result (answered J.verdict_of indexed.now line.entry) }
 {
-    let out = may_of(alloc, state, index, line.reach, &line.user, line.request)?;
+    let verdicts = indexed.verdicts(line.reach);
+    let out = may_of(alloc, &verdicts, &line.user, line.request)?;
     Ok(Effect::prints(out))
 }

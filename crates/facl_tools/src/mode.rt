@@ -4,6 +4,7 @@ ghost use Rattle.std.specs.List.{list_all};
 ghost use Rattle.std.specs.Prelude.{◌≡◌, IsTrue};
 ghost use Rattle.facl_tools.specs.Modes.{is_mode, is_octal_digit, mode_of, octal_number, permission_mode_of, starts_with_zero};
 
+/// Whether each byte is an octal digit.
 fn are_octal_digits(bytes: &[u8]) -> bool
     ensures { result ≡ list_all is_octal_digit bytes.now }
 {
@@ -39,7 +40,7 @@ fn octal_number(digits: &[u8]) -> u16
 }
 
 /// The number that one to four octal digits write. `None` for any other text.
-pub fn mode_of(text: &[u8]) -> Option<u16>
+pub(crate) fn mode_of(text: &[u8]) -> Option<u16>
     ensures { result ≡ mode_of text.now }
 {
     if is_mode(text) {
@@ -50,7 +51,7 @@ pub fn mode_of(text: &[u8]) -> Option<u16>
 }
 
 /// The number that one to four octal digits write, where it is at most 0777. `None` for any other text.
-pub fn permission_mode_of(text: &[u8]) -> Option<u16>
+pub(crate) fn permission_mode_of(text: &[u8]) -> Option<u16>
     ensures { result ≡ permission_mode_of text.now }
 {
     if starts_with_zero(text) {

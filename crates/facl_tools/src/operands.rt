@@ -11,7 +11,7 @@ use facl_messages::{LineFault, LineWord, Source, Word};
 use std::alloc::{AllocError, Global};
 
 /// The path of the operand at a place, counted from 1.
-pub fn path_at(alloc: Global, at: usize, word: &[u8]) -> Result<Path, LineFault>
+pub(crate) fn path_at(alloc: Global, at: usize, word: &[u8]) -> Result<Path, LineFault>
     ensures { Gives (λ path. path) result (path_at at word.now) }
 {
     match read_path(alloc, word)? {
@@ -27,7 +27,7 @@ pub fn path_at(alloc: Global, at: usize, word: &[u8]) -> Result<Path, LineFault>
 }
 
 /// The paths of the FILE operands of a line.
-pub fn paths_of(alloc: Global, words: &[Word]) -> Result<Paths, LineFault>
+pub(crate) fn paths_of(alloc: Global, words: &[Word]) -> Result<Paths, LineFault>
     ensures { Gives (λ paths. paths) result (paths_from 1 words.now) }
 {
     let mut paths = Vec::new(alloc);
@@ -40,14 +40,18 @@ pub fn paths_of(alloc: Global, words: &[Word]) -> Result<Paths, LineFault>
 }
 
 /// The name that a word for a user or a group means.
-pub fn name_meant(alloc: Global, word: &LineWord<'_>) -> Result<Name, AllocError>
+pub(crate) fn name_meant(alloc: Global, word: &LineWord<'_>) -> Result<Name, AllocError>
     ensures { IfOk result (λ name. name ≡ name_meant word.now) }
 {
     read_name(alloc, trim(word.as_bytes()))
 }
 
 /// The place of the user that a word means.
-pub fn user_at(alloc: Global, people: &People, word: &LineWord<'_>) -> Result<usize, LineFault>
+pub(crate) fn user_at(
+    alloc: Global,
+    people: &People,
+    word: &LineWord<'_>,
+) -> Result<usize, LineFault>
     ensures { Gives (λ user. user) result (user_or_fault people.now (name_meant word.now)) }
 {
     let name = name_meant(alloc, word)?;

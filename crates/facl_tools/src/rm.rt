@@ -4,8 +4,7 @@ ghost use Rattle.std.specs.Prelude.{◌≡◌};
 ghost use Rattle.facl_tools.specs.Replies.{Replies};
 ghost use Rattle.facl_tools.specs.Rm.{answered, read};
 
-use crate::change::prepare;
-use crate::effect::Effect;
+use crate::effect::{Effect, effect_of};
 use crate::operands::paths_of;
 use crate::rows::{by_letter, some};
 use facl_listings::{Command, State};
@@ -20,7 +19,7 @@ pub(crate) static ROW: LineRows = LineRows {
 };
 
 /// A line of rm(1).
-#[derive(Debug, Drop)]
+#[derive(Drop)]
 pub struct RmLine<'a> {
     /// `-r`: with all below.
     pub recursive: bool,
@@ -47,5 +46,5 @@ pub(crate) fn answer(alloc: Global, state: &State, line: RmLine<'_>) -> Result<E
         paths,
         recursive: line.recursive,
     };
-    prepare(alloc, state, &command)
+    effect_of(alloc, state, &command)
 }

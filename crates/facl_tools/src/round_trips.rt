@@ -11,7 +11,7 @@ use facl_listings::{People, Tree, attributes_are_read_again, lists_are_read_agai
 pub fn chacl_reads_what_it_lists(people: &People, tree: &Tree)
     ensures { AllByRecursion (IsReadByChacl people.now) tree.now.files }
 {
-    tree.is_sound();
+    tree.soundness_law();
     lists_are_read_again(people, tree);
 }
 
@@ -20,7 +20,7 @@ pub fn chacl_reads_what_it_lists(people: &People, tree: &Tree)
 pub fn setattr_reads_what_attr_prints(people: &People, tree: &Tree)
     ensures { AllByRecursion (λ file. AreReadBySetattr file.1) tree.now.files }
 {
-    tree.is_sound();
+    tree.soundness_law();
     attributes_are_read_again(people, tree);
 }
 

@@ -2,7 +2,7 @@
 
 ghost use Rattle.std.specs.Prelude.{◌≡◌, option_map};
 ghost use Rattle.facl_tools.specs.Replies.{Gives, Replies};
-ghost use Rattle.facl_tools.specs.Setattr.{answered, attribute_of, bytes_of, digits_of, list_of, put_of, read, rest_of};
+ghost use Rattle.facl_tools.specs.Setattr.{answered, attribute_of, bytes_of, digits_of, list_of_digits, put_of, read, rest_of};
 
 use crate::edits::{NamedFiles, edit_files};
 use crate::effect::Effect;
@@ -20,14 +20,14 @@ pub(crate) static ROW: LineRows = LineRows {
 };
 
 /// An attribute: the list that its name means, and the hex digits of its bytes.
-#[derive(Debug, Drop)]
+#[derive(Drop)]
 pub struct Attribute<'a> {
     pub which: Which,
     pub digits: LineWord<'a>,
 }
 
 /// A line of `setattr`.
-#[derive(Debug, Drop)]
+#[derive(Drop)]
 pub struct SetattrLine<'a> {
     /// `NAME=0xHEX`.
     pub attribute: Attribute<'a>,
@@ -108,8 +108,8 @@ fn bytes_of(alloc: Global, digits: &[u8]) -> Result<Vec<u8>, LineFault>
 }
 
 /// The list of hex digits.
-fn list_of(alloc: Global, digits: &[u8]) -> Result<Acl, LineFault>
-    ensures { Gives (λ acl. acl) result (list_of digits.now) }
+fn list_of_digits(alloc: Global, digits: &[u8]) -> Result<Acl, LineFault>
+    ensures { Gives (λ acl. acl) result (list_of_digits digits.now) }
 {
     let bytes = bytes_of(alloc, digits)?;
     match decode_attr(alloc, &bytes) {
@@ -118,6 +118,7 @@ fn list_of(alloc: Global, digits: &[u8]) -> Result<Acl, LineFault>
     }
 }
 
+/// The edit that puts a list.
 fn put_of(which: Which, acl: Acl) -> Edit
     ensures { result ≡ put_of which acl }
 {
@@ -141,7 +142,7 @@ pub(crate) fn answer(
 ) -> Result<Effect, LineFault>
     ensures { Replies state.now result (answered state.now line.entry) }
 {
-    let acl = list_of(alloc, line.attribute.digits.as_bytes())?;
+    let acl = list_of_digits(alloc, line.attribute.digits.as_bytes())?;
     let edit = put_of(line.attribute.which, acl);
     let files = NamedFiles {
         words: line.files.as_slice(),

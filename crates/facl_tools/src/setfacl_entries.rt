@@ -1,24 +1,15 @@
-//! The entries of a setfacl(1) line.
+//! The entries of a setfacl(1) line, and the keys that it removes.
 
-ghost use Rattle.std.specs.Prelude.{◌≡◌, option_map, IfOk};
+ghost use Rattle.std.specs.Prelude.{◌≡◌, option_map, IfOk, true, false, OnOk};
 ghost use Rattle.std.specs.List.{find};
-ghost use Rattle.facl_tools.specs.RemovedKeys.{removes};
+ghost use Rattle.facl_tools.specs.RemovedKeys.{removes, keys_of, with_key};
 ghost use Rattle.facl_tools.specs.Replies.{Gives};
-ghost use Rattle.facl_tools.specs.Setfacl.{both_at, drops, edit_of, entries_given, entries_in, given, has_default};
+ghost use Rattle.facl_tools.specs.Setfacl.{both_at, drops, entries_given, entries_in, entries_of_line, has_default};
 
-use crate::removed_keys::RemovedKeys;
-use crate::setfacl_line::{ChangeLine, Entries};
-use facl_listings::{Edit, People, Sep, Spec, Specs, Want, read_entries};
+use crate::setfacl::{ChangeLine, EntrySource};
+use facl_listings::{ChangeEntries, Draft, People, Perm, Sep, Spec, Specs, Want, read_entries};
 use facl_messages::{LineFault, Source};
 use std::alloc::{AllocError, Global};
-
-/// The entries of a line.
-#[derive(Drop)]
-pub(crate) struct Given {
-    pub removed: Specs,
-    pub modified: Specs,
-    pub set: Specs,
-}
 
 /// The entries of a text.
 fn entries_in(
@@ -41,16 +32,16 @@ fn entries_given(
     alloc: Global,
     people: &People,
     want: Want,
-    entries: &Option<Entries<'_>>,
+    entries: &Option<EntrySource<'_>>,
     text: &[u8],
 ) -> Result<Specs, LineFault>
     ensures { Gives (λ specs. specs) result (entries_given people.now want entries.now text.now) }
 {
     match entries {
-        Some(Entries::InWord(word)) => {
+        Some(EntrySource::InWord(word)) => {
             entries_in(alloc, people, want, Sep::Comma, word.as_bytes())
         }
-        Some(Entries::InText) => entries_in(alloc, people, want, Sep::Line, text),
+        Some(EntrySource::InText) => entries_in(alloc, people, want, Sep::Line, text),
         None => Ok(Specs::new(Vec::new(alloc))),
     }
 }
@@ -69,57 +60,92 @@ fn has_default(specs: &[Spec]) -> bool
     specs.iter().any(|spec| spec.dflt)
 }
 
-impl Given {
-    /// The entries of a line.
-    pub fn of(
-        alloc: Global,
-        people: &People,
-        line: &ChangeLine<'_>,
-        text: &[u8],
-    ) -> Result<Given, LineFault>
-        ensures { Gives (λ entries. entries) result (given people.now line.now text.now) }
+/// The entries of a line.
+pub(crate) fn entries_of_line(
+    alloc: Global,
+    people: &People,
+    line: &ChangeLine<'_>,
+    text: &[u8],
+) -> Result<ChangeEntries, LineFault>
+    ensures { Gives (λ entries. entries) result (entries_of_line people.now line.now text.now) }
+{
+    let removed = entries_given(alloc, people, Want::WithoutPerms, &line.removed, text)?;
+    let modified = entries_given(alloc, people, Want::WithPerms, &line.modified, text)?;
+    let set = entries_given(alloc, people, Want::WithPerms, &line.set, text)?;
+    Ok(ChangeEntries {
+        removed,
+        set,
+        modified,
+    })
+}
+
+/// The place of the first modified entry that is removed too. Fails only if memory runs out.
+pub(crate) fn both_at(
+    alloc: Global,
+    as_default: bool,
+    entries: &ChangeEntries,
+) -> Result<Option<usize>, AllocError>
+    ensures { IfOk result (λ at. at ≡ both_at as_default entries.now) }
+{
+    let removed = RemovedKeys::of(alloc, entries.removed.as_slice())?;
+    Ok(first_removed(&removed, as_default, entries.modified.as_slice()))
+}
+
+/// Whether `-d` drops a default entry.
+pub(crate) fn drops(as_default: bool, entries: &ChangeEntries) -> bool
+    ensures { result ≡ drops as_default entries.now }
+{
+    as_default
+        && (has_default(entries.removed.as_slice())
+            || has_default(entries.modified.as_slice())
+            || has_default(entries.set.as_slice()))
+}
+
+/// The keys that are removed from each list, so that one is found by search.
+#[derive(Drop)]
+pub(crate) struct RemovedKeys {
+    access: Draft,
+    dflt: Draft,
+}
+
+/// Adds the key of an entry of one list.
+fn insert_key(keys: &mut Draft, dflt: bool, spec: &Spec) -> Result<(), AllocError>
+    ensures { OnOk result (keys.new ≡ with_key dflt keys.old spec.now) }
+{
+    if dflt == spec.dflt {
+        keys.insert(spec.key, Perm::none())?;
+    }
+    Ok(())
+}
+
+/// The keys of the entries of one list.
+fn keys_of(alloc: Global, dflt: bool, specs: &[Spec]) -> Result<Draft, AllocError>
+    ensures { IfOk result (λ keys. keys ≡ keys_of dflt specs.now) }
+{
+    let mut keys = Draft::new(alloc);
+    for spec in specs {
+        insert_key(&mut keys, dflt, spec)?;
+    }
+    Ok(keys)
+}
+
+impl RemovedKeys {
+    /// The keys of these entries.
+    pub fn of(alloc: Global, removed: &[Spec]) -> Result<RemovedKeys, AllocError>
+        ensures access { IfOk result (λ keys. keys.access ≡ keys_of false removed.now) }
+        ensures dflt { IfOk result (λ keys. keys.dflt ≡ keys_of true removed.now) }
     {
-        let removed = entries_given(alloc, people, Want::WithoutPerms, &line.removed, text)?;
-        let modified = entries_given(alloc, people, Want::WithPerms, &line.modified, text)?;
-        let set = entries_given(alloc, people, Want::WithPerms, &line.set, text)?;
-        Ok(Given {
-            removed,
-            modified,
-            set,
+        Ok(RemovedKeys {
+            access: keys_of(alloc, false, removed)?,
+            dflt: keys_of(alloc, true, removed)?,
         })
     }
 
-    /// The place of the first modified entry that is removed too. Fails only if memory runs out.
-    pub fn both_at(&self, alloc: Global, as_default: bool) -> Result<Option<usize>, AllocError>
-        ensures { IfOk result (λ at. at ≡ both_at as_default self.now) }
+    /// Whether the key of an entry is removed from its list, where `-d` does not drop the entry.
+    pub fn removes(&self, as_default: bool, spec: &Spec) -> bool
+        ensures { result ≡ removes as_default self.now spec.now }
     {
-        let removed = RemovedKeys::of(alloc, self.removed.as_slice())?;
-        Ok(first_removed(&removed, as_default, self.modified.as_slice()))
-    }
-
-    /// Whether `-d` drops a default entry.
-    pub fn drops(&self, as_default: bool) -> bool
-        ensures { result ≡ drops as_default self.now }
-    {
-        as_default
-            && (has_default(self.removed.as_slice())
-                || has_default(self.modified.as_slice())
-                || has_default(self.set.as_slice()))
-    }
-
-    /// What the line does with the lists of a file.
-    pub fn edit(self, line: &ChangeLine<'_>) -> Edit
-        ensures { result ≡ edit_of line.now self }
-    {
-        Edit::Change {
-            strip: line.strip,
-            drop_default: line.drop_default,
-            as_default: line.as_default,
-            no_mask: line.no_mask,
-            remask: line.remask,
-            remove: self.removed,
-            set: self.set,
-            modify: self.modified,
-        }
+        let keys = if spec.dflt { &self.dflt } else { &self.access };
+        !(as_default && spec.dflt) && keys.get(spec.key).is_some()
     }
 }

@@ -8,8 +8,7 @@ ghost use Rattle.facl_listings.specs.acl_tree.Operands.{first_missing};
 ghost use Rattle.facl_listings.specs.acl_tree.Restoring.{paths_of};
 ghost use Rattle.facl_listings.specs.acl_tree.Step.{step};
 
-use crate::change::prepare;
-use crate::effect::Effect;
+use crate::effect::{Effect, effect_of};
 use facl_listings::{
     Command, DumpRecord, DumpRecords, Found, Path, Paths, Selection, Staged, State, Tree,
     append_test_listing, each_file_is_edited,
@@ -64,7 +63,7 @@ fn files_after(
     ensures { Gives (λ files. files.items) result (Ok (command_files command.now staged.now.state.tree.files)) }
 {
     each_file_is_edited();
-    state.tree().is_sound();
+    state.tree().soundness_law();
     match command {
         Command::Edit {
             paths,
@@ -127,6 +126,6 @@ pub(crate) fn do_or_test(
     if is_test {
         test(alloc, state, command)
     } else {
-        prepare(alloc, state, command)
+        effect_of(alloc, state, command)
     }
 }

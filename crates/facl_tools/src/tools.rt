@@ -1,37 +1,36 @@
 //! The tools of a script: their names, the words that each takes, the line that these give, and what it does.
 
 ghost use Rattle.std.specs.Prelude.{◌≡◌, IfOk, is_some, map, string_bytes};
-ghost use Rattle.facl_listings.specs.acl_rights.Tables.{IsWhole};
 ghost use Rattle.facl_messages.specs.facl_words.Rows.{line_of};
 ghost use Rattle.facl_tools.specs.Replies.{Gives, Replies};
-ghost use Rattle.facl_tools.specs.Tools.{answered, line_or_fault, name_of, read_line, row_of, tool_line, tool_named, words_of, words_or_fault};
+ghost use Rattle.facl_tools.specs.Tools.{answered, line_or_fault, loads, tool_name, read_line, row_of, tool_line, tool_named, words_of, words_or_fault};
 
 use crate::attr::{self, AttrLine};
 use crate::can::{self, CanLine};
 use crate::chacl::{self, ChaclLine};
-use crate::changes::{self, ChangesLine, Loaded};
+use crate::changes::{self, ChangesLine};
 use crate::chmod::{self, ChmodLine};
 use crate::creat::{self, CreatLine};
 use crate::effect::Effect;
 use crate::getfacl::{self, GetfaclLine};
 use crate::gpasswd::{self, GpasswdLine};
+use crate::index as index_tool;
 use crate::load::{self, LoadLine};
 use crate::may::{self, MayLine};
 use crate::rm::{self, RmLine};
 use crate::setattr::{self, SetattrLine};
-use crate::setfacl_line::{self, SetfaclLine};
+use crate::setfacl::{self, SetfaclLine};
 use crate::useradd::{self, UseraddLine};
 use crate::userdel::{self, UserdelLine};
 use crate::usermod::{self, UsermodLine};
 use crate::who::{self, WhoLine};
 use crate::why::{self, WhyLine};
-use crate::{index as index_tool, setfacl};
-use facl_listings::{Index, Judge, State};
+use facl_listings::{IndexedState, Judge};
 use facl_messages::{LineFault, LineRows, Words, read_by};
 use std::alloc::{AllocError, Global};
 
 /// A tool that a line of a script may name.
-#[derive(Clone, Copy, Debug, PartialEq, Eq)]
+#[derive(Clone, Copy, PartialEq, Eq)]
 pub enum Tool {
     /// Loads a text: passwd(5), group(5), or a dump of getfacl(1).
     Load,
@@ -98,7 +97,7 @@ static TOOLS: [Tool; 19] = [
 impl Tool {
     /// The tool's name: the first word of its lines.
     pub fn name(self) -> &'static str
-        ensures { result.now ≡ name_of self }
+        ensures { result.now ≡ tool_name self }
     {
         match self {
             Tool::Load => "load",
@@ -129,10 +128,37 @@ impl Tool {
     {
         TOOLS.iter().copied().find(|tool| tool.name() == name)
     }
+
+    /// Whether the tool loads a text: after a line of it, what a script has changed is counted anew.
+    pub fn loads(self) -> bool
+        ensures { result ≡ loads self }
+    {
+        match self {
+            Tool::Load => true,
+            Tool::Getfacl
+            | Tool::Setfacl
+            | Tool::Chacl
+            | Tool::Chmod
+            | Tool::Creat
+            | Tool::Rm
+            | Tool::Gpasswd
+            | Tool::Usermod
+            | Tool::Attr
+            | Tool::Setattr
+            | Tool::Can
+            | Tool::Who
+            | Tool::May
+            | Tool::Why
+            | Tool::Index
+            | Tool::Changes
+            | Tool::Useradd
+            | Tool::Userdel => false,
+        }
+    }
 }
 
 /// A line of a script, but for its text.
-#[derive(Debug, Drop)]
+#[derive(Drop)]
 pub enum ToolLine<'a> {
     Load(LoadLine),
     Getfacl(GetfaclLine<'a>),
@@ -162,7 +188,7 @@ pub fn rows_for(tool: Tool) -> &'static LineRows
     match tool {
         Tool::Load => &load::ROW,
         Tool::Getfacl => &getfacl::ROW,
-        Tool::Setfacl => &setfacl_line::ROW,
+        Tool::Setfacl => &setfacl::ROW,
         Tool::Chacl => &chacl::ROW,
         Tool::Chmod => &chmod::ROW,
         Tool::Creat => &creat::ROW,
@@ -197,7 +223,7 @@ fn read_line(alloc: Global, tool: Tool, words: &Words) -> Result<Option<ToolLine
     match tool {
         Tool::Load => Ok(load_line(words)),
         Tool::Getfacl => Ok(getfacl::read(words).map(ToolLine::Getfacl)),
-        Tool::Setfacl => Ok(setfacl_line::read(words).map(ToolLine::Setfacl)),
+        Tool::Setfacl => Ok(setfacl::read(words).map(ToolLine::Setfacl)),
         Tool::Chacl => Ok(chacl::read(words).map(ToolLine::Chacl)),
         Tool::Chmod => Ok(chmod::read(words).map(ToolLine::Chmod)),
         Tool::Creat => Ok(creat::read(words).map(ToolLine::Creat)),
@@ -264,16 +290,14 @@ pub fn read_words(alloc: Global, tool: Tool, words: &[String]) -> Result<Words, 
 #[tactic(auto, unfolding(crate::specs::Tools::answered))]
 fn answer<J: Judge>(
     alloc: Global,
-    loaded: &Loaded<'_, J>,
-    state: &State,
-    index: &Index<J>,
+    loaded: &IndexedState<J>,
+    indexed: &IndexedState<J>,
     line: ToolLine<'_>,
     text: &[u8],
 ) -> Result<Effect, LineFault>
-    requires loaded { IsWhole J.verdict_of loaded.now.state.now loaded.now.index.now }
-    requires whole { IsWhole J.verdict_of state.now index.now }
-    ensures { Replies state.now result (answered J.verdict_of loaded.now.state.now state.now line.entry text.now) }
+    ensures { Replies indexed.now result (answered J.verdict_of loaded.now indexed.now line.entry text.now) }
 {
+    let state = indexed.state();
     match line {
         ToolLine::Load(line) => load::answer(alloc, state, line, text),
         ToolLine::Getfacl(line) => getfacl::answer(alloc, state, line),
@@ -286,12 +310,12 @@ fn answer<J: Judge>(
         ToolLine::Usermod(line) => usermod::answer(alloc, state, line),
         ToolLine::Attr(line) => attr::answer(alloc, state, line),
         ToolLine::Setattr(line) => setattr::answer(alloc, state, line),
-        ToolLine::Can(line) => can::answer(alloc, state, index, line),
-        ToolLine::Who(line) => who::answer(alloc, state, index, line),
-        ToolLine::May(line) => may::answer(alloc, state, index, line),
+        ToolLine::Can(line) => can::answer(alloc, indexed, line),
+        ToolLine::Who(line) => who::answer(alloc, indexed, line),
+        ToolLine::May(line) => may::answer(alloc, indexed, line),
         ToolLine::Why(line) => why::answer(alloc, state, line),
-        ToolLine::Index => index_tool::answer(alloc, state, index),
-        ToolLine::Changes(line) => changes::answer(alloc, loaded, state, index, line),
+        ToolLine::Index => index_tool::answer(alloc, indexed),
+        ToolLine::Changes(line) => changes::answer(alloc, loaded, indexed, line),
         ToolLine::Useradd(line) => useradd::answer(alloc, state, line),
         ToolLine::Userdel(line) => userdel::answer(alloc, state, line),
     }
@@ -301,18 +325,15 @@ fn answer<J: Judge>(
 /// state after the texts were loaded.
 pub fn tool_line<J: Judge>(
     alloc: Global,
-    loaded: &Loaded<'_, J>,
-    state: &State,
-    index: &Index<J>,
+    loaded: &IndexedState<J>,
+    indexed: &IndexedState<J>,
     tool: Tool,
     words: &[String],
     text: &[u8],
 ) -> Result<Effect, LineFault>
-    requires loaded { IsWhole J.verdict_of loaded.now.state.now loaded.now.index.now }
-    requires whole { IsWhole J.verdict_of state.now index.now }
-    ensures { Replies state.now result (tool_line J.verdict_of loaded.now.state.now state.now tool (map string_bytes words.now) text.now) }
+    ensures { Replies indexed.now result (tool_line J.verdict_of loaded.now indexed.now tool (map string_bytes words.now) text.now) }
 {
     let words = words_of(alloc, tool, words)?;
     let line = line_of(alloc, tool, &words)?;
-    answer(alloc, loaded, state, index, line, text)
+    answer(alloc, loaded, indexed, line, text)
 }

@@ -2,10 +2,9 @@
 
 ghost use Rattle.std.specs.Prelude.{◌≡◌, IfOk};
 ghost use Rattle.facl_tools.specs.Replies.{Replies};
-ghost use Rattle.facl_tools.specs.Useradd.{answered, line_with, name_of, new_user, read, uid_of};
+ghost use Rattle.facl_tools.specs.Useradd.{answered, line_with, decoded_name, new_user, read, uid_of};
 
-use crate::change::prepare;
-use crate::effect::Effect;
+use crate::effect::{Effect, effect_of};
 use crate::operands::name_meant;
 use crate::rows::{by_letter, one};
 use facl_listings::{Command, Id, NewUser, State, UserName, read_id, read_name};
@@ -20,7 +19,7 @@ pub(crate) static ROW: LineRows = LineRows {
 };
 
 /// A line of useradd(8).
-#[derive(Debug, Drop)]
+#[derive(Drop)]
 pub struct UseraddLine<'a> {
     /// The operand is decoded, and not trimmed.
     pub name: UserName,
@@ -38,8 +37,8 @@ fn uid_of(words: &Words) -> Option<Id>
 }
 
 /// The name of the new user, where it may be one. Fails only if memory runs out.
-fn name_of(alloc: Global, words: &Words) -> Result<Option<UserName>, AllocError>
-    ensures { IfOk result (λ name. name ≡ name_of words.now) }
+fn decoded_name(alloc: Global, words: &Words) -> Result<Option<UserName>, AllocError>
+    ensures { IfOk result (λ name. name ≡ decoded_name words.now) }
 {
     let name = read_name(alloc, words.operand(&ROW, "name").as_bytes())?;
     Ok(UserName::new(name))
@@ -58,7 +57,7 @@ fn line_with(words: &Words, name: UserName) -> Option<UseraddLine<'_>>
 pub(crate) fn read(alloc: Global, words: &Words) -> Result<Option<UseraddLine<'_>>, AllocError>
     ensures { IfOk result (λ line. line ≡ read words.now) }
 {
-    match name_of(alloc, words)? {
+    match decoded_name(alloc, words)? {
         Some(name) => Ok(line_with(words, name)),
         None => Ok(None),
     }
@@ -85,5 +84,5 @@ pub(crate) fn answer(
     ensures { Replies state.now result (answered state.now line.entry) }
 {
     let new = new_user(alloc, line)?;
-    prepare(alloc, state, &Command::Useradd(new))
+    effect_of(alloc, state, &Command::Useradd(new))
 }

@@ -4,8 +4,7 @@ ghost use Rattle.std.specs.Prelude.{◌≡◌};
 ghost use Rattle.facl_tools.specs.Replies.{Replies};
 ghost use Rattle.facl_tools.specs.Userdel.{answered, read};
 
-use crate::change::prepare;
-use crate::effect::Effect;
+use crate::effect::{Effect, effect_of};
 use crate::operands::name_meant;
 use crate::rows::one;
 use facl_listings::{Command, State};
@@ -20,7 +19,7 @@ pub(crate) static ROW: LineRows = LineRows {
 };
 
 /// A line of userdel(8).
-#[derive(Debug, Drop)]
+#[derive(Drop)]
 pub struct UserdelLine<'a> {
     pub user: LineWord<'a>,
 }
@@ -43,5 +42,5 @@ pub(crate) fn answer(
     ensures { Replies state.now result (answered state.now line.entry) }
 {
     let user = name_meant(alloc, &line.user)?;
-    prepare(alloc, state, &Command::Userdel { user })
+    effect_of(alloc, state, &Command::Userdel { user })
 }

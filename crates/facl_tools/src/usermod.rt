@@ -4,8 +4,7 @@ ghost use Rattle.std.specs.Prelude.{◌≡◌};
 ghost use Rattle.facl_tools.specs.Replies.{Replies};
 ghost use Rattle.facl_tools.specs.Usermod.{answered, read};
 
-use crate::change::prepare;
-use crate::effect::Effect;
+use crate::effect::{Effect, effect_of};
 use crate::operands::name_meant;
 use crate::rows::{by_letter, one};
 use facl_listings::{Command, State};
@@ -20,7 +19,7 @@ pub(crate) static ROW: LineRows = LineRows {
 };
 
 /// A line of usermod(8).
-#[derive(Debug, Drop)]
+#[derive(Drop)]
 pub struct UsermodLine<'a> {
     pub user: LineWord<'a>,
     /// `-g`: the primary group.
@@ -48,5 +47,5 @@ pub(crate) fn answer(
 {
     let user = name_meant(alloc, &line.user)?;
     let group = name_meant(alloc, &line.group)?;
-    prepare(alloc, state, &Command::Usermod { user, group })
+    effect_of(alloc, state, &Command::Usermod { user, group })
 }

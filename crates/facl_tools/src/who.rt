@@ -1,14 +1,13 @@
 //! The tool `who`: the users who may do something with a file.
 
 ghost use Rattle.std.specs.Prelude.{◌≡◌};
-ghost use Rattle.facl_listings.specs.acl_rights.Tables.{IsWhole};
 ghost use Rattle.facl_tools.specs.Replies.{Gives, Replies};
 ghost use Rattle.facl_tools.specs.Who.{answered, read, who_at, who_of};
 
 use crate::effect::Effect;
 use crate::operands::path_at;
 use crate::rows::{by_name, one};
-use facl_listings::{Index, Judge, Path, Perm, State, TreeFault, read_perms, write_who};
+use facl_listings::{IndexedState, Judge, Path, Perm, TreeFault, Verdicts, read_perms, write_who};
 use facl_messages::{LineFault, LineRows, LineWord, OperandRow, SwitchRow, Words};
 use std::alloc::Global;
 
@@ -20,7 +19,7 @@ pub(crate) static ROW: LineRows = LineRows {
 };
 
 /// A line of `who`.
-#[derive(Debug, Drop)]
+#[derive(Drop)]
 pub struct WhoLine<'a> {
     /// `--reach`: search on the directories above is required too.
     pub reach: bool,
@@ -45,16 +44,14 @@ pub(crate) fn read(words: &Words) -> Option<WhoLine<'_>>
 /// The users who are granted a request on the file of a path.
 fn who_at<J: Judge>(
     alloc: Global,
-    state: &State,
-    index: &Index<J>,
-    along: bool,
+    verdicts: &Verdicts<'_, J>,
     request: Perm,
     path: Path,
 ) -> Result<Vec<u8>, LineFault>
-    requires { IsWhole J.verdict_of state.now index.now }
-    ensures { Gives (λ out. out.items) result (who_at J.verdict_of along state.now request path) }
+    ensures { Gives (λ out. out.items) result
+        (who_at J.verdict_of verdicts.now.along verdicts.now.state.now request path) }
 {
-    match write_who(alloc, state, index, &path, request, along)? {
+    match write_who(alloc, verdicts, &path, request)? {
         Some(out) => Ok(out),
         None => Err(LineFault::Tree(TreeFault::NoSuchFile { path })),
     }
@@ -63,30 +60,27 @@ fn who_at<J: Judge>(
 /// The users who are granted a request on the file that a word means.
 fn who_of<J: Judge>(
     alloc: Global,
-    state: &State,
-    index: &Index<J>,
-    along: bool,
+    verdicts: &Verdicts<'_, J>,
     word: &LineWord<'_>,
     request: Perm,
 ) -> Result<Vec<u8>, LineFault>
-    requires { IsWhole J.verdict_of state.now index.now }
-    ensures { Gives (λ out. out.items) result (who_of J.verdict_of along state.now word.now request) }
+    ensures { Gives (λ out. out.items) result
+        (who_of J.verdict_of verdicts.now.along verdicts.now.state.now word.now request) }
 {
     let path = path_at(alloc, 1, word.as_bytes())?;
-    who_at(alloc, state, index, along, request, path)
+    who_at(alloc, verdicts, request, path)
 }
 
 /// The users who may do something with a file; with `--reach` only those who can search each recorded directory above
 /// it.
 pub(crate) fn answer<J: Judge>(
     alloc: Global,
-    state: &State,
-    index: &Index<J>,
+    indexed: &IndexedState<J>,
     line: WhoLine<'_>,
 ) -> Result<Effect, LineFault>
-    requires { IsWhole J.verdict_of state.now index.now }
-    ensures { Replies state.now result (answered J.verdict_of state.now line.entry) }
+    ensures { Replies indexed.now result (answered J.verdict_of indexed.now line.entry) }
 {
-    let out = who_of(alloc, state, index, line.reach, &line.file, line.request)?;
+    let verdicts = indexed.verdicts(line.reach);
+    let out = who_of(alloc, &verdicts, &line.file, line.request)?;
     Ok(Effect::prints(out))
 }

@@ -20,7 +20,7 @@ pub(crate) static ROW: LineRows = LineRows {
 };
 
 /// A line of `why`.
-#[derive(Debug, Drop)]
+#[derive(Drop)]
 pub struct WhyLine<'a> {
     /// `--reach`: the directories above are printed too.
     pub reach: bool,

@@ -3,10 +3,10 @@ use Rattle.std.proofs.Common.{◌≡◌, ◌<◌, ℕ, zero, suc, Bool, true, fa
 use Rattle.std.specs.Prelude.{codes}
 use Rattle.std.specs.List.{list_any}
 use Rattle.std.specs.Str.{bytes_eq}
-use Rattle.facl_script.specs.declared.place.Place.TheVariants.{Within}
+use Rattle.facl_script.specs.declared.words.Place.TheVariants.{Within}
 use Rattle.facl_script.proofs.WordLemmas.{IsSeen, seen_within}
-use Rattle.facl_script.specs.Words.{words_of, has_no_words}
-use Rattle.facl_words.specs.TextWords.{word_asks, words_ask, line_asks}
+use Rattle.facl_script.specs.Words.{words_of}
+use Rattle.facl_words.specs.TextWords.{word_asks, words_ask}
 use Rattle.std.specs.Option.{option_map_or}
 
 -- a short text differs from a word in the word's first bytes
@@ -60,11 +60,8 @@ take_grows zero word b = refl
 take_grows (suc n) [] b = refl
 take_grows (suc n) (x ∷ word) b = ap (λ l. x ∷ l) (take_grows n word b)
 
--- a line that is not blank or a comment asks for a text where its words do
-pub line_asks_words : (line : List ℕ) → has_no_words line ≡ false → line_asks line ≡ option_map_or words_ask (words_of line) false
-line_asks_words line has_some = rw has_some refl
-
-pub line_asks_within : (line : List ℕ) (done : List (List ℕ)) (word : List ℕ) → has_no_words line ≡ false → IsSeen line done word Within []
-    → line_asks line ≡ (words_ask done || word_asks (none_done done) word)
-line_asks_within line done word has_some h =
-    line_asks_words line has_some ∙ ap (λ o. option_map_or words_ask o false) (seen_within line done word h) ∙ ask_more done word
+-- a line that ends within a word asks for a text where its words do
+pub words_ask_within : (line : List ℕ) (done : List (List ℕ)) (word : List ℕ) → IsSeen line done word Within []
+    → option_map_or words_ask (words_of line) false ≡ (words_ask done || word_asks (none_done done) word)
+words_ask_within line done word h =
+    ap (λ o. option_map_or words_ask o false) (seen_within line done word h) ∙ ask_more done word

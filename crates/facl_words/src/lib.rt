@@ -9,8 +9,6 @@
 mod args;
 mod commands;
 mod fault;
-mod given;
-mod naming;
 mod reading;
 mod rows;
 mod text_words;
@@ -18,12 +16,11 @@ mod words;
 
 pub use args::read_args;
 pub use facl_script::{
-    Feed, ScriptFault, Session, Sink, SplitFault, StdFeed, StdSink, TextFound, UnitFound,
-    has_no_words, run_session, split_words, write_whole,
+    Feed, HeldLine, HeldText, HeldUnit, ScriptFault, Session, Sink, SplitFault, StdFeed, StdSink,
+    run_session, split_words, write_whole,
 };
 pub use fault::WordsFault;
-pub use given::{LineFiles, LineWord};
-pub use reading::read_by;
+pub use reading::{LineFiles, LineWord, read_by};
 pub use rows::{LineRows, OperandRow, SwitchRow};
 pub use text_words::{asks_for_text, is_text_word};
 pub use words::{Flags, Operands, Values, Word, Words};

@@ -1,25 +1,26 @@
-//! A line's words, taken from what clap found.
-ghost use Rattle.std.specs.Prelude.{◌≡◌, ◌++◌, [], IfOk, MatchResult, OnOk, Some, map};
-ghost use Rattle.std.specs.Prelude.{count_by, string_bytes, true, unwrap_or};
-ghost use Rattle.std.specs.List.{list_all};
+//! A line's words, borrowed from it, and taken from what clap found.
+
+ghost use Rattle.std.specs.Prelude.{◌≡◌, ◌++◌, [], IfOk, MatchResult, OnOk, Some, map, count_by, string_bytes, true, unwrap_or};
+ghost use Rattle.std.specs.List.{list_all, list_any};
 ghost use Rattle.clap.specs.Words.{all_of, first_of, found_of, is_simple_and_free, rows_of};
 ghost use Rattle.facl_words.specs.Rows.{line_of, switch_of};
-ghost use Rattle.facl_words.specs.Commands.{app_for, is_on};
-ghost use Rattle.facl_words.specs.Commands.{flags_in, operands_in, value_or, values_in};
+ghost use Rattle.facl_words.specs.Commands.{app_for, is_on, flags_in, operands_in, value_or, values_in};
 ghost use Rattle.facl_words.specs.Refusals.{IsRefusal};
 ghost use Rattle.facl_words.specs.Rules.{fits_text, is_named, texts_given};
 ghost use Rattle.facl_words.specs.TextWords.{is_text_word as is_text_spelling};
 ghost use Rattle.facl_words.specs.Words.{words_by, words_read};
+ghost use Rattle.facl_words.specs.Forms.{file_of, files_of, is_dash as names_input};
 
 use crate::commands::matches_for;
 use crate::fault::WordsFault;
-use crate::given::is_dash;
 use crate::rows::{LineRows, SwitchRow};
 use crate::text_words::is_text_word;
 use crate::words::{Flags, Operands, Values, Word, Words};
 use clap::ArgMatches;
 use std::alloc::{AllocError, Global};
+use std::marker::Model;
 
+/// Whether `clap` found a flag.
 fn is_flag_on(matches: &ArgMatches<'_>, id: &str) -> bool
     ensures { result ≡ is_on id.now (rows_of (found_of matches.now)) }
 {
@@ -29,6 +30,7 @@ fn is_flag_on(matches: &ArgMatches<'_>, id: &str) -> bool
     }
 }
 
+/// For each flag of the row whether `clap` found it.
 fn flags_of(alloc: Global, line: &LineRows, matches: &ArgMatches<'_>) -> Result<Flags, AllocError>
     ensures { IfOk result (λ f.
         f ≡ flags_in (line_of line.now) (rows_of (found_of matches.now))) }
@@ -40,6 +42,7 @@ fn flags_of(alloc: Global, line: &LineRows, matches: &ArgMatches<'_>) -> Result<
     Ok(Flags::new(items))
 }
 
+/// The value of an option, if `clap` found it.
 fn option_value(
     alloc: Global,
     row: &SwitchRow,
@@ -57,6 +60,7 @@ fn option_value(
     }
 }
 
+/// For each option of the row its value, if `clap` found it.
 fn values_of(alloc: Global, line: &LineRows, matches: &ArgMatches<'_>) -> Result<Values, AllocError>
     ensures { IfOk result (λ v.
         v ≡ values_in (line_of line.now) (rows_of (found_of matches.now))) }
@@ -68,6 +72,7 @@ fn values_of(alloc: Global, line: &LineRows, matches: &ArgMatches<'_>) -> Result
     Ok(Values::new(items))
 }
 
+/// Adds texts as words.
 fn push_words(alloc: Global, items: &mut Vec<Word>, texts: &[&str]) -> Result<(), AllocError>
     ensures { OnOk result (items.new.items ≡ items.old.items ++ map (λ t. t.now) texts.now) }
 {
@@ -93,6 +98,7 @@ fn push_operand(
     }
 }
 
+/// The operands that `clap` found, in their order.
 fn operands_of(
     alloc: Global,
     line: &LineRows,
@@ -193,5 +199,94 @@ pub fn read_by(alloc: Global, line: &LineRows, words: &[String]) -> Result<Words
         Ok(found)
     } else {
         Err(WordsFault::Usage)
+    }
+}
+
+/// Whether a word is `-`, which names standard input and no file.
+pub(crate) fn is_dash(word: &[u8]) -> bool
+    ensures { result ≡ names_input word.now }
+{
+    word == b"-".as_slice()
+}
+
+/// A word of a line, borrowed.
+#[derive(Debug, Drop)]
+pub struct LineWord<'a> {
+    bytes: &'a [u8],
+}
+
+impl<'a> Model for LineWord<'a> {
+    ghost use Rattle.std.specs.Prelude.{List, ℕ};
+
+    ghost Value = { List ℕ };
+
+    ghost view = { λ w. w.bytes.now };
+}
+
+impl<'a> LineWord<'a> {
+    /// The word with these bytes.
+    pub fn new(bytes: &'a [u8]) -> LineWord<'a>
+        ensures { result ≡ bytes.now }
+    {
+        LineWord { bytes }
+    }
+
+    /// The word's bytes.
+    pub fn as_bytes(&self) -> &'a [u8]
+        ensures { result.now ≡ self.now }
+    {
+        self.bytes
+    }
+
+    /// The word as a FILE. `None` where it is `-`, which names no file.
+    pub fn file(self) -> Option<LineWord<'a>>
+        ensures { result ≡ file_of self.entry }
+    {
+        if is_dash(self.bytes) {
+            None
+        } else {
+            Some(self)
+        }
+    }
+}
+
+/// Whether one of the words is `-`.
+fn have_dash(words: &[Word]) -> bool
+    ensures { result ≡ list_any names_input words.now }
+{
+    words.iter().any(|word| is_dash(word.as_bytes()))
+}
+
+/// FILEs that a line gives, borrowed: at least one, and none is `-`.
+#[derive(Debug, Drop)]
+pub struct LineFiles<'a> {
+    words: &'a [Word],
+}
+
+impl<'a> Model for LineFiles<'a> {
+    ghost use Rattle.std.specs.Prelude.{List, ℕ};
+
+    ghost Value = { List (List ℕ) };
+
+    ghost view = { λ f. f.words.now };
+}
+
+impl<'a> LineFiles<'a> {
+    /// The FILEs of words. `None` where there is no word, or one is `-`.
+    pub fn of(words: &'a [Word]) -> Option<LineFiles<'a>>
+        ensures { result ≡ files_of words.now }
+    {
+        if words.is_empty() || have_dash(words) {
+            None
+        } else {
+            Some(LineFiles { words })
+        }
+    }
+
+    /// Their words.
+    pub fn as_slice(&self) -> &'a [Word]
+        ensures { result.now ≡ self.now }
+    {
+        self.words
     }
 }

@@ -1,10 +1,14 @@
 //! Which lines of a script ask for the lines after them as their text. It is decided without memory.
-ghost use Rattle.std.specs.Prelude.{◌≡◌, ◌≤◌, [], ◌∷◌, ◌++◌, take};
+ghost use Rattle.std.specs.Prelude.{◌≡◌, ◌≤◌, ℕ, false, List, [], ◌∷◌, ◌++◌, Option, take};
+ghost use Rattle.std.specs.Option.{option_map_or};
+ghost use Rattle.facl_script.specs.Held.{IsLineHeld};
+ghost use Rattle.facl_script.specs.Units.{line_takes};
+ghost use Rattle.facl_script.specs.Words.{words_of};
 ghost use Rattle.facl_words.specs.TextWords.{is_text_word as is_text_spelling};
-ghost use Rattle.facl_words.specs.TextWords.{word_asks, line_asks};
+ghost use Rattle.facl_words.specs.TextWords.{word_asks, words_ask, line_asks};
 ghost use Rattle.facl_words.specs.declared.text_words.TheConstants.{BEGINNING};
 
-use facl_script::{Effect, Place, has_no_words};
+use facl_script::{CharAction, HeldLine, Place};
 
 /// Whether a word of a tool line names standard input as a file of entries or as a dump, as setfacl(1) spells it:
 /// `-`, `-M-`, `-X-`, `--modify-file=-`, `--remove-file=-`, `--set-file=-` or `--restore=-`.
@@ -45,6 +49,7 @@ struct Beginning {
 impl Beginning {
     ghost use Rattle.facl_words.specs.Beginning.{first_bytes};
 
+    /// No bytes.
     fn new() -> Beginning
         ensures { first_bytes result ≡ [] }
     {
@@ -64,6 +69,7 @@ impl Beginning {
         }
     }
 
+    /// The bytes.
     fn as_slice(&self) -> &[u8]
         ensures { result.now ≡ first_bytes self.now }
     {
@@ -71,23 +77,20 @@ impl Beginning {
     }
 }
 
-/// Whether a line asks for the lines after it, up to a line `.`, as its text: its first word is `load`, or a later one
-/// names standard input, once quotes are taken off. No line does that is blank, a comment, or has an open quote.
-pub fn asks_for_text(line: &[u8]) -> bool
-    ensures { result ≡ line_asks line.now }
+/// Whether one of the words of a line asks for a text: the first where it is `load`, a later one where it names standard
+/// input, once quotes are taken off. None does where a quote is open.
+fn words_ask(line: &[u8]) -> bool
+    ensures { result ≡ option_map_or words_ask (words_of line.now) false }
 {
-    if has_no_words(line) {
-        return false;
-    }
     let mut place = Place::Between;
     let mut beginning = Beginning::new();
     let mut is_first = true;
     let mut takes = false;
     for b in line {
-        match place.effect(*b as char) {
-            Effect::Skips => {}
-            Effect::Joins => beginning.push(*b),
-            Effect::Ends => {
+        match place.char_action(*b as char) {
+            CharAction::Skips => {}
+            CharAction::Joins => beginning.push(*b),
+            CharAction::Ends => {
                 takes |= asks(is_first, beginning.as_slice());
                 is_first = false;
                 beginning = Beginning::new();
@@ -99,5 +102,16 @@ pub fn asks_for_text(line: &[u8]) -> bool
         Place::Between => takes,
         Place::Within => takes || asks(is_first, beginning.as_slice()),
         Place::Quoted => false,
+    }
+}
+
+/// Whether a line asks for the lines after it, up to a line `.`, as its text: its first word is `load`, or a later one
+/// names standard input, once quotes are taken off. No line does that is blank, a comment, or has an open quote.
+pub fn asks_for_text(line: &HeldLine<'_>) -> bool
+    ensures { (content : Option (List ℕ)) → IsLineHeld line.now content → result ≡ line_takes line_asks content }
+{
+    match line {
+        HeldLine::TooLong | HeldLine::Silent(_) => false,
+        HeldLine::WithWords(bytes) => words_ask(bytes),
     }
 }

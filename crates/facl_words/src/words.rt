@@ -1,13 +1,14 @@
-//! The words of a line, by their kinds: which flags and options were given, and the operands.
-ghost use Rattle.std.specs.Prelude.{◌≡◌, [], IfOk, None, drop, false};
+//! The words of a line, by their kinds: which flags and options were given, and the operands; each by its name in a row.
+
+ghost use Rattle.std.specs.Prelude.{◌≡◌, [], IfOk, None, drop, false, map, position};
 ghost use Rattle.std.specs.List.{slice_index_or};
 ghost use Rattle.facl_words.specs.Forms.{file_of, files_of};
-ghost use Rattle.facl_words.specs.Naming.{gives, has, operand, operands_from, value};
-ghost use Rattle.facl_words.specs.Rows.{line_of};
+ghost use Rattle.facl_words.specs.Naming.{gives, has, operand, operands_from, value, place};
+ghost use Rattle.facl_words.specs.Rows.{line_of, operand_of, switch_of};
+ghost use Rattle.std.specs.Str.{bytes_eq};
 
-use crate::given::{LineFiles, LineWord};
-use crate::naming::{operand_place, switch_place};
-use crate::rows::LineRows;
+use crate::reading::{LineFiles, LineWord};
+use crate::rows::{LineRows, OperandRow, SwitchRow};
 use std::alloc::{AllocError, Global};
 use std::marker::Model;
 
@@ -51,7 +52,7 @@ impl Word {
 }
 
 /// Which flags were given, in the order of the row.
-#[derive(Debug, Drop)]
+#[derive(Drop)]
 pub struct Flags {
     items: Vec<bool>,
 }
@@ -81,7 +82,7 @@ impl Flags {
 }
 
 /// The values of the options, in the order of the row; `None` for an absent option.
-#[derive(Debug, Drop)]
+#[derive(Drop)]
 pub struct Values {
     items: Vec<Option<Word>>,
 }
@@ -114,7 +115,7 @@ impl Values {
 }
 
 /// The operands, in the order in which they were given.
-#[derive(Debug, Drop)]
+#[derive(Drop)]
 pub struct Operands {
     items: Vec<Word>,
 }
@@ -164,7 +165,7 @@ impl Operands {
 }
 
 /// The words of a line, each kind in the order of its row.
-#[derive(Debug, Drop)]
+#[derive(Drop)]
 pub struct Words {
     /// One for each flag of the row.
     pub flags: Flags,
@@ -223,4 +224,32 @@ impl Words {
     {
         LineFiles::of(self.operands_from(row, name))
     }
+}
+
+/// The place of a flag, or of an option, among its rows, by its name.
+fn find_switch(rows: &[SwitchRow], name: &str) -> Option<usize>
+    ensures { result ≡ position (λ row. bytes_eq row.id.now name.now) rows.now }
+{
+    rows.iter().position(|row| row.id == name)
+}
+
+/// The place of an operand among its rows, by its name.
+fn find_operand(rows: &[OperandRow], name: &str) -> Option<usize>
+    ensures { result ≡ position (λ row. bytes_eq row.id.now name.now) rows.now }
+{
+    rows.iter().position(|row| row.id == name)
+}
+
+/// The place of a flag or of an option, and how many there are where it is none of them.
+pub(crate) fn switch_place(rows: &[SwitchRow], name: &str) -> usize
+    ensures { result ≡ place name.now (map (λ s. s.id) (map switch_of rows.now)) }
+{
+    find_switch(rows, name).unwrap_or(rows.len())
+}
+
+/// The place of an operand, and how many there are where it is none of them.
+pub(crate) fn operand_place(rows: &[OperandRow], name: &str) -> usize
+    ensures { result ≡ place name.now (map (λ o. o.id) (map operand_of rows.now)) }
+{
+    find_operand(rows, name).unwrap_or(rows.len())
 }

@@ -1,5 +1,5 @@
 //! Tests of which lines of a script ask for a text.
-use facl_tools::{asks_for_text, is_text_word};
+use facl_tools::{HeldLine, asks_for_text, is_text_word};
 
 #[test]
 fn finds_text_lines(rt: HostRuntime) {
@@ -17,7 +17,7 @@ fn finds_text_lines(rt: HostRuntime) {
         b"\xff -",
     ];
     for line in ask {
-        assert!(rt; asks_for_text(line));
+        assert!(rt; asks_for_text(&HeldLine::of(line)));
     }
     let ask_for_none = [
         b"".as_slice(),
@@ -36,7 +36,7 @@ fn finds_text_lines(rt: HostRuntime) {
         b"x --modify-file=-0123456789",
     ];
     for line in ask_for_none {
-        assert!(rt; !asks_for_text(line));
+        assert!(rt; !asks_for_text(&HeldLine::of(line)));
     }
     assert!(rt; is_text_word(b"--restore=-"));
 }

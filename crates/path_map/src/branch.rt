@@ -5,12 +5,10 @@ ghost use Rattle.std.specs.List.{flat_map};
 ghost use Rattle.path_map.specs.Entries.{IsInOrder};
 ghost use Rattle.path_map.specs.Below.{from};
 
-use crate::chunk::Chunk;
-use crate::entry::Entry;
-use crate::merge::{Merge, merge_parts};
-use crate::part::{Part, count_entries, count_up_to, last_up_to, value_in};
-use crate::pieces::push_chunks;
-use crate::place::start;
+use crate::chunk::{
+    Chunk, MapEntry, Part, count_entries, count_up_to, last_up_to, start, value_in,
+};
+use crate::merge::{Merge, merge_parts, push_chunks};
 use acl_names::Path;
 use std::alloc::{AllocError, Global};
 use std::marker::Model;
@@ -58,7 +56,7 @@ impl<V> Branch<V> {
     }
 
     /// The entries that are not before a path: those of its chunk, and the chunks after it.
-    pub fn from(&self, path: &Path) -> (&[Rc<Entry<V>>], &[Rc<Chunk<V>>])
+    pub fn from(&self, path: &Path) -> (&[Rc<MapEntry<V>>], &[Rc<Chunk<V>>])
         ensures { map (λ r. r.value) result.0.now ++ flat_map (λ c. c.value) result.1.now ≡ from path.now self.now }
     {
         let chunks = self.chunks();
@@ -83,7 +81,7 @@ impl<V> Part<V> for Branch<V> {
         value_in(self.chunks(), path)
     }
 
-    fn up_to(&self, path: &Path) -> Option<&Rc<Entry<V>>> {
+    fn up_to(&self, path: &Path) -> Option<&Rc<MapEntry<V>>> {
         last_up_to(self.chunks(), path)
     }
 
@@ -97,8 +95,8 @@ impl<V: Drop> Merge<V> for Branch<V> {
         &self,
         alloc: Global,
         new: &mut Vec<Rc<Branch<V>>>,
-        puts: &[Rc<Entry<V>>],
-        gone: &[Rc<Entry<W>>],
+        puts: &[Rc<MapEntry<V>>],
+        gone: &[Rc<MapEntry<W>>],
     ) -> Result<(), AllocError> {
         let mut chunks = Vec::with_capacity(alloc, self.chunks().len())?;
         merge_parts(alloc, &mut chunks, self.chunks(), puts, gone)?;

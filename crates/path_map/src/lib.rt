@@ -3,17 +3,8 @@
 
 mod branch;
 mod chunk;
-mod entry;
-mod iter;
 mod map;
 mod merge;
-mod part;
-mod pieces;
-mod place;
-mod within;
 
-pub use entry::Entry;
-pub use iter::Entries;
-pub use map::PathMap;
-pub use place::is_in_order;
-pub use within::Within;
+pub use chunk::{MapEntry, is_in_order};
+pub use map::{Entries, PathMap, Within};

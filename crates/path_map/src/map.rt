@@ -1,14 +1,15 @@
-//! The map.
+//! The map; the walks over its entries; and those from a path on, at or below it, and up to it, found by search.
 
-ghost use Rattle.std.specs.Prelude.{◌≡◌, ◌<◌, [], length, IfOk};
+ghost use Rattle.std.specs.Prelude.{◌≡◌, ◌<◌, [], length, IfOk, ◌∷◌, MatchOption, option_map};
 ghost use Rattle.std.specs.Option.{option_copied};
 ghost use Rattle.std.specs.FinMap.{find};
 ghost use Rattle.std.specs.List.{flat_map};
 ghost use Rattle.acl_names.specs.Paths.{path_cmp};
-ghost use Rattle.path_map.specs.Entries.{IsInOrder};
+ghost use Rattle.path_map.specs.Entries.{IsInOrder, first};
+ghost use Rattle.path_map.specs.Below.{from, within, up_to};
 
 use crate::branch::Branch;
-use crate::part::{count_entries, value_in};
+use crate::chunk::{Chunk, MapEntry, count_entries, count_up_to, last_up_to, value_in};
 use acl_names::Path;
 use std::alloc::{AllocError, Global};
 use std::marker::Model;
@@ -60,7 +61,7 @@ impl<V> PathMap<V> {
     }
 
     /// Proof only: the entries are in path order, each path once.
-    pub fn is_in_order(&self)
+    pub fn order_law(&self)
         ensures { IsInOrder self.now }
     {
         let _branches = self.branches();
@@ -90,5 +91,160 @@ impl<V: Drop> PathMap<V> {
         Ok(PathMap {
             branches: self.branches.clone()?,
         })
+    }
+}
+
+/// A cursor over the entries at or below a path: those that are still to come, in path order.
+#[derive(Drop)]
+pub struct Within<'a, V> {
+    rest: Entries<'a, V>,
+    top: &'a Path,
+}
+
+impl<'a, V> Model for Within<'a, V> {
+    ghost use Rattle.std.specs.Prelude.{List};
+    ghost use Rattle.path_map.specs.Entries.{PathOf, IsInOrder};
+    ghost use Rattle.path_map.specs.Below.{within};
+    ghost use Rattle.path_map.specs.Inner.{From};
+
+    ghost Value = { List (PathOf × V) };
+
+    ghost view = { λ w. within w.top.now w.rest };
+
+    ghost invariant = { λ w. IsInOrder w.rest × From w.top.now w.rest };
+}
+
+impl<'a, V> Within<'a, V> {
+    /// The next entry in path order. Allocates nothing.
+    pub fn next(&mut self) -> Option<&'a Rc<MapEntry<V>>>
+        ensures { MatchOption result ((self.old ≡ []) × (self.new ≡ [])) (λ entry. self.old ≡ entry.now.value ∷ self.new) }
+    {
+        let Some(entry) = self.rest.next() else {
+            return None;
+        };
+        if !entry.path().is_within(self.top) {
+            return None;
+        }
+        Some(entry)
+    }
+}
+
+impl<V> PathMap<V> {
+    /// The entries that are not before a path. Allocates nothing.
+    pub fn from(&self, path: &Path) -> Entries<'_, V>
+        ensures { result ≡ from path.now self.now }
+    {
+        let branches = self.branches();
+        let after = count_up_to(branches, path);
+        if after == 0 {
+            return self.iter();
+        }
+        let (entries, chunks) = branches[after - 1].from(path);
+        Entries {
+            entries,
+            chunks,
+            branches: branches.split_at(after).1,
+        }
+    }
+
+    /// The last entry that is not after a path, if there is one. Allocates nothing.
+    pub fn up_to(&self, path: &Path) -> Option<&Rc<MapEntry<V>>>
+        ensures { option_map (λ e. e.now.value) result ≡ up_to path.now self.now }
+    {
+        self.order_law();
+        last_up_to(self.branches(), path)
+    }
+
+    /// The entries at or below a path. Allocates nothing.
+    pub fn within<'a>(&'a self, path: &'a Path) -> Within<'a, V>
+        ensures { result ≡ within path.now self.now }
+    {
+        self.order_law();
+        Within {
+            rest: self.from(path),
+            top: path,
+        }
+    }
+}
+
+/// A cursor over the entries of a map: those that are still to come, in path order.
+#[derive(Drop)]
+pub struct Entries<'a, V> {
+    pub(crate) entries: &'a [Rc<MapEntry<V>>],
+    pub(crate) chunks: &'a [Rc<Chunk<V>>],
+    pub(crate) branches: &'a [Rc<Branch<V>>],
+}
+
+impl<'a, V> Model for Entries<'a, V> {
+    ghost use Rattle.std.specs.Prelude.{List, ◌++◌, map};
+    ghost use Rattle.std.specs.List.{flat_map};
+    ghost use Rattle.path_map.specs.Entries.{PathOf};
+
+    ghost Value = { List (PathOf × V) };
+
+    ghost view = { λ f. map (λ r. r.value) f.entries.now ++ flat_map (λ c. c.value) f.chunks.now ++ flat_map (λ b. b.value) f.branches.now };
+}
+
+impl<'a, V> Iterator for Entries<'a, V> {
+    ghost use Rattle.std.specs.Iterator.{YieldsFirstBy, item_count};
+
+    type Item = &'a Rc<MapEntry<V>>;
+
+    ghost next_gives = { YieldsFirstBy (λ entry. entry.now.value) (λ entries. entries) };
+
+    ghost remaining = { item_count (λ entries. entries) };
+
+    /// The next entry in path order. Allocates nothing.
+    fn next(&mut self) -> Option<&'a Rc<MapEntry<V>>> {
+        if self.entries.is_empty() {
+            if self.chunks.is_empty() {
+                let [branch, more @ ..] = self.branches else {
+                    return None;
+                };
+                self.chunks = branch.chunks();
+                self.branches = more;
+            }
+            let [chunk, more @ ..] = self.chunks else {
+                return None;
+            };
+            self.entries = chunk.entries();
+            self.chunks = more;
+        }
+        let [first, rest @ ..] = self.entries else {
+            return None;
+        };
+        self.entries = rest;
+        Some(first)
+    }
+}
+
+impl<'a, V> Entries<'a, V> {
+    /// The entry that `next` would return. Allocates nothing.
+    pub fn peek(&self) -> Option<&'a Rc<MapEntry<V>>>
+        ensures { option_map (λ entry. entry.now.value) result ≡ first self.now }
+    {
+        match self.entries {
+            [entry, ..] => Some(entry),
+            [] => match self.chunks {
+                [chunk, ..] => Some(&chunk.entries()[0]),
+                [] => match self.branches {
+                    [branch, ..] => Some(&branch.chunks()[0].entries()[0]),
+                    [] => None,
+                },
+            },
+        }
+    }
+}
+
+impl<V> PathMap<V> {
+    /// The entries in path order. Allocates nothing.
+    pub fn iter(&self) -> Entries<'_, V>
+        ensures { result ≡ self.now }
+    {
+        Entries {
+            entries: &[],
+            chunks: &[],
+            branches: self.branches(),
+        }
     }
 }

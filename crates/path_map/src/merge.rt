@@ -1,15 +1,14 @@
-//! A map with some entries put and others removed: only the branches and chunks that contain them are copied.
+//! A map with some entries put and others removed: only the branches and chunks that contain them are copied. New
+//! entries are cut into chunks, and chunks into branches.
 
-ghost use Rattle.std.specs.Prelude.{◌≡◌, ◌++◌, ◌<◌, length, map, IfOk, OnOk};
+ghost use Rattle.std.specs.Prelude.{◌≡◌, ◌++◌, ◌<◌, length, map, IfOk, OnOk, ◌≤◌};
 ghost use Rattle.std.specs.List.{flat_map};
 ghost use Rattle.path_map.specs.Entries.{IsInOrder};
 ghost use Rattle.path_map.specs.Merged.{put_all, without_all, merged};
 
-use crate::entry::Entry;
+use crate::branch::{Branch, MAX_CHUNKS};
+use crate::chunk::{Chunk, MAX_ENTRIES, MapEntry, Part, has, start};
 use crate::map::PathMap;
-use crate::part::Part;
-use crate::pieces::{push_chunks, push_entries};
-use crate::place::{has, start};
 use std::alloc::{AllocError, Global};
 use std::cmp::Ordering;
 use std::rc::Rc;
@@ -27,9 +26,9 @@ fn share_all<T: Drop>(new: &mut Vec<Rc<T>>, values: &[Rc<T>]) -> Result<(), Allo
 /// The entries with others put among them.
 fn put_in<V: Drop>(
     alloc: Global,
-    entries: &[Rc<Entry<V>>],
-    puts: &[Rc<Entry<V>>],
-) -> Result<Vec<Rc<Entry<V>>>, AllocError>
+    entries: &[Rc<MapEntry<V>>],
+    puts: &[Rc<MapEntry<V>>],
+) -> Result<Vec<Rc<MapEntry<V>>>, AllocError>
     requires entries { IsInOrder (map (λ r. r.value) entries.now) }
     requires puts { IsInOrder (map (λ r. r.value) puts.now) }
     ensures { IfOk result (λ new. map (λ r. r.value) new.items ≡ put_all (map (λ r. r.value) puts.now) (map (λ r. r.value) entries.now)) }
@@ -67,9 +66,9 @@ fn put_in<V: Drop>(
 /// The entries whose paths are not those of others.
 fn entries_without<V: Drop, W>(
     alloc: Global,
-    entries: &[Rc<Entry<V>>],
-    gone: &[Rc<Entry<W>>],
-) -> Result<Vec<Rc<Entry<V>>>, AllocError>
+    entries: &[Rc<MapEntry<V>>],
+    gone: &[Rc<MapEntry<W>>],
+) -> Result<Vec<Rc<MapEntry<V>>>, AllocError>
     requires { IsInOrder (map (λ r. r.value) gone.now) }
     ensures { IfOk result (λ kept. map (λ r. r.value) kept.items ≡ without_all (map (λ r. r.value) gone.now) (map (λ r. r.value) entries.now)) }
 {
@@ -85,14 +84,15 @@ fn entries_without<V: Drop, W>(
 /// Entries with some put and others removed.
 pub(crate) fn merged_entries<V: Drop, W>(
     alloc: Global,
-    entries: &[Rc<Entry<V>>],
-    puts: &[Rc<Entry<V>>],
-    gone: &[Rc<Entry<W>>],
-) -> Result<Vec<Rc<Entry<V>>>, AllocError>
+    entries: &[Rc<MapEntry<V>>],
+    puts: &[Rc<MapEntry<V>>],
+    gone: &[Rc<MapEntry<W>>],
+) -> Result<Vec<Rc<MapEntry<V>>>, AllocError>
     requires entries { IsInOrder (map (λ r. r.value) entries.now) }
     requires puts { IsInOrder (map (λ r. r.value) puts.now) }
     requires gone { IsInOrder (map (λ r. r.value) gone.now) }
-    ensures { IfOk result (λ new. map (λ r. r.value) new.items ≡ merged (map (λ r. r.value) puts.now) (map (λ r. r.value) gone.now) (map (λ r. r.value) entries.now)) }
+    ensures { IfOk result (λ new. map (λ r. r.value) new.items ≡ merged (map (λ r. r.value) puts.now) (map (λ r. r.value) gone.now)
+        (map (λ r. r.value) entries.now)) }
 {
     if gone.is_empty() {
         return put_in(alloc, entries, puts);
@@ -108,12 +108,14 @@ pub(crate) trait Merge<V>: Part<V> + Sized + Drop {
         &self,
         alloc: Global,
         new: &mut Vec<Rc<Self>>,
-        puts: &[Rc<Entry<V>>],
-        gone: &[Rc<Entry<W>>],
+        puts: &[Rc<MapEntry<V>>],
+        gone: &[Rc<MapEntry<W>>],
     ) -> Result<(), AllocError>
         requires puts { IsInOrder (map (λ r. r.value) puts.now) }
         requires gone { IsInOrder (map (λ r. r.value) gone.now) }
-        ensures { OnOk result (flat_map (λ c. Self.entries_of c.value) new.new.items ≡ flat_map (λ c. Self.entries_of c.value) new.old.items ++ merged (map (λ r. r.value) puts.now) (map (λ r. r.value) gone.now) (Self.entries_of self.now)) };
+        ensures { OnOk result (flat_map (λ c. Self.entries_of c.value) new.new.items
+            ≡ flat_map (λ c. Self.entries_of c.value) new.old.items ++ merged (map (λ r. r.value) puts.now)
+            (map (λ r. r.value) gone.now) (Self.entries_of self.now)) };
 }
 
 /// Adds parts with some entries put and others removed. With nothing to put or remove the parts are shared; else
@@ -122,14 +124,16 @@ pub(crate) fn merge_parts<V, W, P: Merge<V>>(
     alloc: Global,
     new: &mut Vec<Rc<P>>,
     parts: &[Rc<P>],
-    puts: &[Rc<Entry<V>>],
-    gone: &[Rc<Entry<W>>],
+    puts: &[Rc<MapEntry<V>>],
+    gone: &[Rc<MapEntry<W>>],
 ) -> Result<(), AllocError>
     requires some { 0 < length parts.now }
     requires entries { IsInOrder (flat_map (λ c. P.entries_of c.value) parts.now) }
     requires puts { IsInOrder (map (λ r. r.value) puts.now) }
     requires gone { IsInOrder (map (λ r. r.value) gone.now) }
-    ensures { OnOk result (flat_map (λ c. P.entries_of c.value) new.new.items ≡ flat_map (λ c. P.entries_of c.value) new.old.items ++ merged (map (λ r. r.value) puts.now) (map (λ r. r.value) gone.now) (flat_map (λ c. P.entries_of c.value) parts.now)) }
+    ensures { OnOk result (flat_map (λ c. P.entries_of c.value) new.new.items
+        ≡ flat_map (λ c. P.entries_of c.value) new.old.items ++ merged (map (λ r. r.value) puts.now) (map (λ r. r.value) gone.now)
+        (flat_map (λ c. P.entries_of c.value) parts.now)) }
 {
     if puts.is_empty() && gone.is_empty() {
         share_all(new, parts)?;
@@ -155,7 +159,7 @@ pub(crate) fn merge_parts<V, W, P: Merge<V>>(
 
 impl<V: Drop> PathMap<V> {
     /// The map of entries in path order. Fails only if memory runs out.
-    pub fn from_sorted(alloc: Global, entries: &[Rc<Entry<V>>]) -> Result<PathMap<V>, AllocError>
+    pub fn from_sorted(alloc: Global, entries: &[Rc<MapEntry<V>>]) -> Result<PathMap<V>, AllocError>
         requires { IsInOrder (map (λ r. r.value) entries.now) }
         ensures { IfOk result (λ all. all ≡ map (λ r. r.value) entries.now) }
     {
@@ -172,8 +176,8 @@ impl<V: Drop> PathMap<V> {
     pub fn merged<W>(
         &self,
         alloc: Global,
-        puts: &[Rc<Entry<V>>],
-        gone: &[Rc<Entry<W>>],
+        puts: &[Rc<MapEntry<V>>],
+        gone: &[Rc<MapEntry<W>>],
     ) -> Result<PathMap<V>, AllocError>
         requires puts { IsInOrder (map (λ r. r.value) puts.now) }
         requires gone { IsInOrder (map (λ r. r.value) gone.now) }
@@ -189,11 +193,11 @@ impl<V: Drop> PathMap<V> {
     }
 
     /// The map with some entries put, in path order. This map stays as it is. Fails only if memory runs out.
-    pub fn put_all(&self, alloc: Global, puts: &[Rc<Entry<V>>]) -> Result<PathMap<V>, AllocError>
+    pub fn put_all(&self, alloc: Global, puts: &[Rc<MapEntry<V>>]) -> Result<PathMap<V>, AllocError>
         requires { IsInOrder (map (λ r. r.value) puts.now) }
         ensures { IfOk result (λ new. new ≡ put_all (map (λ r. r.value) puts.now) self.now) }
     {
-        let none: Vec<Rc<Entry<V>>> = Vec::new(alloc);
+        let none: Vec<Rc<MapEntry<V>>> = Vec::new(alloc);
         self.merged(alloc, puts, &none)
     }
 
@@ -202,12 +206,82 @@ impl<V: Drop> PathMap<V> {
     pub fn without_all<W>(
         &self,
         alloc: Global,
-        gone: &[Rc<Entry<W>>],
+        gone: &[Rc<MapEntry<W>>],
     ) -> Result<PathMap<V>, AllocError>
         requires { IsInOrder (map (λ r. r.value) gone.now) }
         ensures { IfOk result (λ new. new ≡ without_all (map (λ r. r.value) gone.now) self.now) }
     {
-        let none: Vec<Rc<Entry<V>>> = Vec::new(alloc);
+        let none: Vec<Rc<MapEntry<V>>> = Vec::new(alloc);
         self.merged(alloc, &none, gone)
     }
+}
+
+/// Entries as one chunk.
+fn chunk_of<V: Drop>(alloc: Global, entries: &[Rc<MapEntry<V>>]) -> Result<Rc<Chunk<V>>, AllocError>
+    requires order { IsInOrder (map (λ r. r.value) entries.now) }
+    requires some { 0 < length entries.now }
+    requires few { length entries.now ≤ 256 }
+    ensures { IfOk result (λ chunk. chunk.value ≡ map (λ r. r.value) entries.now) }
+{
+    Ok(Rc::new(alloc, Chunk::new(entries.to_vec(alloc)?))?)
+}
+
+/// Chunks as one branch.
+fn branch_of<V: Drop>(alloc: Global, chunks: &[Rc<Chunk<V>>]) -> Result<Rc<Branch<V>>, AllocError>
+    requires order { IsInOrder (flat_map (λ c. c.value) chunks.now) }
+    requires some { 0 < length chunks.now }
+    requires few { length chunks.now ≤ 64 }
+    ensures { IfOk result (λ branch. branch.value ≡ flat_map (λ c. c.value) chunks.now) }
+{
+    Ok(Rc::new(alloc, Branch::new(chunks.to_vec(alloc)?))?)
+}
+
+/// The length of pieces of equal lengths, as few as can be where none is longer than a limit.
+fn piece_length(count: usize, limit: usize) -> usize
+    requires { 0 < limit }
+    ensures some { 0 < result }
+    ensures few { result ≤ limit }
+{
+    let last = count.saturating_sub(1);
+    let pieces = last / limit + 1;
+    last / pieces + 1
+}
+
+/// Adds entries, in chunks.
+pub(crate) fn push_entries<V: Drop>(
+    alloc: Global,
+    new: &mut Vec<Rc<Chunk<V>>>,
+    entries: &[Rc<MapEntry<V>>],
+) -> Result<(), AllocError>
+    requires { IsInOrder (map (λ r. r.value) entries.now) }
+    ensures { OnOk result (flat_map (λ c. c.value) new.new.items ≡ flat_map (λ c. c.value) new.old.items ++ map (λ r. r.value) entries.now) }
+{
+    let most = piece_length(entries.len(), MAX_ENTRIES);
+    let mut rest = entries;
+    while !rest.is_empty() {
+        let length = rest.len().min(most);
+        let (part, after) = rest.split_at(length);
+        new.push(chunk_of(alloc, part)?)?;
+        rest = after;
+    }
+    Ok(())
+}
+
+/// Adds chunks, in branches.
+pub(crate) fn push_chunks<V: Drop>(
+    alloc: Global,
+    new: &mut Vec<Rc<Branch<V>>>,
+    chunks: &[Rc<Chunk<V>>],
+) -> Result<(), AllocError>
+    requires { IsInOrder (flat_map (λ c. c.value) chunks.now) }
+    ensures { OnOk result (flat_map (λ b. b.value) new.new.items ≡ flat_map (λ b. b.value) new.old.items ++ flat_map (λ c. c.value) chunks.now) }
+{
+    let most = piece_length(chunks.len(), MAX_CHUNKS);
+    let mut rest = chunks;
+    while !rest.is_empty() {
+        let (part, after) = rest.split_at(rest.len().min(most));
+        new.push(branch_of(alloc, part)?)?;
+        rest = after;
+    }
+    Ok(())
 }

@@ -1,15 +1,15 @@
 //! A map of three branches: the even numbers below 80,000 as names, each with itself as value.
 use acl_names::read_path;
-use path_map::{Entries, Entry, PathMap, is_in_order};
+use path_map::{Entries, MapEntry, PathMap, is_in_order};
 use std::alloc::Global;
 use std::process::Abort;
 use std::rc::Rc;
 use std::test::Fail;
 
-fn numbered(rt: &impl Abort, alloc: Global, number: u32) -> Result<Rc<Entry<u32>>, Fail> {
+fn numbered(rt: &impl Abort, alloc: Global, number: u32) -> Result<Rc<MapEntry<u32>>, Fail> {
     let text = format!(in alloc; "{number:05}")?;
     let path = read_path(alloc, text.as_bytes())?.expect(rt, "a path");
-    Ok(Rc::new(alloc, Entry::new(Rc::new(alloc, path)?, number))?)
+    Ok(Rc::new(alloc, MapEntry::new(Rc::new(alloc, path)?, number))?)
 }
 
 fn evens(rt: &impl Abort, alloc: Global) -> Result<PathMap<u32>, Fail> {

@@ -1,6 +1,6 @@
 //! A map of four paths.
 use acl_names::{Path, read_path, write_path};
-use path_map::{Entries, Entry, PathMap, is_in_order};
+use path_map::{Entries, MapEntry, PathMap, is_in_order};
 use std::alloc::Global;
 use std::process::Abort;
 use std::rc::Rc;
@@ -10,9 +10,14 @@ fn path(rt: &impl Abort, alloc: Global, text: &[u8]) -> Result<Path, Fail> {
     Ok(read_path(alloc, text)?.expect(rt, "a path"))
 }
 
-fn entry(rt: &impl Abort, alloc: Global, text: &[u8], value: u32) -> Result<Rc<Entry<u32>>, Fail> {
+fn entry(
+    rt: &impl Abort,
+    alloc: Global,
+    text: &[u8],
+    value: u32,
+) -> Result<Rc<MapEntry<u32>>, Fail> {
     let path = Rc::new(alloc, path(rt, alloc, text)?)?;
-    Ok(Rc::new(alloc, Entry::new(path, value))?)
+    Ok(Rc::new(alloc, MapEntry::new(path, value))?)
 }
 
 /// The root, `a`, `a/b` and `ab`, with 1 to 4.

@@ -1,6 +1,8 @@
 //! acl_edit: one file, its edits, modes and new files.
 use crate::nobody::Nobody;
-use acl_edit::{Edit, EditFault, Kind, Node, Specs, apply, chmod, create};
+use acl_edit::{
+    Change, ChangeEntries, ChangeFlags, Edit, EditFault, Kind, Node, Specs, apply, chmod, create,
+};
 use acl_entry::{Acl, Id, Label};
 use acl_text::{Sep, Spec, Want, Which, read_entries};
 use std::alloc::Global;
@@ -30,16 +32,20 @@ fn specs(rt: &impl Abort, alloc: Global, text: &[u8]) -> Specs {
 
 /// `-m` with the entries of a text.
 fn modifying(rt: &impl Abort, alloc: Global, text: &[u8]) -> Edit {
-    Edit::Change {
-        strip: false,
-        drop_default: false,
-        as_default: false,
-        no_mask: false,
-        remask: false,
-        remove: specs(rt, alloc, b""),
-        set: specs(rt, alloc, b""),
-        modify: specs(rt, alloc, text),
-    }
+    Edit::Change(Change {
+        flags: ChangeFlags {
+            strip: false,
+            drop_default: false,
+            as_default: false,
+            no_mask: false,
+            remask: false,
+        },
+        entries: ChangeEntries {
+            removed: specs(rt, alloc, b""),
+            set: specs(rt, alloc, b""),
+            modified: specs(rt, alloc, text),
+        },
+    })
 }
 
 /// A file after an edit that is accepted.

@@ -101,10 +101,10 @@ fn the_check(rt: HostRuntime) {
     let joe: Id = Id::new(1000).expect(&rt, "an id");
     let staff: Id = Id::new(50).expect(&rt, "an id");
     let subject: Result<Subject, NoMemory> = Subject::from_groups(rt.alloc(), joe, &[staff]);
-    let requests: Requests = granted(
-        &subject.expect(&rt, "memory"),
-        &label(&rt, rt.alloc(), staff),
-    );
+    let subject: Subject = subject.expect(&rt, "memory");
+    let is_matched: bool = subject.matches(staff, &Key::OwningGroup);
+    assert!(rt; is_matched && !subject.matches(joe, &Key::OwningGroup));
+    let requests: Requests = granted(&subject, &label(&rt, rt.alloc(), staff));
     let Requests(byte) = requests;
     assert!(rt; byte == 0xff);
 }

@@ -22,8 +22,8 @@ pub fn follow(
     people: &mut People,
     command: &Command<'_>,
 ) -> Option<Followed> {
-    tree.is_sound();
-    people.is_sound();
+    tree.soundness_law();
+    people.soundness_law();
     let mut judge = OwnerAlone::new();
     let mut index: Index<OwnerAlone> = match Index::build(alloc, &mut judge, tree, people) {
         Ok(index) => index,
@@ -34,8 +34,8 @@ pub fn follow(
         Ok(staged) => staged,
         Err(_) => return None,
     };
-    staged.tree().is_sound();
-    staged.people().is_sound();
+    staged.tree().soundness_law();
+    staged.people().soundness_law();
     let rows: Rows = match index.stage(alloc, &mut judge, &staged) {
         Ok(rows) => rows,
         Err(_) => {

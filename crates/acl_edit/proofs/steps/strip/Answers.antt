@@ -1,6 +1,6 @@
 use Rattle.std.proofs.Common.{ap, arith}
 use mathlib.Core.Bool.{false≢true}
-use Rattle.acl_entry.specs.declared.key.Key.TheVariants.{Owner, OwningGroup}
+use Rattle.acl_entry.specs.declared.entry.Key.TheVariants.{Owner, OwningGroup}
 use Rattle.acl_edit.specs.Rooms.{size}
 use Rattle.acl_edit.proofs.Sizes.{size-empty, size-put_some}
 use Rattle.acl_edit.proofs.steps.strip.Goals as goal

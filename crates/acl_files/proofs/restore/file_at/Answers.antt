@@ -9,7 +9,7 @@ use Rattle.acl_files.proofs.restore.file_at.Goals as goal
 
 pub returns-in_default : goal.returns-in_default
 returns-in_default c =
-    none_at c.args.path.now c.args.tree.now.files c.is_sound.ensures.order
+    none_at c.args.path.now c.args.tree.now.files c.soundness_law.ensures.order
     (sym (c.from.ensures ∙ ap (λ es. from c.args.path.now es) c.files_by_path.ensures.all) ∙ c.in_default.ensures.steps.0)
 
 pub returns-in-Equal : goal.returns-in-Equal
@@ -19,7 +19,7 @@ returns-in-Equal c =
     let e : PathOf × Node = c.in-Some.file.now.value in
     let first : from p t ≡ e ∷ c.next.new.self = sym (c.from.ensures ∙ ap (λ es. from p es) c.files_by_path.ensures.all) ∙ c.in-Some.ensures.steps in
     let is : path_cmp p e.0 ≡ Equal = ap (λ q. path_cmp p q) (sym (c.path.ensures ∙ ap (λ e. e.0) c.deref.ensures)) ∙ sym c.order.ensures ∙ c.in-Equal.is in
-    (sym (exact_paths p e.0 is), first_at p t c.next.new.self e Equal c.is_sound.ensures.order first is)
+    (sym (exact_paths p e.0 is), first_at p t c.next.new.self e Equal c.soundness_law.ensures.order first is)
 
 pub returns-in-Less : goal.returns-in-Less
 returns-in-Less c =
@@ -28,7 +28,7 @@ returns-in-Less c =
     let e : PathOf × Node = c.in-Some.file.now.value in
     let first : from p t ≡ e ∷ c.next.new.self = sym (c.from.ensures ∙ ap (λ es. from p es) c.files_by_path.ensures.all) ∙ c.in-Some.ensures.steps in
     let is : path_cmp p e.0 ≡ Less = ap (λ q. path_cmp p q) (sym (c.path.ensures ∙ ap (λ e. e.0) c.deref.ensures)) ∙ sym c.order.ensures ∙ c.in-Less.is in
-    first_at p t c.next.new.self e Less c.is_sound.ensures.order first is
+    first_at p t c.next.new.self e Less c.soundness_law.ensures.order first is
 
 pub returns-in-Greater : goal.returns-in-Greater
 returns-in-Greater c =
@@ -37,4 +37,4 @@ returns-in-Greater c =
     let e : PathOf × Node = c.in-Some.file.now.value in
     let first : from p t ≡ e ∷ c.next.new.self = sym (c.from.ensures ∙ ap (λ es. from p es) c.files_by_path.ensures.all) ∙ c.in-Some.ensures.steps in
     let is : path_cmp p e.0 ≡ Greater = ap (λ q. path_cmp p q) (sym (c.path.ensures ∙ ap (λ e. e.0) c.deref.ensures)) ∙ sym c.order.ensures ∙ c.in-Greater.is in
-    first_at p t c.next.new.self e Greater c.is_sound.ensures.order first is
+    first_at p t c.next.new.self e Greater c.soundness_law.ensures.order first is

@@ -39,11 +39,11 @@ put_all-requires c =
     let whole : map (λ x. x.1) c.in_ok-found.found.items ≡ records = c.in_ok-found.ensures.records ∙ c.as_slice.ensures.all in
     let sorted : map (λ x. x.1) xs ≡ in_path_order records = ap (λ l. map (λ x. x.1) l) listed ∙ c.in_path_order-sorted.ensures.order ∙ ap (λ rs. in_path_order rs) whole in
     let all : All (IsFileOf t) xs = subst (λ l. All (IsFileOf t) l) (sym listed) (All-permutation (IsFileOf t) c.in_ok-found.found.items c.in_path_order-sorted.result.items c.in_path_order-sorted.ensures.same c.in_ok-found.ensures.files) in
-    let seen : map (λ x. x.0) xs ≡ meant = files_are t records xs c.is_sound.ensures.order sorted all in
-    let by_record = each_by_record t records xs c.is_sound.ensures.order sorted all in
+    let seen : map (λ x. x.0) xs ≡ meant = files_are t records xs c.soundness_law.ensures.order sorted all in
+    let by_record = each_by_record t records xs c.soundness_law.ensures.order sorted all in
     let ns : Files = map (λ r. r.value) c.in_ok-edits.edits.items in
     let made : edit_each edit meant ≡ Ok ns = ap (λ es. edit_each edit es) (sym seen) ∙ sym (restored_are edit xs by_record) ∙ c.in_ok-edits.ensures.made in
-    subst IsInOrder (sym (ap (λ l. map (λ r. r.value) l) c.deref-2.ensures.value)) (in_order-edits edit false (paths_of records) t ns c.is_sound.ensures.order made)
+    subst IsInOrder (sym (ap (λ l. map (λ r. r.value) l) c.deref-2.ensures.value)) (in_order-edits edit false (paths_of records) t ns c.soundness_law.ensures.order made)
 
 pub of-requires : goal.of-requires
 of-requires c =
@@ -57,16 +57,16 @@ of-requires c =
     let whole : map (λ x. x.1) c.in_ok-found.found.items ≡ records = c.in_ok-found.ensures.records ∙ c.as_slice.ensures.all in
     let sorted : map (λ x. x.1) xs ≡ in_path_order records = ap (λ l. map (λ x. x.1) l) listed ∙ c.in_path_order-sorted.ensures.order ∙ ap (λ rs. in_path_order rs) whole in
     let all : All (IsFileOf t) xs = subst (λ l. All (IsFileOf t) l) (sym listed) (All-permutation (IsFileOf t) c.in_ok-found.found.items c.in_path_order-sorted.result.items c.in_path_order-sorted.ensures.same c.in_ok-found.ensures.files) in
-    let seen : map (λ x. x.0) xs ≡ meant = files_are t records xs c.is_sound.ensures.order sorted all in
-    let by_record = each_by_record t records xs c.is_sound.ensures.order sorted all in
+    let seen : map (λ x. x.0) xs ≡ meant = files_are t records xs c.soundness_law.ensures.order sorted all in
+    let by_record = each_by_record t records xs c.soundness_law.ensures.order sorted all in
     let ns : Files = map (λ r. r.value) c.in_ok-edits.edits.items in
     let made : edit_each edit meant ≡ Ok ns = ap (λ es. edit_each edit es) (sym seen) ∙ sym (restored_are edit xs by_record) ∙ c.in_ok-edits.ensures.made in
     let new : c.in_ok-by_path.by_path ≡ edit_files test (node_after edit) t =
-    c.in_ok-by_path.ensures ∙ (λ i. put_all (map (λ r. r.value) (c.deref-2.ensures.value i)) (c.files_by_path.ensures.all i)) ∙ put_edits edit false (paths_of records) t ns c.is_sound.ensures.order made
+    c.in_ok-by_path.ensures ∙ (λ i. put_all (map (λ r. r.value) (c.deref-2.ensures.value i)) (c.files_by_path.ensures.all i)) ∙ put_edits edit false (paths_of records) t ns c.soundness_law.ensures.order made
     in
     let keeps : (p : PathOf) (n m : Node) → restore_one records p n ≡ Ok m → KeepsPlace n m = λ p. restore_keeps (option_map edit_of (record_at p records)) in
     subst (λ (t : Recorded). IsSoundTree t) (λ i. record { files = sym new i; loaded = sym c.is_loaded.ensures i })
-    (edited_sound test (node_after edit) (keeps_after edit keeps) c.args.tree.now c.is_sound.ensures)
+    (edited_sound test (node_after edit) (keeps_after edit keeps) c.args.tree.now c.soundness_law.ensures)
 
 pub returns-clause-made : goal.returns-clause-made
 returns-clause-made c =
@@ -80,8 +80,8 @@ returns-clause-made c =
     let whole : map (λ x. x.1) c.in_ok-found.found.items ≡ records = c.in_ok-found.ensures.records ∙ c.as_slice.ensures.all in
     let sorted : map (λ x. x.1) xs ≡ in_path_order records = ap (λ l. map (λ x. x.1) l) listed ∙ c.in_path_order-sorted.ensures.order ∙ ap (λ rs. in_path_order rs) whole in
     let all : All (IsFileOf t) xs = subst (λ l. All (IsFileOf t) l) (sym listed) (All-permutation (IsFileOf t) c.in_ok-found.found.items c.in_path_order-sorted.result.items c.in_path_order-sorted.ensures.same c.in_ok-found.ensures.files) in
-    let seen : map (λ x. x.0) xs ≡ meant = files_are t records xs c.is_sound.ensures.order sorted all in
-    let by_record = each_by_record t records xs c.is_sound.ensures.order sorted all in
+    let seen : map (λ x. x.0) xs ≡ meant = files_are t records xs c.soundness_law.ensures.order sorted all in
+    let by_record = each_by_record t records xs c.soundness_law.ensures.order sorted all in
     let ns : Files = map (λ r. r.value) c.in_ok-edits.edits.items in
     let made : edit_each edit meant ≡ Ok ns = ap (λ es. edit_each edit es) (sym seen) ∙ sym (restored_are edit xs by_record) ∙ c.in_ok-edits.ensures.made in
     let new : c.in_ok-by_path.by_path ≡ put_all ns t =
@@ -104,19 +104,19 @@ returns-clause-reported c =
     let whole : map (λ x. x.1) c.in_ok-found.found.items ≡ records = c.in_ok-found.ensures.records ∙ c.as_slice.ensures.all in
     let sorted : map (λ x. x.1) xs ≡ in_path_order records = ap (λ l. map (λ x. x.1) l) listed ∙ c.in_path_order-sorted.ensures.order ∙ ap (λ rs. in_path_order rs) whole in
     let all : All (IsFileOf t) xs = subst (λ l. All (IsFileOf t) l) (sym listed) (All-permutation (IsFileOf t) c.in_ok-found.found.items c.in_path_order-sorted.result.items c.in_path_order-sorted.ensures.same c.in_ok-found.ensures.files) in
-    let seen : map (λ x. x.0) xs ≡ meant = files_are t records xs c.is_sound.ensures.order sorted all in
-    let by_record = each_by_record t records xs c.is_sound.ensures.order sorted all in
+    let seen : map (λ x. x.0) xs ≡ meant = files_are t records xs c.soundness_law.ensures.order sorted all in
+    let by_record = each_by_record t records xs c.soundness_law.ensures.order sorted all in
     let ns : Files = map (λ r. r.value) c.in_ok-edits.edits.items in
     let made : edit_each edit meant ≡ Ok ns = ap (λ es. edit_each edit es) (sym seen) ∙ sym (restored_are edit xs by_record) ∙ c.in_ok-edits.ensures.made in
     let new : c.in_ok-by_path.by_path ≡ edit_files test (node_after edit) t =
-    c.in_ok-by_path.ensures ∙ (λ i. put_all (map (λ r. r.value) (c.deref-2.ensures.value i)) (c.files_by_path.ensures.all i)) ∙ put_edits edit false (paths_of records) t ns c.is_sound.ensures.order made
+    c.in_ok-by_path.ensures ∙ (λ i. put_all (map (λ r. r.value) (c.deref-2.ensures.value i)) (c.files_by_path.ensures.all i)) ∙ put_edits edit false (paths_of records) t ns c.soundness_law.ensures.order made
     in
     c.in_ok-edits.ensures.reported
     ∙ ap (λ l. map (λ r. r.value) c.args.changed.now.items ++ l)
     (changed_are edit xs by_record
     ∙ ap (λ es. changed_by (λ _. true) (node_after edit) es) seen
     ∙ changed-all test (node_after edit) t
-    ∙ changed-edited test (node_after edit) t c.is_sound.ensures.order
+    ∙ changed-edited test (node_after edit) t c.soundness_law.ensures.order
     ∙ ap (λ es. changed_between t es) (sym (ap (λ (t : Recorded). t.files) c.of.ensures ∙ new)))
 
 pub returns-clause-gone : goal.returns-clause-gone
@@ -131,14 +131,14 @@ returns-clause-gone c =
     let whole : map (λ x. x.1) c.in_ok-found.found.items ≡ records = c.in_ok-found.ensures.records ∙ c.as_slice.ensures.all in
     let sorted : map (λ x. x.1) xs ≡ in_path_order records = ap (λ l. map (λ x. x.1) l) listed ∙ c.in_path_order-sorted.ensures.order ∙ ap (λ rs. in_path_order rs) whole in
     let all : All (IsFileOf t) xs = subst (λ l. All (IsFileOf t) l) (sym listed) (All-permutation (IsFileOf t) c.in_ok-found.found.items c.in_path_order-sorted.result.items c.in_path_order-sorted.ensures.same c.in_ok-found.ensures.files) in
-    let seen : map (λ x. x.0) xs ≡ meant = files_are t records xs c.is_sound.ensures.order sorted all in
-    let by_record = each_by_record t records xs c.is_sound.ensures.order sorted all in
+    let seen : map (λ x. x.0) xs ≡ meant = files_are t records xs c.soundness_law.ensures.order sorted all in
+    let by_record = each_by_record t records xs c.soundness_law.ensures.order sorted all in
     let ns : Files = map (λ r. r.value) c.in_ok-edits.edits.items in
     let made : edit_each edit meant ≡ Ok ns = ap (λ es. edit_each edit es) (sym seen) ∙ sym (restored_are edit xs by_record) ∙ c.in_ok-edits.ensures.made in
     let new : c.in_ok-by_path.by_path ≡ edit_files test (node_after edit) t =
-    c.in_ok-by_path.ensures ∙ (λ i. put_all (map (λ r. r.value) (c.deref-2.ensures.value i)) (c.files_by_path.ensures.all i)) ∙ put_edits edit false (paths_of records) t ns c.is_sound.ensures.order made
+    c.in_ok-by_path.ensures ∙ (λ i. put_all (map (λ r. r.value) (c.deref-2.ensures.value i)) (c.files_by_path.ensures.all i)) ∙ put_edits edit false (paths_of records) t ns c.soundness_law.ensures.order made
     in
-    ap (λ es. gone_between t es) (ap (λ (t : Recorded). t.files) c.of.ensures ∙ new) ∙ gone-edited test (node_after edit) t c.is_sound.ensures.order
+    ap (λ es. gone_between t es) (ap (λ (t : Recorded). t.files) c.of.ensures ∙ new) ∙ gone-edited test (node_after edit) t c.soundness_law.ensures.order
 
 pub returns-in_err-edits-clause-fault : goal.returns-in_err-edits-clause-fault
 returns-in_err-edits-clause-fault c =
@@ -152,8 +152,8 @@ returns-in_err-edits-clause-fault c =
     let whole : map (λ x. x.1) c.in_ok-found.found.items ≡ records = c.in_ok-found.ensures.records ∙ c.as_slice.ensures.all in
     let sorted : map (λ x. x.1) xs ≡ in_path_order records = ap (λ l. map (λ x. x.1) l) listed ∙ c.in_path_order-sorted.ensures.order ∙ ap (λ rs. in_path_order rs) whole in
     let all : All (IsFileOf t) xs = subst (λ l. All (IsFileOf t) l) (sym listed) (All-permutation (IsFileOf t) c.in_ok-found.found.items c.in_path_order-sorted.result.items c.in_path_order-sorted.ensures.same c.in_ok-found.ensures.files) in
-    let seen : map (λ x. x.0) xs ≡ meant = files_are t records xs c.is_sound.ensures.order sorted all in
-    let by_record = each_by_record t records xs c.is_sound.ensures.order sorted all in
+    let seen : map (λ x. x.0) xs ≡ meant = files_are t records xs c.soundness_law.ensures.order sorted all in
+    let by_record = each_by_record t records xs c.soundness_law.ensures.order sorted all in
     let there : first_missing (paths_of records) t ≡ None = ap (λ rs. first_missing (paths_of rs) t) (sym c.as_slice.ensures.all) ∙ c.in_ok-found.ensures.there in
     let each : restore_each xs ≡ edit_each edit meant = restored_are edit xs by_record ∙ ap (λ es. edit_each edit es) seen in
     let p = err_from_is_err_and c.from_residual-in_err-edits.result c.from_residual-in_err-edits.ensures.1 in

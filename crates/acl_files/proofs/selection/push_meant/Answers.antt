@@ -14,7 +14,7 @@ loop-file-init c =
     let t = c.args.tree.now.files in
     let here : c.from-rest.result ≡ from p t = c.from-rest.ensures ∙ ap (λ es. from p es) c.files_by_path.ensures.all in
     record {
-      at_end = subst (λ es. IsAtEnd p t es) (sym here) (end_begins p t c.is_sound.ensures.order);
+      at_end = subst (λ es. IsAtEnd p t es) (sym here) (end_begins p t c.soundness_law.ensures.order);
       all = ap (λ es. c.args.files.now.items ++ found_in t es) (ap (λ es. filter (λ e. means c.args.recursive p e.0) es) here ∙ meant_from c.args.recursive p t);
     }
 
@@ -27,7 +27,7 @@ returns-then-not-means c =
     ap (λ q. means c.args.recursive p q) (sym (c.path.ensures ∙ ap (λ e. e.0) c.deref.ensures)) ∙ sym c.means.ensures ∙ c.if-not-means.true
     in
     sym (append-nil c.loop-file.files.items)
-    ∙ ap (λ es. c.loop-file.files.items ++ found_in t es) (sym (none_meant c.args.recursive p t c.loop-file.rest c.next.new.self e c.is_sound.ensures.order c.in-Some.ensures.steps c.loop-file.invariant.at_end out))
+    ∙ ap (λ es. c.loop-file.files.items ++ found_in t es) (sym (none_meant c.args.recursive p t c.loop-file.rest c.next.new.self e c.soundness_law.ensures.order c.in-Some.ensures.steps c.loop-file.invariant.at_end out))
     ∙ c.loop-file.invariant.all
 
 pub loop-file-preserved : goal.loop-file-preserved
@@ -40,7 +40,7 @@ loop-file-preserved c =
     ap (λ q. means c.args.recursive p q) (sym (c.path.ensures ∙ ap (λ e. e.0) c.deref.ensures)) ∙ sym c.means.ensures ∙ c.if-not-means.false
     in
     let pushed : c.in_ok-found.found ≡ found_file (holds_below t e.0) e =
-    c.in_ok-found.ensures ∙ ap (λ b. found_file b e) (next_at_end p t c.loop-file.rest more e c.is_sound.ensures.order c.in-Some.ensures.steps c.loop-file.invariant.at_end)
+    c.in_ok-found.ensures ∙ ap (λ b. found_file b e) (next_at_end p t c.loop-file.rest more e c.soundness_law.ensures.order c.in-Some.ensures.steps c.loop-file.invariant.at_end)
     in
     let after : Files = filter (λ e. means c.args.recursive p e.0) more in
     record {

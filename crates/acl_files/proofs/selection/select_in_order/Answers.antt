@@ -47,6 +47,6 @@ loop-operand-preserved c =
       all =
           c.in_ok-push_meant.ensures
           ∙ ap (λ l. l ++ found_in t (filter (λ e. means b p e.0) t)) c.loop-operand.invariant.all
-          ∙ selected_more b t ps p c.is_sound.ensures.order before out
+          ∙ selected_more b t ps p c.soundness_law.ensures.order before out
           ∙ ap (λ qs. files_found b qs t) (sym next);
     }

@@ -1,5 +1,5 @@
 use Rattle.std.proofs.Common.{sym, ap, ◌∙◌}
-use Rattle.acl_people.specs.Registers.{names_user}
+use Rattle.acl_people.specs.KnownPeople.{names_user}
 use Rattle.acl_people.proofs.Changed.{name_removed-absent}
 use Rattle.acl_people.proofs.groups.row_without.Goals as goal
 

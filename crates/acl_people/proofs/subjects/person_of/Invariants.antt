@@ -1,5 +1,5 @@
 use Rattle.std.proofs.Common.{◌≡◌, ◌∷◌, map, filter, take}
-use Rattle.acl_people.specs.Registers.{names_user}
+use Rattle.acl_people.specs.KnownPeople.{names_user}
 use Rattle.acl_people.proofs.subjects.person_of.Given as goal
 
 abbrev pub invariant-loop-group : goal.invariant-loop-group

@@ -1,7 +1,7 @@
 use Rattle.std.proofs.Common.{◌≡◌, ◌∷◌, nat_cmp, map, ap, ◌∙◌, arith}
 use Rattle.std.specs.FinSet as sets
 use Rattle.std.proofs.lemmas.Grind.{common_steps}
-use Rattle.acl_people.specs.Registers.{person}
+use Rattle.acl_people.specs.KnownPeople.{person}
 use Rattle.acl_people.proofs.Gids.{person_is}
 use Rattle.acl_people.proofs.Pointers.{map_take_more}
 use Rattle.acl_people.proofs.subjects.subjects_of.Goals as goal

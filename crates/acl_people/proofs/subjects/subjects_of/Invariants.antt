@@ -1,5 +1,5 @@
 use Rattle.std.proofs.Common.{◌≡◌, map, take}
-use Rattle.acl_people.specs.Registers.{person}
+use Rattle.acl_people.specs.KnownPeople.{person}
 use Rattle.acl_people.proofs.subjects.subjects_of.Given as goal
 
 abbrev pub invariant-loop-row : goal.invariant-loop-row

@@ -41,3 +41,27 @@ returns-clause-asked g c =
     let none = none_left c.args.counts.now c.loop-at.at (length c.args.users.now) (omega (arith, c.requires.long, c.loop-at-test.false)) in
     let so_far = c.loop-at.invariant.asked in
     omega (arith, none, so_far)
+
+pub returns-clause-at_most : goal.returns-clause-at_most
+returns-clause-at_most g c =
+    let none = none_left c.args.counts.now c.loop-at.at (length c.args.users.now) (omega (arith, c.requires.long, c.loop-at-test.false)) in
+    let so_far = c.loop-at.invariant.asked in
+    omega (arith, none, so_far)
+
+pub returns-in_err-row-clause-at_most : goal.returns-in_err-row-clause-at_most
+returns-in_err-row-clause-at_most g c =
+    let at = c.loop-at.at in
+    let lt : at < length c.args.counts.now = omega (arith, c.requires.long, c.loop-at-test.true) in
+    let left = asked_left c.args.counts.now at (length c.args.users.now) lt in
+    let so_far = c.loop-at.invariant.asked in
+    let asked = c.judged.ensures.at_most in
+    omega (arith, left, so_far, asked)
+
+pub returns-in_err-push-clause-at_most : goal.returns-in_err-push-clause-at_most
+returns-in_err-push-clause-at_most g c =
+    let at = c.loop-at.at in
+    let lt : at < length c.args.counts.now = omega (arith, c.requires.long, c.loop-at-test.true) in
+    let left = asked_left c.args.counts.now at (length c.args.users.now) lt in
+    let so_far = c.loop-at.invariant.asked in
+    let asked = c.in_ok-row.ensures.asked in
+    omega (arith, left, so_far, asked)

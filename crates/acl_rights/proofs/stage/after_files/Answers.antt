@@ -1,7 +1,7 @@
 use Rattle.std.proofs.Common.{List, map, length, refl, ap, sym, subst, ◌∙◌, arith}
 use Rattle.path_map.specs.Entries.{IsInOrder}
 use Rattle.acl_tree.specs.Files.{Recorded}
-use Rattle.acl_tree.specs.acl_people.Registers.{Register, persons}
+use Rattle.acl_tree.specs.acl_people.KnownPeople.{KnownPeople, persons}
 use Rattle.acl_verdicts.specs.declared.steps.Step.{Step}
 use Rattle.acl_verdicts.specs.Ways.{AreFirst, reaches_of}
 use Rattle.acl_rights.proofs.After.{changed_order, gone_order, after_labelled, after_puts, after_apart, after_first, after_within, after_walked, after_rows, grants_made}
@@ -12,38 +12,38 @@ pub with_files-requires-clause-changed : goal.with_files-requires-clause-changed
 with_files-requires-clause-changed g c =
     let V = g.J.Judge.verdict_of in
     let t = c.args.staged.now in
-    let order = subst (λ (r : Recorded). IsInOrder r.files) c.tree.ensures c.is_sound.ensures.order in
-    changed_order V c.args.grants.now t c.requires.goes c.is_in_order.ensures order c.requires.moved (map (λ r. r.value) c.changed.result.now) c.changed.ensures
+    let order = subst (λ (r : Recorded). IsInOrder r.files) c.tree.ensures c.soundness_law.ensures.order in
+    changed_order V c.args.grants.now t c.requires.goes c.order_law.ensures order c.requires.moved (map (λ r. r.value) c.changed.result.now) c.changed.ensures
 
 pub with_files-requires-clause-gone : goal.with_files-requires-clause-gone
 with_files-requires-clause-gone g c =
     let V = g.J.Judge.verdict_of in
     let t = c.args.staged.now in
-    let order = subst (λ (r : Recorded). IsInOrder r.files) c.tree.ensures c.is_sound.ensures.order in
-    gone_order V c.args.grants.now t c.requires.goes c.is_in_order.ensures order c.requires.moved (map (λ r. r.value) c.gone-gone.result.now) c.gone-gone.ensures
+    let order = subst (λ (r : Recorded). IsInOrder r.files) c.tree.ensures c.soundness_law.ensures.order in
+    gone_order V c.args.grants.now t c.requires.goes c.order_law.ensures order c.requires.moved (map (λ r. r.value) c.gone-gone.result.now) c.gone-gone.ensures
 
-pub again-requires-clause-tops : goal.again-requires-clause-tops
-again-requires-clause-tops g c =
+pub updated-requires-clause-tops : goal.updated-requires-clause-tops
+updated-requires-clause-tops g c =
     let V = g.J.Judge.verdict_of in
     let t = c.args.staged.now in
-    let order = subst (λ (r : Recorded). IsInOrder r.files) c.tree.ensures c.is_sound.ensures.order in
-    subst IsInOrder (sym (ap (map (λ e. e.value)) c.deref.ensures.value)) (after_puts V c.args.grants.now t c.requires.goes c.is_in_order.ensures order c.requires.moved
+    let order = subst (λ (r : Recorded). IsInOrder r.files) c.tree.ensures c.soundness_law.ensures.order in
+    subst IsInOrder (sym (ap (map (λ e. e.value)) c.deref.ensures.value)) (after_puts V c.args.grants.now t c.requires.goes c.order_law.ensures order c.requires.moved
     (map (λ r. r.value) c.changed.result.now) (map (λ r. r.value) c.gone-gone.result.now) c.changed.ensures c.gone-gone.ensures c.all_subjects-users.result.now (c.all_subjects-users.ensures ∙ ap persons c.people.ensures)
     c.in_ok-new.new.rows (map (λ e. e.value) c.in_ok-new.new.puts.items) c.in_ok-new.ensures.rows)
 
-pub again-requires-clause-gone : goal.again-requires-clause-gone
-again-requires-clause-gone g c =
+pub updated-requires-clause-gone : goal.updated-requires-clause-gone
+updated-requires-clause-gone g c =
     let V = g.J.Judge.verdict_of in
     let t = c.args.staged.now in
-    let order = subst (λ (r : Recorded). IsInOrder r.files) c.tree.ensures c.is_sound.ensures.order in
-    gone_order V c.args.grants.now t c.requires.goes c.is_in_order.ensures order c.requires.moved (map (λ r. r.value) c.gone-gone.result.now) c.gone-gone.ensures
+    let order = subst (λ (r : Recorded). IsInOrder r.files) c.tree.ensures c.soundness_law.ensures.order in
+    gone_order V c.args.grants.now t c.requires.goes c.order_law.ensures order c.requires.moved (map (λ r. r.value) c.gone-gone.result.now) c.gone-gone.ensures
 
-pub again-requires-clause-apart : goal.again-requires-clause-apart
-again-requires-clause-apart g c =
+pub updated-requires-clause-apart : goal.updated-requires-clause-apart
+updated-requires-clause-apart g c =
     let V = g.J.Judge.verdict_of in
     let t = c.args.staged.now in
-    let order = subst (λ (r : Recorded). IsInOrder r.files) c.tree.ensures c.is_sound.ensures.order in
-    after_apart V c.args.grants.now t c.requires.goes c.is_in_order.ensures order c.requires.moved
+    let order = subst (λ (r : Recorded). IsInOrder r.files) c.tree.ensures c.soundness_law.ensures.order in
+    after_apart V c.args.grants.now t c.requires.goes c.order_law.ensures order c.requires.moved
     (map (λ r. r.value) c.changed.result.now) (map (λ r. r.value) c.gone-gone.result.now) c.changed.ensures c.gone-gone.ensures c.all_subjects-users.result.now (c.all_subjects-users.ensures ∙ ap persons c.people.ensures)
     c.in_ok-new.new.rows (map (λ e. e.value) c.in_ok-new.new.puts.items) c.in_ok-new.ensures.rows
 
@@ -51,55 +51,55 @@ pub reaches_after-requires : goal.reaches_after-requires
 reaches_after-requires g c =
     let V = g.J.Judge.verdict_of in
     let t = c.args.staged.now in
-    let order = subst (λ (r : Recorded). IsInOrder r.files) c.tree.ensures c.is_sound.ensures.order in
+    let order = subst (λ (r : Recorded). IsInOrder r.files) c.tree.ensures c.soundness_law.ensures.order in
     subst (λ (ss : List Step). AreFirst c.in_ok-new.new.rows.cells ss c.args.grants.now.reaches) (sym c.steps.ensures)
-    (after_first V c.args.grants.now t c.requires.goes c.is_in_order.ensures order c.requires.moved
+    (after_first V c.args.grants.now t c.requires.goes c.order_law.ensures order c.requires.moved
     (map (λ r. r.value) c.changed.result.now) (map (λ r. r.value) c.gone-gone.result.now) c.changed.ensures c.gone-gone.ensures c.all_subjects-users.result.now (c.all_subjects-users.ensures ∙ ap persons c.people.ensures)
-    c.in_ok-new.new.rows (map (λ e. e.value) c.in_ok-new.new.puts.items) c.in_ok-new.ensures.rows c.in_ok-again.again.ways.steps c.in_ok-again.ensures.kept)
+    c.in_ok-new.new.rows (map (λ e. e.value) c.in_ok-new.new.puts.items) c.in_ok-new.ensures.rows c.in_ok-updated.updated.ways.steps c.in_ok-updated.ensures.kept)
 
 pub overflow_mul-result : goal.overflow_mul-result
 overflow_mul-result g c =
     let V = g.J.Judge.verdict_of in
     let t = c.args.staged.now in
-    let order = subst (λ (r : Recorded). IsInOrder r.files) c.tree.ensures c.is_sound.ensures.order in
-    let walked = after_walked V c.args.grants.now t c.requires.goes c.is_in_order.ensures order c.requires.moved
+    let order = subst (λ (r : Recorded). IsInOrder r.files) c.tree.ensures c.soundness_law.ensures.order in
+    let walked = after_walked V c.args.grants.now t c.requires.goes c.order_law.ensures order c.requires.moved
     (map (λ r. r.value) c.changed.result.now) (map (λ r. r.value) c.gone-gone.result.now) c.changed.ensures c.gone-gone.ensures c.all_subjects-users.result.now (c.all_subjects-users.ensures ∙ ap persons c.people.ensures)
     c.in_ok-new.new.rows (map (λ e. e.value) c.in_ok-new.new.puts.items) c.in_ok-new.ensures.rows
-    (map (λ e. e.value) c.deref.result.now) (ap (map (λ e. e.value)) c.deref.ensures.value) c.in_ok-again.again.walked c.in_ok-again.ensures.walked in
-    let fits = files_fit t c.in_ok-again.again.walked c.users.result walked (c.users.ensures ∙ ap (λ (r : Register). length r.users) c.people-2.ensures) c.requires.counts in
+    (map (λ e. e.value) c.deref.result.now) (ap (map (λ e. e.value)) c.deref.ensures.value) c.in_ok-updated.updated.walked c.in_ok-updated.ensures.walked in
+    let fits = files_fit t c.in_ok-updated.updated.walked c.users.result walked (c.users.ensures ∙ ap (λ (r : KnownPeople). length r.users) c.people-2.ensures) c.requires.counts in
     omega (arith, fits)
 
 pub returns-clause-grants : goal.returns-clause-grants
 returns-clause-grants g c =
     let V = g.J.Judge.verdict_of in
     let t = c.args.staged.now in
-    let order = subst (λ (r : Recorded). IsInOrder r.files) c.tree.ensures c.is_sound.ensures.order in
-    let ways = c.in_ok-again.again.ways in
+    let order = subst (λ (r : Recorded). IsInOrder r.files) c.tree.ensures c.soundness_law.ensures.order in
+    let ways = c.in_ok-updated.updated.ways in
     grants_made c.in_ok-new.new.rows ways (record { rows = c.in_ok-new.new.rows; ways = ways; reaches = c.in_ok-reaches.reaches; max_numbers = c.args.grants.now.max_numbers }) refl refl (c.in_ok-reaches.ensures ∙ ap (λ (ss : List Step). reaches_of c.in_ok-new.new.rows.cells ss) c.steps.ensures) t.state.tree.files
-    (after_labelled V c.args.grants.now t c.requires.goes c.is_in_order.ensures order c.requires.moved
+    (after_labelled V c.args.grants.now t c.requires.goes c.order_law.ensures order c.requires.moved
     (map (λ r. r.value) c.changed.result.now) (map (λ r. r.value) c.gone-gone.result.now) c.changed.ensures c.gone-gone.ensures c.all_subjects-users.result.now (c.all_subjects-users.ensures ∙ ap persons c.people.ensures)
     c.in_ok-new.new.rows (map (λ e. e.value) c.in_ok-new.new.puts.items) c.in_ok-new.ensures.rows)
-    c.in_ok-again.ensures.steps
-    (after_within V c.args.grants.now t c.requires.goes c.is_in_order.ensures order c.requires.moved
+    c.in_ok-updated.ensures.steps
+    (after_within V c.args.grants.now t c.requires.goes c.order_law.ensures order c.requires.moved
     (map (λ r. r.value) c.changed.result.now) (map (λ r. r.value) c.gone-gone.result.now) c.changed.ensures c.gone-gone.ensures c.all_subjects-users.result.now (c.all_subjects-users.ensures ∙ ap persons c.people.ensures)
-    c.in_ok-new.new.rows (map (λ e. e.value) c.in_ok-new.new.puts.items) c.in_ok-new.ensures.rows ways.steps c.in_ok-again.ensures.rows)
+    c.in_ok-new.new.rows (map (λ e. e.value) c.in_ok-new.new.puts.items) c.in_ok-new.ensures.rows ways.steps c.in_ok-updated.ensures.rows)
 
 pub returns-clause-rows : goal.returns-clause-rows
 returns-clause-rows g c =
     let V = g.J.Judge.verdict_of in
     let t = c.args.staged.now in
-    let order = subst (λ (r : Recorded). IsInOrder r.files) c.tree.ensures c.is_sound.ensures.order in
-    after_rows V c.args.grants.now t c.requires.goes c.is_in_order.ensures order c.requires.moved
+    let order = subst (λ (r : Recorded). IsInOrder r.files) c.tree.ensures c.soundness_law.ensures.order in
+    after_rows V c.args.grants.now t c.requires.goes c.order_law.ensures order c.requires.moved
     (map (λ r. r.value) c.changed.result.now) (map (λ r. r.value) c.gone-gone.result.now) c.changed.ensures c.gone-gone.ensures c.all_subjects-users.result.now (c.all_subjects-users.ensures ∙ ap persons c.people.ensures)
-    c.in_ok-new.new.rows (map (λ e. e.value) c.in_ok-new.new.puts.items) c.in_ok-new.ensures.rows c.is_in_order-2.ensures
+    c.in_ok-new.new.rows (map (λ e. e.value) c.in_ok-new.new.puts.items) c.in_ok-new.ensures.rows c.order_law-2.ensures
 
 pub returns-clause-refreshed : goal.returns-clause-refreshed
 returns-clause-refreshed g c =
     let V = g.J.Judge.verdict_of in
     let t = c.args.staged.now in
-    let order = subst (λ (r : Recorded). IsInOrder r.files) c.tree.ensures c.is_sound.ensures.order in
-    let walked = after_walked V c.args.grants.now t c.requires.goes c.is_in_order.ensures order c.requires.moved
+    let order = subst (λ (r : Recorded). IsInOrder r.files) c.tree.ensures c.soundness_law.ensures.order in
+    let walked = after_walked V c.args.grants.now t c.requires.goes c.order_law.ensures order c.requires.moved
     (map (λ r. r.value) c.changed.result.now) (map (λ r. r.value) c.gone-gone.result.now) c.changed.ensures c.gone-gone.ensures c.all_subjects-users.result.now (c.all_subjects-users.ensures ∙ ap persons c.people.ensures)
     c.in_ok-new.new.rows (map (λ e. e.value) c.in_ok-new.new.puts.items) c.in_ok-new.ensures.rows
-    (map (λ e. e.value) c.deref.result.now) (ap (map (λ e. e.value)) c.deref.ensures.value) c.in_ok-again.again.walked c.in_ok-again.ensures.walked in
-    files_refreshed t c.in_ok-again.again.walked c.users.result c.requires.moved walked (c.users.ensures ∙ ap (λ (r : Register). length r.users) c.people-2.ensures)
+    (map (λ e. e.value) c.deref.result.now) (ap (map (λ e. e.value)) c.deref.ensures.value) c.in_ok-updated.updated.walked c.in_ok-updated.ensures.walked in
+    files_refreshed t c.in_ok-updated.updated.walked c.users.result c.requires.moved walked (c.users.ensures ∙ ap (λ (r : KnownPeople). length r.users) c.people-2.ensures)

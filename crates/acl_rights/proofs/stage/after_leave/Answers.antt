@@ -10,21 +10,21 @@ pub returns-clause-grants : goal.returns-clause-grants
 returns-clause-grants g c =
     let V = g.J.Judge.verdict_of in
     let t = c.args.staged.now in
-    let order = subst (λ (r : Recorded). IsInOrder r.files) c.tree.ensures c.is_sound.ensures.order in
+    let order = subst (λ (r : Recorded). IsInOrder r.files) c.tree.ensures c.soundness_law.ensures.order in
     grants_kept c.in_ok-rows.rows c.in_ok-ways.ways c.args.grants.now c.in_ok-reached.field-0 c.in_ok-reached.ensures.rows c.in_ok-reached.ensures.ways c.in_ok-reached.ensures.reaches c.in_ok-ways.ensures
-    c.requires.goes.goes.state.tree.files t.state.tree.files c.requires.goes.kept (left_labelled V c.args.grants.now t c.requires.goes c.is_in_order.ensures order c.args.at c.requires.moved c.in_ok-rows.rows c.in_ok-rows.ensures) c.in_ok-rows.ensures.numbers c.in_ok-rows.ensures.labels
+    c.requires.goes.goes.state.tree.files t.state.tree.files c.requires.goes.kept (left_labelled V c.args.grants.now t c.requires.goes c.order_law.ensures order c.args.at c.requires.moved c.in_ok-rows.rows c.in_ok-rows.ensures) c.in_ok-rows.ensures.numbers c.in_ok-rows.ensures.labels
 
 pub returns-clause-rows : goal.returns-clause-rows
 returns-clause-rows g c =
     let V = g.J.Judge.verdict_of in
     let t = c.args.staged.now in
-    let order = subst (λ (r : Recorded). IsInOrder r.files) c.tree.ensures c.is_sound.ensures.order in
+    let order = subst (λ (r : Recorded). IsInOrder r.files) c.tree.ensures c.soundness_law.ensures.order in
     ap (λ (r : LabelRows). rows_in r.cells r.numbers) c.in_ok-reached.ensures.rows
-    ∙ left_rows V c.args.grants.now t c.requires.goes c.is_in_order.ensures order c.args.at c.requires.moved c.in_ok-rows.rows c.in_ok-rows.ensures (subst IsInOrder (sym c.in_ok-rows.ensures.numbers) c.is_in_order.ensures)
+    ∙ left_rows V c.args.grants.now t c.requires.goes c.order_law.ensures order c.args.at c.requires.moved c.in_ok-rows.rows c.in_ok-rows.ensures (subst IsInOrder (sym c.in_ok-rows.ensures.numbers) c.order_law.ensures)
 
 pub returns-clause-refreshed : goal.returns-clause-refreshed
 returns-clause-refreshed g c =
     let V = g.J.Judge.verdict_of in
     let t = c.args.staged.now in
-    let order = subst (λ (r : Recorded). IsInOrder r.files) c.tree.ensures c.is_sound.ensures.order in
-    left_refreshed V c.args.grants.now t c.requires.goes c.is_in_order.ensures order c.args.at c.requires.moved c.in_ok-rows.rows c.in_ok-rows.ensures
+    let order = subst (λ (r : Recorded). IsInOrder r.files) c.tree.ensures c.soundness_law.ensures.order in
+    left_refreshed V c.args.grants.now t c.requires.goes c.order_law.ensures order c.args.at c.requires.moved c.in_ok-rows.rows c.in_ok-rows.ensures

@@ -14,112 +14,112 @@ use Rattle.acl_rights.proofs.Listed.{looked_le}
 use Rattle.acl_rights.proofs.After.{moved_labelled, moved_rows, moved_order, moved_refreshed, numbers_long, grants_kept}
 use Rattle.acl_rights.proofs.stage.after_move.Goals as goal
 
-pub with_user_again-requires : goal.with_user_again-requires
-with_user_again-requires g c =
+pub with_user_updated-requires : goal.with_user_updated-requires
+with_user_updated-requires g c =
     let V = g.J.Judge.verdict_of in
     let t = c.args.staged.now in
-    let order = subst (λ (r : Recorded). IsInOrder r.files) c.tree.ensures c.is_sound.ensures.order in
+    let order = subst (λ (r : Recorded). IsInOrder r.files) c.tree.ensures c.soundness_law.ensures.order in
     let touched = filter (mentions_one c.args.groups.now) t.state.tree.files in
     let paths = ap (map (λ p. p.value)) c.deref-paths.ensures.value ∙ c.in_ok-paths.ensures t.state.tree.files order c.requires.lists ∙ ap (λ (ids : List ℕ). map (λ (e : PathOf × Node). e.0) (filter (mentions_one ids) t.state.tree.files)) c.as_slice.ensures in
     let long = same_length (λ p. p.value) (λ (e : PathOf × Node). e.0) c.deref-paths.result.now touched paths in
     omega (arith, long, moved_cost t c.args.at c.args.groups.now c.requires.moved, c.requires.room)
 
-pub returns-in_err-again-clause-at_most : goal.returns-in_err-again-clause-at_most
-returns-in_err-again-clause-at_most g c =
+pub returns-in_err-updated-clause-at_most : goal.returns-in_err-updated-clause-at_most
+returns-in_err-updated-clause-at_most g c =
     let V = g.J.Judge.verdict_of in
     let t = c.args.staged.now in
-    let order = subst (λ (r : Recorded). IsInOrder r.files) c.tree.ensures c.is_sound.ensures.order in
+    let order = subst (λ (r : Recorded). IsInOrder r.files) c.tree.ensures c.soundness_law.ensures.order in
     let touched = filter (mentions_one c.args.groups.now) t.state.tree.files in
     let paths = ap (map (λ p. p.value)) c.deref-paths.ensures.value ∙ c.in_ok-paths.ensures t.state.tree.files order c.requires.lists ∙ ap (λ (ids : List ℕ). map (λ (e : PathOf × Node). e.0) (filter (mentions_one ids) t.state.tree.files)) c.as_slice.ensures in
     let long = same_length (λ p. p.value) (λ (e : PathOf × Node). e.0) c.deref-paths.result.now touched paths in
-    omega (arith, long, moved_cost t c.args.at c.args.groups.now c.requires.moved, c.with_user_again.ensures.at_most)
+    omega (arith, long, moved_cost t c.args.at c.args.groups.now c.requires.moved, c.with_user_updated.ensures.at_most)
 
 pub returns-in_err-ways-clause-at_most : goal.returns-in_err-ways-clause-at_most
 returns-in_err-ways-clause-at_most g c =
     let V = g.J.Judge.verdict_of in
     let t = c.args.staged.now in
-    let order = subst (λ (r : Recorded). IsInOrder r.files) c.tree.ensures c.is_sound.ensures.order in
+    let order = subst (λ (r : Recorded). IsInOrder r.files) c.tree.ensures c.soundness_law.ensures.order in
     let touched = filter (mentions_one c.args.groups.now) t.state.tree.files in
     let paths = ap (map (λ p. p.value)) c.deref-paths.ensures.value ∙ c.in_ok-paths.ensures t.state.tree.files order c.requires.lists ∙ ap (λ (ids : List ℕ). map (λ (e : PathOf × Node). e.0) (filter (mentions_one ids) t.state.tree.files)) c.as_slice.ensures in
     let long = same_length (λ p. p.value) (λ (e : PathOf × Node). e.0) c.deref-paths.result.now touched paths in
-    omega (arith, long, moved_cost t c.args.at c.args.groups.now c.requires.moved, c.with_user_again.ensures.at_most)
+    omega (arith, long, moved_cost t c.args.at c.args.groups.now c.requires.moved, c.with_user_updated.ensures.at_most)
 
 pub returns-in_err-reaches-clause-at_most : goal.returns-in_err-reaches-clause-at_most
 returns-in_err-reaches-clause-at_most g c =
     let V = g.J.Judge.verdict_of in
     let t = c.args.staged.now in
-    let order = subst (λ (r : Recorded). IsInOrder r.files) c.tree.ensures c.is_sound.ensures.order in
+    let order = subst (λ (r : Recorded). IsInOrder r.files) c.tree.ensures c.soundness_law.ensures.order in
     let touched = filter (mentions_one c.args.groups.now) t.state.tree.files in
     let paths = ap (map (λ p. p.value)) c.deref-paths.ensures.value ∙ c.in_ok-paths.ensures t.state.tree.files order c.requires.lists ∙ ap (λ (ids : List ℕ). map (λ (e : PathOf × Node). e.0) (filter (mentions_one ids) t.state.tree.files)) c.as_slice.ensures in
     let long = same_length (λ p. p.value) (λ (e : PathOf × Node). e.0) c.deref-paths.result.now touched paths in
-    omega (arith, long, moved_cost t c.args.at c.args.groups.now c.requires.moved, c.with_user_again.ensures.at_most)
+    omega (arith, long, moved_cost t c.args.at c.args.groups.now c.requires.moved, c.with_user_updated.ensures.at_most)
 
 pub returns-clause-at_most : goal.returns-clause-at_most
 returns-clause-at_most g c =
     let V = g.J.Judge.verdict_of in
     let t = c.args.staged.now in
-    let order = subst (λ (r : Recorded). IsInOrder r.files) c.tree.ensures c.is_sound.ensures.order in
+    let order = subst (λ (r : Recorded). IsInOrder r.files) c.tree.ensures c.soundness_law.ensures.order in
     let touched = filter (mentions_one c.args.groups.now) t.state.tree.files in
     let paths = ap (map (λ p. p.value)) c.deref-paths.ensures.value ∙ c.in_ok-paths.ensures t.state.tree.files order c.requires.lists ∙ ap (λ (ids : List ℕ). map (λ (e : PathOf × Node). e.0) (filter (mentions_one ids) t.state.tree.files)) c.as_slice.ensures in
     let long = same_length (λ p. p.value) (λ (e : PathOf × Node). e.0) c.deref-paths.result.now touched paths in
-    omega (arith, long, moved_cost t c.args.at c.args.groups.now c.requires.moved, c.with_user_again.ensures.at_most)
+    omega (arith, long, moved_cost t c.args.at c.args.groups.now c.requires.moved, c.with_user_updated.ensures.at_most)
 
 pub count_within-requires-clause-few : goal.count_within-requires-clause-few
 count_within-requires-clause-few g c =
     let V = g.J.Judge.verdict_of in
     let t = c.args.staged.now in
-    let order = subst (λ (r : Recorded). IsInOrder r.files) c.tree.ensures c.is_sound.ensures.order in
+    let order = subst (λ (r : Recorded). IsInOrder r.files) c.tree.ensures c.soundness_law.ensures.order in
     let touched = filter (mentions_one c.args.groups.now) t.state.tree.files in
     let paths = ap (map (λ p. p.value)) c.deref-paths.ensures.value ∙ c.in_ok-paths.ensures t.state.tree.files order c.requires.lists ∙ ap (λ (ids : List ℕ). map (λ (e : PathOf × Node). e.0) (filter (mentions_one ids) t.state.tree.files)) c.as_slice.ensures in
-    let files = numbers_long t.state.tree.files c.in_ok-again.again.rows (moved_labelled V c.args.grants.now t c.requires.goes c.is_in_order.ensures order g.met.J.Judge.local c.args.at c.args.groups.now c.requires.moved c.moved_user-user.result.now c.moved_user-user.ensures (map (λ p. p.value) c.deref-paths.result.now) paths c.in_ok-again.again.rows c.in_ok-again.ensures.rows) in
-    let few = subst (λ (r : Recorded). length r.files ≤ max_files) c.tree.ensures c.is_sound.ensures.few in
+    let files = numbers_long t.state.tree.files c.in_ok-updated.updated.rows (moved_labelled V c.args.grants.now t c.requires.goes c.order_law.ensures order g.met.J.Judge.local c.args.at c.args.groups.now c.requires.moved c.moved_user-user.result.now c.moved_user-user.ensures (map (λ p. p.value) c.deref-paths.result.now) paths c.in_ok-updated.updated.rows c.in_ok-updated.ensures.rows) in
+    let few = subst (λ (r : Recorded). length r.files ≤ max_files) c.tree.ensures c.soundness_law.ensures.few in
     omega (arith, files, few)
 
 pub count_within-requires-clause-order : goal.count_within-requires-clause-order
 count_within-requires-clause-order g c =
     let V = g.J.Judge.verdict_of in
     let t = c.args.staged.now in
-    let order = subst (λ (r : Recorded). IsInOrder r.files) c.tree.ensures c.is_sound.ensures.order in
+    let order = subst (λ (r : Recorded). IsInOrder r.files) c.tree.ensures c.soundness_law.ensures.order in
     let touched = filter (mentions_one c.args.groups.now) t.state.tree.files in
     let paths = ap (map (λ p. p.value)) c.deref-paths.ensures.value ∙ c.in_ok-paths.ensures t.state.tree.files order c.requires.lists ∙ ap (λ (ids : List ℕ). map (λ (e : PathOf × Node). e.0) (filter (mentions_one ids) t.state.tree.files)) c.as_slice.ensures in
-    moved_order V c.args.grants.now t c.requires.goes c.is_in_order.ensures order g.met.J.Judge.local c.args.at c.args.groups.now c.requires.moved c.moved_user-user.result.now c.moved_user-user.ensures (map (λ p. p.value) c.deref-paths.result.now) paths c.in_ok-again.again.rows c.in_ok-again.ensures.rows (λ p. p.value) c.deref-paths.result.now paths
+    moved_order V c.args.grants.now t c.requires.goes c.order_law.ensures order g.met.J.Judge.local c.args.at c.args.groups.now c.requires.moved c.moved_user-user.result.now c.moved_user-user.ensures (map (λ p. p.value) c.deref-paths.result.now) paths c.in_ok-updated.updated.rows c.in_ok-updated.ensures.rows (λ p. p.value) c.deref-paths.result.now paths
 
 pub returns-clause-grants : goal.returns-clause-grants
 returns-clause-grants g c =
     let V = g.J.Judge.verdict_of in
     let t = c.args.staged.now in
-    let order = subst (λ (r : Recorded). IsInOrder r.files) c.tree.ensures c.is_sound.ensures.order in
+    let order = subst (λ (r : Recorded). IsInOrder r.files) c.tree.ensures c.soundness_law.ensures.order in
     let touched = filter (mentions_one c.args.groups.now) t.state.tree.files in
     let paths = ap (map (λ p. p.value)) c.deref-paths.ensures.value ∙ c.in_ok-paths.ensures t.state.tree.files order c.requires.lists ∙ ap (λ (ids : List ℕ). map (λ (e : PathOf × Node). e.0) (filter (mentions_one ids) t.state.tree.files)) c.as_slice.ensures in
-    let rows = c.in_ok-again.again.rows in
+    let rows = c.in_ok-updated.updated.rows in
     let ways = c.in_ok-ways.ways in
     grants_kept rows ways c.args.grants.now (record { rows = rows; ways = ways; reaches = c.in_ok-reaches.reaches; max_numbers = c.args.grants.now.max_numbers }) refl refl
     (c.in_ok-reaches.ensures ∙ ap (λ (ss : List Step). reaches_of rows.cells ss) c.steps.ensures) c.in_ok-ways.ensures
-    c.requires.goes.goes.state.tree.files t.state.tree.files c.requires.goes.kept (moved_labelled V c.args.grants.now t c.requires.goes c.is_in_order.ensures order g.met.J.Judge.local c.args.at c.args.groups.now c.requires.moved c.moved_user-user.result.now c.moved_user-user.ensures (map (λ p. p.value) c.deref-paths.result.now) paths rows c.in_ok-again.ensures.rows) c.in_ok-again.ensures.rows.numbers c.in_ok-again.ensures.rows.labels
+    c.requires.goes.goes.state.tree.files t.state.tree.files c.requires.goes.kept (moved_labelled V c.args.grants.now t c.requires.goes c.order_law.ensures order g.met.J.Judge.local c.args.at c.args.groups.now c.requires.moved c.moved_user-user.result.now c.moved_user-user.ensures (map (λ p. p.value) c.deref-paths.result.now) paths rows c.in_ok-updated.ensures.rows) c.in_ok-updated.ensures.rows.numbers c.in_ok-updated.ensures.rows.labels
 
-pub reaches_again-requires : goal.reaches_again-requires
-reaches_again-requires g c =
+pub updated_reaches-requires : goal.updated_reaches-requires
+updated_reaches-requires g c =
     let old = c.args.grants.now in
     record {
       before = old.rows.cells;
       reached = c.requires.goes.kept.reaches ∙ ap (λ (ss : List Step). reaches_of old.rows.cells ss) (sym (c.steps.ensures ∙ ap (λ (w : Ways). w.steps) c.in_ok-ways.ensures));
-      same = λ n unmarked. c.in_ok-again.ensures.same n (ap (λ (ms : List Bool). get_or ms n false) (sym c.deref.ensures.value) ∙ unmarked);
+      same = λ n unmarked. c.in_ok-updated.ensures.same n (ap (λ (ms : List Bool). get_or ms n false) (sym c.deref.ensures.value) ∙ unmarked);
     }
 
 pub returns-clause-rows : goal.returns-clause-rows
 returns-clause-rows g c =
     let V = g.J.Judge.verdict_of in
     let t = c.args.staged.now in
-    let order = subst (λ (r : Recorded). IsInOrder r.files) c.tree.ensures c.is_sound.ensures.order in
+    let order = subst (λ (r : Recorded). IsInOrder r.files) c.tree.ensures c.soundness_law.ensures.order in
     let touched = filter (mentions_one c.args.groups.now) t.state.tree.files in
     let paths = ap (map (λ p. p.value)) c.deref-paths.ensures.value ∙ c.in_ok-paths.ensures t.state.tree.files order c.requires.lists ∙ ap (λ (ids : List ℕ). map (λ (e : PathOf × Node). e.0) (filter (mentions_one ids) t.state.tree.files)) c.as_slice.ensures in
-    moved_rows V c.args.grants.now t c.requires.goes c.is_in_order.ensures order g.met.J.Judge.local c.args.at c.args.groups.now c.requires.moved c.moved_user-user.result.now c.moved_user-user.ensures (map (λ p. p.value) c.deref-paths.result.now) paths c.in_ok-again.again.rows c.in_ok-again.ensures.rows (subst IsInOrder (sym c.in_ok-again.ensures.rows.numbers) c.is_in_order.ensures)
+    moved_rows V c.args.grants.now t c.requires.goes c.order_law.ensures order g.met.J.Judge.local c.args.at c.args.groups.now c.requires.moved c.moved_user-user.result.now c.moved_user-user.ensures (map (λ p. p.value) c.deref-paths.result.now) paths c.in_ok-updated.updated.rows c.in_ok-updated.ensures.rows (subst IsInOrder (sym c.in_ok-updated.ensures.rows.numbers) c.order_law.ensures)
 
 pub returns-clause-looked : goal.returns-clause-looked
 returns-clause-looked g c =
     let V = g.J.Judge.verdict_of in
     let t = c.args.staged.now in
-    let order = subst (λ (r : Recorded). IsInOrder r.files) c.tree.ensures c.is_sound.ensures.order in
+    let order = subst (λ (r : Recorded). IsInOrder r.files) c.tree.ensures c.soundness_law.ensures.order in
     let touched = filter (mentions_one c.args.groups.now) t.state.tree.files in
     let paths = ap (map (λ p. p.value)) c.deref-paths.ensures.value ∙ c.in_ok-paths.ensures t.state.tree.files order c.requires.lists ∙ ap (λ (ids : List ℕ). map (λ (e : PathOf × Node). e.0) (filter (mentions_one ids) t.state.tree.files)) c.as_slice.ensures in
     let long = same_length (λ p. p.value) (λ (e : PathOf × Node). e.0) c.deref-paths.result.now touched paths in
@@ -131,7 +131,7 @@ pub returns-clause-looked_most : goal.returns-clause-looked_most
 returns-clause-looked_most g c =
     let V = g.J.Judge.verdict_of in
     let t = c.args.staged.now in
-    let order = subst (λ (r : Recorded). IsInOrder r.files) c.tree.ensures c.is_sound.ensures.order in
+    let order = subst (λ (r : Recorded). IsInOrder r.files) c.tree.ensures c.soundness_law.ensures.order in
     let touched = filter (mentions_one c.args.groups.now) t.state.tree.files in
     let paths = ap (map (λ p. p.value)) c.deref-paths.ensures.value ∙ c.in_ok-paths.ensures t.state.tree.files order c.requires.lists ∙ ap (λ (ids : List ℕ). map (λ (e : PathOf × Node). e.0) (filter (mentions_one ids) t.state.tree.files)) c.as_slice.ensures in
     let long = same_length (λ p. p.value) (λ (e : PathOf × Node). e.0) c.deref-paths.result.now touched paths in
@@ -143,7 +143,7 @@ pub returns-clause-refreshed : goal.returns-clause-refreshed
 returns-clause-refreshed g c =
     let V = g.J.Judge.verdict_of in
     let t = c.args.staged.now in
-    let order = subst (λ (r : Recorded). IsInOrder r.files) c.tree.ensures c.is_sound.ensures.order in
+    let order = subst (λ (r : Recorded). IsInOrder r.files) c.tree.ensures c.soundness_law.ensures.order in
     let touched = filter (mentions_one c.args.groups.now) t.state.tree.files in
     let paths = ap (map (λ p. p.value)) c.deref-paths.ensures.value ∙ c.in_ok-paths.ensures t.state.tree.files order c.requires.lists ∙ ap (λ (ids : List ℕ). map (λ (e : PathOf × Node). e.0) (filter (mentions_one ids) t.state.tree.files)) c.as_slice.ensures in
-    moved_refreshed V c.args.grants.now t c.requires.goes c.is_in_order.ensures order g.met.J.Judge.local c.args.at c.args.groups.now c.requires.moved c.moved_user-user.result.now c.moved_user-user.ensures (map (λ p. p.value) c.deref-paths.result.now) paths c.in_ok-again.again.rows c.in_ok-again.ensures.rows (λ p. p.value) c.deref-paths.result.now paths c.count_within.result c.count_within.ensures
+    moved_refreshed V c.args.grants.now t c.requires.goes c.order_law.ensures order g.met.J.Judge.local c.args.at c.args.groups.now c.requires.moved c.moved_user-user.result.now c.moved_user-user.ensures (map (λ p. p.value) c.deref-paths.result.now) paths c.in_ok-updated.updated.rows c.in_ok-updated.ensures.rows (λ p. p.value) c.deref-paths.result.now paths c.count_within.result c.count_within.ensures

@@ -11,7 +11,7 @@ use Rattle.acl_rights.proofs.stage.count_within.Goals as goal
 pub loop-path-init : goal.loop-path-init
 loop-path-init c =
     let tops : List (PathOf × PathOf) = map (λ p. (p.value, p.value)) c.args.paths.now in
-    ([], (tops_begin tops c.requires.order c.args.numbers.now c.is_in_order.ensures tops [] None refl refl refl, refl))
+    ([], (tops_begin tops c.requires.order c.args.numbers.now c.order_law.ensures tops [] None refl refl refl, refl))
 
 pub loop-path-preserved-then-is_covered : goal.loop-path-preserved-then-is_covered
 loop-path-preserved-then-is_covered c =
@@ -21,7 +21,7 @@ loop-path-preserved-then-is_covered c =
     let t : PathOf × PathOf = (c.in-Some.path.now.value, c.in-Some.path.now.value) in (
       w.0,
       (
-        tops_skip tops c.requires.order c.args.numbers.now c.is_in_order.ensures t (map (λ p. (p.value, p.value)) c.loop-path.rest.now) (map (λ p. (p.value, p.value)) c.in-Some.more.now) w.0 last
+        tops_skip tops c.requires.order c.args.numbers.now c.order_law.ensures t (map (λ p. (p.value, p.value)) c.loop-path.rest.now) (map (λ p. (p.value, p.value)) c.in-Some.more.now) w.0 last
             (ap (map (λ p. (p.value, p.value))) c.in-Some.ensures.cases.0) w.1.0 (ap (covers last) (sym c.deref.ensures) ∙ sym c.is_covered.ensures ∙ c.if-is_covered.true),
         w.1.1,
       ),
@@ -33,7 +33,7 @@ overflow_add-count c =
     let last = option_map (λ p. p.now) c.loop-path.last in
     let w = c.loop-path.invariant in
     let t : PathOf × PathOf = (c.in-Some.path.now.value, c.in-Some.path.now.value) in
-    let next = count_walked tops c.requires.order c.args.numbers.now c.is_in_order.ensures t (map (λ p. (p.value, p.value)) c.loop-path.rest.now) (map (λ p. (p.value, p.value)) c.in-Some.more.now) w.0 last
+    let next = count_walked tops c.requires.order c.args.numbers.now c.order_law.ensures t (map (λ p. (p.value, p.value)) c.loop-path.rest.now) (map (λ p. (p.value, p.value)) c.in-Some.more.now) w.0 last
     (ap (map (λ p. (p.value, p.value))) c.in-Some.ensures.cases.0) w.1.0 (ap (covers last) (sym c.deref.ensures) ∙ sym c.is_covered.ensures ∙ c.if-is_covered.false)
     c.loop-path.count c.count_below-count.result w.1.1 (c.count_below-count.ensures ∙ ap (λ (p : PathOf). length (within p c.args.numbers.now)) c.deref-in-Some.ensures) in
     let most = next.2 in
@@ -46,7 +46,7 @@ loop-path-preserved c =
     let w = c.loop-path.invariant in
     let t : PathOf × PathOf = (c.in-Some.path.now.value, c.in-Some.path.now.value) in
     let more : List (PathOf × PathOf) = map (λ p. (p.value, p.value)) c.in-Some.more.now in
-    let next = count_walked tops c.requires.order c.args.numbers.now c.is_in_order.ensures t (map (λ p. (p.value, p.value)) c.loop-path.rest.now) more w.0 last
+    let next = count_walked tops c.requires.order c.args.numbers.now c.order_law.ensures t (map (λ p. (p.value, p.value)) c.loop-path.rest.now) more w.0 last
     (ap (map (λ p. (p.value, p.value))) c.in-Some.ensures.cases.0) w.1.0 (ap (covers last) (sym c.deref.ensures) ∙ sym c.is_covered.ensures ∙ c.if-is_covered.false)
     c.loop-path.count c.count_below-count.result w.1.1 (c.count_below-count.ensures ∙ ap (λ (p : PathOf). length (within p c.args.numbers.now)) c.deref-in-Some.ensures) in
     let seen : List (PathOf × ℕ) = w.0 ++ within t.0 c.args.numbers.now in
@@ -58,5 +58,5 @@ returns c =
     let w = c.loop-path.invariant in
     let last = option_map (λ p. p.now) c.loop-path.last in
     w.1.1
-    ∙ ap length (tops_end tops c.requires.order c.args.numbers.now c.is_in_order.ensures (map (λ p. (p.value, p.value)) c.loop-path.rest.now) w.0 last (ap (map (λ p. (p.value, p.value))) (no_length c.loop-path.rest.now c.in_default.ensures.cases)) w.1.0)
+    ∙ ap length (tops_end tops c.requires.order c.args.numbers.now c.order_law.ensures (map (λ p. (p.value, p.value)) c.loop-path.rest.now) w.0 last (ap (map (λ p. (p.value, p.value))) (no_length c.loop-path.rest.now c.in_default.ensures.cases)) w.1.0)
     ∙ length-filter (λ e. lies_in tops e.0) c.args.numbers.now

@@ -1,17 +1,17 @@
 use Rattle.std.proofs.Common.{◌*◌, ◌≤◌, length, subst, sym, arith}
 use Rattle.acl_rights.specs.acl_entry.Check.{rights}
-use Rattle.acl_rights.specs.acl_people.Registers.{Register}
+use Rattle.acl_rights.specs.acl_people.KnownPeople.{KnownPeople}
 use Rattle.acl_rights.specs.acl_tree.Files.{Recorded}
 use Rattle.acl_rights.specs.acl_tree.Step.{State}
-use Rattle.acl_rights.specs.Tables.{Table, IsWhole}
+use Rattle.acl_rights.specs.Tables.{VerdictTable, IsWhole}
 use Rattle.acl_rights.proofs.Costs.{times_le}
 use Rattle.acl_rights_tests.proofs.world.play.Goals as goal
 
 pub stage-requires-clause-room : goal.stage-requires-clause-room
 stage-requires-clause-room c =
     let s = c.in-Ok.staged.state in
-    let files = subst (λ (r : Recorded). length r.files ≤ 1048576) c.tree.ensures c.is_sound.ensures.few in
-    let users = subst (λ (r : Register). length r.users ≤ 65536) c.people.ensures c.is_sound-2.ensures.few_users in
+    let files = subst (λ (r : Recorded). length r.files ≤ 1048576) c.tree.ensures c.soundness_law.ensures.few in
+    let users = subst (λ (r : KnownPeople). length r.users ≤ 65536) c.people.ensures c.soundness_law-2.ensures.few_users in
     let times = times_le (length s.tree.files) 1048576 (length s.people.users) files in
     omega (arith, times, users, c.if-before-gt1000000.false, c.asked-before.ensures)
 
@@ -20,8 +20,8 @@ stage-requires-clause-goes c = record { state = c.args.world.now.state; whole = 
 
 pub returns-in_err-asked : goal.returns-in_err-asked
 returns-in_err-asked c =
-    subst (λ (t : Table). IsWhole rights c.commit.new.self t) (sym c.commit-2.ensures) (subst (λ (s : State). IsWhole rights s c.in-Ok-stage.rows.table) (sym c.commit.ensures) c.in-Ok-stage.ensures.whole)
+    subst (λ (t : VerdictTable). IsWhole rights c.commit.new.self t) (sym c.commit-2.ensures) (subst (λ (s : State). IsWhole rights s c.in-Ok-stage.rows.table) (sym c.commit.ensures) c.in-Ok-stage.ensures.whole)
 
 pub returns : goal.returns
 returns c =
-    subst (λ (t : Table). IsWhole rights c.commit.new.self t) (sym c.commit-2.ensures) (subst (λ (s : State). IsWhole rights s c.in-Ok-stage.rows.table) (sym c.commit.ensures) c.in-Ok-stage.ensures.whole)
+    subst (λ (t : VerdictTable). IsWhole rights c.commit.new.self t) (sym c.commit-2.ensures) (subst (λ (s : State). IsWhole rights s c.in-Ok-stage.rows.table) (sym c.commit.ensures) c.in-Ok-stage.ensures.whole)

@@ -7,7 +7,7 @@ use Rattle.acl_tree.proofs.stage_people.stage_people.Goals as goal
 pub returns-clause-reports : goal.returns-clause-reports
 returns-clause-reports c = λ old users.
     let new : State = state_from c.args.tree.now c.args.people in
-    reported_people (state_from c.args.tree.now old) c.of.result c.is_sound.ensures.order
+    reported_people (state_from c.args.tree.now old) c.of.result c.soundness_law.ensures.order
     (ap (λ s. s.state.tree) c.of.ensures.all ∙ c.in_ok-share.ensures)
     (ap (λ s. s.changed) c.of.ensures.all ∙ ap (λ l. map (λ r. r.value) l) c.new.ensures.items)
     (ap (λ s. s.gone) c.of.ensures.all ∙ ap (λ l. map (λ r. r.value) l) c.new-2.ensures.items)

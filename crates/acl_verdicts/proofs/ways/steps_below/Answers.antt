@@ -20,7 +20,7 @@ loop-top-init c =
     let ns = c.args.numbers.now in
     let tops : Numbers = map (λ e. e.value) c.args.tops.now in
     record {
-      walked = ([], (tops_begin tops c.requires.order (ways ns) (ways_order ns c.is_in_order.ensures) tops [] None refl refl refl, ap (λ l. wayed c.args.steps.now (map (λ e. e.value) l)) c.new-puts.ensures.items));
+      walked = ([], (tops_begin tops c.requires.order (ways ns) (ways_order ns c.order_law.ensures) tops [] None refl refl refl, ap (λ l. wayed c.args.steps.now (map (λ e. e.value) l)) c.new-puts.ensures.items));
       kept = longer_itself c.args.steps.now;
       back = c.requires.back;
       rows = λ count h k. h;
@@ -37,7 +37,7 @@ loop-top-preserved-then-is_covered c =
       walked = (
         w.0,
         (
-          tops_skip tops c.requires.order (ways ns) (ways_order ns c.is_in_order.ensures) c.in-Some.top.now.value (map (λ e. e.value) c.loop-top.rest.now) (map (λ e. e.value) c.in-Some.more.now) w.0 last
+          tops_skip tops c.requires.order (ways ns) (ways_order ns c.order_law.ensures) c.in-Some.top.now.value (map (λ e. e.value) c.loop-top.rest.now) (map (λ e. e.value) c.in-Some.more.now) w.0 last
               (ap (map (λ e. e.value)) c.in-Some.ensures.cases.0) w.1.0 (ap (covers last) (sym same) ∙ sym c.is_covered.ensures ∙ c.if-is_covered.true),
           w.1.1,
         ),
@@ -51,7 +51,7 @@ pub add_steps-requires-clause-above : goal.add_steps-requires-clause-above
 add_steps-requires-clause-above c =
     let ns = c.args.numbers.now in
     let tops : Numbers = map (λ e. e.value) c.args.tops.now in
-    let order = ways_order ns c.is_in_order.ensures in
+    let order = ways_order ns c.order_law.ensures in
     let last = option_map (λ p. p.now) c.loop-top.last in
     let t = c.in-Some.top.now.value in
     let rest : Numbers = map (λ e. e.value) c.loop-top.rest.now in
@@ -72,7 +72,7 @@ pub loop-top-preserved : goal.loop-top-preserved
 loop-top-preserved c =
     let ns = c.args.numbers.now in
     let tops : Numbers = map (λ e. e.value) c.args.tops.now in
-    let order = ways_order ns c.is_in_order.ensures in
+    let order = ways_order ns c.order_law.ensures in
     let last = option_map (λ p. p.now) c.loop-top.last in
     let t = c.in-Some.top.now.value in
     let rest : Numbers = map (λ e. e.value) c.loop-top.rest.now in
@@ -97,4 +97,4 @@ returns-clause-puts c =
     let tops : Numbers = map (λ e. e.value) c.args.tops.now in
     let w = c.loop-top.invariant.walked in
     let last = option_map (λ p. p.now) c.loop-top.last in
-    w.1.1 ∙ ap known (tops_end tops c.requires.order (ways ns) (ways_order ns c.is_in_order.ensures) (map (λ e. e.value) c.loop-top.rest.now) w.0 last (ap (map (λ e. e.value)) (nil_from_length c.loop-top.rest.now c.in_default.ensures.cases)) w.1.0)
+    w.1.1 ∙ ap known (tops_end tops c.requires.order (ways ns) (ways_order ns c.order_law.ensures) (map (λ e. e.value) c.loop-top.rest.now) w.0 last (ap (map (λ e. e.value)) (nil_from_length c.loop-top.rest.now c.in_default.ensures.cases)) w.1.0)

@@ -4,13 +4,13 @@ use Rattle.acl_rights.specs.acl_names.Paths.{is_component}
 use Rattle.acl_rights.specs.acl_dump.Again.{IsListIf}
 use Rattle.acl_rights.specs.acl_edit.declared.node.Node.{Node}
 use Rattle.acl_rights.specs.acl_tree.Files.{PathOf}
-use Rattle.acl_rights.specs.acl_people.Registers.{Register, naming_of}
+use Rattle.acl_rights.specs.acl_people.KnownPeople.{KnownPeople, naming_of}
 use Rattle.facl_listings.specs.Again.{IsReadAgain}
 use Rattle.facl_listings.proofs.again.file_is_read_again.Goals as goal
 
 pub returns-in-Some : goal.returns-in-Some
 returns-in-Some c =
-    let known : Register = c.args.people.now in
+    let known : KnownPeople = c.args.people.now in
     let p : PathOf = c.path.result.now in
     let n : Node = c.value-node.result.now in
     let path : list_all is_component p ≡ true = c.components-components.ensures.valid in

@@ -1,5 +1,5 @@
 use Rattle.std.proofs.Common.{take}
-use Rattle.acl_rights.specs.acl_people.Registers.{naming_of}
+use Rattle.acl_rights.specs.acl_people.KnownPeople.{naming_of}
 use Rattle.acl_rights.specs.acl_syntax.Writing.{AreNamed}
 use Rattle.facl_listings.proofs.again.list_is_read_again.Given as goal
 

@@ -1,10 +1,19 @@
+use Rattle.std.proofs.Common.{ap, subst, ◌∙◌}
+use Rattle.acl_rights.specs.acl_files.path_map.Entries.{IsInOrder}
+use Rattle.acl_rights.specs.acl_tree.Step.{State}
+use Rattle.facl_listings.specs.Inner.{walk_of, rows_granted}
 use Rattle.facl_listings.proofs.ChangeLines.{all_lines}
 use Rattle.facl_listings.proofs.changes.write_changes.Goals as goal
 
 pub returns : goal.returns
 returns g c =
-    all_lines g.J.Judge.verdict_of c.args.along c.args.loaded.now c.args.state.now c.args.loaded_index.now c.args.index.now c.requires.loaded c.requires.whole
-    c.of_state-before.ensures.tree c.of_state-after.ensures.tree c.people.result.now c.people-2.result.now c.people.ensures c.people-2.ensures
+    let V = g.J.Judge.verdict_of in
+    let asked = c.args.verdicts.now in
+    let people_of = λ (known : State). known.people in
+    let was = c.verdicts-verdicts_before.ensures in
+    all_lines V asked.along c.args.loaded.now asked.state.now
+    (subst (λ (s : State). IsInOrder s.tree.files) was.state c.of_verdicts-before.ensures.tree) c.of_verdicts-after.ensures.tree c.people.result.now c.people-people.result.now
+    (c.people.ensures ∙ ap people_of c.state-2.ensures) (c.people-people.ensures ∙ ap people_of c.state.ensures)
     c.in_ok-users.users.items c.deref.result.now c.deref.ensures.value c.in_ok-users.ensures
-    c.of_state-before.result c.of_state-after.result c.of_state-before.ensures.all c.of_state-after.ensures.all
+    c.of_verdicts-before.result c.of_verdicts-after.result (c.of_verdicts-before.ensures.all ∙ (λ i. walk_of (was.state i).tree.files (rows_granted V (was.along i) (was.state i)))) c.of_verdicts-after.ensures.all
     c.new-text.result.items c.push_both.new.text.items c.new-text.ensures.items c.in_ok-push_both.ensures

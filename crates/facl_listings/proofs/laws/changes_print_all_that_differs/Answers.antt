@@ -8,4 +8,4 @@ returns-clause-silent c V along = nothing_printed V along c.args.loaded.now c.ar
 
 pub returns-clause-complete : goal.returns-clause-complete
 returns-clause-complete c V along =
-    none_differs V along c.args.loaded.now c.args.state.now (subst (λ (t : Recorded). IsInOrder t.files) c.tree.ensures c.is_sound.ensures.order)
+    none_differs V along c.args.loaded.now c.args.state.now (subst (λ (t : Recorded). IsInOrder t.files) c.tree.ensures c.soundness_law.ensures.order)

@@ -1,5 +1,5 @@
 use Rattle.acl_rights.specs.acl_dump.declared.record.DumpUse.TheVariants.{Restore}
-use Rattle.acl_rights.specs.acl_people.Registers.{naming_of}
+use Rattle.acl_rights.specs.acl_people.KnownPeople.{naming_of}
 use Rattle.acl_rights.specs.acl_tree.Operands.{files_meant}
 use Rattle.acl_rights.specs.acl_tree.Step.{State, state_from}
 use Rattle.facl_listings.proofs.Reloaded.{records_of}
@@ -11,6 +11,6 @@ returns c = λ recursive paths.
     let known = c.args.people.now in
     let state : State = state_from c.args.tree.now known in
     let all = c.args.tree.now.files in
-    restored_again state recursive paths c.is_sound.ensures.order c.files_are_read_again.ensures
+    restored_again state recursive paths c.soundness_law.ensures.order c.files_are_read_again.ensures
     (c.records_are_read_again.ensures (naming_of known) Restore (records_of all (files_meant recursive paths all)))
-    (λ records. c.restore_of_what_is_changes_nothing.ensures records state c.is_sound.ensures)
+    (λ records. c.restore_of_what_is_changes_nothing.ensures records state c.soundness_law.ensures)

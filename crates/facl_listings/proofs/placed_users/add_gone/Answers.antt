@@ -1,7 +1,7 @@
 use Rattle.std.proofs.Common.{◌<◌, ◌++◌, ◌∷◌, [], append_assoc, length, take, map, filter, not, sym, ap, ◌∙◌, arith}
 use Rattle.std.specs.Prelude.{if◌then◌else◌}
-use Rattle.acl_rights.specs.acl_people.Registers.{users_of}
-use Rattle.acl_rights.specs.acl_people.Rolls.{has_name}
+use Rattle.acl_rights.specs.acl_people.KnownPeople.{users_of}
+use Rattle.acl_rights.specs.acl_people.NameTables.{has_name}
 use Rattle.facl_listings.specs.Inner.{placed_of, placed_in}
 use Rattle.facl_listings.proofs.IndexLines.{is_there}
 use Rattle.facl_listings.proofs.ChangeLines.{one_gone}

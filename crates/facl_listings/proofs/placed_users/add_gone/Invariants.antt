@@ -1,6 +1,6 @@
 use Rattle.std.proofs.Common.{◌≡◌, ◌++◌, not, take, map, filter}
-use Rattle.acl_rights.specs.acl_people.Registers.{users_of}
-use Rattle.acl_rights.specs.acl_people.Rolls.{has_name}
+use Rattle.acl_rights.specs.acl_people.KnownPeople.{users_of}
+use Rattle.acl_rights.specs.acl_people.NameTables.{has_name}
 use Rattle.facl_listings.specs.Inner.{placed_of, placed_in}
 use Rattle.facl_listings.proofs.placed_users.add_gone.Given as goal
 

@@ -3,7 +3,7 @@ use Rattle.std.proofs.lemmas.List.{map-append}
 use Rattle.facl_listings.specs.Inner.{placed_of, placed_in}
 use Rattle.facl_listings.proofs.IndexLines.{one_more, is_there}
 use Rattle.facl_listings.proofs.placed_users.present_users.Goals as goal
-use Rattle.facl_listings.proofs.placed_users.present_users.Goals.{in-Some+in_ok-placed+in_ok-push, in_default}
+use Rattle.facl_listings.proofs.placed_users.present_users.Goals.{in-Some+in_ok-placed_user+in_ok-push, in_default}
 
 pub loop-user-preserved : goal.loop-user-preserved
 loop-user-preserved c =
@@ -12,11 +12,11 @@ loop-user-preserved c =
     let user = c.loop-user.user in
     let users = c.loop-user.users.items in
     elim c.match-user_row.branch [
-      | in-Some+in_ok-placed+in_ok-push w ↦
-          let here = w.in_ok-placed.ensures ∙ ap (placed_in loaded now) w.as_bytes.ensures in
+      | in-Some+in_ok-placed_user+in_ok-push w ↦
+          let here = w.in_ok-placed_user.ensures ∙ ap (placed_in loaded now) w.as_bytes.ensures in
           ap (λ v. map placed_of v.items) w.users-is
           ∙ ap (map placed_of) w.in_ok-push.ensures.items
-          ∙ map-append placed_of users (w.in_ok-placed.field-0 ∷ [])
+          ∙ map-append placed_of users (w.in_ok-placed_user.field-0 ∷ [])
           ∙ (λ i. c.loop-user.invariant i ++ here i ∷ [])
           ∙ sym (one_more (λ row. placed_in loaded now row.name) now.users user w.in-Some.row.now (sym w.in-Some.ensures))
       | in_default w ↦

@@ -1,15 +1,15 @@
 use Rattle.std.proofs.Common.{◌<◌, ◌++◌, append-nil, length, map, sym, ap, subst, ◌∙◌}
-use Rattle.facl_listings.specs.Inner.{Walked, step_of}
+use Rattle.facl_listings.specs.Inner.{Walked, shown_row}
 use Rattle.facl_listings.proofs.NextFile.{fewer_files, lines_over, walk_more}
 use Rattle.facl_listings.proofs.table.push_files.Goals as goal
 
 pub loop-file-preserved : goal.loop-file-preserved
 loop-file-preserved c =
-    walk_more (map (λ n. n.items) c.args.names.now) c.loop-file.rest c.next.new.self (step_of c.in-Some.file) c.loop-file.text.items c.push_file.new.text.items _
+    walk_more (map (λ n. n.items) c.args.names.now) c.loop-file.rest c.next.new.self (shown_row c.in-Some.file) c.loop-file.text.items c.push_file.new.text.items _
     c.in-Some.ensures.first c.in-Some.ensures.rest c.in_ok-push_file.ensures c.loop-file.invariant
 
 pub loop-file-smaller : goal.loop-file-smaller
-loop-file-smaller c = subst (λ (left : Walked). length left < length c.loop-file.rest) (sym c.in-Some.ensures.rest) (fewer_files c.loop-file.rest (step_of c.in-Some.file) c.in-Some.ensures.first)
+loop-file-smaller c = subst (λ (left : Walked). length left < length c.loop-file.rest) (sym c.in-Some.ensures.rest) (fewer_files c.loop-file.rest (shown_row c.in-Some.file) c.in-Some.ensures.first)
 
 pub returns : goal.returns
 returns c =

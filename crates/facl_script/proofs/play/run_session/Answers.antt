@@ -1,13 +1,13 @@
 use Rattle.std.proofs.Common.{◌≡◌, ℕ, Bool, List, true, not, [], ◌++◌, length-append, refl, sym, ap, ◌∙◌, subst, arith, true≢false}
 use Rattle.std.proofs.KnownBytes.{Appends-nil, Consumes-trans}
 use Rattle.std.proofs.lemmas.Result.{err_from_is_err_and}
-use Rattle.facl_script.specs.Source.{pending}
+use Rattle.facl_script.specs.ByteSource.{pending}
 use Rattle.facl_script.specs.Script.{script_left, next_number, is_over}
 use Rattle.facl_script.specs.Play.{quiet, joined}
 use Rattle.facl_script.specs.Streams.{streams, moment}
 use Rattle.facl_script.proofs.Progress.{Progress}
 use Rattle.facl_script.proofs.ProgressLemmas.{begins, goes_on}
-use Rattle.facl_script.proofs.RunEnds.{left_consumes, ends_here, at_end, reader_ended, not_over, stops_reading, fails_writing, none_of, not_end, not_full, Gives-joined, GivesAt}
+use Rattle.facl_script.proofs.RunEnds.{left_consumes, ends_here, at_end, reader_ended, not_over, stops_reading, fails_writing, none_of, not_end, not_full, IsGiven-joined, IsGivenAt}
 use Rattle.facl_script.proofs.play.run_session.Goals as goal
 
 pub loop-script-init : goal.loop-script-init
@@ -74,7 +74,7 @@ answer_unit-requires-clause-ready g c =
     let inv = c.loop-script.invariant in
     let going = not_over (is_over c.loop-script.script) (λ e. not_end _ _ c.in-Some.is _ (c.in_ok-unit.ensures.over e).0 refl) in
     let found = (rw c.in-Some.is at c.in_ok-unit.ensures.ok) going in
-    rw (sym found.3.number ∙ found.2.numbered) inv.ready
+    rw (c.unit-held.ensures.number ∙ sym found.3.number ∙ found.2.numbered) inv.ready
 
 pub returns-in_err-is_refused-clause-fault : goal.returns-in_err-is_refused-clause-fault
 returns-in_err-is_refused-clause-fault g c =
@@ -93,7 +93,7 @@ returns-in_err-is_refused-clause-fault g c =
     let old = moment (g.S.Session.state c.args.session.now) (g.S.Session.spent c.args.session.now) (streams (g.O.Sink.contents c.args.out.now) (g.E.Sink.contents c.args.err.now)) in
     let now = moment (g.S.Session.state c.loop-script.session) (g.S.Session.spent c.loop-script.session) (streams (g.O.Sink.contents c.loop-script.out) (g.E.Sink.contents c.loop-script.err)) in
     let new = moment (g.S.Session.state c.answer_unit.new.session) (g.S.Session.spent c.answer_unit.new.session) (streams (g.O.Sink.contents c.answer_unit.new.out) (g.E.Sink.contents c.answer_unit.new.err)) in
-    let h = c.in_err-is_refused.ensures.part unit found.3 in
+    let h = c.in_err-is_refused.ensures.part unit (c.unit-held.ensures.held g.S.Session.asks unit found.3) in
     rw (p.1, p.2, c.in_err-is_refused.ensures.which)
     (fails_writing g.S.Session.asks g.S.Session.answered old now new a (g.R.Feed.remaining c.next_unit.new.reader) c.next_unit.new.self
     inv.taken number (next_number c.next_unit.new.self) inv.answer_so_far progress before _ _ piece unit found.2
@@ -115,7 +115,7 @@ loop-script-preserved g c =
     let old = moment (g.S.Session.state c.args.session.now) (g.S.Session.spent c.args.session.now) (streams (g.O.Sink.contents c.args.out.now) (g.E.Sink.contents c.args.err.now)) in
     let now = moment (g.S.Session.state c.loop-script.session) (g.S.Session.spent c.loop-script.session) (streams (g.O.Sink.contents c.loop-script.out) (g.E.Sink.contents c.loop-script.err)) in
     let new = moment (g.S.Session.state c.answer_unit.new.session) (g.S.Session.spent c.answer_unit.new.session) (streams (g.O.Sink.contents c.answer_unit.new.out) (g.E.Sink.contents c.answer_unit.new.err)) in
-    let h = subst (λ s. GivesAt g.S.Session.answered unit s c.in_ok-is_refused.field-0 now new) inv.gives.state_is (c.in_ok-is_refused.ensures.ok unit found.3) in
+    let h = subst (λ s. IsGivenAt g.S.Session.answered unit s c.in_ok-is_refused.field-0 now new) inv.gives.state_is (c.in_ok-is_refused.ensures.ok unit (c.unit-held.ensures.held g.S.Session.asks unit found.3)) in
     let ends : is_over c.next_unit.new.self ≡ not unit.is_full = (rw c.in-Some.is at c.in_ok-unit.ensures.ends) ∙ ap not (sym found.3.full) in
     let answer_so_far = joined inv.answer_so_far (g.S.Session.answered h.0 unit inv.answer_so_far.state) in
     record {
@@ -127,8 +127,8 @@ loop-script-preserved g c =
       progress = rw ends (goes_on g.S.Session.asks g.S.Session.answered start inv.taken number (next_number c.next_unit.new.self) inv.answer_so_far progress before after _ _ piece unit next h.0);
       consumes = Consumes-trans (g.R.Feed.remaining c.args.reader.now) before after inv.taken piece inv.consumes next.consumes;
       last = λ e. next.last (not_full unit.is_full (sym ends ∙ e));
-      ready = c.answer_unit.ensures.ready (next_number c.next_unit.new.self) (omega (arith, found.3.number, next.numbered, next.grows)) (omega (arith, c.next_unit.new.self.counted, c.next_unit.new.self.source.within));
-      gives = Gives-joined inv.answer_so_far (g.S.Session.answered h.0 unit inv.answer_so_far.state) old now new inv.gives h.1;
+      ready = c.answer_unit.ensures.ready (next_number c.next_unit.new.self) (omega (arith, c.unit-held.ensures.number, found.3.number, next.numbered, next.grows)) (omega (arith, c.next_unit.new.self.counted, c.next_unit.new.self.source.within));
+      gives = IsGiven-joined inv.answer_so_far (g.S.Session.answered h.0 unit inv.answer_so_far.state) old now new inv.gives h.1;
       refused = rw (inv.refused, h.2) refl;
       count = omega (arith, next.count, inv.count, length-append inv.taken piece);
       held = c.answer_unit.ensures.held ∙ inv.held;

@@ -4,7 +4,7 @@ use Rattle.facl_script.specs.Limits.{script_limit}
 use Rattle.facl_script.specs.Script.{script_left, script_taken, next_number, is_over}
 use Rattle.facl_script.specs.Play.{Answer}
 use Rattle.facl_script.specs.Streams.{streams, moment}
-use Rattle.facl_script.specs.Run.{Gives}
+use Rattle.facl_script.specs.Run.{IsGiven}
 use Rattle.facl_script.proofs.Progress.{Progress}
 use Rattle.facl_script.proofs.play.run_session.Given as goal
 
@@ -19,7 +19,7 @@ invariant-loop-script g l = record {
   consumes : Consumes (g.R.Feed.remaining l.fn.reader) (script_left l.script (g.R.Feed.remaining l.reader)) taken;
   last : is_over l.script ≡ true → IsAtEnd (script_left l.script (g.R.Feed.remaining l.reader));
   ready : g.S.Session.is_ready (next_number l.script) l.session;
-  gives : Gives answer_so_far
+  gives : IsGiven answer_so_far
       (moment (g.S.Session.state l.fn.session) (g.S.Session.spent l.fn.session) (streams (g.O.Sink.contents l.fn.out) (g.E.Sink.contents l.fn.err)))
       (moment (g.S.Session.state l.session) (g.S.Session.spent l.session) (streams (g.O.Sink.contents l.out) (g.E.Sink.contents l.err)));
   refused : l.is_refused ≡ answer_so_far.refused;

@@ -3,7 +3,7 @@ use Rattle.std.proofs.lemmas.Result.{err_from_is_err_and}
 use Rattle.std.proofs.KnownBytes.{Consumes-trans}
 use Rattle.std.specs.Io.KnownBytes.{Consumes}
 use Rattle.facl_script.specs.Lines.{lines_of, Held, spelled}
-use Rattle.facl_script.specs.Source.{unread, taken_count}
+use Rattle.facl_script.specs.ByteSource.{unread, taken_count}
 use Rattle.facl_script.specs.Units.{opened, within, outside, unended, cut, closed, is_end, more_text, ended_text, full_units}
 use Rattle.facl_script.proofs.SourceLemmas.{stops_later}
 use Rattle.facl_script.proofs.TextLemmas.{so_far, text_line, text_end, text_breaks, no_unit, spelled_some, of_not, of_not_not, holds_ended}

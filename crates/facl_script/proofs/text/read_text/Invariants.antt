@@ -2,7 +2,7 @@ use Rattle.std.proofs.Common.{◌≡◌, ◌≤◌, ◌+◌, ◌-◌, ℕ, Bool,
 use Rattle.std.specs.Io.KnownBytes.{Consumes}
 use Rattle.facl_script.specs.declared.source.TheConstants.{SCRIPT_LIMIT}
 use Rattle.facl_script.specs.Lines.{lines_of}
-use Rattle.facl_script.specs.Source.{unread, taken_count}
+use Rattle.facl_script.specs.ByteSource.{unread, taken_count}
 use Rattle.facl_script.specs.Units.{opened, within, cut}
 use Rattle.facl_script.specs.ReadText.{HoldsText}
 use Rattle.facl_script.proofs.TextLemmas.{so_far}

@@ -9,13 +9,13 @@ loop-c-preserved c =
     let text = c.args.text.now in
     let turn = subst (λ (rest : List ℕ). IsSeen text (map string_bytes c.loop-c.words.items) (string_bytes c.loop-c.word) c.loop-c.place rest) c.in-Some.ensures.steps.0 c.loop-c.invariant in
     let seen = char_seen text _ _ c.loop-c.place c.in-Some.c c.next.new.self.rest.now turn in
-    elim c.match-effect.branch [
-      | in-Skips w ↦ let h = rw (sym c.effect.ensures ∙ w.in-Skips.is) at seen in rw (c.after-place.ensures, w.words-is, w.word-is) h
+    elim c.match-char_action.branch [
+      | in-Skips w ↦ let h = rw (sym c.char_action.ensures ∙ w.in-Skips.is) at seen in rw (c.after-place.ensures, w.words-is, w.word-is) h
       | in-Joins+in_ok-push-in-Joins w ↦
-          let h = rw (sym c.effect.ensures ∙ w.in-Joins.is) at seen in
+          let h = rw (sym c.char_action.ensures ∙ w.in-Joins.is) at seen in
           rw (c.after-place.ensures, w.words-is, w.word-is, w.in_ok-push-in-Joins.ensures.bytes) h
       | in-Ends+in_ok-push-in-Ends w ↦
-          let h = rw (sym c.effect.ensures ∙ w.in-Ends.is) at seen in
+          let h = rw (sym c.char_action.ensures ∙ w.in-Ends.is) at seen in
           rw (c.after-place.ensures, w.words-is, w.word-is, w.new-word-in-Ends.ensures.bytes, w.in_ok-push-in-Ends.ensures.items, map-append string_bytes c.loop-c.words.items _) h
     ]
 

@@ -7,4 +7,4 @@ use Rattle.facl_tools.proofs.useradd.answer.Goals as goal
 pub returns : goal.returns
 returns c =
     let s = c.args.state.now in
-    subst (λ (new : NewUser). Replies s c.prepare.result (done s (Useradd new))) c.in_ok-new.ensures c.prepare.ensures
+    subst (λ (new : NewUser). Replies s c.effect_of.result (done s (Useradd new))) c.in_ok-new.ensures c.effect_of.ensures

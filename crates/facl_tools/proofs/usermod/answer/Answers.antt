@@ -7,6 +7,6 @@ use Rattle.facl_tools.proofs.usermod.answer.Goals as goal
 pub returns : goal.returns
 returns c =
     let s = c.args.state.now in
-    let gives = λ (user group : List ℕ). Replies s c.prepare.result (done s (Usermod user group)) in
-    let by_group = subst (gives c.in_ok-user.user) c.in_ok-group.ensures c.prepare.ensures in
+    let gives = λ (user group : List ℕ). Replies s c.effect_of.result (done s (Usermod user group)) in
+    let by_group = subst (gives c.in_ok-user.user) c.in_ok-group.ensures c.effect_of.ensures in
     subst (λ (user : List ℕ). gives user (name_meant c.args.line.group)) c.in_ok-user.ensures by_group

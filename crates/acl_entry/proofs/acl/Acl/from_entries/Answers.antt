@@ -1,6 +1,6 @@
 use Rattle.std.proofs.Common.{◌≡◌, None, Some, option_map, sym, ap, ◌∙◌, arith}
 use Rattle.std.proofs.lemmas.List.Sorted.{IsPermutation-map}
-use Rattle.acl_entry.specs.declared.key.Key.TheVariants.{Mask}
+use Rattle.acl_entry.specs.declared.entry.Key.TheVariants.{Mask}
 use Rattle.acl_entry.specs.declared.entry.Entry.{Entry}
 use Rattle.acl_entry.specs.declared.entry.ListFault.TheVariants.{MissingBase, MissingMask}
 use Rattle.acl_entry.specs.Lists.{keys, is_among, or_else, missing_base, unmasked}

@@ -1,5 +1,5 @@
 use Rattle.std.proofs.Common.{◌≡◌, ◌∷◌, [], ap, ◌∙◌}
-use Rattle.acl_entry.specs.declared.key.Key.TheVariants.{Owner, OwningGroup, Other}
+use Rattle.acl_entry.specs.declared.entry.Key.TheVariants.{Owner, OwningGroup, Other}
 use Rattle.acl_entry.specs.Lists.{map_of, mode, is_minimal, minimal_entries}
 use Rattle.acl_entry.proofs.Modes.{mode-minimal, is_minimal-minimal}
 use Rattle.acl_entry.proofs.acl.Acl.minimal.Goals as goal

@@ -1,6 +1,6 @@
 use Rattle.std.proofs.Common.{◌≡◌, map, slice_set, sym, subst, ap, ◌∙◌}
 use Rattle.std.proofs.lemmas.List.{map-set}
-use Rattle.acl_people.specs.Rolls.{AreCounted}
+use Rattle.acl_people.specs.NameTables.{AreCounted}
 use Rattle.acl_people.specs.Entries.{group_entry}
 use Rattle.acl_people.proofs.Pointers.{same_values}
 use Rattle.acl_people.proofs.groups.Groups.with_row.Goals as goal

@@ -1,6 +1,6 @@
 use Rattle.std.proofs.Common.{◌≡◌, map, sym, subst, ap, ◌∙◌}
 use Rattle.std.proofs.lemmas.Simd.{map-map}
-use Rattle.acl_people.specs.Rolls.{AreCounted}
+use Rattle.acl_people.specs.NameTables.{AreCounted}
 use Rattle.acl_people.specs.Entries.{group_entry}
 use Rattle.acl_people.specs.Changes.{name_removed}
 use Rattle.acl_people.proofs.groups.Groups.without_user.Goals as goal

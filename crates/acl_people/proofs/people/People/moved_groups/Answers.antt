@@ -1,6 +1,8 @@
-use Rattle.std.proofs.Common.{◌≡◌, ℕ, List, slice_get, Some, ap, subst, ◌∙◌}
+use Rattle.std.proofs.Common.{◌≡◌, ℕ, List, length, slice_get, Some, ap, sym, subst, ◌∙◌, arith}
+use Rattle.std.proofs.lemmas.Option.{slice_get_within}
+use Rattle.std.proofs.lemmas.List.{length-map}
 use Rattle.acl_entry.specs.Person.{Person}
-use Rattle.acl_people.specs.Registers.{persons}
+use Rattle.acl_people.specs.KnownPeople.{persons}
 use Rattle.acl_people.specs.Moves.{AreMoved}
 use Rattle.acl_people.proofs.Moving.{slice_get-set_same}
 use Rattle.acl_people.proofs.Rising.{moved_ids}
@@ -28,3 +30,17 @@ returns-clause-ids c =
 
 pub returns-clause-none : goal.returns-clause-none
 returns-clause-none c = λ none. none_moved (persons c.args.self.now) (persons c.args.next.now) c.args.user c.requires (subst (λ (ids : List ℕ). AreMoved c.requires.before c.requires.after ids) none (moved c))
+
+pub bounds-subjects-user : goal.bounds-subjects-user
+bounds-subjects-user c =
+    let long = sym (length-map c.subjects.result.now (λ s. s.value)) ∙ ap length c.subjects.ensures in
+    let within = slice_get_within (persons c.args.self.now) c.args.user c.requires.before c.requires.was in
+    omega (arith, long, within)
+
+pub bounds-subjects-user-2 : goal.bounds-subjects-user-2
+bounds-subjects-user-2 c =
+    let old = persons c.args.self.now in
+    let at : slice_get (persons c.args.next.now) c.args.user ≡ Some c.requires.after = ap (λ ps. slice_get ps c.args.user) c.requires.becomes ∙ slice_get-set_same old c.args.user c.requires.before c.requires.after c.requires.was in
+    let long = sym (length-map c.subjects-2.result.now (λ s. s.value)) ∙ ap length c.subjects-2.ensures in
+    let within = slice_get_within (persons c.args.next.now) c.args.user c.requires.after at in
+    omega (arith, long, within)

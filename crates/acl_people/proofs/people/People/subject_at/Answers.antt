@@ -2,7 +2,7 @@ use Rattle.std.proofs.Common.{◌≡◌, ◌<◌, ◌≤◌, length, slice_get, 
 use Rattle.std.proofs.lemmas.Bool.Decides.{nat_tests}
 use Rattle.std.proofs.lemmas.List.{length-map}
 use Rattle.std.proofs.lemmas.Option.{slice_get-map, slice_get_past}
-use Rattle.acl_people.specs.Registers.{person, persons}
+use Rattle.acl_people.specs.KnownPeople.{person, persons}
 use Rattle.acl_people.proofs.Pointers.{value_at}
 use Rattle.acl_people.proofs.people.People.subject_at.Goals as goal
 

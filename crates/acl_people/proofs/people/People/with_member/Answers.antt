@@ -1,7 +1,7 @@
 use Rattle.std.proofs.Common.{◌≡◌, List, Bool, false, map, if◌then◌else◌, sym, ap, subst, ◌∙◌}
 use Rattle.acl_syntax.specs.declared.rows.PasswdRow.{PasswdRow}
 use Rattle.acl_syntax.specs.declared.rows.GroupRow.{GroupRow}
-use Rattle.acl_people.specs.Registers.{Register, person, persons}
+use Rattle.acl_people.specs.KnownPeople.{KnownPeople, person, persons}
 use Rattle.acl_people.specs.Changes.{change_at, name_of, name_added, is_member}
 use Rattle.acl_people.specs.Moves.{ChangesUser}
 use Rattle.acl_people.proofs.Moving.{added_changes, same_changes, changes_as}
@@ -33,9 +33,9 @@ returns-clause-rows c =
     let before = (goal.at.returns-clause-rows c).In_ok-new in
     let absent : is_member c.args.user c.args.group known ≡ false = sym c.is_member.ensures ∙ c.if-is_member.false in
     c.in_ok-people-2.ensures
-    ∙ ap (λ (us : List PasswdRow). let r : Register = record { users = us; groups = c.in_ok-new.field-0.value; passwd_loaded = known.passwd_loaded; group_loaded = known.group_loaded } in r) (users before)
-    ∙ ap (λ (gs : List GroupRow). let r : Register = record { users = known.users; groups = gs; passwd_loaded = known.passwd_loaded; group_loaded = known.group_loaded } in r) (groups before)
-    ∙ ap (λ (b : Bool). if b then known else (let r : Register = record { users = known.users; groups = change_at c.args.group (name_added (name_of c.args.user known)) known.groups; passwd_loaded = known.passwd_loaded; group_loaded = known.group_loaded } in r)) (sym absent)
+    ∙ ap (λ (us : List PasswdRow). let r : KnownPeople = record { users = us; groups = c.in_ok-new.field-0.value; passwd_loaded = known.passwd_loaded; group_loaded = known.group_loaded } in r) (users before)
+    ∙ ap (λ (gs : List GroupRow). let r : KnownPeople = record { users = known.users; groups = gs; passwd_loaded = known.passwd_loaded; group_loaded = known.group_loaded } in r) (groups before)
+    ∙ ap (λ (b : Bool). if b then known else (let r : KnownPeople = record { users = known.users; groups = change_at c.args.group (name_added (name_of c.args.user known)) known.groups; passwd_loaded = known.passwd_loaded; group_loaded = known.group_loaded } in r)) (sym absent)
 
 pub returns-clause-change : goal.returns-clause-change
 returns-clause-change c = subst (λ people. ChangesUser (persons c.args.self.now) (persons people) c.args.user) (sym c.in_ok-people-2.ensures) (changes (goal.at.returns-clause-change c).In_ok-new)

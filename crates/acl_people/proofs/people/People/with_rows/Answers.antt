@@ -3,7 +3,7 @@ use Rattle.std.proofs.lemmas.List.{length-map}
 use Rattle.acl_entry.specs.Person.{Person}
 use Rattle.acl_syntax.specs.declared.rows.PasswdRow.{PasswdRow}
 use Rattle.acl_syntax.specs.declared.rows.GroupRow.{GroupRow}
-use Rattle.acl_people.specs.Registers.{person, persons}
+use Rattle.acl_people.specs.KnownPeople.{person, persons}
 use Rattle.acl_people.proofs.Moving.{after_is, user_within}
 use Rattle.acl_people.proofs.Pointers.{value_at}
 use Rattle.acl_people.proofs.people.People.with_rows.Goals as goal
@@ -54,3 +54,14 @@ invariant_of-result c =
     ∙ ap (λ ps. slice_set ps c.args.user c.in_ok-subject-2.subject.value) c.all_subjects.ensures
     ∙ ap (λ (p : Person). slice_set old c.args.user p) is
     ∙ sym c.requires.becomes
+
+pub bounds-rows-user : goal.bounds-rows-user
+bounds-rows-user c =
+    let users = c.args.users.value in
+    let rows : map (λ r. r.value) c.rows-2.result.now ≡ users = c.rows-2.ensures ∙ c.deref-2.ensures in
+    let within = user_within (persons c.args.self.now) c.args.groups.value users c.args.user c.requires in
+    let as_long : length c.rows-2.result.now ≡ length users = sym (length-map c.rows-2.result.now (λ r. r.value)) ∙ ap length rows in
+    omega (arith, within, as_long)
+
+pub returns : goal.returns
+returns c = λ i. record { users = c.args.users.value; groups = c.args.groups.value; passwd_loaded = (c.self.view_is i).passwd_loaded; group_loaded = (c.self.view_is i).group_loaded }

@@ -5,9 +5,9 @@ use Rattle.std.proofs.lemmas.List.{map_push, length-map}
 use Rattle.acl_names.specs.Pieces.{is_byte}
 use Rattle.acl_syntax.specs.declared.rows.PasswdRow.{PasswdRow}
 use Rattle.acl_syntax.specs.Rows.{most_rows}
-use Rattle.acl_people.specs.Rolls.{is_name, AreCounted}
+use Rattle.acl_people.specs.NameTables.{is_name, AreCounted}
 use Rattle.acl_people.specs.Entries.{user_entry}
-use Rattle.acl_people.specs.Registers.{Register, persons, users_of}
+use Rattle.acl_people.specs.KnownPeople.{KnownPeople, persons, users_of}
 use Rattle.acl_people.specs.Changes.{gid_of, with_user}
 use Rattle.acl_people.specs.Moves.{JoinsUser}
 use Rattle.acl_people.proofs.Changed.{user_row}
@@ -23,7 +23,7 @@ pub with_user_row-requires : goal.with_user_row-requires
 with_user_row-requires c =
     let known = c.args.self.now in
     let row = user_row c.args.name.now c.args.uid c.gid_of-gid.result in
-    let counted : AreCounted (users_of known) = record { names = c.is_sound.ensures.user_names; few = subst (λ n. n ≤ most_rows) (sym (length-map known.users user_entry)) c.is_sound.ensures.few_users } in
+    let counted : AreCounted (users_of known) = record { names = c.soundness_law.ensures.user_names; few = subst (λ n. n ≤ most_rows) (sym (length-map known.users user_entry)) c.soundness_law.ensures.few_users } in
     let name : c.as_bytes.result.now ≡ c.args.name.now = c.as_bytes.ensures ∙ c.as_name.ensures.all in
     let text : IsNameText c.args.name.now = record {
       filled = c.as_name.ensures.filled;
@@ -45,6 +45,6 @@ returns-clause-joins c =
     in
     let is : c.in_ok-people.people ≡ with_user c.args.name.now c.args.uid c.args.group known =
     c.in_ok-people.ensures
-    ∙ ap (λ (r : PasswdRow). let known' : Register = record { users = known.users ++ r ∷ []; groups = known.groups; passwd_loaded = true; group_loaded = known.group_loaded } in known') row
+    ∙ ap (λ (r : PasswdRow). let known' : KnownPeople = record { users = known.users ++ r ∷ []; groups = known.groups; passwd_loaded = true; group_loaded = known.group_loaded } in known') row
     in
     subst (λ people. JoinsUser (persons known) (persons people)) (sym is) (joins known c.args.name.now c.args.uid c.args.group)

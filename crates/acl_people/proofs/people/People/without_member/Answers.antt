@@ -1,7 +1,7 @@
 use Rattle.std.proofs.Common.{◌≡◌, List, map, sym, ap, subst, ◌∙◌}
 use Rattle.acl_syntax.specs.declared.rows.PasswdRow.{PasswdRow}
 use Rattle.acl_syntax.specs.declared.rows.GroupRow.{GroupRow}
-use Rattle.acl_people.specs.Registers.{Register, person, persons}
+use Rattle.acl_people.specs.KnownPeople.{KnownPeople, person, persons}
 use Rattle.acl_people.specs.Changes.{change_at, name_of, name_removed}
 use Rattle.acl_people.specs.Moves.{ChangesUser}
 use Rattle.acl_people.proofs.Moving.{removed_changes, changes_as}
@@ -29,8 +29,8 @@ returns-clause-rows c =
     let known = c.args.self.now in
     let before = (goal.at.returns-clause-rows c).In_ok-new in
     c.in_ok-people.ensures
-    ∙ ap (λ (us : List PasswdRow). let r : Register = record { users = us; groups = c.in_ok-new.field-0.value; passwd_loaded = known.passwd_loaded; group_loaded = known.group_loaded } in r) (users before)
-    ∙ ap (λ (gs : List GroupRow). let r : Register = record { users = known.users; groups = gs; passwd_loaded = known.passwd_loaded; group_loaded = known.group_loaded } in r) (groups before)
+    ∙ ap (λ (us : List PasswdRow). let r : KnownPeople = record { users = us; groups = c.in_ok-new.field-0.value; passwd_loaded = known.passwd_loaded; group_loaded = known.group_loaded } in r) (users before)
+    ∙ ap (λ (gs : List GroupRow). let r : KnownPeople = record { users = known.users; groups = gs; passwd_loaded = known.passwd_loaded; group_loaded = known.group_loaded } in r) (groups before)
 
 pub returns-clause-change : goal.returns-clause-change
 returns-clause-change c = subst (λ people. ChangesUser (persons c.args.self.now) (persons people) c.args.user) (sym c.in_ok-people.ensures) (changes (goal.at.returns-clause-change c).In_ok-new)

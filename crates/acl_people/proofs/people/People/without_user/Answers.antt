@@ -1,6 +1,6 @@
 use Rattle.std.proofs.Common.{◌≡◌, map, sym, subst, ap, ◌∙◌}
 use Rattle.std.specs.List.{remove}
-use Rattle.acl_people.specs.Registers.{person, persons}
+use Rattle.acl_people.specs.KnownPeople.{person, persons}
 use Rattle.acl_people.specs.Changes.{name_of, name_removed}
 use Rattle.acl_people.specs.Moves.{LeavesUser}
 use Rattle.acl_people.proofs.Moving.{leaves, leaves_as}

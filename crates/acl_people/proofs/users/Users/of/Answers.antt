@@ -1,6 +1,6 @@
 use Rattle.std.proofs.Common.{◌≡◌, map, sym, subst, ap, ◌∙◌}
 use Rattle.std.proofs.lemmas.Simd.{map-map}
-use Rattle.acl_people.specs.Rolls.{AreNames}
+use Rattle.acl_people.specs.NameTables.{AreNames}
 use Rattle.acl_people.specs.Entries.{user_entry}
 use Rattle.acl_people.proofs.users.Users.of.Goals as goal
 use Rattle.acl_people.proofs.users.Users.of.Goals.{After-deref}
@@ -13,4 +13,4 @@ pub of-requires : goal.of-requires
 of-requires c = subst AreNames (named (goal.at.of-requires c).After-deref) c.requires.names
 
 pub invariant_of-result : goal.invariant_of-result
-invariant_of-result c = (c.in_ok-roll.ensures.ok ∙ c.in_ok-of.ensures ∙ sym (named (goal.at.invariant_of-result c).After-deref), c.requires)
+invariant_of-result c = (c.in_ok-name_table.ensures.ok ∙ c.in_ok-of.ensures ∙ sym (named (goal.at.invariant_of-result c).After-deref), c.requires)

@@ -1,6 +1,6 @@
 use Rattle.std.proofs.Common.{◌≡◌, ◌∷◌, ◌++◌, [], map, sym, subst, ap, ◌∙◌}
 use Rattle.std.proofs.lemmas.List.{map_push}
-use Rattle.acl_people.specs.Rolls.{AreCounted}
+use Rattle.acl_people.specs.NameTables.{AreCounted}
 use Rattle.acl_people.specs.Entries.{user_entry}
 use Rattle.acl_people.proofs.Pointers.{same_values}
 use Rattle.acl_people.proofs.users.Users.with_row.Goals as goal

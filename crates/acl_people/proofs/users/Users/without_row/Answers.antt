@@ -1,7 +1,7 @@
 use Rattle.std.proofs.Common.{◌≡◌, ◌<◌, length, map, sym, subst, ap, ◌∙◌}
 use Rattle.std.specs.List.{remove}
 use Rattle.std.proofs.lemmas.List.{length-map}
-use Rattle.acl_people.specs.Rolls.{AreCounted}
+use Rattle.acl_people.specs.NameTables.{AreCounted}
 use Rattle.acl_people.specs.Entries.{user_entry}
 use Rattle.acl_people.proofs.Pointers.{same_values, map-remove}
 use Rattle.acl_people.proofs.Counted.{counted_remove}

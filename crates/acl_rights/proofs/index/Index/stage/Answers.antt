@@ -1,8 +1,8 @@
 use Rattle.std.proofs.Common.{◌≤◌, ℕ, [], get_or, ap, sym, subst, ◌∙◌, arith}
 use Rattle.path_map.specs.Entries.{IsInOrder}
-use Rattle.acl_tree.specs.acl_people.Registers.{persons}
+use Rattle.acl_tree.specs.acl_people.KnownPeople.{persons}
 use Rattle.acl_tree.specs.Files.{PathOf, Files, Recorded}
-use Rattle.acl_rights.specs.Tables.{Table, Rows, rows_of}
+use Rattle.acl_rights.specs.Tables.{VerdictTable, Rows, rows_of}
 use Rattle.acl_rights.specs.Reach.{unlike}
 use Rattle.acl_rights.specs.Kept.{GoesFrom}
 use Rattle.acl_rights.specs.Grants.{AreGrants}
@@ -16,12 +16,12 @@ after_line-requires-clause-room g c =
     let V = g.J.Judge.verdict_of in
     let t = c.args.staged.now in
     let goes : GoesFrom V c.args.self.now.rows t = record { state = c.requires.goes.state; rows_are = c.requires.goes.whole.rows; reports = c.requires.goes.reports } in
-    omega (arith, most_le V c.args.self.now.rows t goes (subst (λ (r : Recorded). IsInOrder r.files) c.tree.ensures c.is_sound.ensures.order), c.requires.room)
+    omega (arith, most_le V c.args.self.now.rows t goes (subst (λ (r : Recorded). IsInOrder r.files) c.tree.ensures c.soundness_law.ensures.order), c.requires.room)
 
 pub after_line-requires-clause-goes : goal.after_line-requires-clause-goes
 after_line-requires-clause-goes g c =
-    let rows = ap (λ (x : Table). x.rows) (c.now.view_is ∙ c.self.view_is) in
-    let files = ap (λ (x : Table). x.files) (c.now.view_is ∙ c.self.view_is) in
+    let rows = ap (λ (x : VerdictTable). x.rows) (c.now.view_is ∙ c.self.view_is) in
+    let files = ap (λ (x : VerdictTable). x.files) (c.now.view_is ∙ c.self.view_is) in
     record {
       goes = record {
         goes = record { state = c.requires.goes.state; rows_are = rows ∙ c.requires.goes.whole.rows; reports = c.requires.goes.reports };
@@ -35,14 +35,14 @@ returns-in_err-new-clause-bounded g c =
     let V = g.J.Judge.verdict_of in
     let t = c.args.staged.now in
     let goes : GoesFrom V c.args.self.now.rows t = record { state = c.requires.goes.state; rows_are = c.requires.goes.whole.rows; reports = c.requires.goes.reports } in
-    omega (arith, most_le V c.args.self.now.rows t goes (subst (λ (r : Recorded). IsInOrder r.files) c.tree.ensures c.is_sound.ensures.order), c.after_line.ensures.at_most)
+    omega (arith, most_le V c.args.self.now.rows t goes (subst (λ (r : Recorded). IsInOrder r.files) c.tree.ensures c.soundness_law.ensures.order), c.after_line.ensures.at_most)
 
 pub returns-clause-bounded : goal.returns-clause-bounded
 returns-clause-bounded g c =
     let V = g.J.Judge.verdict_of in
     let t = c.args.staged.now in
     let goes : GoesFrom V c.args.self.now.rows t = record { state = c.requires.goes.state; rows_are = c.requires.goes.whole.rows; reports = c.requires.goes.reports } in
-    omega (arith, most_le V c.args.self.now.rows t goes (subst (λ (r : Recorded). IsInOrder r.files) c.tree.ensures c.is_sound.ensures.order), c.after_line.ensures.at_most)
+    omega (arith, most_le V c.args.self.now.rows t goes (subst (λ (r : Recorded). IsInOrder r.files) c.tree.ensures c.soundness_law.ensures.order), c.after_line.ensures.at_most)
 
 pub returns-clause-refreshed_least : goal.returns-clause-refreshed_least
 returns-clause-refreshed_least g c =
@@ -50,8 +50,8 @@ returns-clause-refreshed_least g c =
     let t = c.args.staged.now in
     let old : Rows = c.args.self.now.rows in
     let goes : GoesFrom V old t = record { state = c.requires.goes.state; rows_are = c.requires.goes.whole.rows; reports = c.requires.goes.reports } in
-    let rows = ap (λ (x : Table). x.rows) (c.now.view_is ∙ c.self.view_is) in
-    let order : IsInOrder old = subst IsInOrder rows (map_values (λ (e : PathOf × ℕ). get_or c.now.inside.grants.rows.cells e.1 []) c.now.inside.grants.rows.numbers c.is_in_order.ensures) in
-    let most = line_most V g.met.J.Judge.local old t goes order (subst (λ (r : Recorded). IsInOrder r.files) c.tree.ensures c.is_sound.ensures.order) in
+    let rows = ap (λ (x : VerdictTable). x.rows) (c.now.view_is ∙ c.self.view_is) in
+    let order : IsInOrder old = subst IsInOrder rows (map_values (λ (e : PathOf × ℕ). get_or c.now.inside.grants.rows.cells e.1 []) c.now.inside.grants.rows.numbers c.order_law.ensures) in
+    let most = line_most V g.met.J.Judge.local old t goes order (subst (λ (r : Recorded). IsInOrder r.files) c.tree.ensures c.soundness_law.ensures.order) in
     subst (λ (rs : Rows). unlike t.user_change old rs ≤ c.in_ok-new.new.refreshed) (sym c.in_ok-new.ensures.rows)
     (subst (λ n. unlike t.user_change old (rows_of V (persons t.state.people) t.state.tree.files) ≤ n) (sym c.in_ok-new.ensures.refreshed) most)

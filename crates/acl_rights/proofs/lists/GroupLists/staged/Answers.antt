@@ -15,11 +15,11 @@ with_noted-requires c h =
     let fs = c.args.old.now.files in
     let gs = c.args.new.now.files in
     let files = ap (regrouped fs) c.requires.changed ∙ regrouped_of_changed fs gs in
-    let order = map_filter (is_regrouped fs) gs c.is_sound-2.ensures.order in
+    let order = map_filter (is_regrouped fs) gs c.soundness_law-2.ensures.order in
     record {
       puts = subst IsInOrder (sym (c.in_ok-noted.ensures.puts h ∙ ap (λ (es : Files). set_of (mentioning h es)) files)) (set_order (mentions_group h) (regrouped fs gs) order);
       before = subst IsInOrder (sym (c.in_ok-noted.ensures.before h ∙ ap (λ (es : Files). set_of (filter (mentioned_group fs h) es)) files)) (set_order (mentioned_group fs h) (regrouped fs gs) order);
-      gone = subst IsInOrder (sym (c.in_ok-noted.ensures.gone h ∙ ap (λ (es : Files). set_of (mentioning h es)) c.requires.gone)) (set_order (mentions_group h) (gone_between fs gs) (map_filter _ fs c.is_sound.ensures.order));
+      gone = subst IsInOrder (sym (c.in_ok-noted.ensures.gone h ∙ ap (λ (es : Files). set_of (mentioning h es)) c.requires.gone)) (set_order (mentions_group h) (gone_between fs gs) (map_filter _ fs c.soundness_law.ensures.order));
     }
 
 pub returns : goal.returns
@@ -33,4 +33,4 @@ returns c g =
     let kept = c.requires.lists g in
     c.in_ok-lists.ensures g
     ∙ (λ i. without_all (gone i) (merged (puts i) (before i) (kept i)))
-    ∙ list_after g fs gs c.is_sound.ensures.order c.is_sound-2.ensures.order
+    ∙ list_after g fs gs c.soundness_law.ensures.order c.soundness_law-2.ensures.order

@@ -1,13 +1,14 @@
-use Rattle.std.proofs.Common.{◌≡◌, ◌+◌, ℕ, Bool, true, false, List, [], ◌∷◌, ◌++◌, length, length-append, refl, sym, ap, ◌∙◌, subst, append_assoc, arith, add_assoc}
+use Rattle.std.proofs.Common.{◌≡◌, ◌+◌, ℕ, Bool, true, false, List, [], ◌∷◌, ◌++◌, length, length-append, refl, sym, ap, ◌∙◌, subst, append_assoc, arith, add_assoc, Some}
 use Rattle.std.proofs.lemmas.Result.{err_from_is_err_and}
 use Rattle.std.proofs.KnownBytes.{Consumes-trans}
 use Rattle.std.specs.Io.KnownBytes.{Consumes}
 use Rattle.facl_script.specs.Lines.{lines_of, Held, spelled}
-use Rattle.facl_script.specs.Source.{unread, taken_count}
-use Rattle.facl_script.specs.Units.{takes_text, opened, outside, unended, cut, closed, full_units}
+use Rattle.facl_script.specs.ByteSource.{unread, taken_count}
+use Rattle.facl_script.specs.ReadUnit.{IsLineFound}
+use Rattle.facl_script.specs.Units.{within_limit, takes_text, opened, outside, unended, cut, closed, full_units}
 use Rattle.facl_script.proofs.SourceLemmas.{stops_later}
 use Rattle.facl_script.proofs.TextLemmas.{spelled_some, of_not, of_not_not}
-use Rattle.facl_script.proofs.UnitLemmas.{alone, unit_alone, unit_breaks, unit_opens, no_unit_outside, line_found, takes_held}
+use Rattle.facl_script.proofs.UnitLemmas.{alone, unit_alone, unit_breaks, unit_opens, no_unit_outside, takes_within, takes_some}
 use Rattle.facl_script.proofs.unit.Script.read_unit.Goals as goal
 
 pub returns-in_err-found-clause-err : goal.returns-in_err-found-clause-err
@@ -23,8 +24,9 @@ returns-then-not-takes-clause-ok g c =
     let line = nl.1 in
     let e = c.in-Some.found.is_ended in
     let n : ℕ = c.args.self.now.number in
-    let held = subst (λ (l : List ℕ). Held c.in-Some.found.is_too_long l t) (sym c.deref.ensures.value) line.held in
-    let takes : takes_text g.S.Session.asks t ≡ false = sym (c.takes.ensures t held) ∙ c.if-not-takes.true in
+    let held = subst (λ (l : List ℕ). Held c.in-Some.found.is_too_long l t) (sym c.as_slice-bytes.ensures.value) line.held in
+    let is = c.of-line.ensures t held in
+    let takes : takes_text g.S.Session.asks t ≡ false = sym (takes_within g.S.Session.asks t) ∙ sym (c.takes.ensures (within_limit t) is) ∙ c.if-not-takes.true in
     let some = spelled_some t e (λ h. (line.last h).0) in (
       spelled t e,
       alone n t e,
@@ -37,7 +39,7 @@ returns-then-not-takes-clause-ok g c =
         lines = omega (arith, some);
         count = line.count;
       },
-      record { number = refl; line_is = line_found c.in-Some.found.is_too_long c.next_line.new.line.items t line.held; text_is = refl; full = refl; lost = λ e. cc },
+      record { number = refl; line_is = subst (λ (l : List ℕ). IsLineFound c.of-line.result l (within_limit t)) c.as_slice-bytes.ensures.value is; text_is = refl; full = refl; lost = λ e. cc },
     )
 
 pub returns-then-not-found-clause-ok : goal.returns-then-not-found-clause-ok
@@ -47,8 +49,9 @@ returns-then-not-found-clause-ok g c =
     let line = nl.1 in
     let no_end : c.in-Some.found.is_ended ≡ false = of_not _ c.if-not-found.true in
     let n : ℕ = c.args.self.now.number in
-    let held = subst (λ (l : List ℕ). Held c.in-Some.found.is_too_long l t) (sym c.deref.ensures.value) line.held in
-    let takes : takes_text g.S.Session.asks t ≡ true = sym (c.takes.ensures t held) ∙ c.if-not-takes.false in
+    let held = subst (λ (l : List ℕ). Held c.in-Some.found.is_too_long l t) (sym c.as_slice-bytes.ensures.value) line.held in
+    let is = c.of-line.ensures t held in
+    let takes : takes_text g.S.Session.asks t ≡ true = sym (takes_within g.S.Session.asks t) ∙ sym (c.takes.ensures (within_limit t) is) ∙ c.if-not-takes.false in
     let some = (line.last no_end).0 in
     let consumes = subst (λ (b : Bool). Consumes (unread c.args.self.now.source (g.R.Feed.remaining c.args.reader.now)) (unread c.next_line.new.self (g.R.Feed.remaining c.next_line.new.reader)) (spelled t b)) no_end line.consumes in
     let count = subst (λ (b : Bool). taken_count c.next_line.new.self ≡ taken_count c.args.self.now.source + length (spelled t b)) no_end line.count in (
@@ -63,7 +66,7 @@ returns-then-not-found-clause-ok g c =
         lines = omega (arith, some);
         count = count;
       },
-      record { number = refl; line_is = takes_held g.S.Session.asks c.in-Some.found.is_too_long c.next_line.new.line.items t line.held takes; text_is = refl; full = refl; lost = λ e. cc },
+      record { number = refl; line_is = subst (λ (l : List ℕ). IsLineFound c.of-line.result l (Some t)) c.as_slice-bytes.ensures.value (subst (λ o. IsLineFound c.of-line.result c.as_slice-bytes.result.now o) (takes_some g.S.Session.asks t takes) is); text_is = refl; full = refl; lost = λ e. cc },
     )
 
 pub returns-in_err-read-clause-err : goal.returns-in_err-read-clause-err
@@ -72,8 +75,9 @@ returns-in_err-read-clause-err g c =
     let t : List ℕ = nl.0 in
     let line = nl.1 in
     let ended : c.in-Some.found.is_ended ≡ true = of_not_not _ c.if-not-found.false in
-    let held = subst (λ (l : List ℕ). Held c.in-Some.found.is_too_long l t) (sym c.deref.ensures.value) line.held in
-    let takes : takes_text g.S.Session.asks t ≡ true = sym (c.takes.ensures t held) ∙ c.if-not-takes.false in
+    let held = subst (λ (l : List ℕ). Held c.in-Some.found.is_too_long l t) (sym c.as_slice-bytes.ensures.value) line.held in
+    let is = c.of-line.ensures t held in
+    let takes : takes_text g.S.Session.asks t ≡ true = sym (takes_within g.S.Session.asks t) ∙ sym (c.takes.ensures (within_limit t) is) ∙ c.if-not-takes.false in
     let consumes = subst (λ (b : Bool). Consumes (unread c.args.self.now.source (g.R.Feed.remaining c.args.reader.now)) (unread c.next_line.new.self (g.R.Feed.remaining c.next_line.new.reader)) (spelled t b)) ended line.consumes in
     let count = subst (λ (b : Bool). taken_count c.next_line.new.self ≡ taken_count c.args.self.now.source + length (spelled t b)) ended line.count in
     let h = c.in_err-read.ensures.err in
@@ -102,9 +106,10 @@ returns-clause-ok g c =
     let line = nl.1 in
     let ended : c.in-Some.found.is_ended ≡ true = of_not_not _ c.if-not-found.false in
     let n : ℕ = c.args.self.now.number in
-    let held = subst (λ (l : List ℕ). Held c.in-Some.found.is_too_long l t) (sym c.deref.ensures.value) line.held in
-    let takes : takes_text g.S.Session.asks t ≡ true = sym (c.takes.ensures t held) ∙ c.if-not-takes.false in
-    let same = takes_held g.S.Session.asks c.in-Some.found.is_too_long c.next_line.new.line.items t line.held takes in
+    let held = subst (λ (l : List ℕ). Held c.in-Some.found.is_too_long l t) (sym c.as_slice-bytes.ensures.value) line.held in
+    let is = c.of-line.ensures t held in
+    let takes : takes_text g.S.Session.asks t ≡ true = sym (takes_within g.S.Session.asks t) ∙ sym (c.takes.ensures (within_limit t) is) ∙ c.if-not-takes.false in
+    let same = subst (λ (l : List ℕ). IsLineFound c.of-line.result l (Some t)) c.as_slice-bytes.ensures.value (subst (λ o. IsLineFound c.of-line.result c.as_slice-bytes.result.now o) (takes_some g.S.Session.asks t takes) is) in
     let consumes = subst (λ (b : Bool). Consumes (unread c.args.self.now.source (g.R.Feed.remaining c.args.reader.now)) (unread c.next_line.new.self (g.R.Feed.remaining c.next_line.new.reader)) (spelled t b)) ended line.consumes in
     let count = subst (λ (b : Bool). taken_count c.next_line.new.self ≡ taken_count c.args.self.now.source + length (spelled t b)) ended line.count in
     let found = c.in_ok-read.ensures.ok in

@@ -1,0 +1,17 @@
+use Rattle.std.proofs.Common.{◌≡◌, length, map, position, sym, ap, ◌∙◌, arith}
+use Rattle.std.proofs.lemmas.List.{length-map, get_or-map, take-map}
+use Rattle.acl_people.specs.NameTables.{is_name}
+use Rattle.acl_people.proofs.NamedRows.{fresh}
+use Rattle.acl_people.proofs.name_table.NameTable.of.Goals as goal
+
+pub with-requires : goal.with-requires
+with-requires g c =
+    let named = g.R.NamedRow.named in
+    let rows = c.args.rows.now in
+    let i = c.loop-row.row-index in
+    let row = c.row-item.result in
+    let as_long : length (map named rows) ≡ length rows = length-map rows named in
+    ap (λ name. position (is_name name) c.loop-row.name_table) c.name.ensures
+    ∙ ap (λ es. position (is_name (named row).0) es) (c.loop-row.invariant ∙ sym (take-map named i rows))
+    ∙ fresh (map named rows) i (named row) c.requires (omega (arith, c.loop-row-test.true))
+    (get_or-map named rows i row (named row) c.loop-row-test.true ∙ ap named (sym c.row-item.is))

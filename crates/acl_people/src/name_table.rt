@@ -1,0 +1,216 @@
+//! Names with their ids, looked up by name and by id; and the hashes of names, keyed by all the names that they are to tell
+//! apart.
+
+ghost use Rattle.std.specs.Prelude.{◌≡◌, ◌<◌, ◌++◌, ◌∷◌, [], ℕ, ◌==◌, map, length, position, Some, None, IfOk, IfSome, OnOk, option_map, slice_get, if◌then◌else◌, List};
+ghost use Rattle.std.specs.Ordering.{nat_cmp};
+ghost use Rattle.std.specs.BTreeMap.{get};
+ghost use Rattle.std.specs.Option.{option_copied, option_or};
+ghost use Rattle.acl_people.specs.NameTables.{is_name, is_id, prints, id_named, name_shown, place_of_word, AreNames};
+ghost use Rattle.acl_people.specs.Hashes.{keyed};
+
+use acl_entry::Id;
+use acl_syntax::{is_number, read_id};
+use indexmap::IndexMap;
+use sha2::{Digest, Sha256};
+use std::alloc::{AllocError, Global};
+use std::collections::BTreeMap;
+use std::hash::{BuildHasher, DefaultHasher, Hasher};
+use std::marker::Model;
+
+/// Names in the order of their rows, each once, with their ids. The first place of each id, and the first
+/// place of each id whose name is not digits alone, are kept beside them.
+#[derive(Drop)]
+pub(crate) struct NameTable {
+    ids: IndexMap<Vec<u8>, Id, NameHashes>,
+    first: BTreeMap<u32, usize>,
+    shown: BTreeMap<u32, usize>,
+}
+
+impl Model for NameTable {
+    ghost use Rattle.std.specs.Prelude.{◌≡◌, ℕ, List, map, position};
+    ghost use Rattle.std.specs.Ordering.{nat_cmp};
+    ghost use Rattle.std.specs.BTreeMap.{get};
+    ghost use Rattle.acl_people.specs.NameTables.{is_id, prints};
+
+    ghost Value = { List (List ℕ × ℕ) };
+
+    ghost view = { λ r. map (λ e. (e.0.items, e.1)) r.ids.entries };
+
+    ghost invariant = { λ r.
+        ((id : ℕ) → get nat_cmp r.first id ≡ position (is_id id) (map (λ e. (e.0.items, e.1)) r.ids.entries))
+        × ((id : ℕ) → get nat_cmp r.shown id ≡ position (prints id) (map (λ e. (e.0.items, e.1)) r.ids.entries)) };
+}
+
+/// Keeps the place for the id, unless it has one. Fails only if memory runs out.
+fn note(places: &mut BTreeMap<u32, usize>, id: u32, place: usize) -> Result<(), AllocError>
+    ensures { OnOk result ((q : ℕ) → get nat_cmp places.new q ≡ option_or (get nat_cmp places.old q) (if id == q then Some place else None)) }
+{
+    places.entry(id)?.or_insert(place);
+    Ok(())
+}
+
+impl NameTable {
+    /// The names of the rows, hashed with a key that all of them make. A user that comes or goes makes a new
+    /// name table, so a name is never added under a key that was known before. Fails only if memory runs out.
+    pub fn of<R: NamedRow>(alloc: Global, rows: &[R]) -> Result<NameTable, AllocError>
+        requires { AreNames (map R.named rows.now) }
+        ensures { IfOk result (λ name_table. name_table ≡ map R.named rows.now) }
+    {
+        let mut name_table = NameTable::with_room(alloc, rows.len(), NameHashes::of(rows))?;
+        for row in rows {
+            name_table = name_table.with(alloc, row.name(), row.id())?;
+        }
+        Ok(name_table)
+    }
+
+    /// No names, and room for some.
+    fn with_room(alloc: Global, count: usize, hashes: NameHashes) -> Result<NameTable, AllocError>
+        ensures { IfOk result (λ name_table. name_table ≡ []) }
+    {
+        Ok(NameTable {
+            ids: IndexMap::with_capacity_and_hasher(alloc, count, hashes)?,
+            first: BTreeMap::new(alloc),
+            shown: BTreeMap::new(alloc),
+        })
+    }
+
+    /// The names and one more, which is not among them.
+    fn with(self, alloc: Global, name: &[u8], id: Id) -> Result<NameTable, AllocError>
+        requires { position (is_name name.now) self ≡ None }
+        ensures { IfOk result (λ name_table. name_table ≡ self ++ (name.now, id) ∷ []) }
+    {
+        let NameTable {
+            mut ids,
+            mut first,
+            mut shown,
+        } = self;
+        let place = ids.len();
+        note(&mut first, id.number(), place)?;
+        if !is_number(name) {
+            note(&mut shown, id.number(), place)?;
+        }
+        ids.insert(Vec::from_slice(alloc, name)?, id)?;
+        Ok(NameTable { ids, first, shown })
+    }
+
+    /// The place of a name.
+    pub fn place_of_name(&self, name: &[u8]) -> Option<usize>
+        ensures { result ≡ position (is_name name.now) self.now }
+    {
+        self.ids.get_index_of(name)
+    }
+
+    /// The first place of an id.
+    pub fn place_of_id(&self, id: Id) -> Option<usize>
+        ensures { result ≡ position (is_id id) self.now }
+    {
+        self.first.get(&id.number()).copied()
+    }
+
+    /// The place that a word stands for: digits alone are an id, any other word is a name.
+    pub fn place_of_word(&self, word: &[u8]) -> Option<usize>
+        ensures found { result ≡ place_of_word word.now self.now }
+        ensures within { IfSome result (λ at. at < length self.now) }
+    {
+        if is_number(word) {
+            match read_id(word) {
+                Some(id) => self.place_of_id(id),
+                None => None,
+            }
+        } else {
+            self.place_of_name(word)
+        }
+    }
+
+    /// The id at a place.
+    fn id_at(&self, place: usize) -> Option<Id>
+        ensures { result ≡ option_map (λ e. e.1) (slice_get self.now place) }
+    {
+        match self.ids.get_index(place) {
+            Some((_, id)) => Some(*id),
+            None => None,
+        }
+    }
+
+    /// The name at a place.
+    fn name_at(&self, place: usize) -> Option<&[u8]>
+        ensures { option_copied result ≡ option_map (λ e. e.0) (slice_get self.now place) }
+    {
+        match self.ids.get_index(place) {
+            Some((name, _)) => Some(name),
+            None => None,
+        }
+    }
+
+    /// The id of a name.
+    pub fn id_named(&self, name: &[u8]) -> Option<Id>
+        ensures { result ≡ id_named name.now self.now }
+    {
+        let place = self.place_of_name(name)?;
+        self.id_at(place)
+    }
+
+    /// The place of the name that an id prints as.
+    fn place_shown(&self, id: Id) -> Option<usize>
+        ensures { result ≡ position (prints id) self.now }
+    {
+        self.shown.get(&id.number()).copied()
+    }
+
+    /// The name that an id prints as.
+    pub fn name_shown(&self, id: Id) -> Option<&[u8]>
+        ensures { option_copied result ≡ name_shown id self.now }
+    {
+        let place = self.place_shown(id)?;
+        self.name_at(place)
+    }
+}
+
+/// A row with a name and an id.
+pub(crate) trait NamedRow {
+    /// The name and the id.
+    ghost named: { Self → List ℕ × ℕ };
+
+    /// The name.
+    fn name(&self) -> &[u8]
+        ensures { result.now ≡ (named self.now).0 };
+
+    /// The id.
+    fn id(&self) -> Id
+        ensures { result ≡ (named self.now).1 };
+}
+
+/// What hashes a name: SipHash, keyed by the SHA-256 digest of all names of a name table. So names that are to collide
+/// would have to be found for a key that each of them changes.
+#[derive(Clone, Copy)]
+pub(crate) struct NameHashes {
+    start: DefaultHasher,
+}
+
+impl NameHashes {
+    /// The hashes for the names of these rows. A colon, which no name has, goes after each name into the
+    /// digest, so that names that are cut in other places have another one.
+    pub fn of<R: NamedRow>(rows: &[R]) -> NameHashes
+        ensures { result.start ≡ keyed (map R.named rows.now) }
+    {
+        let mut digest = Sha256::new();
+        for row in rows {
+            digest.update(row.name());
+            digest.update(b":");
+        }
+        let key = digest.finalize();
+        let mut start = DefaultHasher::new();
+        start.write(&key);
+        NameHashes { start }
+    }
+}
+
+impl BuildHasher for NameHashes {
+    type Hasher = DefaultHasher;
+
+    ghost build_hasher = { λ hashes. hashes.start };
+
+    fn build_hasher(&self) -> DefaultHasher {
+        self.start
+    }
+}

@@ -1,0 +1,9 @@
+use Rattle.std.proofs.Common.{◌≡◌, true, drop, length, Some}
+use Rattle.acl_verdicts.specs.Walks.{cut_from}
+use Rattle.acl_verdicts.proofs.cells.is_cut.Given as goal
+
+abbrev pub invariant-loop-at : goal.invariant-loop-at
+invariant-loop-at l = record {
+  long : length l.row ≡ length l.cells;
+  rest : l.is_same ≡ true → drop l.at l.row ≡ cut_from (Some l.above) l.at (drop l.at l.cells) → l.row ≡ cut_from (Some l.above) 0 l.cells;
+}

@@ -1,9 +1,0 @@
-use Rattle.std.proofs.Common.{◌≡◌, drop, length, Some}
-use Rattle.acl_verdicts.specs.Walks.{cut_from}
-use Rattle.acl_verdicts.proofs.cut.is_cut.Given as goal
-
-abbrev pub invariant-loop-at : goal.invariant-loop-at
-invariant-loop-at l = record {
-  long : length l.row ≡ length l.cells;
-  rest : drop l.at l.row ≡ cut_from (Some l.above) l.at (drop l.at l.cells) → l.row ≡ cut_from (Some l.above) 0 l.cells;
-}

@@ -1,0 +1,9 @@
+use Rattle.std.proofs.Common.{subst, sym}
+use Rattle.acl_rights.specs.acl_tree.Step.{State}
+use Rattle.acl_rights.specs.Tables.{VerdictTable, IsWhole}
+use Rattle.facl_listings.proofs.indexed.IndexedState.after.Goals as goal
+
+pub invariant_of-result : goal.invariant_of-result
+invariant_of-result g c =
+    let V = g.J.Judge.verdict_of in
+    subst (λ (t : VerdictTable). IsWhole V c.of.result t) (sym c.of-in-Ok.ensures) (subst (λ (s : State). IsWhole V s c.in-Ok.rows.table) (sym c.of.ensures) c.in-Ok.ensures.whole)

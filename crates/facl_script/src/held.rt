@@ -1,0 +1,87 @@
+//! A unit as a session answers it: its line and its text, borrowed from what was read.
+ghost use Rattle.std.specs.Prelude.{◌≡◌, ℕ, List, Option, Some};
+ghost use Rattle.facl_script.specs.Held.{IsLineHeld, IsTextHeld};
+ghost use Rattle.facl_script.specs.ReadText.{IsTextFound};
+ghost use Rattle.facl_script.specs.ReadUnit.{IsLineFound};
+ghost use Rattle.facl_script.specs.Units.{UnitText};
+ghost use Rattle.facl_script.specs.declared.text.TextFound.TheVariants as found_texts;
+
+use crate::line::{LineFound, has_no_words};
+use crate::text::TextFound;
+
+/// A line without its LF, and whether it has words, for which it was looked at once.
+#[derive(Clone, Copy, Debug)]
+pub enum HeldLine<'a> {
+    /// It is over the limit.
+    TooLong,
+    /// It is blank or a comment.
+    Silent(&'a [u8]),
+    /// It is neither.
+    WithWords(&'a [u8]),
+}
+
+/// The text of a unit: the lines after its line up to a line `.`, each with its LF.
+#[derive(Clone, Copy, Debug)]
+pub enum HeldText<'a> {
+    /// The line takes no text.
+    Absent,
+    /// All lines up to the line `.`.
+    Whole(&'a [u8]),
+    /// One of the lines is over the limit.
+    TooLong,
+    /// The script ends before the line `.`.
+    Unended,
+    /// No memory was there to keep the text.
+    Lost,
+}
+
+/// A line of a script with its number, and its text, if it takes one.
+#[derive(Clone, Copy, Debug)]
+pub struct HeldUnit<'a> {
+    /// The number of its line, from 1 on; the lines of texts are counted too.
+    pub number: u64,
+    pub line: HeldLine<'a>,
+    pub text: HeldText<'a>,
+    /// Whether the LF of its last line was there. Else it ends the script.
+    pub is_full: bool,
+}
+
+impl<'a> HeldLine<'a> {
+    /// A line within the limit.
+    pub fn of(bytes: &'a [u8]) -> HeldLine<'a>
+        ensures { IsLineHeld result (Some bytes.now) }
+    {
+        if has_no_words(bytes) {
+            HeldLine::Silent(bytes)
+        } else {
+            HeldLine::WithWords(bytes)
+        }
+    }
+
+    /// The line that was found, which is not looked at again.
+    pub(crate) fn found(found: LineFound, bytes: &'a [u8]) -> HeldLine<'a>
+        ensures { (line : Option (List ℕ)) → IsLineFound found bytes.now line → IsLineHeld result line }
+    {
+        match found {
+            LineFound::TooLong => HeldLine::TooLong,
+            LineFound::Silent => HeldLine::Silent(bytes),
+            LineFound::WithWords => HeldLine::WithWords(bytes),
+        }
+    }
+}
+
+impl<'a> HeldText<'a> {
+    /// The text that was found.
+    pub(crate) fn found(found: TextFound, bytes: &'a [u8]) -> HeldText<'a>
+        ensures held { (text : UnitText) → IsTextFound found bytes.now text → IsTextHeld result text }
+        ensures lost { result ≡ HeldText.Lost → found ≡ found_texts.Lost }
+    {
+        match found {
+            TextFound::Absent => HeldText::Absent,
+            TextFound::Whole => HeldText::Whole(bytes),
+            TextFound::TooLong => HeldText::TooLong,
+            TextFound::Unended => HeldText::Unended,
+            TextFound::Lost => HeldText::Lost,
+        }
+    }
+}
