@@ -5,8 +5,9 @@ usage: tools/prove.py [--jobs N] [CRATE]
 
 CRATE is facl_cli unless it is given. A crate is started once those that it depends on are built, the one with the
 longest way to CRATE first, and at most N crates run at a time: as many as there are processors, and as memory has room
-for, unless N is given. Of these the one with the longest way makes N checks side by side; the others make one each, with
-a lower priority. What is proved already, and has not changed since, is not proved again.
+for, unless N is given. Of these the one with the longest way makes N checks side by side; the others have a lower
+priority, and make two, or as many as processors are idle. What is proved already, and has not changed since, is not
+proved again.
 
 rt locks the folder of a crate and of every crate below it, so two crates that depend on one could not be proved side by
 side. Each is therefore proved in a lane: a folder below out/ with hard links to the files of the crate and of those
@@ -122,7 +123,7 @@ class Lane:
     """The check of one crate, in a folder of its own."""
 
     def __init__(self, crates: Crates, crate: str, how: How, lanes: str) -> None:
-        self.crate = crate
+        self.crate, self.checks = crate, how.checks
         self.top = os.path.join(lanes, crate)
         self.out = os.path.join(self.top, "crates", crate, "out")
         needed = crates.needed(crate)
@@ -198,9 +199,10 @@ class Proof:
         return sorted(found, key=lambda crate: self.ways[crate], reverse=True)
 
     def how(self, crate: str) -> How:
-        """All checks where no crate that runs has a longer way, else one, with a lower priority."""
+        """All checks where no crate that runs has a longer way, else fewer, with a lower priority."""
         longest = max((self.ways[lane.crate] for lane in self.running), default=0)
-        return How(self.jobs, 0) if self.ways[crate] >= longest else How(1, LOW_PRIORITY)
+        idle = self.jobs - sum(lane.checks for lane in self.running)
+        return How(self.jobs, 0) if self.ways[crate] >= longest else How(min(self.jobs, max(2, idle)), LOW_PRIORITY)
 
     def start_ready(self, lanes: str) -> int:
         """Starts as many crates as there is room for. Returns how many."""
