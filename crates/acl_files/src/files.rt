@@ -10,12 +10,15 @@ ghost use Rattle.acl_files.specs.Sound.{IsSoundTree};
 use crate::records::Record;
 use acl_edit::Node;
 use acl_names::Path;
-use path_map::{Entries, PathMap};
+use path_map::{Entries, Finder, PathMap};
 use std::alloc::{AllocError, Global};
 use std::marker::Model;
 
 /// A cursor over recorded files: those that are still to come, in path order.
 pub type FilesIter<'a> = Entries<'a, Node>;
+
+/// A look-up of recorded files that goes on from where it was: for paths that are asked for in path order.
+pub type FilesFinder<'a> = Finder<'a, Node>;
 
 /// The files that a dump recorded, in path order, and whether a dump was loaded. Files and those made from them share
 /// what is the same, by chunks. What is always true of them is the clause of [`Files::soundness_law`].
@@ -96,6 +99,13 @@ impl Files {
         ensures { option_copied result ≡ find path_cmp path.now self.now.files }
     {
         self.files.get(path)
+    }
+
+    /// A look-up of files that goes on from where it was. Allocates nothing.
+    pub fn finder(&self) -> FilesFinder<'_>
+        ensures { result ≡ self.now.files }
+    {
+        self.files.finder()
     }
 
     /// The files in path order. Allocates nothing.

@@ -25,7 +25,7 @@ pub use acl_entry::{
 pub use acl_names::{Name, Path, append_name, append_path, read_name, read_path, write_name};
 pub use edit::{FileFault, NodeEdit, edit_files};
 pub use fault::TreeFault;
-pub use files::{Files, FilesIter};
+pub use files::{Files, FilesFinder, FilesIter};
 pub use laws::each_record_is_a_file;
 pub use path_map::PathMap;
 pub use records::{Record, files_of, in_path_order};

@@ -18,7 +18,7 @@ ghost use Rattle.acl_files.specs.declared.edit.FileFault.TheVariants as of_files
 
 use crate::edit::{FileFault, NodeEdit, edit_one, push_edited};
 use crate::fault::TreeFault;
-use crate::files::Files;
+use crate::files::{Files, FilesFinder};
 use crate::records::Record;
 use acl_dump::DumpRecord;
 use acl_edit::{EditFault, Kind, Node};
@@ -129,12 +129,13 @@ impl NodeEdit for Restored<'_> {
 }
 
 /// The file of a path.
-fn file_at<'a>(tree: &'a Files, path: &Path) -> Option<&'a Rc<Record>>
-    ensures { MatchOption result (find path_cmp path.now tree.now.files ≡ None) (λ file. (file.now.value.0 ≡ path.now)
-        × (find path_cmp path.now tree.now.files ≡ Some file.now.value.1)) }
+fn file_at<'a>(files: &mut FilesFinder<'a>, path: &Path) -> Option<&'a Rc<Record>>
+    ensures same { files.new ≡ files.old }
+    ensures found { MatchOption result (find path_cmp path.now files.old ≡ None) (λ file. (file.now.value.0 ≡ path.now)
+        × (find path_cmp path.now files.old ≡ Some file.now.value.1)) }
 {
-    tree.soundness_law();
-    let Some(file) = tree.files_by_path().from(path).next() else {
+    files.order_law();
+    let Some(file) = files.from(path).next() else {
         return None;
     };
     match path.order(file.path()) {
@@ -156,9 +157,10 @@ fn files_of<'a>(
     ensures reported { IfErr result (λ fault. fault ≢ NoMemory → IsMissing fault (first_missing (paths_of records.now) tree.now.files)) }
 {
     let mut found = Vec::with_capacity(alloc, records.len())?;
+    let mut files = tree.finder();
     let mut rest = records;
     while let [entry, more @ ..] = rest {
-        let Some(file) = file_at(tree, &entry.path) else {
+        let Some(file) = file_at(&mut files, &entry.path) else {
             return Err(TreeFault::NoSuchFile {
                 path: entry.path.try_clone(alloc)?,
             });

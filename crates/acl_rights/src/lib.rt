@@ -7,9 +7,12 @@ mod index;
 mod label_rows;
 mod labels;
 mod lists;
+mod marks;
 mod mentioned;
 mod paths_of_groups;
+mod questions;
 mod stage;
+mod user_rows;
 
 pub use acl_tree::{
     Acl, Change, ChangeEntries, ChangeFlags, Command, Draft, DumpRecord, DumpRecords, DumpUse,

@@ -11,7 +11,7 @@ ghost use Rattle.acl_tree.specs.acl_entry.Mentions.{mentions, is_one_of};
 ghost use Rattle.std.specs.BTreeMap.{keys};
 
 use crate::mentioned::regrouped;
-use acl_tree::{Id, Label, Path, Record, Tree, rising_ids};
+use acl_tree::{FilesFinder, Id, Label, Path, Record, Tree, rising_ids};
 use path_map::{MapEntry, PathMap};
 use std::alloc::{AllocError, Global};
 use std::collections::BTreeMap;
@@ -248,11 +248,12 @@ pub(crate) fn noted_of(
 fn note_before(
     alloc: Global,
     noted: &mut BTreeMap<Id, Vec<Rc<MapEntry<()>>>>,
-    old: &Tree,
+    old: &mut FilesFinder<'_>,
     file: &Record,
 ) -> Result<(), AllocError>
-    ensures { OnOk result ((g : ℕ) → noted_at noted.new g ≡ noted_at noted.old g
-        ++ (if mentioned_group old.now.files g file.now then (file.now.0, tt) ∷ [] else [])) }
+    ensures same { old.new ≡ old.old }
+    ensures noted { OnOk result ((g : ℕ) → noted_at noted.new g ≡ noted_at noted.old g
+        ++ (if mentioned_group old.old g file.now then (file.now.0, tt) ∷ [] else [])) }
 {
     if let Some(node) = old.get(file.path()) {
         note_label(alloc, noted, file.shared_path(), &node.label)?;
@@ -269,8 +270,9 @@ pub(crate) fn noted_before(
     ensures { IfOk result (λ noted. (g : ℕ) → noted_at noted g ≡ set_of (filter (mentioned_group old.now.files g) (map (λ r. r.value) files.now))) }
 {
     let mut noted = BTreeMap::new(alloc);
+    let mut finder = old.finder();
     for file in files {
-        note_before(alloc, &mut noted, old, file)?;
+        note_before(alloc, &mut noted, &mut finder, file)?;
     }
     Ok(noted)
 }

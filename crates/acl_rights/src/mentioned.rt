@@ -5,7 +5,7 @@ ghost use Rattle.std.specs.Option.{option_map_or};
 ghost use Rattle.acl_tree.specs.acl_entry.Mentions.{named_groups};
 ghost use Rattle.acl_rights.specs.Inner.{same_ids, same_mentions, is_regrouped, regrouped};
 
-use acl_tree::{Entry, Id, Key, Label, Record, Tree};
+use acl_tree::{Entry, FilesFinder, Id, Key, Label, Record, Tree};
 use std::alloc::{AllocError, Global};
 use std::rc::Rc;
 
@@ -51,8 +51,9 @@ fn same_mentions(first: &Label, second: &Label) -> bool
 }
 
 /// Whether a file is new, or mentions other groups than before.
-fn is_regrouped(old: &Tree, file: &Record) -> bool
-    ensures { result ≡ is_regrouped old.now.files file.now }
+fn is_regrouped(old: &mut FilesFinder<'_>, file: &Record) -> bool
+    ensures same { old.new ≡ old.old }
+    ensures regrouped { result ≡ is_regrouped old.old file.now }
 {
     match old.get(file.path()) {
         Some(node) => !same_mentions(&node.label, &file.value().label),
@@ -69,8 +70,9 @@ pub(crate) fn regrouped(
     ensures { IfOk result (λ found. map (λ r. r.value) found.items ≡ regrouped old.now.files (map (λ r. r.value) files.now)) }
 {
     let mut found = Vec::new(alloc);
+    let mut finder = old.finder();
     for file in files {
-        if is_regrouped(old, file) {
+        if is_regrouped(&mut finder, file) {
             found.push(file.clone()?)?;
         }
     }

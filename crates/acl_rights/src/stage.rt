@@ -12,12 +12,13 @@ ghost use Rattle.acl_rights.specs.Reach.{verdicts_refreshed};
 ghost use Rattle.acl_rights.specs.Grants.{rows_at, AreGrants, GoesOn, GoesOnFrom};
 
 use crate::grants::Grants;
-use crate::label_rows::{ChangedRows, LabelRows, UpdatedRows};
+use crate::label_rows::{ChangedRows, LabelRows};
 use crate::lists::{GroupLists, records};
 use crate::paths_of_groups::paths_of_groups;
+use crate::user_rows::UpdatedRows;
 use acl_tree::{GroupIds, Path, Staged, Subject, Tree, UserChange};
 use acl_verdicts::{Judge, Numbered, UpdatedWays, is_covered, reaches_after, updated_reaches};
-use path_map::PathMap;
+use path_map::{Finder, PathMap};
 use std::alloc::{AllocError, Global};
 use std::rc::Rc;
 
@@ -30,9 +31,10 @@ pub(crate) struct After {
 }
 
 /// How many files are at a path or below it.
-fn count_below(numbers: &PathMap<usize>, top: &Path) -> u64
-    requires { length numbers.now < 2 ^ 64 }
-    ensures { result ≡ length (within top.now numbers.now) }
+fn count_below(numbers: &mut Finder<'_, usize>, top: &Path) -> u64
+    requires { length numbers.old < 2 ^ 64 }
+    ensures same { numbers.new ≡ numbers.old }
+    ensures count { result ≡ length (within top.now numbers.old) }
 {
     let mut count = 0;
     let mut rest = numbers.within(top);
@@ -49,6 +51,7 @@ fn count_within(numbers: &PathMap<usize>, paths: &[Rc<Path>]) -> u64
     ensures { result ≡ count_by (λ e. lies_in (map (λ p. (p.value, p.value)) paths.now) e.0) numbers.now }
 {
     numbers.order_law();
+    let mut finder = numbers.finder();
     let mut count = 0;
     let mut last: Option<&Path> = None;
     let mut rest = paths;
@@ -57,7 +60,7 @@ fn count_within(numbers: &PathMap<usize>, paths: &[Rc<Path>]) -> u64
         if is_covered(last, path) {
             continue;
         }
-        count += count_below(numbers, path);
+        count += count_below(&mut finder, path);
         last = Some(path);
     }
     count

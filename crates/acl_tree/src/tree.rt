@@ -16,7 +16,7 @@ ghost use Rattle.acl_tree.specs.Reports.{users_move, Reports};
 use crate::command::Command;
 use crate::state::BorrowedState;
 use crate::step::{Staged, prepare_command};
-use acl_files::{Files, FilesIter, Found, NoMemory, Node, Path, Selection, TreeFault};
+use acl_files::{Files, FilesFinder, FilesIter, Found, NoMemory, Node, Path, Selection, TreeFault};
 use acl_people::People;
 use std::alloc::Global;
 use std::marker::Model;
@@ -76,6 +76,13 @@ impl Tree {
         ensures { option_copied result ≡ find path_cmp path.now self.now.files }
     {
         self.files.get(path)
+    }
+
+    /// A look-up of files that goes on from where it was: for paths that are asked for in path order. Allocates nothing.
+    pub fn finder(&self) -> FilesFinder<'_>
+        ensures { result ≡ self.now.files }
+    {
+        self.files.finder()
     }
 
     /// The files in path order. Allocates nothing.

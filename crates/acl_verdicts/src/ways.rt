@@ -15,7 +15,7 @@ ghost use Rattle.acl_verdicts.specs.Walks.{nearest, last_of, AllBefore};
 use crate::numbered::Numbered;
 use crate::steps::{MoreSteps, Step, Steps};
 use acl_files::{Path, nearest_above};
-use path_map::{MapEntry, PathMap};
+use path_map::{Finder, MapEntry, PathMap};
 use std::alloc::{AllocError, Global};
 use std::rc::Rc;
 
@@ -61,6 +61,7 @@ fn steps_below(
     ensures rows { OnOk result ((count : ℕ) → HaveRows count steps.old → AreNumbers count numbers.now → HaveRows count steps.new) }
 {
     numbers.order_law();
+    let mut finder = numbers.finder();
     let mut puts = Vec::new(alloc);
     let mut last: Option<&Path> = None;
     let mut rest = tops;
@@ -70,7 +71,7 @@ fn steps_below(
             continue;
         }
         let above = nearest_above(alloc, old, top.path())?;
-        add_steps(alloc, &mut puts, steps, above, numbers, top.path())?;
+        add_steps(alloc, &mut puts, steps, above, &mut finder, top.path())?;
         last = Some(top.path());
     }
     Ok(puts)
@@ -194,16 +195,17 @@ pub(crate) fn add_steps(
     places: &mut Places,
     steps: &mut MoreSteps,
     above: Places,
-    numbers: &PathMap<usize>,
+    numbers: &mut Finder<'_, usize>,
     top: &Path,
 ) -> Result<(), AllocError>
     requires back { AreBack steps.old }
-    requires above { IsAbove top.now numbers.now steps.old (map (λ e. e.value) above.items) }
+    requires above { IsAbove top.now numbers.old steps.old (map (λ e. e.value) above.items) }
+    ensures same { numbers.new ≡ numbers.old }
     ensures steps { OnOk result ((ws : List (PathOf × Way)) → wayed steps.old (map (λ e. e.value) places.old.items) ≡ known ws
-        → wayed steps.new (map (λ e. e.value) places.new.items) ≡ known (ws ++ within top.now (ways numbers.now))) }
+        → wayed steps.new (map (λ e. e.value) places.new.items) ≡ known (ws ++ within top.now (ways numbers.old))) }
     ensures kept { OnOk result (IsLonger steps.old steps.new) }
     ensures back { OnOk result (AreBack steps.new) }
-    ensures rows { OnOk result ((count : ℕ) → HaveRows count steps.old → AreNumbers count numbers.now → HaveRows count steps.new) }
+    ensures rows { OnOk result ((count : ℕ) → HaveRows count steps.old → AreNumbers count numbers.old → HaveRows count steps.new) }
 {
     numbers.order_law();
     let mut stack = above;
@@ -243,7 +245,15 @@ pub(crate) fn all_steps(
     numbers.order_law();
     let root = root_path(alloc);
     let mut places = Vec::new(alloc);
-    add_steps(alloc, &mut places, steps, Vec::new(alloc), numbers, &root)?;
+    let mut finder = numbers.finder();
+    add_steps(
+        alloc,
+        &mut places,
+        steps,
+        Vec::new(alloc),
+        &mut finder,
+        &root,
+    )?;
     let all = PathMap::from_sorted(alloc, &places)?;
     Ok(all)
 }

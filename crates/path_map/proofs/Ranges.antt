@@ -37,18 +37,18 @@ gt_false Less h = refl
 gt_false Equal h = refl
 gt_false Greater h = absurd (h refl)
 
-not_less_back : (p q : PathOf) → path_cmp p q ≢ Less → path_cmp q p ≢ Greater
+pub not_less_back : (p q : PathOf) → path_cmp p q ≢ Less → path_cmp q p ≢ Greater
 not_less_back p q h gt = h (path_total.antisymm p q ∙ ap ordering_reverse gt)
 
 module _ {V : Type 0} where
-  from-append : (p : PathOf) (l r : List (PathOf × V)) → from p (l ++ r) ≡ from p l ++ from p r
+  pub from-append : (p : PathOf) (l r : List (PathOf × V)) → from p (l ++ r) ≡ from p l ++ from p r
   from-append p [] r = refl
   from-append p (e ∷ l) r = elim (not (is_gt (path_cmp p e.0))) as (λ b. cond b (e ∷ from p (l ++ r)) (from p (l ++ r)) ≡ cond b (e ∷ from p l) (from p l) ++ from p r) [
     | true ↦ ap (λ es. e ∷ es) (from-append p l r)
     | false ↦ from-append p l r
   ]
 
-  from_none : (p : PathOf) (l : List (PathOf × V)) → Before p l → from p l ≡ []
+  pub from_none : (p : PathOf) (l : List (PathOf × V)) → Before p l → from p l ≡ []
   from_none p [] h = refl
   from_none p (e ∷ l) h = ap (λ o. cond (not (is_gt o)) (e ∷ from p l) (from p l)) (above e.0 p h.0) ∙ from_none p l h.1
 

@@ -1,5 +1,5 @@
 -- For inner functions: no public contract names these definitions.
-use Rattle.std.specs.Prelude.{◌≡◌, ◌≢◌, ⊤, ℕ, ◌-◌, ◌<◌, ◌≤◌, List, [], ◌∷◌, length, slice_index_or}
+use Rattle.std.specs.Prelude.{◌≡◌, ◌≢◌, ⊤, ℕ, ◌-◌, ◌<◌, ◌≤◌, List, [], ◌∷◌, ◌++◌, length, slice_index_or}
 use Rattle.std.specs.declared.cmp.Ordering.TheVariants.{Less, Greater}
 use Rattle.acl_names.specs.Paths.{path_cmp}
 use Rattle.path_map.specs.Entries.{PathOf}
@@ -40,3 +40,8 @@ From p (e ∷ es) = (path_cmp p e.0 ≢ Greater) × From p es
 abbrev pub After : {V : Type 0} → PathOf → List (PathOf × V) → Type 0
 After p [] = ⊤
 After p (e ∷ es) = (path_cmp p e.0 ≡ Less) × After p es
+
+-- a list is the end of another one
+pub record IsEndOf {V : Type 0} (rest all : List (PathOf × V)) : Type 0 where
+  pub before : List (PathOf × V)
+  pub joined : before ++ rest ≡ all

@@ -96,12 +96,12 @@ impl<V: Drop> PathMap<V> {
 
 /// A cursor over the entries at or below a path: those that are still to come, in path order.
 #[derive(Drop)]
-pub struct Within<'a, V> {
-    rest: Entries<'a, V>,
-    top: &'a Path,
+pub struct Within<'a, 'p, V> {
+    pub(crate) rest: Entries<'a, V>,
+    pub(crate) top: &'p Path,
 }
 
-impl<'a, V> Model for Within<'a, V> {
+impl<'a, 'p, V> Model for Within<'a, 'p, V> {
     ghost use Rattle.std.specs.Prelude.{List};
     ghost use Rattle.path_map.specs.Entries.{PathOf, IsInOrder};
     ghost use Rattle.path_map.specs.Below.{within};
@@ -114,7 +114,7 @@ impl<'a, V> Model for Within<'a, V> {
     ghost invariant = { λ w. IsInOrder w.rest × From w.top.now w.rest };
 }
 
-impl<'a, V> Within<'a, V> {
+impl<'a, 'p, V> Within<'a, 'p, V> {
     /// The next entry in path order. Allocates nothing.
     pub fn next(&mut self) -> Option<&'a Rc<MapEntry<V>>>
         ensures { MatchOption result ((self.old ≡ []) × (self.new ≡ [])) (λ entry. self.old ≡ entry.now.value ∷ self.new) }
@@ -156,7 +156,7 @@ impl<V> PathMap<V> {
     }
 
     /// The entries at or below a path. Allocates nothing.
-    pub fn within<'a>(&'a self, path: &'a Path) -> Within<'a, V>
+    pub fn within<'a, 'p>(&'a self, path: &'p Path) -> Within<'a, 'p, V>
         ensures { result ≡ within path.now self.now }
     {
         self.order_law();

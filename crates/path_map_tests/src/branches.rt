@@ -65,3 +65,23 @@ fn the_first_and_the_last_branch_are_changed(rt: std::rt::HostRuntime) -> Result
     assert!(rt; are_evens(map.iter(), 0, 80_000));
     Ok(())
 }
+
+#[test]
+fn a_finder_finds_numbers_in_order_and_out_of_it(rt: std::rt::HostRuntime) -> Result<(), Fail> {
+    let alloc = rt.alloc();
+    let map = evens(&rt, alloc)?;
+    let mut finder = map.finder();
+    let mut entries = map.iter();
+    while let Some(entry) = entries.next() {
+        assert_eq!(rt; finder.get(entry.path()).copied(), Some(*entry.value()));
+    }
+    let before = numbered(&rt, alloc, 500)?;
+    assert_eq!(rt; finder.get(before.path()).copied(), Some(500));
+    let after = numbered(&rt, alloc, 701)?;
+    assert!(rt; finder.get(after.path()).is_none());
+    assert!(rt; are_evens(finder.from(after.path()), 702, 80_000));
+    let mut within = finder.within(before.path());
+    assert_eq!(rt; within.next().map(|entry| *entry.value()), Some(500));
+    assert!(rt; within.next().is_none());
+    Ok(())
+}

@@ -5,7 +5,7 @@ use Rattle.acl_verdicts.proofs.ways.add_steps.Goals as goal
 
 pub loop-file-init : goal.loop-file-init
 loop-file-init c =
-    walk_begins c.args.top.now c.args.numbers.now c.order_law.ensures c.args.steps.now (map (λ e. e.value) c.args.places.now.items) c.within-rest.result (map (λ e. e.value) c.args.above.items) c.within-rest.ensures c.requires.back c.requires.above
+    walk_begins c.args.top.now c.args.numbers.now c.order_law.ensures c.args.steps.now (map (λ e. e.value) c.args.places.now.items) c.within-rest.result (map (λ e. e.value) c.args.above.items) c.within-rest.ensures.found c.requires.back c.requires.above
 
 pub depth_above-depth-requires : goal.depth_above-depth-requires
 depth_above-depth-requires c =

@@ -4,7 +4,7 @@ use Rattle.std.proofs.lemmas.List.{nil_from_length}
 use Rattle.path_map.specs.Entries.{PathOf, IsInOrder}
 use Rattle.path_map.specs.Below.{within}
 use Rattle.acl_verdicts.specs.Subtrees.{covers, IsNearest, AreWalked}
-use Rattle.acl_verdicts.specs.Ways.{Numbers, way_in, ways, wayed, known, IsAbove}
+use Rattle.acl_verdicts.specs.Ways.{Numbers, way_in, ways, wayed, known, IsAbove, AreNumbers}
 use Rattle.acl_files.specs.Walks.{nearest_above}
 use Rattle.acl_verdicts.proofs.Begins.{found_is_nearest}
 use Rattle.acl_verdicts.proofs.Orders.{in_order-values}
@@ -20,6 +20,7 @@ loop-top-init c =
     let ns = c.args.numbers.now in
     let tops : Numbers = map (λ e. e.value) c.args.tops.now in
     record {
+      finder = c.finder-finder.ensures;
       walked = ([], (tops_begin tops c.requires.order (ways ns) (ways_order ns c.order_law.ensures) tops [] None refl refl refl, ap (λ l. wayed c.args.steps.now (map (λ e. e.value) l)) c.new-puts.ensures.items));
       kept = longer_itself c.args.steps.now;
       back = c.requires.back;
@@ -34,6 +35,7 @@ loop-top-preserved-then-is_covered c =
     let same = c.path.ensures ∙ ap (λ (e : PathOf × ℕ). e.0) c.deref.ensures in
     let w = c.loop-top.invariant.walked in
     record {
+      finder = c.loop-top.invariant.finder;
       walked = (
         w.0,
         (
@@ -66,7 +68,7 @@ add_steps-requires-clause-above c =
     let near : IsNearest t.0 c.args.old.now above = found_is_nearest t.0 c.args.old.now above (c.in_ok-above.ensures ∙ ap (λ (p : PathOf). nearest_above p c.args.old.now) first) in
     let begun = c.requires.above t.0 (top_there tops c.requires.order (ways ns) order t rest more w.0 last is w.1.0) (top_outermost tops c.requires.order (ways ns) order t rest more w.0 last is w.1.0 out) above near in
     let now : IsAbove t.0 ns c.loop-top.steps above = record { below = begun.below; leads = leads_kept _ _ _ _ c.loop-top.invariant.kept begun.leads } in
-    subst (λ p. IsAbove p ns c.loop-top.steps above) (sym second) now
+    subst (λ (ms : Numbers). IsAbove c.path-in-Some-2.result.now ms c.loop-top.steps above) (sym c.loop-top.invariant.finder) (subst (λ p. IsAbove p ns c.loop-top.steps above) (sym second) now)
 
 pub loop-top-preserved : goal.loop-top-preserved
 loop-top-preserved c =
@@ -84,11 +86,13 @@ loop-top-preserved c =
     let third = c.path-in-Some-3.ensures ∙ ap (λ (e : PathOf × ℕ). e.0) c.deref-in-Some-3.ensures in
     let out : covers last t.0 ≡ false = ap (covers last) (sym same) ∙ sym c.is_covered.ensures ∙ c.if-is_covered.false in
     let walked : AreWalked tops (ways ns) more (w.0 ++ within t.0 (ways ns)) (Some t.0) = tops_walk tops c.requires.order (ways ns) order t rest more w.0 last is w.1.0 (w.0 ++ within t.0 (ways ns)) out refl in
+    let finder = c.loop-top.invariant.finder in
     record {
-      walked = (w.0 ++ within t.0 (ways ns), (subst (λ (p : PathOf). AreWalked tops (ways ns) more (w.0 ++ within t.0 (ways ns)) (Some p)) (sym third) walked, c.in_ok-add_steps.ensures.steps w.0 w.1.1 ∙ ap (λ (p : PathOf). known (w.0 ++ within p (ways ns))) second));
+      finder = c.add_steps.ensures.same ∙ finder;
+      walked = (w.0 ++ within t.0 (ways ns), (subst (λ (p : PathOf). AreWalked tops (ways ns) more (w.0 ++ within t.0 (ways ns)) (Some p)) (sym third) walked, c.in_ok-add_steps.ensures.steps w.0 w.1.1 ∙ ap (λ (ms : Numbers). known (w.0 ++ within c.path-in-Some-2.result.now (ways ms))) finder ∙ ap (λ (p : PathOf). known (w.0 ++ within p (ways ns))) second));
       kept = longer_on _ _ _ c.loop-top.invariant.kept c.in_ok-add_steps.ensures.kept;
       back = c.in_ok-add_steps.ensures.back;
-      rows = λ count h k. c.in_ok-add_steps.ensures.rows count (c.loop-top.invariant.rows count h k) k;
+      rows = λ count h k. c.in_ok-add_steps.ensures.rows count (c.loop-top.invariant.rows count h k) (subst (AreNumbers count) (sym finder) k);
     }
 
 pub returns-clause-puts : goal.returns-clause-puts

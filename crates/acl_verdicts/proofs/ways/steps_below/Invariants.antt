@@ -7,6 +7,7 @@ use Rattle.acl_verdicts.proofs.ways.steps_below.Given as goal
 
 abbrev pub invariant-loop-top : goal.invariant-loop-top
 invariant-loop-top l = record {
+  finder : l.finder ≡ l.numbers;
   walked : (made : List (PathOf × Way)) × (AreWalked (map (λ e. e.value) l.tops) (ways l.numbers) (map (λ e. e.value) l.rest) made (option_map (λ p. p.now) l.last) × (wayed l.steps (map (λ e. e.value) l.puts.items) ≡ known made));
   kept : IsLonger l.fn.steps l.steps;
   back : AreBack l.steps;

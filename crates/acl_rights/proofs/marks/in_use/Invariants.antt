@@ -3,7 +3,7 @@ use Rattle.std.specs.Prelude.{◌⊎◌, count_by}
 use Rattle.std.specs.FinMap.{find}
 use Rattle.acl_tree.specs.acl_names.Paths.{path_cmp}
 use Rattle.acl_tree.specs.Files.{PathOf}
-use Rattle.acl_rights.proofs.label_rows.in_use.Given as goal
+use Rattle.acl_rights.proofs.marks.in_use.Given as goal
 
 abbrev pub invariant-loop-file : goal.invariant-loop-file
 invariant-loop-file l = record {

@@ -5,7 +5,7 @@ use Rattle.acl_tree.specs.acl_names.Paths.{path_cmp}
 use Rattle.acl_tree.specs.Files.{PathOf}
 use Rattle.acl_verdicts.specs.Ways.{Numbers}
 use Rattle.acl_rights.proofs.RowLists.{mark_found, found_none}
-use Rattle.acl_rights.proofs.label_rows.in_use.Goals as goal
+use Rattle.acl_rights.proofs.marks.in_use.Goals as goal
 
 pub loop-file-preserved : goal.loop-file-preserved
 loop-file-preserved c =
