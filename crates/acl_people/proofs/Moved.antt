@@ -6,14 +6,9 @@ use Rattle.std.proofs.lemmas.Cmp.{nat_cmp_total}
 use Rattle.std.proofs.lemmas.List.{set-get_or, length-map}
 use Rattle.std.proofs.lemmas.Option.{get_or_from_slice_get, slice_get_within}
 use Rattle.acl_entry.specs.Person.{Person}
-use Rattle.acl_people.specs.Moves.{ChangesUser, AreMoved, in_just_one}
+use Rattle.acl_subjects.specs.GroupsOfOne.{AreMoved, in_just_one}
+use Rattle.acl_people.specs.Moves.{ChangesUser}
 use Rattle.acl_people.proofs.Pointers.{value_at}
-
-pub in_one : (a b : Bool) → ((false || (a && not b)) || (b && not a)) ≡ in_just_one a b
-in_one true true = refl
-in_one true false = refl
-in_one false true = refl
-in_one false false = refl
 
 in_none : (a b : Bool) → false ≡ in_just_one a b → b ≡ a
 in_none true true h = refl

@@ -7,3 +7,4 @@ pub mod Changes
 pub mod Moves
 pub mod Laws
 pub use Rattle.acl_syntax.specs.UserNames
+pub use Rattle.acl_subjects.specs.GroupsOfOne

@@ -1,13 +1,12 @@
 -- How the users of two states differ, as the check of access sees them.
-use Rattle.std.specs.Prelude.{◌≡◌, ◌<◌, ℕ, List, [], ◌∷◌, ◌++◌, length, map, filter, slice_get, slice_set, Bool, not, Some, if◌then◌else◌}
+use Rattle.std.specs.Prelude.{◌≡◌, ◌<◌, ℕ, List, [], ◌∷◌, ◌++◌, length, map, filter, slice_get, slice_set, Some}
 use Rattle.std.specs.List.{remove}
 use Rattle.std.specs.Option.{option_map_or}
 use Rattle.std.specs.Ordering.{nat_cmp}
 use Rattle.std.specs.FinMap.{keys, from_entries}
-use Rattle.std.specs.FinSet.{contains}
-use Rattle.std.specs.List.Sorted.{IsStrictlyIncreasing}
 use Rattle.acl_entry.specs.Mentions.{is_one_of}
 use Rattle.acl_entry.specs.Person.{Person}
+use Rattle.acl_subjects.specs.GroupsOfOne.{AreMoved, in_just_one}
 use Rattle.acl_people.specs.KnownPeople.{KnownPeople, gids_of}
 
 -- one user may have other groups; the user's id and all other users are as they were
@@ -17,14 +16,6 @@ pub record ChangesUser (old new : List Person) (user : ℕ) : Type 0 where
   pub was : slice_get old user ≡ Some before
   pub becomes : new ≡ slice_set old user after
   pub uid : after.uid ≡ before.uid
-
-abbrev pub in_just_one : Bool → Bool → Bool
-in_just_one a b = if a then not b else b
-
--- ids of groups, rising, each once: exactly those that one of the two has and the other has not
-pub record AreMoved (before after : Person) (ids : List ℕ) : Type 0 where
-  pub rising : IsStrictlyIncreasing ids
-  pub just : (gid : ℕ) → is_one_of gid ids ≡ in_just_one (contains before.groups gid) (contains after.groups gid)
 
 -- a user's groups are other ones: these ids joined or left
 pub record MovesUser (old new : List Person) (user : ℕ) (ids : List ℕ) : Type 0 where

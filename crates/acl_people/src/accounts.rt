@@ -76,8 +76,7 @@ impl People {
         self.soundness_law();
         let gid = self.gid_of(group);
         let row = new_row(alloc, name.as_name().as_bytes(), uid, gid)?;
-        let people = self.with_user_row(alloc, row)?;
-        Ok(people)
+        self.with_user_row(alloc, row)
     }
 
     /// These people without a user, whose name is in no row of a group. Fails only if memory runs out.
@@ -91,7 +90,6 @@ impl People {
             alloc,
             self.group_rows().without_user(alloc, self.name_of(user))?,
         )?;
-        let people = self.without_subject(alloc, users, groups, user)?;
-        Ok(people)
+        self.without_subject(alloc, users, groups, user)
     }
 }

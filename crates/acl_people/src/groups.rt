@@ -143,8 +143,7 @@ impl Groups {
         ensures { IfOk result (λ groups. groups ≡ change_at at (name_added name.now) self.now) }
     {
         let row = self.rows[at].with_name(alloc, name)?;
-        let groups = self.with_row(alloc, at, row)?;
-        Ok(groups)
+        self.with_row(alloc, at, row)
     }
 
     /// These groups without a name in a row. Fails only if memory runs out.
@@ -153,8 +152,7 @@ impl Groups {
         ensures { IfOk result (λ groups. groups ≡ change_at at (name_removed name.now) self.now) }
     {
         let row = self.rows[at].without_name(alloc, name)?;
-        let groups = self.with_row(alloc, at, row)?;
-        Ok(groups)
+        self.with_row(alloc, at, row)
     }
 
     /// These groups without a name in any row. Fails only if memory runs out.

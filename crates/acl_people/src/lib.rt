@@ -14,8 +14,8 @@ mod subjects;
 mod user_name;
 mod users;
 
+pub use acl_subjects::rising_ids;
 pub use fault::LoadFault;
 pub use laws::{added_member_is_removed, added_user_is_removed, group_held_otherwise_stays};
-pub use memberships::rising_ids;
 pub use people::People;
 pub use user_name::UserName;

@@ -1,18 +1,16 @@
 //! The groups of users: gpasswd(1) and usermod(8), the groups whose rows name a user, and those that a user joined or left.
 
-ghost use Rattle.std.specs.Prelude.{◌≡◌, ◌<◌, length, IfOk, ◌++◌, ◌∷◌, [], if◌then◌else◌, ℕ, List, map, OnOk, ◌||◌, ◌&&◌, not};
+ghost use Rattle.std.specs.Prelude.{◌≡◌, ◌<◌, length, IfOk, ◌++◌, ◌∷◌, [], if◌then◌else◌, ℕ, List, map, OnOk};
 ghost use Rattle.acl_people.specs.KnownPeople.{persons};
 ghost use Rattle.acl_people.specs.Changes.{gid_of, is_member, with_member, without_member, with_primary_group};
-ghost use Rattle.acl_people.specs.Moves.{ChangesUser, AreMoved, MovesUser, moved_groups};
+ghost use Rattle.acl_people.specs.Moves.{ChangesUser, MovesUser, moved_groups};
 ghost use Rattle.std.specs.Str.{bytes_eq};
 ghost use Rattle.acl_people.specs.Members.{gids_at, row_gids, rows_gids};
-ghost use Rattle.std.specs.FinSet as sets;
-ghost use Rattle.std.specs.List.Sorted.{IsStrictlyIncreasing};
-ghost use Rattle.acl_entry.specs.Mentions.{is_one_of};
 
 use crate::groups::Group;
 use crate::people::People;
-use acl_entry::{Id, Subject};
+use acl_entry::Id;
+use acl_subjects::groups_of_one;
 use std::alloc::{AllocError, Global};
 use std::collections::BTreeMap;
 use std::rc::Rc;
@@ -49,19 +47,13 @@ impl People {
         ensures change { IfOk result (λ people. ChangesUser (persons self.now) (persons people) user) }
     {
         if self.is_member(user, group) {
-            let people = self.share()?;
-            return Ok(people);
+            return self.share();
         }
         let groups = self
             .group_rows()
             .with_name(alloc, group, self.name_of(user))?;
-        let people = self.with_rows(
-            alloc,
-            self.user_rows().clone()?,
-            Rc::new(alloc, groups)?,
-            user,
-        )?;
-        Ok(people)
+        let groups = Rc::new(alloc, groups)?;
+        self.with_rows(alloc, self.user_rows(), &groups, user)
     }
 
     /// These people without a user's name in the row of a group, however often it occurs. Fails only if
@@ -80,13 +72,8 @@ impl People {
         let groups = self
             .group_rows()
             .without_name(alloc, group, self.name_of(user))?;
-        let people = self.with_rows(
-            alloc,
-            self.user_rows().clone()?,
-            Rc::new(alloc, groups)?,
-            user,
-        )?;
-        Ok(people)
+        let groups = Rc::new(alloc, groups)?;
+        self.with_rows(alloc, self.user_rows(), &groups, user)
     }
 
     /// These people with a group as the primary group of a user. Fails only if memory runs out.
@@ -102,13 +89,8 @@ impl People {
         ensures change { IfOk result (λ people. ChangesUser (persons self.now) (persons people) user) }
     {
         let users = self.user_rows().with_gid(alloc, user, self.gid_of(group))?;
-        let people = self.with_rows(
-            alloc,
-            Rc::new(alloc, users)?,
-            self.group_rows().clone()?,
-            user,
-        )?;
-        Ok(people)
+        let users = Rc::new(alloc, users)?;
+        self.with_rows(alloc, &users, self.group_rows(), user)
     }
 }
 
@@ -156,41 +138,6 @@ pub(crate) fn members_of<'a>(
         add_row(alloc, &mut members, row)?;
     }
     Ok(members)
-}
-
-/// Adds the groups of one user that another is not of.
-fn add_others(groups: &mut Vec<Id>, of: &Subject, but: &Subject) -> Result<(), AllocError>
-    ensures { OnOk result ((gid : ℕ) → is_one_of gid groups.new.items
-        ≡ (is_one_of gid groups.old.items || (sets.contains of.now.groups gid && not (sets.contains but.now.groups gid)))) }
-{
-    for group in of.groups() {
-        if !but.is_of(*group) {
-            groups.push(*group)?;
-        }
-    }
-    Ok(())
-}
-
-/// The ids in rising order, each once. Fails only if memory runs out.
-pub fn rising_ids(ids: Vec<Id>) -> Result<Vec<Id>, AllocError>
-    ensures rising { IfOk result (λ rising. IsStrictlyIncreasing rising.items) }
-    ensures same { IfOk result (λ rising. (gid : ℕ) → is_one_of gid rising.items ≡ is_one_of gid ids.items) }
-{
-    let mut rising = ids;
-    rising.sort()?;
-    rising.dedup();
-    Ok(rising)
-}
-
-/// The groups that just one of the two has, rising. Fails only if memory runs out.
-fn groups_of_one(alloc: Global, before: &Subject, after: &Subject) -> Result<Vec<Id>, AllocError>
-    ensures { IfOk result (λ ids. AreMoved before.now after.now ids.items) }
-{
-    let mut groups = Vec::new(alloc);
-    add_others(&mut groups, before, after)?;
-    add_others(&mut groups, after, before)?;
-    let groups = rising_ids(groups)?;
-    Ok(groups)
 }
 
 impl People {

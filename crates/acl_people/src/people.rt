@@ -12,7 +12,7 @@ ghost use Rattle.acl_people.specs.KnownPeople.{person, nobody, users_of, groups_
 
 use crate::fault::{LoadFault, text_fault};
 use crate::groups::Groups;
-use crate::subjects::{person_of, subjects_of};
+use crate::subjects::{shared_person, subjects_of};
 use crate::users::Users;
 use acl_entry::{Id, Subject};
 use acl_subjects::Subjects;
@@ -255,24 +255,23 @@ impl People {
     pub(crate) fn with_rows(
         &self,
         alloc: Global,
-        users: Rc<Users>,
-        groups: Rc<Groups>,
+        users: &Rc<Users>,
+        groups: &Rc<Groups>,
         user: usize,
     ) -> Result<People, AllocError>
-        requires { ChangesUser (persons self.now) (map (person groups.value) users.value) user }
+        requires { ChangesUser (persons self.now) (map (person groups.now.value) users.now.value) user }
         ensures { IfOk result (λ people. people ≡ record {
-          users = users.value;
-          groups = groups.value;
+          users = users.now.value;
+          groups = groups.now.value;
           passwd_loaded = self.now.passwd_loaded;
           group_loaded = self.now.group_loaded;
         }) }
     {
-        let subject = person_of(alloc, groups.rows(), &users.rows()[user])?;
-        let subject = Rc::new(alloc, subject)?;
+        let subject = shared_person(alloc, groups, &users.rows()[user])?;
         let subjects = self.all_subjects().with(alloc, user, subject)?;
         Ok(People {
-            users,
-            groups,
+            users: users.clone()?,
+            groups: groups.clone()?,
             subjects,
             passwd_loaded: self.passwd_loaded,
             group_loaded: self.group_loaded,
@@ -289,8 +288,7 @@ impl People {
           group_loaded = self.now.group_loaded;
         }) }
     {
-        let subject = person_of(alloc, self.groups.rows(), &row)?;
-        let subject = Rc::new(alloc, subject)?;
+        let subject = shared_person(alloc, &self.groups, &row)?;
         let subjects = self.all_subjects().with_last(alloc, subject)?;
         Ok(People {
             users: Rc::new(alloc, self.users.with_row(alloc, row)?)?,

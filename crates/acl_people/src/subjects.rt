@@ -5,7 +5,7 @@ ghost use Rattle.std.specs.FinSet as sets;
 ghost use Rattle.acl_people.specs.Members.{gids_at};
 ghost use Rattle.acl_people.specs.KnownPeople.{person};
 
-use crate::groups::Group;
+use crate::groups::{Group, Groups};
 use crate::memberships::members_of;
 use acl_entry::{Id, Subject};
 use acl_syntax::PasswdRow;
@@ -47,11 +47,7 @@ pub(crate) fn subjects_of(
 }
 
 /// One user's id and groups: a pass over the group rows. Fails only if memory runs out.
-pub(crate) fn person_of(
-    alloc: Global,
-    groups: &[Rc<Group>],
-    user: &PasswdRow,
-) -> Result<Subject, AllocError>
+fn person_of(alloc: Global, groups: &[Rc<Group>], user: &PasswdRow) -> Result<Subject, AllocError>
     ensures { IfOk result (λ subject. subject ≡ person (map (λ r. r.value) groups.now) user.now) }
 {
     let mut gids = Vec::new(alloc);
@@ -63,4 +59,16 @@ pub(crate) fn person_of(
     }
     let subject = Subject::from_groups(alloc, user.uid, &gids)?;
     Ok(subject)
+}
+
+/// One user's id and groups, for those that share them. Fails only if memory runs out.
+pub(crate) fn shared_person(
+    alloc: Global,
+    groups: &Groups,
+    user: &PasswdRow,
+) -> Result<Rc<Subject>, AllocError>
+    ensures { IfOk result (λ subject. subject.value ≡ person groups.now user.now) }
+{
+    let subject = person_of(alloc, groups.rows(), user)?;
+    Ok(Rc::new(alloc, subject)?)
 }

@@ -115,8 +115,7 @@ impl Users {
     {
         let mut rows = self.rows.clone()?;
         rows.push(Rc::new(alloc, row)?)?;
-        let users = Users::of(alloc, rows)?;
-        Ok(users)
+        Users::of(alloc, rows)
     }
 
     /// These users without one of them. Fails only if memory runs out.
@@ -126,7 +125,6 @@ impl Users {
     {
         let mut rows = self.rows.clone()?;
         let _gone = rows.remove(user);
-        let users = Users::of(alloc, rows)?;
-        Ok(users)
+        Users::of(alloc, rows)
     }
 }

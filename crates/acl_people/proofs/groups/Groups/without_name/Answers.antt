@@ -1,5 +1,6 @@
 use Rattle.std.proofs.Common.{◌≡◌, length, map, slice_get, slice_set, Some, refl, sym, ap, ◌∙◌, arith}
 use Rattle.std.proofs.lemmas.List.{length-map}
+use Rattle.std.proofs.lemmas.Result.{IfOk-weaker}
 use Rattle.acl_people.specs.Entries.{group_entry}
 use Rattle.acl_people.specs.Changes.{change_at, name_removed}
 use Rattle.acl_people.proofs.Pointers.{value_at}
@@ -22,4 +23,8 @@ pub with_row-requires-clause-entry : goal.with_row-requires-clause-entry
 with_row-requires-clause-entry c = ap (λ rows. map group_entry rows) (sym (set c)) ∙ map-change_at group_entry c.args.at (name_removed c.args.name.now) c.args.self.now (λ row. refl)
 
 pub returns : goal.returns
-returns c = c.in_ok-groups.ensures ∙ sym (set (goal.at.returns c).In_ok-row)
+returns c =
+    let old = c.args.self.now in
+    IfOk-weaker c.with_row.result (λ groups. groups ≡ slice_set old c.args.at c.in_ok-row.row) (λ groups. groups ≡ change_at c.args.at (name_removed c.args.name.now) old)
+    (λ groups is. is ∙ sym (set (goal.at.returns c).In_ok-row))
+    c.with_row.ensures

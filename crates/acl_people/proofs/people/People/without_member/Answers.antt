@@ -1,36 +1,41 @@
 use Rattle.std.proofs.Common.{◌≡◌, List, map, sym, ap, subst, ◌∙◌}
 use Rattle.acl_syntax.specs.declared.rows.PasswdRow.{PasswdRow}
 use Rattle.acl_syntax.specs.declared.rows.GroupRow.{GroupRow}
+use Rattle.std.proofs.lemmas.Result.{IfOk-weaker}
 use Rattle.acl_people.specs.KnownPeople.{KnownPeople, person, persons}
-use Rattle.acl_people.specs.Changes.{change_at, name_of, name_removed}
+use Rattle.acl_people.specs.Changes.{change_at, name_of, name_removed, without_member}
 use Rattle.acl_people.specs.Moves.{ChangesUser}
 use Rattle.acl_people.proofs.Moving.{removed_changes, changes_as}
 use Rattle.acl_people.proofs.people.People.without_member.Goals as goal
-use Rattle.acl_people.proofs.people.People.without_member.Goals.{In_ok-new}
+use Rattle.acl_people.proofs.people.People.without_member.Goals.{After-user_rows}
 
-groups : (c : In_ok-new) → c.in_ok-new.field-0.value ≡ change_at c.args.group (name_removed (name_of c.args.user c.args.self.now)) c.args.self.now.groups
+abbrev with_rows_of : KnownPeople → List PasswdRow → List GroupRow → KnownPeople
+with_rows_of known us gs = record { users = us; groups = gs; passwd_loaded = known.passwd_loaded; group_loaded = known.group_loaded }
+
+groups : (c : After-user_rows) → c.in_ok-groups-2.groups.value ≡ change_at c.args.group (name_removed (name_of c.args.user c.args.self.now)) c.args.self.now.groups
 groups c =
-    c.in_ok-new.ensures.ok
+    c.in_ok-groups-2.ensures.ok
     ∙ c.in_ok-groups.ensures
     ∙ ap (λ n. change_at c.args.group (name_removed n) c.deref.result.now) c.name_of.ensures
     ∙ ap (λ rows. change_at c.args.group (name_removed (name_of c.args.user c.args.self.now)) rows) (c.deref.ensures ∙ c.group_rows.ensures.rows)
 
-users : (c : In_ok-new) → c.in_ok-clone.field-0.value ≡ c.args.self.now.users
-users c = c.in_ok-clone.ensures.cases ∙ c.user_rows.ensures.rows
-
-changes : (c : In_ok-new) → ChangesUser (persons c.args.self.now) (map (person c.in_ok-new.field-0.value) c.in_ok-clone.field-0.value) c.args.user
-changes c = changes_as (persons c.args.self.now) _ _ _ _ c.args.user (groups c) (users c) (removed_changes c.args.self.now c.group_rows.ensures.sound c.args.user c.requires.user c.args.group)
+changes : (c : After-user_rows) → ChangesUser (persons c.args.self.now) (map (person c.in_ok-groups-2.groups.value) c.user_rows.result.now.value) c.args.user
+changes c = changes_as (persons c.args.self.now) _ _ _ _ c.args.user (groups c) c.user_rows.ensures.rows (removed_changes c.args.self.now c.group_rows.ensures.sound c.args.user c.requires.user c.args.group)
 
 pub with_rows-requires : goal.with_rows-requires
-with_rows-requires c = changes c
+with_rows-requires c = changes (goal.at.with_rows-requires c).After-user_rows
 
 pub returns-clause-rows : goal.returns-clause-rows
 returns-clause-rows c =
     let known = c.args.self.now in
-    let before = (goal.at.returns-clause-rows c).In_ok-new in
-    c.in_ok-people.ensures
-    ∙ ap (λ (us : List PasswdRow). let r : KnownPeople = record { users = us; groups = c.in_ok-new.field-0.value; passwd_loaded = known.passwd_loaded; group_loaded = known.group_loaded } in r) (users before)
-    ∙ ap (λ (gs : List GroupRow). let r : KnownPeople = record { users = known.users; groups = gs; passwd_loaded = known.passwd_loaded; group_loaded = known.group_loaded } in r) (groups before)
+    let before = (goal.at.returns-clause-rows c).After-user_rows in
+    IfOk-weaker c.with_rows.result (λ people. people ≡ with_rows_of known c.user_rows.result.now.value c.in_ok-groups-2.groups.value) (λ people. people ≡ without_member c.args.user c.args.group known)
+    (λ people is. is ∙ (λ i. with_rows_of known (c.user_rows.ensures.rows i) (groups before i)))
+    c.with_rows.ensures
 
 pub returns-clause-change : goal.returns-clause-change
-returns-clause-change c = subst (λ people. ChangesUser (persons c.args.self.now) (persons people) c.args.user) (sym c.in_ok-people.ensures) (changes (goal.at.returns-clause-change c).In_ok-new)
+returns-clause-change c =
+    let old = persons c.args.self.now in
+    IfOk-weaker c.with_rows.result (λ people. people ≡ with_rows_of c.args.self.now c.user_rows.result.now.value c.in_ok-groups-2.groups.value) (λ people. ChangesUser old (persons people) c.args.user)
+    (λ people is. subst (λ people. ChangesUser old (persons people) c.args.user) (sym is) (changes (goal.at.returns-clause-change c).After-user_rows))
+    c.with_rows.ensures

@@ -1,5 +1,6 @@
 use Rattle.std.proofs.Common.{◌≡◌, ◌∷◌, ◌++◌, [], map, sym, subst, ap, ◌∙◌}
 use Rattle.std.proofs.lemmas.List.{map_push}
+use Rattle.std.proofs.lemmas.Result.{IfOk-weaker}
 use Rattle.acl_people.specs.NameTables.{AreCounted}
 use Rattle.acl_people.specs.Entries.{user_entry}
 use Rattle.acl_people.proofs.Pointers.{same_values}
@@ -18,4 +19,7 @@ pub of-requires : goal.of-requires
 of-requires c = subst (λ rs. AreCounted (map user_entry rs)) (sym (rows (goal.at.of-requires c).In_ok-push)) c.requires
 
 pub returns : goal.returns
-returns c = c.in_ok-users.ensures ∙ rows (goal.at.returns c).In_ok-push
+returns c =
+    IfOk-weaker c.of.result (λ users. users ≡ map (λ r. r.value) c.push.new.self.items) (λ users. users ≡ c.args.self.now ++ c.args.row ∷ [])
+    (λ users is. is ∙ rows (goal.at.returns c).In_ok-push)
+    c.of.ensures

@@ -1,6 +1,7 @@
 use Rattle.std.proofs.Common.{◌≡◌, ◌<◌, length, map, sym, subst, ap, ◌∙◌}
 use Rattle.std.specs.List.{remove}
 use Rattle.std.proofs.lemmas.List.{length-map}
+use Rattle.std.proofs.lemmas.Result.{IfOk-weaker}
 use Rattle.acl_people.specs.NameTables.{AreCounted}
 use Rattle.acl_people.specs.Entries.{user_entry}
 use Rattle.acl_people.proofs.Pointers.{same_values, map-remove}
@@ -24,4 +25,7 @@ of-requires c =
     subst AreCounted (sym entries) (counted_remove (map user_entry c.args.self.now) c.args.user within (subst (λ rs. AreCounted (map user_entry rs)) c.self.view_is c.self.invariant.1))
 
 pub returns : goal.returns
-returns c = c.in_ok-users.ensures ∙ rows (goal.at.returns c).After-remove-gone
+returns c =
+    IfOk-weaker c.of.result (λ users. users ≡ map (λ r. r.value) c.remove-gone.new.self.items) (λ users. users ≡ remove c.args.self.now c.args.user)
+    (λ users is. is ∙ rows (goal.at.returns c).After-remove-gone)
+    c.of.ensures

@@ -7,7 +7,7 @@ use Rattle.std.proofs.lemmas.List.Filters.{dedup_is}
 use Rattle.std.proofs.lemmas.Map.Keys.{IsStrictlyIncreasing-dedup}
 use Rattle.acl_entry.proofs.Groups.{from_list-dedup}
 use Rattle.acl_entry.specs.Mentions.{is_one_of}
-use Rattle.acl_people.proofs.memberships.rising_ids.Goals as goal
+use Rattle.acl_subjects.proofs.rising.rising_ids.Goals as goal
 
 pub returns-clause-rising : goal.returns-clause-rising
 returns-clause-rising c =

@@ -1,8 +1,14 @@
-use Rattle.std.proofs.Common.{ℕ, List, ◌||◌, ◌&&◌, not, ap, ◌∙◌}
+use Rattle.std.proofs.Common.{◌≡◌, ℕ, Bool, true, false, List, ◌||◌, ◌&&◌, not, refl, ap, ◌∙◌}
 use Rattle.std.specs.FinSet as sets
 use Rattle.acl_entry.specs.Mentions.{is_one_of}
-use Rattle.acl_people.proofs.Moved.{in_one}
-use Rattle.acl_people.proofs.memberships.groups_of_one.Goals as goal
+use Rattle.acl_subjects.specs.GroupsOfOne.{in_just_one}
+use Rattle.acl_subjects.proofs.groups.groups_of_one.Goals as goal
+
+in_one : (a b : Bool) → ((false || (a && not b)) || (b && not a)) ≡ in_just_one a b
+in_one true true = refl
+in_one true false = refl
+in_one false true = refl
+in_one false false = refl
 
 pub returns : goal.returns
 returns c = record {

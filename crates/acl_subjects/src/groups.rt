@@ -1,0 +1,38 @@
+//! The groups that just one of two users has: those that a user joined or left, where the two are that user before and after.
+
+ghost use Rattle.std.specs.Prelude.{◌≡◌, ◌||◌, ◌&&◌, not, ℕ, IfOk, OnOk};
+ghost use Rattle.std.specs.FinSet as sets;
+ghost use Rattle.acl_entry.specs.Mentions.{is_one_of};
+ghost use Rattle.acl_subjects.specs.GroupsOfOne.{AreMoved};
+
+use crate::rising::rising_ids;
+use acl_entry::{Id, Subject};
+use std::alloc::{AllocError, Global};
+
+/// Adds the groups of one user that another is not of.
+fn add_others(groups: &mut Vec<Id>, of: &Subject, but: &Subject) -> Result<(), AllocError>
+    ensures { OnOk result ((gid : ℕ) → is_one_of gid groups.new.items
+        ≡ (is_one_of gid groups.old.items || (sets.contains of.now.groups gid && not (sets.contains but.now.groups gid)))) }
+{
+    for group in of.groups() {
+        if !but.is_of(*group) {
+            groups.push(*group)?;
+        }
+    }
+    Ok(())
+}
+
+/// The groups that just one of two users has, rising. Fails only if memory runs out.
+pub fn groups_of_one(
+    alloc: Global,
+    before: &Subject,
+    after: &Subject,
+) -> Result<Vec<Id>, AllocError>
+    ensures { IfOk result (λ ids. AreMoved before.now after.now ids.items) }
+{
+    let mut groups = Vec::new(alloc);
+    add_others(&mut groups, before, after)?;
+    add_others(&mut groups, after, before)?;
+    let groups = rising_ids(groups)?;
+    Ok(groups)
+}
