@@ -3,6 +3,7 @@ pub mod Lines
 pub mod Goes
 pub mod Costs
 pub mod Asked
+pub mod AskedAlong
 pub mod Reached
 pub mod Counts
 pub mod Refreshed

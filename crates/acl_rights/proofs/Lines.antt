@@ -15,7 +15,8 @@ use Rattle.acl_tree.specs.acl_names.Paths.{path_cmp}
 use Rattle.acl_tree.specs.acl_edit.declared.node.Node.{Node}
 use Rattle.acl_tree.specs.Files.{PathOf, Files}
 use Rattle.acl_tree.specs.Changed.{same_label, changed_between, gone_between}
-use Rattle.acl_tree.specs.acl_people.Moves.{MovesUser, in_just_one}
+use Rattle.acl_tree.specs.acl_people.GroupsOfOne.{in_just_one}
+use Rattle.acl_tree.specs.acl_people.Moves.{MovesUser}
 use Rattle.acl_tree.proofs.of_acl_files.Changes.{label_is_same}
 use Rattle.path_map.specs.Entries.{IsInOrder}
 use Rattle.acl_rights.specs.Tables.{Verdict, cells_of, rows_of}

@@ -1,6 +1,7 @@
 pub mod Tables
 pub mod Stages
 pub mod Reach
+pub mod Verdicts
 pub mod Kept
 pub mod Groups
 pub mod Inner

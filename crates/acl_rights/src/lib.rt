@@ -4,6 +4,7 @@
 
 mod grants;
 mod index;
+mod indexed;
 mod label_rows;
 mod labels;
 mod lists;
@@ -27,3 +28,4 @@ pub use acl_tree::{
 pub use acl_verdicts::{Judge, Posix, Subjects, same_row};
 pub use grants::{FileRow, FileRows};
 pub use index::{Index, Rows};
+pub use indexed::{IndexedState, Verdicts};

@@ -24,10 +24,10 @@ use Rattle.acl_rights.proofs.Asked.{cell_is}
 use Rattle.acl_rights.proofs.Reached.{reach_is}
 use Rattle.facl_listings.specs.declared.placed_users.PlacedUser.{PlacedUser}
 use Rattle.facl_listings.specs.Listings.{path_shown}
-use Rattle.facl_listings.specs.Answers.{can_requests}
+use Rattle.acl_rights.specs.Verdicts.{can_requests, rows_granted}
 use Rattle.facl_listings.specs.Changes.{change_lines, users_of_both, place_of, granted_to, changes_text}
-use Rattle.facl_listings.specs.Inner.{Placed, placed_of, placed_in, rows_granted, cell_at, lines_between, Walked, has_next_below, shown_before, walk_of, row_in, lines_of_both}
-use Rattle.facl_listings.proofs.Asked.{can_alone, can_along}
+use Rattle.facl_listings.specs.Inner.{Placed, placed_of, placed_in, cell_at, lines_between, Walked, has_next_below, shown_before, walk_of, row_in, lines_of_both}
+use Rattle.acl_rights.proofs.AskedAlong.{can_alone, can_along}
 
 flat-map : {A B C : Type 0} (h : B → List C) (f : A → B) (xs : List A) → flat_map h (map f xs) ≡ flat_map (λ x. h (f x)) xs
 flat-map h f [] = refl

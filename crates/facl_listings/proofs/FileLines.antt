@@ -22,8 +22,9 @@ use Rattle.acl_rights.specs.acl_tree.Found.{FoundFile, found_file, found_in}
 use Rattle.acl_rights.specs.acl_tree.Sound.{holds_below}
 use Rattle.acl_rights.specs.acl_tree.Step.{State}
 use Rattle.acl_rights.specs.Tables.{Verdict}
-use Rattle.facl_listings.specs.Answers.{granted, all_files, file_line, may_text}
-use Rattle.facl_listings.specs.Inner.{is_first, in_step, paths_granted}
+use Rattle.facl_listings.specs.Answers.{all_files, file_line, may_text}
+use Rattle.acl_rights.specs.Verdicts.{granted, paths_granted}
+use Rattle.facl_listings.specs.Inner.{is_first, in_step}
 
 -- where no file is left
 pub no_file_left : (paths : List PathOf) → in_step paths [] ≡ []

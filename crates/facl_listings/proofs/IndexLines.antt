@@ -14,8 +14,9 @@ use Rattle.acl_rights.proofs.of_acl_files.Follows.{known_by_next}
 use Rattle.acl_rights.specs.acl_files.path_map.Entries.{first}
 use Rattle.acl_rights.specs.Tables.{Verdict, cells_of, rows_of}
 use Rattle.facl_listings.specs.Listings.{path_shown}
-use Rattle.facl_listings.specs.Answers.{granted, verdict_line, index_text}
-use Rattle.facl_listings.specs.Inner.{row_lines, rows_granted, walk_of, has_next_below, shown_before, lines_of_walk}
+use Rattle.facl_listings.specs.Answers.{verdict_line, index_text}
+use Rattle.acl_rights.specs.Verdicts.{granted, rows_granted}
+use Rattle.facl_listings.specs.Inner.{row_lines, walk_of, has_next_below, shown_before, lines_of_walk}
 use Rattle.facl_listings.proofs.ChangeLines.{next_below}
 
 -- one more of some rows

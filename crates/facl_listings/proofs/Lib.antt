@@ -3,7 +3,7 @@ pub mod Rising
 pub mod Reloaded
 pub mod RestoredAgain
 pub mod Parts
-pub mod Asked
+pub mod Loops
 pub mod UserLines
 pub mod FileLines
 pub mod IndexLines

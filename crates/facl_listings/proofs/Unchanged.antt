@@ -28,7 +28,8 @@ use Rattle.acl_rights.proofs.of_acl_names.PathOrder.{exact_paths}
 use Rattle.acl_rights.proofs.of_path_map.Rows.{find_put_all}
 use Rattle.facl_listings.specs.Listings.{path_shown}
 use Rattle.facl_listings.specs.Requests.{requests_granted}
-use Rattle.facl_listings.specs.Answers.{line, granted, can_requests}
+use Rattle.facl_listings.specs.Answers.{line}
+use Rattle.acl_rights.specs.Verdicts.{granted, can_requests}
 use Rattle.facl_listings.specs.Changes.{requests_gained, after_comma, change_line, change_lines, users_of_both, shown_files, files_of_both, place_of, granted_to, changes_text, IsUnchanged}
 use Rattle.facl_listings.proofs.ChangeLines.{paths, order_by_paths, shown}
 

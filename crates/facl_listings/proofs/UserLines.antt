@@ -11,8 +11,9 @@ use Rattle.acl_rights.specs.acl_edit.declared.node.Node.{Node}
 use Rattle.acl_rights.specs.acl_tree.Files.{PathOf}
 use Rattle.acl_rights.specs.acl_tree.Step.{State}
 use Rattle.acl_rights.specs.Tables.{Verdict, places_from}
-use Rattle.facl_listings.specs.Answers.{granted, user_line, who_text}
-use Rattle.facl_listings.specs.Inner.{users_granted, line_at}
+use Rattle.facl_listings.specs.Answers.{user_line, who_text}
+use Rattle.acl_rights.specs.Verdicts.{granted, users_granted}
+use Rattle.facl_listings.specs.Inner.{line_at}
 
 -- the lines of those that pass a test, by their places, the first place being n
 module _ {A : Type 0} (test : A → Bool) (line_of : A → List ℕ) (look : ℕ → List ℕ) where

@@ -1,5 +1,5 @@
 -- What `can`, `who`, `may` and `index` answer: all users against all files.
-use Rattle.std.specs.Prelude.{ℕ, ◌/◌, ◌%◌, Bool, false, if◌then◌else◌, List, [], ◌∷◌, ◌++◌, filter, slice_get, slice_index, codes, Option, option_map, option_and_then}
+use Rattle.std.specs.Prelude.{ℕ, ◌/◌, ◌%◌, Bool, false, List, [], ◌∷◌, ◌++◌, filter, slice_get, slice_index, codes, Option, option_map}
 use Rattle.std.specs.List.{flat_map}
 use Rattle.std.specs.FinMap.{find}
 use Rattle.acl_rights.specs.acl_entry.Check.{has}
@@ -7,13 +7,11 @@ use Rattle.acl_rights.specs.acl_entry.Perms.{Perms}
 use Rattle.acl_rights.specs.acl_names.Names.{escaped}
 use Rattle.acl_rights.specs.acl_names.Paths.{path_cmp}
 use Rattle.acl_rights.specs.acl_syntax.declared.rows.PasswdRow.{PasswdRow}
-use Rattle.acl_rights.specs.acl_edit.declared.node.Node.{Node}
-use Rattle.acl_rights.specs.acl_people.KnownPeople.{person}
 use Rattle.acl_rights.specs.acl_tree.Files.{PathOf}
 use Rattle.acl_rights.specs.acl_tree.Found.{FoundFile, found_in}
 use Rattle.acl_rights.specs.acl_tree.Step.{State}
 use Rattle.acl_rights.specs.acl_verdicts.Rows.{Verdict}
-use Rattle.acl_rights.specs.Reach.{reach}
+use Rattle.acl_rights.specs.Verdicts.{granted}
 use Rattle.facl_listings.specs.Listings.{path_shown}
 
 abbrev pub line : List ℕ → List ℕ
@@ -41,19 +39,7 @@ verdict_line byte user path = hex_digits byte ++ (32 ∷ (user ++ (32 ∷ line p
 abbrev pub all_files : State → List FoundFile
 all_files s = found_in s.tree.files s.tree.files
 
--- the requests that a user is granted on a file: by the file's list alone, or only where the user can search each
--- recorded directory above it too
-abbrev pub granted : Verdict → Bool → State → PasswdRow → PathOf × Node → ℕ
-granted V along s row e =
-    if along then reach V s.tree.files (person s.people.groups row) e
-    else V (person s.people.groups row) e.1.label
-
 module _ (V : Verdict) (along : Bool) (s : State) where
-  -- `can`: the requests that a user is granted on a file, if both are there
-  abbrev pub can_requests : ℕ → PathOf → Option ℕ
-  can_requests user p =
-      option_and_then (λ n. option_map (λ row. granted V along s row (p, n)) (slice_get s.people.users user)) (find path_cmp p s.tree.files)
-
   -- `who`: each user who is granted a request on a file, in the order of the rows
   abbrev pub who_text : Perms → PathOf → Option (List ℕ)
   who_text q p =

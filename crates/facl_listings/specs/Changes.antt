@@ -14,7 +14,8 @@ use Rattle.acl_rights.specs.acl_tree.Step.{State}
 use Rattle.acl_rights.specs.acl_verdicts.Rows.{Verdict}
 use Rattle.facl_listings.specs.Listings.{path_shown}
 use Rattle.facl_listings.specs.Requests.{requests_granted}
-use Rattle.facl_listings.specs.Answers.{line, all_files, can_requests}
+use Rattle.facl_listings.specs.Answers.{line, all_files}
+use Rattle.acl_rights.specs.Verdicts.{can_requests}
 
 -- ---- a user on a file
 

@@ -1,5 +1,5 @@
 -- For inner functions: no public contract names these definitions.
-use Rattle.std.specs.Prelude.{ℕ, ◌==◌, Bool, true, false, if◌then◌else◌, List, [], ◌∷◌, ◌++◌, map, filter, zip, drop, position, slice_get, Option, Some, None, is_some, option_map, option_and_then, unwrap_or}
+use Rattle.std.specs.Prelude.{ℕ, ◌==◌, Bool, true, false, if◌then◌else◌, List, [], ◌∷◌, ◌++◌, map, zip, drop, position, slice_get, Option, Some, None, is_some, option_map, option_and_then, unwrap_or}
 use Rattle.std.specs.List.{flat_map, list_any}
 use Rattle.std.specs.Option.{option_map_or}
 use Rattle.std.specs.Ordering.{eq_by_cmp}
@@ -7,10 +7,9 @@ use Rattle.std.specs.declared.cmp.Ordering.{Ordering}
 use Rattle.std.specs.declared.cmp.Ordering.TheVariants.{Less, Equal, Greater}
 use Rattle.std.specs.FinMap as maps
 use Rattle.std.specs.FinMap.{find}
-use Rattle.acl_rights.specs.acl_entry.Check.{has, is_for}
+use Rattle.acl_rights.specs.acl_entry.Check.{is_for}
 use Rattle.acl_rights.specs.acl_entry.Keys.{same_key}
 use Rattle.acl_rights.specs.acl_entry.Lists.{IsValid, entries}
-use Rattle.acl_rights.specs.acl_entry.Perms.{Perms}
 use Rattle.acl_rights.specs.acl_entry.Person.{Person}
 use Rattle.acl_rights.specs.acl_entry.declared.entry.Entry.{Entry}
 use Rattle.acl_rights.specs.acl_entry.declared.entry.Key.{Key}
@@ -24,31 +23,15 @@ use Rattle.acl_rights.specs.acl_names.Below.{is_below}
 use Rattle.acl_rights.specs.acl_files.path_map.Entries.{first}
 use Rattle.acl_rights.specs.acl_files.path_map.Merged.{put_all}
 use Rattle.acl_rights.specs.acl_names.Names.{escaped}
-use Rattle.acl_rights.specs.acl_people.KnownPeople.{KnownPeople, persons, users_of}
+use Rattle.acl_rights.specs.acl_people.KnownPeople.{KnownPeople, users_of}
 use Rattle.acl_rights.specs.acl_people.NameTables.{is_name}
 use Rattle.acl_rights.specs.acl_tree.Found.{FoundFile, found_file}
-use Rattle.acl_rights.specs.acl_tree.Step.{State}
-use Rattle.acl_rights.specs.Tables.{Verdict, Rows, places_from, rows_of}
-use Rattle.acl_rights.specs.Reach.{rows_along}
+use Rattle.acl_rights.specs.Tables.{Rows}
 use Rattle.facl_listings.specs.Listings.{path_shown}
-use Rattle.facl_listings.specs.Answers.{user_line, verdict_line, granted}
+use Rattle.facl_listings.specs.Answers.{user_line, verdict_line}
 use Rattle.facl_listings.specs.Changes.{change_lines}
 use Rattle.facl_listings.specs.declared.placed_users.PlacedUser.{PlacedUser}
 use Rattle.facl_listings.specs.declared.row_walk.FileWithRow.{FileWithRow}
-
--- ---- what is asked of the index
-
--- the places of the users who are granted a request on a file
-abbrev pub users_granted : Verdict → Bool → State → PathOf → Perms → Option (List ℕ)
-users_granted V along s p q = option_map (λ n. places_from (λ row. has (granted V along s row (p, n)) q) 0 s.people.users) (find path_cmp p s.tree.files)
-
--- the paths of the files on which a user is granted a request
-abbrev pub paths_granted : Verdict → Bool → State → ℕ → Perms → Option (List PathOf)
-paths_granted V along s user q = option_map (λ row. map (λ e. e.0) (filter (λ e. has (granted V along s row e) q) s.tree.files)) (slice_get s.people.users user)
-
--- for each file the verdicts on all users
-abbrev pub rows_granted : Verdict → Bool → State → Rows
-rows_granted V along s = rows_along along (rows_of V (persons s.people) s.tree.files)
 
 -- ---- what `why` looks at
 

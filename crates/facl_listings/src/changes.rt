@@ -7,12 +7,11 @@ ghost use Rattle.facl_listings.specs.Changes.{changes_text, requests_gained, aft
 ghost use Rattle.facl_listings.specs.Inner.{keeps_place, shown_row, lines_between, lines_of_both, next_order, gone_lines, new_lines, kept_lines, next_lines, left_before, left_after, cell_at};
 ghost use Rattle.acl_rights.specs.acl_entry.Check.{has};
 
-use crate::indexed::{IndexedState, Verdicts};
 use crate::placed_users::{PlacedUser, keep_places, users_of_both};
 use crate::requests::NUMBERS;
 use crate::row_walk::{FileWithRow, Walk};
 use crate::table::shown;
-use acl_rights::{Judge, Perm, Requests, same_row};
+use acl_rights::{IndexedState, Judge, Perm, Requests, Verdicts, same_row};
 use std::alloc::{AllocError, Global};
 use std::cmp::Ordering;
 

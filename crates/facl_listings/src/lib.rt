@@ -6,7 +6,6 @@ mod again;
 mod attr_listing;
 mod chacl_listing;
 mod changes;
-mod indexed;
 mod laws;
 mod listing;
 mod may;
@@ -21,15 +20,15 @@ mod why;
 pub use acl_attr::decode_attr;
 pub use acl_rights::{
     Acl, Change, ChangeEntries, ChangeFlags, Command, Draft, DumpRecord, DumpRecords, DumpUse,
-    Edit, Effective, Entry, FaultKind, Found, Id, Judge, Key, Kind, Label, Membership, Name,
-    NewFile, NewUser, Path, Paths, People, Perm, Posix, Record, Requests, Selection, Sep, Spec,
-    Specs, Staged, State, Subject, Table, TextFault, Tree, TreeFault, UserName, Want, Which,
-    each_file_is_edited, read_dump, read_entries, read_id, read_name, read_path, read_perms, trim,
+    Edit, Effective, Entry, FaultKind, Found, Id, IndexedState, Judge, Key, Kind, Label,
+    Membership, Name, NewFile, NewUser, Path, Paths, People, Perm, Posix, Record, Requests,
+    Selection, Sep, Spec, Specs, Staged, State, Subject, Table, TextFault, Tree, TreeFault,
+    UserName, Verdicts, Want, Which, each_file_is_edited, read_dump, read_entries, read_id,
+    read_name, read_path, read_perms, trim,
 };
 pub use attr_listing::write_attributes;
 pub use chacl_listing::write_chacl_listing;
 pub use changes::write_changes;
-pub use indexed::{IndexedState, Verdicts};
 pub use laws::{
     attributes_are_read_again, changes_print_all_that_differs, deciding_entries_are_the_check,
     deciding_entries_are_the_reach, listing_is_loaded_again, listing_is_restored_as_it_is,

@@ -6,9 +6,8 @@ ghost use Rattle.acl_rights.specs.acl_tree.Found.{found_in};
 ghost use Rattle.facl_listings.specs.Answers.{file_line, may_text};
 ghost use Rattle.facl_listings.specs.Inner.{is_first, in_step};
 
-use crate::indexed::Verdicts;
 use crate::listing::push_path_shown;
-use acl_rights::{Found, Judge, Path, Perm, Tree};
+use acl_rights::{Found, Judge, Path, Perm, Tree, Verdicts};
 use std::alloc::{AllocError, Global};
 use std::cmp::Ordering;
 use std::rc::Rc;

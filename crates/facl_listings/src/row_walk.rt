@@ -3,10 +3,10 @@
 ghost use Rattle.std.specs.Prelude.{◌≡◌, IfOk, drop, option_map};
 ghost use Rattle.acl_rights.specs.acl_files.path_map.Entries.{first, IsInOrder};
 ghost use Rattle.acl_rights.specs.acl_tree.Found.{found_file};
-ghost use Rattle.facl_listings.specs.Inner.{has_next_below, rows_granted, walk_of, shown_row};
+ghost use Rattle.facl_listings.specs.Inner.{has_next_below, walk_of, shown_row};
+ghost use Rattle.acl_rights.specs.Verdicts.{rows_granted};
 
-use crate::indexed::Verdicts;
-use acl_rights::{FileRows, FilesIter, Found, Judge, Path, Record, Requests, Tree};
+use acl_rights::{FileRows, FilesIter, Found, Judge, Path, Record, Requests, Tree, Verdicts};
 use std::alloc::AllocError;
 use std::marker::Model;
 use std::rc::Rc;

@@ -6,10 +6,9 @@ ghost use Rattle.facl_listings.specs.Listings.{path_shown};
 ghost use Rattle.facl_listings.specs.Answers.{hex_digits, verdict_line, index_text};
 ghost use Rattle.facl_listings.specs.Inner.{row_lines, lines_of_walk, shown_row};
 
-use crate::indexed::IndexedState;
 use crate::listing::push_path_shown;
 use crate::row_walk::{FileWithRow, Walk};
-use acl_rights::{Found, Judge, People, Requests, write_name};
+use acl_rights::{Found, IndexedState, Judge, People, Requests, write_name};
 use std::alloc::{AllocError, Global};
 
 const DIGITS: [u8; 16] = *b"0123456789abcdef";

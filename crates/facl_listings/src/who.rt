@@ -5,8 +5,7 @@ ghost use Rattle.std.specs.List.{flat_map};
 ghost use Rattle.facl_listings.specs.Answers.{who_text};
 ghost use Rattle.facl_listings.specs.Inner.{line_at};
 
-use crate::indexed::Verdicts;
-use acl_rights::{Judge, Path, People, Perm, append_name};
+use acl_rights::{Judge, Path, People, Perm, Verdicts, append_name};
 use std::alloc::{AllocError, Global};
 
 /// Adds the line of a user.

@@ -7,7 +7,8 @@ use Rattle.facl_listings.specs.acl_tree.declared.command.Command.TheVariants as 
 use Rattle.facl_listings.specs.acl_tree.Files.{PathOf}
 use Rattle.facl_listings.specs.acl_tree.Found.{files_found}
 use Rattle.facl_listings.specs.acl_tree.Step.{State}
-use Rattle.facl_listings.specs.Answers.{index_text, granted, user_line, file_line, all_files}
+use Rattle.facl_listings.specs.Answers.{index_text, user_line, file_line, all_files}
+use Rattle.facl_listings.specs.acl_rights.Verdicts.{granted}
 use Rattle.facl_listings.specs.acl_entry.Check.{has}
 use Rattle.facl_listings.specs.acl_entry.Perms.{Perms}
 use Rattle.facl_listings.specs.acl_edit.declared.node.Node.{Node}

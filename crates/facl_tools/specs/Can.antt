@@ -1,6 +1,6 @@
 -- can: what a user may do with a file. The state stays as it is.
 use Rattle.std.specs.Prelude.{ℕ, [], ◌∷◌, Bool, codes, Option, Some, Result, Ok}
-use Rattle.facl_listings.specs.Answers.{can_requests}
+use Rattle.facl_listings.specs.acl_rights.Verdicts.{can_requests}
 use Rattle.facl_listings.specs.Requests.{requests_line}
 use Rattle.facl_listings.specs.acl_files.declared.fault.TreeFault.TheVariants.{NoSuchFile}
 use Rattle.facl_listings.specs.acl_tree.Files.{PathOf}

@@ -52,5 +52,5 @@ pub(crate) fn answer(alloc: Global, state: &State, line: ChmodLine<'_>) -> Resul
         mode: line.mode,
         recursive: line.recursive,
     };
-    effect_of(alloc, state, &command)
+    effect_of(alloc, state, command)
 }

@@ -92,5 +92,5 @@ pub(crate) fn answer(alloc: Global, state: &State, line: CreatLine<'_>) -> Resul
     ensures { Replies state.now result (answered state.now line.entry) }
 {
     let new = new_file(alloc, line)?;
-    effect_of(alloc, state, &Command::Creat(new))
+    effect_of(alloc, state, Command::Creat(new))
 }

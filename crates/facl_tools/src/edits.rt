@@ -31,5 +31,5 @@ pub(crate) fn edit_files(
         edit,
         recursive: files.recursive,
     };
-    effect_of(alloc, state, &command)
+    effect_of(alloc, state, command)
 }

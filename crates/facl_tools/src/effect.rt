@@ -66,7 +66,7 @@ impl Effect {
 }
 
 /// The state after a command, prepared. The present state is left as it is.
-pub(crate) fn effect_of(
+pub(crate) fn prepared(
     alloc: Global,
     state: &State,
     command: &Command<'_>,
@@ -75,4 +75,16 @@ pub(crate) fn effect_of(
 {
     let staged = state.prepare(alloc, command)?;
     Ok(Effect::changes(alloc, staged))
+}
+
+/// The same of a command that is then discarded. A tool hands over the one that it made: each function that discards
+/// a command is dear to prove.
+pub(crate) fn effect_of(
+    alloc: Global,
+    state: &State,
+    command: Command<'_>,
+) -> Result<Effect, LineFault>
+    ensures { Replies state.now result (done state.now command.entry) }
+{
+    prepared(alloc, state, &command)
 }

@@ -76,5 +76,5 @@ pub(crate) fn answer(
         group,
         change: line.change,
     };
-    effect_of(alloc, state, &command)
+    effect_of(alloc, state, command)
 }

@@ -60,5 +60,5 @@ pub(crate) fn answer(
         which: line.table,
         bytes: text,
     };
-    effect_of(alloc, state, &command)
+    effect_of(alloc, state, command)
 }

@@ -46,5 +46,5 @@ pub(crate) fn answer(alloc: Global, state: &State, line: RmLine<'_>) -> Result<E
         paths,
         recursive: line.recursive,
     };
-    effect_of(alloc, state, &command)
+    effect_of(alloc, state, command)
 }

@@ -39,7 +39,7 @@ fn change_files(
         }),
         recursive: line.recursive,
     };
-    let effect = do_or_test(alloc, state, &command, line.test)?;
+    let effect = do_or_test(alloc, state, command, line.test)?;
     Ok(effect.warning(warns))
 }
 
@@ -80,7 +80,7 @@ fn restore_records(
     ensures { Replies state.now result (done_or_tested is_test state.now (Restore records)) }
 {
     let command = Command::Restore { records };
-    do_or_test(alloc, state, &command, is_test)
+    do_or_test(alloc, state, command, is_test)
 }
 
 /// Restores the files of a dump.

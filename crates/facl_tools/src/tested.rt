@@ -8,7 +8,7 @@ ghost use Rattle.facl_listings.specs.acl_tree.Operands.{first_missing};
 ghost use Rattle.facl_listings.specs.acl_tree.Restoring.{paths_of};
 ghost use Rattle.facl_listings.specs.acl_tree.Step.{step};
 
-use crate::effect::{Effect, effect_of};
+use crate::effect::{Effect, prepared};
 use facl_listings::{
     Command, DumpRecord, DumpRecords, Found, Path, Paths, Selection, Staged, State, Tree,
     append_test_listing, each_file_is_edited,
@@ -118,14 +118,14 @@ fn test(alloc: Global, state: &State, command: &Command<'_>) -> Result<Effect, L
 pub(crate) fn do_or_test(
     alloc: Global,
     state: &State,
-    command: &Command<'_>,
+    command: Command<'_>,
     is_test: bool,
 ) -> Result<Effect, LineFault>
-    ensures { Replies state.now result (done_or_tested is_test state.now command.now) }
+    ensures { Replies state.now result (done_or_tested is_test state.now command.entry) }
 {
     if is_test {
-        test(alloc, state, command)
+        test(alloc, state, &command)
     } else {
-        effect_of(alloc, state, command)
+        prepared(alloc, state, &command)
     }
 }

@@ -84,5 +84,5 @@ pub(crate) fn answer(
     ensures { Replies state.now result (answered state.now line.entry) }
 {
     let new = new_user(alloc, line)?;
-    effect_of(alloc, state, &Command::Useradd(new))
+    effect_of(alloc, state, Command::Useradd(new))
 }

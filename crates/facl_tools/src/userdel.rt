@@ -42,5 +42,5 @@ pub(crate) fn answer(
     ensures { Replies state.now result (answered state.now line.entry) }
 {
     let user = name_meant(alloc, &line.user)?;
-    effect_of(alloc, state, &Command::Userdel { user })
+    effect_of(alloc, state, Command::Userdel { user })
 }

@@ -47,5 +47,5 @@ pub(crate) fn answer(
 {
     let user = name_meant(alloc, &line.user)?;
     let group = name_meant(alloc, &line.group)?;
-    effect_of(alloc, state, &Command::Usermod { user, group })
+    effect_of(alloc, state, Command::Usermod { user, group })
 }

@@ -1,7 +1,8 @@
-use Rattle.std.proofs.Common.{◌++◌, ◌∷◌, [], ℕ, List, not, lit<, sym, ap, ◌∙◌}
+use Rattle.std.proofs.Common.{◌++◌, ◌∷◌, [], ℕ, List, not, filter, lit<, sym, ap, ◌∙◌}
 use Rattle.std.specs.Prelude.{◌&&◌}
+use Rattle.std.proofs.lemmas.List.{take_all}
 use Rattle.acl_rights.specs.acl_entry.Check.{has}
-use Rattle.facl_listings.proofs.Spaced.{below_eight}
+use Rattle.facl_listings.proofs.Spaced.{among, below_eight}
 use Rattle.facl_listings.proofs.Gained.{one_gained, one_kept}
 use Rattle.facl_listings.proofs.changes.requests_gained.Goals as goal
 use Rattle.facl_listings.proofs.changes.requests_gained.Goals.{in-Some+then-is_gained+in_ok-push, in-Some+else-is_gained, in_default}
@@ -28,3 +29,6 @@ loop-number-preserved c =
           ∙ sym (one_kept before after numbers i c.loop-number-test.true (ap (λ q. has after q && not (has before q)) (sym is) ∙ (sym w.is_gained.ensures ∙ w.if-is_gained.false)))
       | in_default w ↦ absurd (w.in_default.ensures (below_eight numbers (lit< tt, (lit< tt, (lit< tt, (lit< tt, (lit< tt, (lit< tt, (lit< tt, tt))))))) i c.loop-number-test.true))
     ]
+
+pub returns : goal.returns
+returns c = c.loop-number.invariant ∙ ap (λ l. filter (λ q. not (has c.args.before q)) (among c.args.after l)) (take_all c.loop-number.number-index numbers c.loop-number-test.false)

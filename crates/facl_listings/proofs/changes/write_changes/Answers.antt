@@ -1,7 +1,8 @@
 use Rattle.std.proofs.Common.{ap, subst, ◌∙◌}
 use Rattle.acl_rights.specs.acl_files.path_map.Entries.{IsInOrder}
 use Rattle.acl_rights.specs.acl_tree.Step.{State}
-use Rattle.facl_listings.specs.Inner.{walk_of, rows_granted}
+use Rattle.facl_listings.specs.Inner.{walk_of}
+use Rattle.acl_rights.specs.Verdicts.{rows_granted}
 use Rattle.facl_listings.proofs.ChangeLines.{all_lines}
 use Rattle.facl_listings.proofs.changes.write_changes.Goals as goal
 

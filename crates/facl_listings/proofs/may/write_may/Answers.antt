@@ -5,7 +5,8 @@ use Rattle.acl_rights.specs.acl_tree.Files.{Recorded, IsInOrder}
 use Rattle.acl_rights.specs.acl_tree.Found.{found_in}
 use Rattle.acl_rights.specs.acl_tree.Step.{State}
 use Rattle.facl_listings.specs.Answers.{file_line}
-use Rattle.facl_listings.specs.Inner.{paths_granted, in_step}
+use Rattle.facl_listings.specs.Inner.{in_step}
+use Rattle.acl_rights.specs.Verdicts.{paths_granted}
 use Rattle.facl_listings.proofs.FileLines.{may_lines}
 use Rattle.facl_listings.proofs.may.write_may.Goals as goal
 

@@ -1,9 +1,12 @@
-use Rattle.std.proofs.Common.{◌+◌, ◌++◌, ◌∷◌, [], ℕ, List, get_or, take, lit<, sym, ap, ◌∙◌, arith}
+use Rattle.std.proofs.Common.{◌+◌, ◌++◌, ◌∷◌, [], ℕ, List, append-nil, get_or, take, lit<, sym, ap, ◌∙◌, arith}
 use Rattle.std.proofs.lemmas.Grind.{common_steps}
+use Rattle.std.specs.Prelude.{codes}
+use Rattle.std.proofs.lemmas.List.{take_all}
 use Rattle.acl_rights.specs.acl_entry.Perms.{numbered}
 use Rattle.acl_rights.specs.acl_entry.Check.{has}
 use Rattle.acl_rights.proofs.of_acl_names.Appended.{still_begins}
-use Rattle.facl_listings.proofs.Spaced.{spaced, is_empty, among, not_empty, one_granted, one_refused, below_eight, text_step}
+use Rattle.facl_listings.specs.Requests.{requests_text}
+use Rattle.facl_listings.proofs.Spaced.{spaced, is_empty, among, not_empty, one_granted, one_refused, below_eight, text_step, text_some, text_none}
 use Rattle.facl_listings.proofs.requests.push_requests.Goals as goal
 use Rattle.facl_listings.proofs.requests.push_requests.Goals.{in-Some+then-has+in_ok-push_request, in-Some+else-has, in_default}
 
@@ -39,3 +42,20 @@ loop-number-preserved c =
           }
       | in_default w ↦ absurd (w.in_default.ensures (below_eight numbers (lit< tt, (lit< tt, (lit< tt, (lit< tt, (lit< tt, (lit< tt, (lit< tt, tt))))))) i c.loop-number-test.true))
     ]
+
+pub returns-else-is_first : goal.returns-else-is_first
+returns-else-is_first c =
+    let i = c.loop-number.number-index in
+    let granted = among c.args.granted (take i numbers) in
+    c.loop-number.invariant.text
+    ∙ ap (λ l. c.args.text.now.items ++ l)
+    (text_some granted (sym c.loop-number.invariant.first ∙ c.if-is_first.false) ∙ ap (λ l. requests_text (among c.args.granted l)) (take_all i numbers c.loop-number-test.false))
+
+pub returns-in_ok-extend_from_slice : goal.returns-in_ok-extend_from_slice
+returns-in_ok-extend_from_slice c =
+    let i = c.loop-number.number-index in
+    let start = c.args.text.now.items in
+    let none = text_none (among c.args.granted (take i numbers)) (sym c.loop-number.invariant.first ∙ c.if-is_first.true) in
+    c.in_ok-extend_from_slice.ensures.items
+    ∙ ap (λ l. l ++ codes "none") (c.loop-number.invariant.text ∙ ap (λ l. start ++ l) none.0 ∙ append-nil start)
+    ∙ ap (λ l. start ++ l) (sym none.1 ∙ ap (λ l. requests_text (among c.args.granted l)) (take_all i numbers c.loop-number-test.false))

@@ -3,7 +3,8 @@ use Rattle.acl_rights.specs.acl_files.path_map.Entries.{IsInOrder}
 use Rattle.acl_rights.specs.acl_names.Names.{escaped}
 use Rattle.acl_rights.specs.acl_people.KnownPeople.{KnownPeople}
 use Rattle.acl_rights.specs.acl_tree.Step.{State}
-use Rattle.facl_listings.specs.Inner.{lines_of_walk, rows_granted, walk_of}
+use Rattle.facl_listings.specs.Inner.{lines_of_walk, walk_of}
+use Rattle.acl_rights.specs.Verdicts.{rows_granted}
 use Rattle.facl_listings.proofs.IndexLines.{index_lines}
 use Rattle.facl_listings.proofs.table.write_index.Goals as goal
 

@@ -2,7 +2,8 @@ use Rattle.std.proofs.Common.{◌≡◌, ◌++◌, Some, sym, ap, ◌∙◌}
 use Rattle.std.specs.Prelude.{option_map}
 use Rattle.std.specs.List.{flat_map}
 use Rattle.acl_rights.specs.acl_tree.Step.{State}
-use Rattle.facl_listings.specs.Inner.{users_granted, line_at}
+use Rattle.facl_listings.specs.Inner.{line_at}
+use Rattle.acl_rights.specs.Verdicts.{users_granted}
 use Rattle.facl_listings.proofs.UserLines.{who_lines}
 use Rattle.facl_listings.proofs.who.write_who.Goals as goal
 

@@ -2,7 +2,8 @@ use Rattle.std.proofs.Common.{subst, sym, ap, ◌∙◌}
 use Rattle.acl_rights.specs.acl_files.path_map.Entries.{IsInOrder}
 use Rattle.acl_rights.specs.acl_tree.Files.{Recorded}
 use Rattle.acl_rights.specs.acl_tree.Step.{State}
-use Rattle.facl_listings.specs.Inner.{walk_of, rows_granted}
+use Rattle.facl_listings.specs.Inner.{walk_of}
+use Rattle.acl_rights.specs.Verdicts.{rows_granted}
 use Rattle.facl_listings.proofs.ChangeLines.{whole_table, table_of, walked_order, rows_paths}
 use Rattle.facl_listings.proofs.row_walk.Walk.of_verdicts.Goals as goal
 

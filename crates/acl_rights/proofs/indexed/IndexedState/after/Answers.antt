@@ -1,7 +1,7 @@
 use Rattle.std.proofs.Common.{subst, sym}
-use Rattle.acl_rights.specs.acl_tree.Step.{State}
+use Rattle.acl_tree.specs.Step.{State}
 use Rattle.acl_rights.specs.Tables.{VerdictTable, IsWhole}
-use Rattle.facl_listings.proofs.indexed.IndexedState.after.Goals as goal
+use Rattle.acl_rights.proofs.indexed.IndexedState.after.Goals as goal
 
 pub invariant_of-result : goal.invariant_of-result
 invariant_of-result g c =

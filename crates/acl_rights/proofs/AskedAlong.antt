@@ -1,22 +1,21 @@
--- What the index is asked, as a part of the state.
+-- What is asked of the verdicts on files alone or along their paths, as a part of the state.
 use Rattle.std.proofs.Common.{◌≡◌, ℕ, suc, Bool, true, false, cond, List, [], ◌∷◌, map, filter, Option, Some, None, refl, ap, ◌∙◌}
 use Rattle.std.specs.Prelude.{option_map, option_and_then, slice_get}
 use Rattle.std.specs.FinMap.{find}
-use Rattle.acl_rights.specs.acl_entry.Check.{has}
-use Rattle.acl_rights.specs.acl_entry.Perms.{Perms}
-use Rattle.acl_rights.specs.acl_entry.Person.{Person}
-use Rattle.acl_rights.specs.acl_names.Paths.{path_cmp}
-use Rattle.acl_rights.specs.acl_syntax.declared.rows.PasswdRow.{PasswdRow}
-use Rattle.acl_rights.specs.acl_edit.declared.node.Node.{Node}
-use Rattle.acl_rights.specs.acl_people.KnownPeople.{person, persons}
-use Rattle.acl_rights.specs.acl_tree.Files.{PathOf}
-use Rattle.acl_rights.specs.acl_tree.Step.{State}
+use Rattle.acl_tree.specs.acl_entry.Check.{has}
+use Rattle.acl_tree.specs.acl_entry.Perms.{Perms}
+use Rattle.acl_tree.specs.acl_entry.Person.{Person}
+use Rattle.acl_tree.specs.acl_names.Paths.{path_cmp}
+use Rattle.acl_tree.specs.acl_syntax.declared.rows.PasswdRow.{PasswdRow}
+use Rattle.acl_tree.specs.acl_edit.declared.node.Node.{Node}
+use Rattle.acl_tree.specs.acl_people.KnownPeople.{person, persons}
+use Rattle.acl_tree.specs.Files.{PathOf}
+use Rattle.acl_tree.specs.Step.{State}
 use Rattle.acl_rights.specs.Tables.{Verdict, places_from, verdict_at}
 use Rattle.acl_rights.specs.Tables as tables
 use Rattle.acl_rights.specs.Reach.{reach, reach_at, users_reaching, files_reached}
 use Rattle.acl_rights.proofs.Asked.{got-map}
-use Rattle.facl_listings.specs.Answers.{granted, can_requests}
-use Rattle.facl_listings.specs.Inner.{users_granted, paths_granted}
+use Rattle.acl_rights.specs.Verdicts.{granted, can_requests, users_granted, paths_granted}
 
 places-map : {A B : Type 0} (test : B → Bool) (f : A → B) (n : ℕ) (xs : List A) → places_from test n (map f xs) ≡ places_from (λ x. test (f x)) n xs
 places-map test f n [] = refl

@@ -1,13 +1,13 @@
 use Rattle.std.proofs.Common.{◌≡◌, ℕ, sym, ap, Option, Vec, Global, ◌∙◌}
 use Rattle.std.specs.Prelude.{option_map}
 use Rattle.std.proofs.lemmas.Result.{IfOk-weaker}
-use Rattle.acl_rights.specs.acl_tree.Step.{State}
+use Rattle.acl_tree.specs.Step.{State}
 use Rattle.acl_rights.specs.Tables.{IsWhole}
 use Rattle.acl_rights.specs.Tables as tables
 use Rattle.acl_rights.specs.Reach.{users_reaching}
-use Rattle.facl_listings.specs.Inner.{users_granted}
-use Rattle.facl_listings.proofs.Asked.{who_alone, who_along}
-use Rattle.facl_listings.proofs.indexed.Verdicts.who.Goals as goal
+use Rattle.acl_rights.specs.Verdicts.{users_granted}
+use Rattle.acl_rights.proofs.AskedAlong.{who_alone, who_along}
+use Rattle.acl_rights.proofs.indexed.Verdicts.who.Goals as goal
 
 pub returns-then-self : goal.returns-then-self
 returns-then-self g c =

@@ -2,13 +2,13 @@ use Rattle.std.proofs.Common.{◌≡◌, sym, ap, map, Option, Vec, Global, ◌�
 use Rattle.std.specs.Prelude.{option_map}
 use Rattle.std.specs.declared.rc.Rc.{Rc}
 use Rattle.std.proofs.lemmas.Result.{IfOk-weaker}
-use Rattle.acl_rights.specs.acl_names.declared.path.Path.{Path}
-use Rattle.acl_rights.specs.acl_tree.Step.{State}
+use Rattle.acl_tree.specs.acl_names.declared.path.Path.{Path}
+use Rattle.acl_tree.specs.Step.{State}
 use Rattle.acl_rights.specs.Tables.{IsWhole, files_granted}
 use Rattle.acl_rights.specs.Reach.{files_reached}
-use Rattle.facl_listings.specs.Inner.{paths_granted}
-use Rattle.facl_listings.proofs.Asked.{may_alone, may_along}
-use Rattle.facl_listings.proofs.indexed.Verdicts.may.Goals as goal
+use Rattle.acl_rights.specs.Verdicts.{paths_granted}
+use Rattle.acl_rights.proofs.AskedAlong.{may_alone, may_along}
+use Rattle.acl_rights.proofs.indexed.Verdicts.may.Goals as goal
 
 pub returns-then-self : goal.returns-then-self
 returns-then-self g c =

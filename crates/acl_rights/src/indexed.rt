@@ -1,13 +1,15 @@
 //! A state with the index of who may do what in it, and what users are granted in it, with or without search along the path.
 
 ghost use Rattle.std.specs.Prelude.{◌≡◌, ◌+◌, ◌*◌, ◌<◌, ◌≤◌, ◌^◌, length, IfOk, OnOk, map, option_map};
-ghost use Rattle.acl_rights.specs.acl_tree.Reports.{Reports};
+ghost use Rattle.acl_tree.specs.Reports.{Reports};
 ghost use Rattle.acl_rights.specs.Stages.{most_asked};
 ghost use Rattle.acl_rights.specs.Tables.{IsWhole};
-ghost use Rattle.facl_listings.specs.Answers.{can_requests};
-ghost use Rattle.facl_listings.specs.Inner.{users_granted, paths_granted, rows_granted};
+ghost use Rattle.acl_rights.specs.Verdicts.{can_requests, users_granted, paths_granted, rows_granted};
 
-use acl_rights::{FileRows, Index, Judge, Path, Perm, Requests, Staged, State};
+use crate::grants::FileRows;
+use crate::index::Index;
+use acl_tree::{Path, Perm, Requests, Staged, State};
+use acl_verdicts::Judge;
 use std::alloc::{AllocError, Global};
 use std::marker::Model;
 use std::rc::Rc;
@@ -20,7 +22,7 @@ pub struct IndexedState<J: Judge> {
 }
 
 impl<J: Judge> Model for IndexedState<J> {
-    ghost use Rattle.acl_rights.specs.acl_tree.Step.{State as Whole, coded_state};
+    ghost use Rattle.acl_tree.specs.Step.{State as Whole, coded_state};
     ghost use Rattle.acl_rights.specs.Tables.{IsWhole};
 
     ghost Value = { Whole };
@@ -79,7 +81,7 @@ impl<J: Judge> IndexedState<J> {
     }
 
     /// The index of the state.
-    pub(crate) fn index(&self) -> &Index<J>
+    fn index(&self) -> &Index<J>
         ensures { IsWhole J.verdict_of self.now result.now }
     {
         &self.index

@@ -1,7 +1,7 @@
 use Rattle.std.proofs.Common.{sym, ap, ◌∙◌}
-use Rattle.facl_listings.specs.Answers.{can_requests}
-use Rattle.facl_listings.proofs.Asked.{can_alone, can_along}
-use Rattle.facl_listings.proofs.indexed.Verdicts.get.Goals as goal
+use Rattle.acl_rights.specs.Verdicts.{can_requests}
+use Rattle.acl_rights.proofs.AskedAlong.{can_alone, can_along}
+use Rattle.acl_rights.proofs.indexed.Verdicts.get.Goals as goal
 
 pub returns-then-self : goal.returns-then-self
 returns-then-self g c =

@@ -1,0 +1,38 @@
+-- The verdicts of a state: those on its files alone, or those that count only with search along the path.
+use Rattle.std.specs.Prelude.{ℕ, Bool, if◌then◌else◌, List, map, filter, slice_get, Option, option_map, option_and_then}
+use Rattle.std.specs.FinMap.{find}
+use Rattle.acl_tree.specs.acl_entry.Check.{has}
+use Rattle.acl_tree.specs.acl_entry.Perms.{Perms}
+use Rattle.acl_tree.specs.acl_names.Paths.{path_cmp}
+use Rattle.acl_tree.specs.acl_syntax.declared.rows.PasswdRow.{PasswdRow}
+use Rattle.acl_tree.specs.acl_edit.declared.node.Node.{Node}
+use Rattle.acl_tree.specs.acl_people.KnownPeople.{person, persons}
+use Rattle.acl_tree.specs.Files.{PathOf}
+use Rattle.acl_tree.specs.Step.{State}
+use Rattle.acl_rights.specs.Tables.{Verdict, Rows, places_from, rows_of}
+use Rattle.acl_rights.specs.Reach.{reach, rows_along}
+
+-- the requests that a user is granted on a file: by the file's list alone, or only where the user can search each
+-- recorded directory above it too
+abbrev pub granted : Verdict → Bool → State → PasswdRow → PathOf × Node → ℕ
+granted V along s row e =
+    if along then reach V s.tree.files (person s.people.groups row) e
+    else V (person s.people.groups row) e.1.label
+
+module _ (V : Verdict) (along : Bool) (s : State) where
+  -- the requests that a user is granted on a file, if both are there
+  abbrev pub can_requests : ℕ → PathOf → Option ℕ
+  can_requests user p =
+      option_and_then (λ n. option_map (λ row. granted V along s row (p, n)) (slice_get s.people.users user)) (find path_cmp p s.tree.files)
+
+  -- the places of the users who are granted a request on a file
+  abbrev pub users_granted : PathOf → Perms → Option (List ℕ)
+  users_granted p q = option_map (λ n. places_from (λ row. has (granted V along s row (p, n)) q) 0 s.people.users) (find path_cmp p s.tree.files)
+
+  -- the paths of the files on which a user is granted a request
+  abbrev pub paths_granted : ℕ → Perms → Option (List PathOf)
+  paths_granted user q = option_map (λ row. map (λ e. e.0) (filter (λ e. has (granted V along s row e) q) s.tree.files)) (slice_get s.people.users user)
+
+  -- for each file the verdicts on all users
+  abbrev pub rows_granted : Rows
+  rows_granted = rows_along along (rows_of V (persons s.people) s.tree.files)
