@@ -8,7 +8,7 @@ attr print; and whether the line was accepted. What `can` prints is compared wit
 The real tools are given the files of a line in path order, each once, as the program treats them; a directory that
 nothing else shows to be one is given with a final `/`. The system has to have the users root, daemon, bin and games.
 
-What is not compared, since the program does otherwise (docs/DECISIONS.md has a table of lines):
+What is not compared, since the program does otherwise (NOTES of docs/facl.1 has the lines):
 - which of several faults is reported, and in which words;
 - what a refused line changed: the real tools go file by file, and the program acts on all files or on none. The real
   tree is then rebuilt from the program's listing, which tests the way back;

@@ -263,7 +263,7 @@ def crates_of(top: str) -> List[str]:
 
 def is_of_tests(crate: str) -> bool:
     """Whether a crate has nothing but tests."""
-    return crate.endswith("_tests") or crate == "facl_rows"
+    return crate.endswith("_tests")
 
 
 def sources_of(top: str, crate: str) -> Dict[str, Source]:

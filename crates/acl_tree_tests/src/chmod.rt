@@ -1,8 +1,7 @@
 //! chmod of one and of several files.
-use crate::rows::{Line, Row, after};
-use crate::texts::{FOUR, PEOPLE};
+use crate::rows::{Line, Row};
 
-static MODES: [Row; 7] = [
+pub static MODES: [Row; 7] = [
     Row {
         line: Line::Chmod(0o4604, false, &[b"f"]),
         outcome: "done: 1 changed, 0 gone",
@@ -50,8 +49,3 @@ static MODES: [Row; 7] = [
         files: &[(b"f", "-s-- lisa:staff u::rwx,g::---,o::---")],
     },
 ];
-
-#[test]
-fn modes(rt: HostRuntime) {
-    after(&rt, rt.alloc(), &[&PEOPLE, &FOUR, &MODES]);
-}

@@ -1,9 +1,8 @@
 //! New files.
-use crate::rows::{Line, Row, after};
-use crate::texts::{FIVE, FOUR, PEOPLE};
+use crate::rows::{Line, Row};
 use acl_tree::{Kind, Table};
 
-static FAULTS: [Row; 4] = [
+pub static FAULTS: [Row; 4] = [
     // Before what the path has.
     Row {
         line: Line::Creat(b"nosuch", Kind::Plain, 0o600, 0o22, b"f"),
@@ -27,7 +26,7 @@ static FAULTS: [Row; 4] = [
     },
 ];
 
-static ROOT: [Row; 4] = [
+pub static ROOT: [Row; 4] = [
     // The root is its own parent.
     Row {
         line: Line::Creat(b"ann", Kind::Directory, 0o700, 0o22, b"."),
@@ -55,7 +54,7 @@ static ROOT: [Row; 4] = [
     },
 ];
 
-static OWNERS: [Row; 4] = [
+pub static OWNERS: [Row; 4] = [
     Row {
         line: Line::Creat(b"lisa", Kind::Plain, 0o600, 0o22, b"x\\012y"),
         outcome: "done: 1 changed, 0 gone",
@@ -80,7 +79,7 @@ static OWNERS: [Row; 4] = [
     },
 ];
 
-static DEFAULTS: [Row; 3] = [
+pub static DEFAULTS: [Row; 3] = [
     Row {
         line: Line::Setfacl(b"", b"d:u:joe:rwx", false, &[b"pub"]),
         outcome: "done: 0 changed, 0 gone",
@@ -104,23 +103,3 @@ static DEFAULTS: [Row; 3] = [
         )],
     },
 ];
-
-#[test]
-fn each_fault_in_its_order(rt: HostRuntime) {
-    after(&rt, rt.alloc(), &[&PEOPLE, &FOUR, &FAULTS]);
-}
-
-#[test]
-fn the_root_and_a_path_above_a_file(rt: HostRuntime) {
-    after(&rt, rt.alloc(), &[&PEOPLE, &ROOT]);
-}
-
-#[test]
-fn owners_and_groups(rt: HostRuntime) {
-    after(&rt, rt.alloc(), &[&PEOPLE, &FOUR, &OWNERS]);
-}
-
-#[test]
-fn files_under_a_default_list(rt: HostRuntime) {
-    after(&rt, rt.alloc(), &[&PEOPLE, &FIVE, &DEFAULTS]);
-}

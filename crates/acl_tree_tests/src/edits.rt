@@ -1,8 +1,7 @@
 //! setfacl(1) on one file and on several.
-use crate::rows::{Line, Row, after};
-use crate::texts::{FIVE, PEOPLE};
+use crate::rows::{Line, Row};
 
-static ENTRIES: [Row; 2] = [
+pub static ENTRIES: [Row; 2] = [
     // No file is edited where one is refused.
     Row {
         line: Line::Setfacl(b"m:", b"u:joe:r", true, &[b"."]),
@@ -22,7 +21,7 @@ static ENTRIES: [Row; 2] = [
     },
 ];
 
-static DEFAULTS: [Row; 3] = [
+pub static DEFAULTS: [Row; 3] = [
     Row {
         line: Line::Setfacl(b"", b"d:u:joe:rx", false, &[b"f"]),
         outcome: "edit of f: DefaultOnFile",
@@ -51,13 +50,3 @@ static DEFAULTS: [Row; 3] = [
         ],
     },
 ];
-
-#[test]
-fn entries(rt: HostRuntime) {
-    after(&rt, rt.alloc(), &[&PEOPLE, &FIVE, &ENTRIES]);
-}
-
-#[test]
-fn default_entries(rt: HostRuntime) {
-    after(&rt, rt.alloc(), &[&PEOPLE, &FIVE, &DEFAULTS]);
-}

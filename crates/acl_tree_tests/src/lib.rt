@@ -1,4 +1,4 @@
-//! Worked examples of whole commands, and each public call of `acl_tree` once.
+//! Worked examples of whole commands, and of users and groups; each public call of `acl_tree` and of `acl_people` once.
 //!
 //! They are in a crate of their own, since a crate with tests is proved twice.
 #![tactic(auto)]
@@ -16,6 +16,10 @@ mod loads;
 #[cfg(test)]
 mod people;
 #[cfg(test)]
+mod people_changes;
+#[cfg(test)]
+mod people_found;
+#[cfg(test)]
 mod restores;
 #[cfg(test)]
 mod rm;
@@ -23,6 +27,8 @@ mod rm;
 mod rows;
 #[cfg(test)]
 mod shown;
+#[cfg(test)]
+mod tables;
 #[cfg(test)]
 mod texts;
 #[cfg(test)]

@@ -1,9 +1,9 @@
 //! Loads of people and of dumps.
-use crate::rows::{Line, Row, after};
-use crate::texts::{FOUR, FOUR_FILES, GROUP, PASSWD, PEOPLE};
+use crate::rows::{Line, Row};
+use crate::texts::{FOUR_FILES, GROUP, PASSWD};
 use acl_tree::Table;
 
-static FAULTS: [Row; 4] = [
+pub static FAULTS: [Row; 4] = [
     Row {
         line: Line::Load(
             Table::Passwd,
@@ -34,7 +34,7 @@ static FAULTS: [Row; 4] = [
 ];
 
 /// Each text once.
-static AGAIN: [Row; 3] = [
+pub static AGAIN: [Row; 3] = [
     Row {
         line: Line::Load(Table::Passwd, PASSWD),
         outcome: "already loaded",
@@ -53,7 +53,7 @@ static AGAIN: [Row; 3] = [
 ];
 
 /// People before files.
-static ORDER: [Row; 4] = [
+pub static ORDER: [Row; 4] = [
     Row {
         line: Line::Load(Table::Passwd, PASSWD),
         outcome: "done: 0 changed, 0 gone, users loaded",
@@ -80,18 +80,3 @@ static ORDER: [Row; 4] = [
         files: &[],
     },
 ];
-
-#[test]
-fn faulty_texts_leave_an_empty_state(rt: HostRuntime) {
-    after(&rt, rt.alloc(), &[&FAULTS]);
-}
-
-#[test]
-fn texts_are_loaded_once(rt: HostRuntime) {
-    after(&rt, rt.alloc(), &[&PEOPLE, &FOUR, &AGAIN]);
-}
-
-#[test]
-fn people_are_loaded_first(rt: HostRuntime) {
-    after(&rt, rt.alloc(), &[&ORDER]);
-}

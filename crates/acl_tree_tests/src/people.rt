@@ -1,12 +1,12 @@
 //! Memberships, primary groups, and users who come and go.
-use crate::rows::{Line, Row, after, command, expect_outcome};
+use crate::rows::{Line, Row, after, command, ends_as};
 use crate::shown::{expect_granted, expect_text, listing};
 use crate::texts::{FIVE, GROUP, PEOPLE};
 use acl_tree::{Command, Membership, State, Table};
 use std::alloc::Global;
 use std::process::Abort;
 
-static FAULTS: [Row; 12] = [
+pub static FAULTS: [Row; 12] = [
     // The user before the group.
     Row {
         line: Line::Gpasswd(b"nosuch", b"none", Membership::Add),
@@ -267,122 +267,146 @@ static FIRST_USER: [Row; 2] = [
     },
 ];
 
-/// The users with their groups, in the order of their rows.
-fn expect_users(rt: &impl Abort, alloc: Global, state: State, want: &str) {
+/// After tables of rows there are these users with their groups, in the order of their rows.
+fn expect_users(rt: &impl Abort, alloc: Global, tables: &[&[Row]], want: &str) {
+    let state = after(rt, alloc, tables);
     let text = listing(rt, alloc, state.tree(), state.people());
     expect_text(rt, text, want);
 }
 
-#[test]
-fn each_fault_in_its_order(rt: HostRuntime) {
-    after(&rt, rt.alloc(), &[&PEOPLE, &FAULTS]);
+/// A user, a file, and the requests that the user is granted on it.
+type Granted = (&'static [u8], &'static [u8], &'static str);
+
+fn expect_each_granted(rt: &impl Abort, alloc: Global, state: &State, granted: &[Granted]) {
+    for (user, file, want) in granted {
+        expect_granted(rt, alloc, state, user, file, want);
+    }
 }
+
+/// What users are granted after tables of rows.
+fn expect_grants(rt: &impl Abort, alloc: Global, tables: &[&[Row]], granted: &[Granted]) {
+    let state = after(rt, alloc, tables);
+    expect_each_granted(rt, alloc, &state, granted);
+}
+
+static AS_A_MEMBER: [Granted; 2] = [
+    (b"joe", b"log", " r--"),
+    (b"joe", b"pub", " --x -w- -wx r-- r-x rw- rwx"),
+];
 
 #[test]
 fn a_member_is_granted_what_the_group_is(rt: HostRuntime) {
-    let alloc = rt.alloc();
-    let state = after(&rt, alloc, &[&PEOPLE, &FIVE, &JOINS]);
-    expect_granted(&rt, alloc, &state, b"joe", b"log", " r--");
-    let all = " --x -w- -wx r-- r-x rw- rwx";
-    expect_granted(&rt, alloc, &state, b"joe", b"pub", all);
+    expect_grants(&rt, rt.alloc(), &[&PEOPLE, &FIVE, &JOINS], &AS_A_MEMBER);
 }
+
+static AS_NO_MEMBER: [Granted; 2] = [(b"joe", b"log", ""), (b"joe", b"pub", " --x r-- r-x")];
 
 #[test]
 fn who_leaves_is_not(rt: HostRuntime) {
-    let alloc = rt.alloc();
-    let state = after(&rt, alloc, &[&PEOPLE, &FIVE, &JOINS, &LEAVES]);
-    expect_granted(&rt, alloc, &state, b"joe", b"log", "");
-    expect_granted(&rt, alloc, &state, b"joe", b"pub", " --x r-- r-x");
+    expect_grants(
+        &rt,
+        rt.alloc(),
+        &[&PEOPLE, &FIVE, &JOINS, &LEAVES],
+        &AS_NO_MEMBER,
+    );
 }
+
+static BY_TWO_GROUPS: [Granted; 1] = [(b"joe", b"f", " -w- r--")];
 
 #[test]
 fn each_group_grants_by_itself(rt: HostRuntime) {
-    let alloc = rt.alloc();
-    let state = after(&rt, alloc, &[&PEOPLE, &FIVE, &TWO_GROUPS]);
-    expect_granted(&rt, alloc, &state, b"joe", b"f", " -w- r--");
+    expect_grants(
+        &rt,
+        rt.alloc(),
+        &[&PEOPLE, &FIVE, &TWO_GROUPS],
+        &BY_TWO_GROUPS,
+    );
 }
+
+static BY_PRIMARY: [Granted; 1] = [(b"joe", b"f", " r--")];
 
 #[test]
 fn another_primary_group(rt: HostRuntime) {
-    let alloc = rt.alloc();
-    let state = after(&rt, alloc, &[&PEOPLE, &FIVE, &PRIMARY]);
-    expect_granted(&rt, alloc, &state, b"joe", b"f", " r--");
+    expect_grants(&rt, rt.alloc(), &[&PEOPLE, &FIVE, &PRIMARY], &BY_PRIMARY);
 }
 
 #[test]
 fn every_occurrence_is_removed(rt: HostRuntime) {
-    let alloc = rt.alloc();
-    let state = after(&rt, alloc, &[&PEOPLE[..1], &TWICE]);
-    expect_users(
-        &rt,
-        alloc,
-        state,
-        "pg-\nlisa: staff\njoe: users\nann: users\n",
-    );
+    let want = "pg-\nlisa: staff\njoe: users\nann: users\n";
+    expect_users(&rt, rt.alloc(), &[&PEOPLE[..1], &TWICE], want);
 }
+
+static TO_WHO_COMES: [Granted; 1] = [(b"bob", b"f", " r--")];
 
 #[test]
 fn a_user_comes(rt: HostRuntime) {
-    let alloc = rt.alloc();
-    let state = after(&rt, alloc, &[&PEOPLE, &FIVE, &COMES]);
-    expect_granted(&rt, alloc, &state, b"bob", b"f", " r--");
+    expect_grants(&rt, rt.alloc(), &[&PEOPLE, &FIVE, &COMES], &TO_WHO_COMES);
 }
+
+static TO_THE_ID: [Granted; 1] = [(b"zoe", b"f", " -w- r-- rw-")];
 
 #[test]
 fn a_user_goes(rt: HostRuntime) {
-    let alloc = rt.alloc();
-    let state = after(&rt, alloc, &[&PEOPLE, &FIVE, &GOES]);
-    expect_granted(&rt, alloc, &state, b"zoe", b"f", " -w- r-- rw-");
+    expect_grants(&rt, rt.alloc(), &[&PEOPLE, &FIVE, &GOES], &TO_THE_ID);
 }
 
 #[test]
 fn a_user_comes_again_without_groups(rt: HostRuntime) {
-    let alloc = rt.alloc();
-    let state = after(&rt, alloc, &[&PEOPLE, &COMES_AGAIN]);
-    expect_users(
-        &rt,
-        alloc,
-        state,
-        "pg-\nlisa: staff cool\nann: users\njoe: cool\n",
-    );
+    let want = "pg-\nlisa: staff cool\nann: users\njoe: cool\n";
+    expect_users(&rt, rt.alloc(), &[&PEOPLE, &COMES_AGAIN], want);
 }
 
 #[test]
 fn users_count_as_loaded(rt: HostRuntime) {
-    let alloc = rt.alloc();
-    let state = after(&rt, alloc, &[&GROUPS, &FIRST_USER]);
-    expect_users(&rt, alloc, state, "pg-\nbob: adm\n");
+    let want = "pg-\nbob: adm\n";
+    expect_users(&rt, rt.alloc(), &[&GROUPS, &FIRST_USER], want);
 }
 
 /// The largest number of users.
 const MAX_USERS: u32 = 65536;
 
-fn push_row(rt: &impl Abort, alloc: Global, text: &mut Vec<u8>, number: u32) {
-    let row = format!(in alloc; "u{number}:x:{number}:50:::\n").expect(rt, "memory");
+fn row_of(rt: &impl Abort, alloc: Global, number: u32) -> String {
+    format!(in alloc; "u{number}:x:{number}:50:::\n").expect(rt, "memory")
+}
+
+fn push_row(rt: &impl Abort, text: &mut Vec<u8>, row: &str) {
     text.extend_from_slice(row.as_bytes()).expect(rt, "memory");
 }
 
 fn many_users(rt: &impl Abort, alloc: Global) -> Vec<u8> {
     let mut text = Vec::new(alloc);
     for number in 0..MAX_USERS {
-        push_row(rt, alloc, &mut text, number);
+        push_row(rt, &mut text, row_of(rt, alloc, number).as_str());
     }
     text
 }
 
 static ONE_MORE: Line = Line::Useradd(b"bob", MAX_USERS, b"staff");
 
+fn are_loaded(rt: &impl Abort, alloc: Global, state: &mut State, passwd: &[u8]) -> bool {
+    let load = Command::Load {
+        which: Table::Passwd,
+        bytes: passwd,
+    };
+    ends_as(
+        rt,
+        alloc,
+        state,
+        load,
+        "done: 0 changed, 0 gone, users loaded",
+    )
+}
+
+fn is_one_too_many(rt: &impl Abort, alloc: Global, state: &mut State, line: &Line) -> bool {
+    let new = command(rt, alloc, state.people(), line);
+    ends_as(rt, alloc, state, new, "too many users")
+}
+
 #[test]
 fn at_most_so_many_users(rt: HostRuntime) {
     let alloc = rt.alloc();
     let mut state = after(&rt, alloc, &[&GROUPS]);
     let passwd = many_users(&rt, alloc);
-    let load = Command::Load {
-        which: Table::Passwd,
-        bytes: &passwd,
-    };
-    let loaded = "done: 0 changed, 0 gone, users loaded";
-    expect_outcome(&rt, alloc, &mut state, load, loaded);
-    let new = command(&rt, alloc, state.people(), &ONE_MORE);
-    expect_outcome(&rt, alloc, &mut state, new, "too many users");
+    assert!(rt; are_loaded(&rt, alloc, &mut state, &passwd));
+    assert!(rt; is_one_too_many(&rt, alloc, &mut state, &ONE_MORE));
 }

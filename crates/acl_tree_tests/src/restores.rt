@@ -1,9 +1,7 @@
 //! setfacl(1) --restore.
-use crate::rows::{Line, Row, after};
-use crate::texts::{FOUR, PEOPLE};
-use acl_tree::each_file_is_edited;
+use crate::rows::{Line, Row};
 
-static RESTORES: [Row; 4] = [
+pub static RESTORES: [Row; 4] = [
     Row {
         line: Line::Restore(
             b"# file: f\n# owner: ann\n# group: users\n# flags: s--\nuser::rwx\ngroup::r-x\nother::---\n",
@@ -38,9 +36,3 @@ default:user::rwx\ndefault:group::r-x\ndefault:other::---\n\n\
         files: &[(b"d", "d--- ann:users u::rwx,g::r-x,o::r-x")],
     },
 ];
-
-#[test]
-fn records_are_restored(rt: HostRuntime) {
-    each_file_is_edited();
-    after(&rt, rt.alloc(), &[&PEOPLE, &FOUR, &RESTORES]);
-}

@@ -1,8 +1,7 @@
 //! Files that are removed.
-use crate::rows::{Line, Row, after};
-use crate::texts::{FIVE, FOUR, PEOPLE};
+use crate::rows::{Line, Row};
 
-static PLAIN: [Row; 5] = [
+pub static PLAIN: [Row; 5] = [
     // The first operand that is refused, for either fault.
     Row {
         line: Line::Rm(false, &[b"pub", b"nosuch"]),
@@ -36,7 +35,7 @@ static PLAIN: [Row; 5] = [
     },
 ];
 
-static RECURSIVE: [Row; 4] = [
+pub static RECURSIVE: [Row; 4] = [
     Row {
         line: Line::Rm(true, &[b"d", b"d/nosuch"]),
         outcome: "no such file d/nosuch",
@@ -63,13 +62,3 @@ static RECURSIVE: [Row; 4] = [
         files: &[],
     },
 ];
-
-#[test]
-fn plain_files(rt: HostRuntime) {
-    after(&rt, rt.alloc(), &[&PEOPLE, &FIVE, &PLAIN]);
-}
-
-#[test]
-fn directories(rt: HostRuntime) {
-    after(&rt, rt.alloc(), &[&PEOPLE, &FOUR, &RECURSIVE]);
-}

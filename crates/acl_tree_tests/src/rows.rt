@@ -1,7 +1,7 @@
 //! How a test is written here: rows, each of a command, what comes of it, and what files are afterwards.
 //!
 //! A row is data. What comes of a command and what a file is are compared as texts, so a new test needs no code.
-use crate::shown::{expect_files, expect_text, listing, outcome};
+use crate::shown::{are_shown, listing, outcome};
 use acl_tree::{
     Change, ChangeEntries, ChangeFlags, Command, DumpRecords, DumpUse, Edit, Id, Kind, Membership,
     Name, NewFile, NewUser, Path, Paths, People, Sep, Specs, State, Table, UserName, Want,
@@ -39,10 +39,13 @@ pub struct Row {
     pub files: &'static [(&'static [u8], &'static str)],
 }
 
+/// The path of a text; none where it is not one, or memory runs out.
+fn path_of(alloc: Global, text: &[u8]) -> Option<Path> {
+    read_path(alloc, text).ok()?
+}
+
 pub fn path(rt: &impl Abort, alloc: Global, text: &[u8]) -> Path {
-    read_path(alloc, text)
-        .expect(rt, "memory")
-        .expect(rt, "a path")
+    path_of(alloc, text).expect(rt, "a path")
 }
 
 pub fn paths(rt: &impl Abort, alloc: Global, texts: &[&[u8]]) -> Paths {
@@ -139,40 +142,58 @@ pub fn command(rt: &impl Abort, alloc: Global, people: &People, line: &Line) -> 
     }
 }
 
-/// Checks that a command ends as the text describes, and that a refused one changes nothing.
-pub fn expect_outcome(
+/// Whether a command ends as the text describes; a refused one has to change nothing.
+pub fn ends_as(
     rt: &impl Abort,
     alloc: Global,
     state: &mut State,
     command: Command<'_>,
     want: &str,
-) {
+) -> bool {
     let before = listing(rt, alloc, state.tree(), state.people());
-    expect_text(rt, outcome(rt, alloc, state, command), want);
+    let found = outcome(rt, alloc, state, command);
     let after = listing(rt, alloc, state.tree(), state.people());
-    assert!(rt;
-        want.starts_with("done") || before == after,
-        "changed by: {want}"
-    );
+    found.as_slice() == want.as_bytes() && (want.starts_with("done") || before == after)
 }
 
-fn expect_row(rt: &impl Abort, alloc: Global, state: &mut State, row: &Row) {
+fn is_as_expected(rt: &impl Abort, alloc: Global, state: &mut State, row: &Row) -> bool {
     let command = command(rt, alloc, state.people(), &row.line);
-    expect_outcome(rt, alloc, state, command, row.outcome);
-    expect_files(rt, alloc, state, row.files);
+    ends_as(rt, alloc, state, command, row.outcome) && are_shown(rt, alloc, state, row.files)
 }
 
-fn expect_rows(rt: &impl Abort, alloc: Global, state: &mut State, rows: &[Row]) {
-    for row in rows {
-        expect_row(rt, alloc, state, row);
+/// The first of some rows that differs from what it expects.
+fn first_wrong(rt: &impl Abort, alloc: Global, state: &mut State, rows: &[Row]) -> Option<usize> {
+    for at in 0..rows.len() {
+        if !is_as_expected(rt, alloc, state, &rows[at]) {
+            return Some(at);
+        }
     }
+    None
+}
+
+/// No row of a table is wrong, which is named by its place among the tables.
+fn expect_none(rt: &impl Abort, wrong: Option<usize>, table: usize) {
+    assert_eq!(rt; wrong, None, "a row of table {table}");
 }
 
 /// The state after tables of rows, which begin with no file and nobody.
 pub fn after(rt: &impl Abort, alloc: Global, tables: &[&[Row]]) -> State {
     let mut state = State::new(alloc).expect(rt, "memory");
-    for rows in tables {
-        expect_rows(rt, alloc, &mut state, rows);
+    for at in 0..tables.len() {
+        expect_none(rt, first_wrong(rt, alloc, &mut state, tables[at]), at);
     }
     state
+}
+
+/// Plays a table of rows after those of a setup.
+fn expect_table(rt: &impl Abort, alloc: Global, setup: &[&[Row]], rows: &[Row], at: usize) {
+    let mut state = after(rt, alloc, setup);
+    expect_none(rt, first_wrong(rt, alloc, &mut state, rows), at);
+}
+
+/// Plays each of some tables of rows after those of a setup.
+pub fn expect_all(rt: &impl Abort, alloc: Global, setup: &[&[Row]], tables: &[&[Row]]) {
+    for at in 0..tables.len() {
+        expect_table(rt, alloc, setup, tables[at], at);
+    }
 }

@@ -1,8 +1,9 @@
 //! What comes of a command, and what files are, as texts.
 use crate::rows::path;
 use acl_tree::{
-    Acl, Command, Id, Kind, Label, Name, Names, Node, Path, People, Perm, Record, Requests, Staged,
-    State, Subject, Tree, TreeFault, UserChange, append_id, append_path, append_short, granted,
+    Acl, Command, EditFault, Id, Kind, Label, Name, Names, Node, Path, People, Perm, Record,
+    Requests, Staged, State, Subject, TextFault, Tree, TreeFault, UserChange, append_id,
+    append_path, append_short, granted,
 };
 use std::alloc::Global;
 use std::process::Abort;
@@ -48,19 +49,34 @@ fn name_of(fault: &TreeFault) -> Option<&Name> {
     }
 }
 
-/// The fault of a text or of an edit, or an id.
-fn inner(rt: &impl Abort, alloc: Global, fault: &TreeFault) -> String {
-    let text = match fault {
-        TreeFault::Text(fault) => format!(in alloc; "{:?}, {}", fault.kind, fault.at),
-        TreeFault::Edit { fault, .. } => format!(in alloc; ": {fault:?}"),
-        TreeFault::UidExists { id } => format!(in alloc; "{}", id.number()),
-        _ => format!(in alloc; ""),
-    };
-    text.expect(rt, "memory")
-}
-
 fn push(rt: &impl Abort, text: &mut Vec<u8>, bytes: &[u8]) {
     text.extend_from_slice(bytes).expect(rt, "memory");
+}
+
+fn text_fault(rt: &impl Abort, alloc: Global, fault: &TextFault) -> String {
+    format!(in alloc; "{:?}, {}", fault.kind, fault.at).expect(rt, "memory")
+}
+
+fn push_text_fault(rt: &impl Abort, alloc: Global, text: &mut Vec<u8>, fault: &TreeFault) {
+    if let TreeFault::Text(fault) = fault {
+        push(rt, text, text_fault(rt, alloc, fault).as_bytes());
+    }
+}
+
+fn edit_fault(rt: &impl Abort, alloc: Global, fault: &EditFault) -> String {
+    format!(in alloc; ": {fault:?}").expect(rt, "memory")
+}
+
+fn push_edit_fault(rt: &impl Abort, alloc: Global, text: &mut Vec<u8>, fault: &TreeFault) {
+    if let TreeFault::Edit { fault, .. } = fault {
+        push(rt, text, edit_fault(rt, alloc, fault).as_bytes());
+    }
+}
+
+fn push_uid(rt: &impl Abort, text: &mut Vec<u8>, fault: &TreeFault) {
+    if let TreeFault::UidExists { id } = fault {
+        append_id(text, *id, None).expect(rt, "memory");
+    }
 }
 
 fn push_path(rt: &impl Abort, text: &mut Vec<u8>, path: Option<&Path>) {
@@ -80,19 +96,54 @@ fn fault_text(rt: &impl Abort, alloc: Global, fault: &TreeFault) -> Vec<u8> {
     push(rt, &mut text, words(fault));
     push_path(rt, &mut text, path_of(fault));
     push_name(rt, &mut text, name_of(fault));
-    push(rt, &mut text, inner(rt, alloc, fault).as_bytes());
+    push_text_fault(rt, alloc, &mut text, fault);
+    push_edit_fault(rt, alloc, &mut text, fault);
+    push_uid(rt, &mut text, fault);
     text
 }
 
-fn moved(rt: &impl Abort, alloc: Global, users: &UserChange) -> String {
-    let text = match users {
-        UserChange::Unchanged => format!(in alloc; ""),
-        UserChange::Loaded => format!(in alloc; ", users loaded"),
-        UserChange::Memberships { user, .. } => format!(in alloc; ", user {user} moved:"),
-        UserChange::Added => format!(in alloc; ", a user joined"),
-        UserChange::Removed { user } => format!(in alloc; ", user {user} left"),
-    };
-    text.expect(rt, "memory")
+/// A number in decimal digits.
+fn digits(rt: &impl Abort, alloc: Global, number: usize) -> String {
+    format!(in alloc; "{number}").expect(rt, "memory")
+}
+
+fn push_number(rt: &impl Abort, alloc: Global, text: &mut Vec<u8>, number: usize) {
+    push(rt, text, digits(rt, alloc, number).as_bytes());
+}
+
+/// How users move; where one user does, up to the user's place.
+fn moved(users: &UserChange) -> &'static [u8] {
+    match users {
+        UserChange::Unchanged => b"",
+        UserChange::Loaded => b", users loaded",
+        UserChange::Memberships { .. } => b", user ",
+        UserChange::Added => b", a user joined",
+        UserChange::Removed { .. } => b", user ",
+    }
+}
+
+/// The place of the user who moves or left.
+fn place_of(users: &UserChange) -> Option<usize> {
+    match users {
+        UserChange::Memberships { user, .. } => Some(*user),
+        UserChange::Removed { user } => Some(*user),
+        _ => None,
+    }
+}
+
+/// What follows that place.
+fn moved_end(users: &UserChange) -> &'static [u8] {
+    match users {
+        UserChange::Memberships { .. } => b" moved:",
+        UserChange::Removed { .. } => b" left",
+        _ => b"",
+    }
+}
+
+fn push_place(rt: &impl Abort, alloc: Global, text: &mut Vec<u8>, users: &UserChange) {
+    if let Some(place) = place_of(users) {
+        push_number(rt, alloc, text, place);
+    }
 }
 
 fn push_ids(rt: &impl Abort, text: &mut Vec<u8>, ids: &[Id]) {
@@ -102,21 +153,28 @@ fn push_ids(rt: &impl Abort, text: &mut Vec<u8>, ids: &[Id]) {
     }
 }
 
-fn push_moved(rt: &impl Abort, text: &mut Vec<u8>, users: &UserChange) {
+fn push_groups(rt: &impl Abort, text: &mut Vec<u8>, users: &UserChange) {
     if let UserChange::Memberships { groups, .. } = users {
         push_ids(rt, text, groups.as_slice());
     }
 }
 
+fn push_moved(rt: &impl Abort, alloc: Global, text: &mut Vec<u8>, users: &UserChange) {
+    push(rt, text, moved(users));
+    push_place(rt, alloc, text, users);
+    push(rt, text, moved_end(users));
+    push_groups(rt, text, users);
+}
+
 /// How many files a prepared command changes and removes, and how it moves users.
 fn staged_text(rt: &impl Abort, alloc: Global, staged: &Staged) -> Vec<u8> {
-    let changed = staged.changed().len();
-    let gone = staged.gone().len();
-    let users = moved(rt, alloc, staged.user_change());
-    let mut text = format!(in alloc; "done: {changed} changed, {gone} gone{users}")
-        .expect(rt, "memory")
-        .into_bytes();
-    push_moved(rt, &mut text, staged.user_change());
+    let mut text = Vec::new(alloc);
+    push(rt, &mut text, b"done: ");
+    push_number(rt, alloc, &mut text, staged.changed().len());
+    push(rt, &mut text, b" changed, ");
+    push_number(rt, alloc, &mut text, staged.gone().len());
+    push(rt, &mut text, b" gone");
+    push_moved(rt, alloc, &mut text, staged.user_change());
     text
 }
 
@@ -190,17 +248,21 @@ pub fn expect_text(rt: &impl Abort, found: Vec<u8>, want: &str) {
     assert!(rt; found.as_slice() == want.as_bytes(), "not: {want}");
 }
 
-fn expect_file(rt: &impl Abort, alloc: Global, state: &State, name: &[u8], want: &str) {
+/// Whether a file is as the text describes.
+fn is_shown(rt: &impl Abort, alloc: Global, state: &State, name: &[u8], want: &str) -> bool {
     let path = path(rt, alloc, name);
     let text = shown(rt, alloc, state.people(), state.tree().get(&path));
-    expect_text(rt, text, want);
+    text.as_slice() == want.as_bytes()
 }
 
-/// Checks that files are as the texts describe.
-pub fn expect_files(rt: &impl Abort, alloc: Global, state: &State, files: &[(&[u8], &str)]) {
+/// Whether files are as the texts describe.
+pub fn are_shown(rt: &impl Abort, alloc: Global, state: &State, files: &[(&[u8], &str)]) -> bool {
     for (name, want) in files {
-        expect_file(rt, alloc, state, name, want);
+        if !is_shown(rt, alloc, state, name, want) {
+            return false;
+        }
     }
+    true
 }
 
 /// More files than any tree has here.
@@ -257,12 +319,19 @@ pub fn listing(rt: &impl Abort, alloc: Global, tree: &Tree, people: &People) -> 
     text
 }
 
-fn push_request(rt: &impl Abort, text: &mut Vec<u8>, requests: Requests, number: u8) {
-    let perm = Perm::from_number(number).expect(rt, "permissions");
-    if requests.has(perm) {
-        push(rt, text, b" ");
-        push(rt, text, &perm.text());
+fn push_perm(rt: &impl Abort, text: &mut Vec<u8>, perm: Perm) {
+    push(rt, text, b" ");
+    push(rt, text, &perm.text());
+}
+
+fn push_request(rt: &impl Abort, text: &mut Vec<u8>, requests: Requests, request: Perm) {
+    if requests.has(request) {
+        push_perm(rt, text, request);
     }
+}
+
+fn perm(rt: &impl Abort, number: u8) -> Perm {
+    Perm::from_number(number).expect(rt, "permissions")
 }
 
 /// What a user is granted on a file: the requests from execute to all.
@@ -270,7 +339,7 @@ fn granted_text(rt: &impl Abort, alloc: Global, user: &Subject, label: &Label) -
     let requests = granted(user, label);
     let mut text = Vec::new(alloc);
     for number in 1..8 {
-        push_request(rt, &mut text, requests, number);
+        push_request(rt, &mut text, requests, perm(rt, number));
     }
     text
 }

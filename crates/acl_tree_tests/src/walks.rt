@@ -21,21 +21,38 @@ fn expect_above(rt: &impl Abort, alloc: Global, tree: &Tree, name: &[u8], want: 
     expect_text(rt, joined(rt, alloc, &paths.expect(rt, "memory")), want);
 }
 
+fn expect_all_above(rt: &impl Abort, alloc: Global, tree: &Tree, rows: &[(&[u8], &str)]) {
+    for (name, want) in rows {
+        expect_above(rt, alloc, tree, name, want);
+    }
+}
+
 fn expect_within(rt: &impl Abort, alloc: Global, tree: &Tree, name: &[u8], want: &str) {
     let paths = tree.within(alloc, &path(rt, alloc, name));
     expect_text(rt, joined(rt, alloc, &paths.expect(rt, "memory")), want);
 }
 
+fn expect_all_within(rt: &impl Abort, alloc: Global, tree: &Tree, rows: &[(&[u8], &str)]) {
+    for (name, want) in rows {
+        expect_within(rt, alloc, tree, name, want);
+    }
+}
+
+/// Paths, each with the recorded files that it is below.
+static ABOVE: [(&[u8], &str); 5] = [
+    (b"d/e", ". d "),
+    (b"d/x/y", ". d "),
+    (b"d/e/z", ". d d/e "),
+    (b"e/f", ". "),
+    (b".", ""),
+];
+
+/// Paths, each with the recorded files at or below it.
+static WITHIN: [(&[u8], &str); 2] = [(b"d", "d d/e "), (b"x", "")];
+
 #[test]
 fn recorded_files_around_a_path(rt: HostRuntime) {
-    let alloc = rt.alloc();
-    let state = after(&rt, alloc, &[&PEOPLE, &FOUR]);
-    let tree = state.tree();
-    expect_above(&rt, alloc, tree, b"d/e", ". d ");
-    expect_above(&rt, alloc, tree, b"d/x/y", ". d ");
-    expect_above(&rt, alloc, tree, b"d/e/z", ". d d/e ");
-    expect_above(&rt, alloc, tree, b"e/f", ". ");
-    expect_above(&rt, alloc, tree, b".", "");
-    expect_within(&rt, alloc, tree, b"d", "d d/e ");
-    expect_within(&rt, alloc, tree, b"x", "");
+    let state = after(&rt, rt.alloc(), &[&PEOPLE, &FOUR]);
+    expect_all_above(&rt, rt.alloc(), state.tree(), &ABOVE);
+    expect_all_within(&rt, rt.alloc(), state.tree(), &WITHIN);
 }

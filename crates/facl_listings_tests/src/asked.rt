@@ -5,10 +5,10 @@
 ghost use Rattle.std.specs.Prelude.{IfSome};
 ghost use Rattle.facl_listings.specs.acl_tree.Reports.{Reports};
 
-use acl_rights_tests::{Line, command};
+use crate::lines::{Line, command, path, paths};
 use facl_listings::{
-    IndexedState, Judge, Path, Paths, Perm, Posix, Staged, State, Verdicts, files_asked, read_path,
-    write_changes, write_index, write_may, write_who, write_why,
+    IndexedState, Judge, Perm, Posix, Staged, State, Verdicts, files_asked, write_changes,
+    write_index, write_may, write_who, write_why,
 };
 use std::alloc::Global;
 use std::process::Abort;
@@ -45,10 +45,6 @@ struct World {
     judge: Posix,
 }
 
-fn path(alloc: Global, text: &[u8]) -> Option<Path> {
-    read_path(alloc, text).ok()?
-}
-
 fn can(alloc: Global, verdicts: &Verdicts<'_, Posix>, user: &[u8], text: &[u8]) -> Option<Vec<u8>> {
     let user = verdicts.state.state().people().find_user(user)?;
     let requests = verdicts.get(user, &path(alloc, text)?)?;
@@ -69,16 +65,10 @@ fn may(alloc: Global, verdicts: &Verdicts<'_, Posix>, user: &[u8], request: u8) 
     write_may(alloc, verdicts, user, request).ok()?
 }
 
-fn one_path(alloc: Global, text: &[u8]) -> Option<Paths> {
-    let mut paths = Vec::new(alloc);
-    paths.push(path(alloc, text)?).ok()?;
-    Some(Paths::new(paths))
-}
-
 fn why(alloc: Global, state: &State, user: &[u8], text: &[u8], along: bool) -> Option<Vec<u8>> {
     let user = state.people().find_user(user)?;
     let subject = state.people().subject_at(user)?;
-    let paths = one_path(alloc, text)?;
+    let paths = paths(alloc, text)?;
     let files = files_asked(alloc, state.tree(), paths, along).ok()?;
     write_why(alloc, state.people(), subject, &files).ok()
 }

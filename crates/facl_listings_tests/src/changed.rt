@@ -1,7 +1,7 @@
 //! What `changes` prints between two states.
 
 use crate::asked::{Question, Row, expect_rows};
-use acl_rights_tests::Line;
+use crate::lines::Line;
 use facl_listings::Table;
 
 const PASSWD: &[u8] = b"lisa:x:1001:50:Lisa:/home/lisa:/bin/sh\n\

@@ -1,4 +1,5 @@
-//! Worked listings and worked answers of `can`, `who`, `may`, `why`, `index` and `changes`, and each public call of `facl_listings` once.
+//! Worked listings and worked answers of `can`, `who`, `may`, `why`, `index` and `changes`, and what lines ask for, fetch and
+//! refresh in the index; each public call of `facl_listings` once.
 //!
 //! They are in a crate of their own, since a crate with tests is proved twice.
 #![tactic(auto)]
@@ -10,8 +11,18 @@ mod asked;
 #[cfg(test)]
 mod changed;
 #[cfg(test)]
+mod costs;
+#[cfg(test)]
+mod lines;
+#[cfg(test)]
 mod listings;
 #[cfg(test)]
 mod made;
 #[cfg(test)]
 mod requests;
+#[cfg(test)]
+mod rows;
+#[cfg(test)]
+mod subjects;
+#[cfg(test)]
+mod world;

@@ -1,5 +1,6 @@
 //! Short ways to make a state and its files in tests.
-use facl_listings::{Command, Found, Path, Record, State, Table, Tree, read_path};
+use crate::lines::path;
+use facl_listings::{Command, Found, Path, Record, State, Table, Tree};
 use std::alloc::Global;
 use std::process::Abort;
 use std::rc::Rc;
@@ -32,12 +33,6 @@ pub fn setup(rt: &impl Abort, alloc: Global) -> State {
     state
 }
 
-fn path(rt: &impl Abort, alloc: Global, name: &[u8]) -> Path {
-    read_path(alloc, name)
-        .expect(rt, "memory")
-        .expect(rt, "a path")
-}
-
 fn record(rt: &impl Abort, alloc: Global, tree: &Tree, path: Path) -> Record {
     let node = tree.get(&path).expect(rt, "a file");
     let node = node.try_clone(alloc).expect(rt, "memory");
@@ -46,7 +41,8 @@ fn record(rt: &impl Abort, alloc: Global, tree: &Tree, path: Path) -> Record {
 
 /// A file of the tree, and whether another one is to be below it.
 fn found(rt: &impl Abort, alloc: Global, tree: &Tree, name: &[u8], has_below: bool) -> Found {
-    let file = record(rt, alloc, tree, path(rt, alloc, name));
+    let path = path(alloc, name).expect(rt, "a path");
+    let file = record(rt, alloc, tree, path);
     Found::new(Rc::new(alloc, file).expect(rt, "memory"), has_below)
 }
 

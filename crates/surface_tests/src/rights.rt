@@ -41,66 +41,61 @@ fn write_request(rt: &impl Abort) -> Perm {
     Perm::from_number(2).expect(rt, "-w-")
 }
 
-#[test]
-fn verdicts(rt: HostRuntime) {
-    let index = kept_index(&rt, rt.alloc());
-    let f = path(&rt, rt.alloc(), b"f");
-    let verdict: Option<Requests> = index.get(0, &f);
-    assert!(rt; verdict.expect(&rt, "a file").has(write_request(&rt)));
-    let along: Option<Requests> = index.get_reach(0, &f);
-    assert!(rt; along.expect(&rt, "a file").has(write_request(&rt)));
-    assert!(rt; index.get(3, &f).is_none() && index.get_reach(3, &f).is_none());
+fn expect_verdicts(rt: &impl Abort, index: &Index<OwnerAlone>, f: &Path) {
+    let verdict: Option<Requests> = index.get(0, f);
+    assert!(rt; verdict.expect(rt, "a file").has(write_request(rt)));
+    let along: Option<Requests> = index.get_reach(0, f);
+    assert!(rt; along.expect(rt, "a file").has(write_request(rt)));
+    assert!(rt; index.get(3, f).is_none() && index.get_reach(3, f).is_none());
 }
 
-#[test]
-fn a_row(rt: HostRuntime) {
-    let index = kept_index(&rt, rt.alloc());
-    let row: Option<&[Requests]> = index.row(&path(&rt, rt.alloc(), b"f"));
-    assert!(rt; row.expect(&rt, "a file").len() == 3);
+fn expect_row(rt: &impl Abort, index: &Index<OwnerAlone>, f: &Path) {
+    let row: Option<&[Requests]> = index.row(f);
+    assert!(rt; row.expect(rt, "a file").len() == 3);
 }
 
-/// Places that were found at a file.
-fn found(rt: &impl Abort, who: Result<Option<Vec<usize>>, NoMemory>) -> Vec<usize> {
-    who.expect(rt, "memory").expect(rt, "a file")
+/// The first user alone was found at a file.
+fn expect_first(rt: &impl Abort, who: Result<Option<Vec<usize>>, NoMemory>) {
+    let found: Vec<usize> = who.expect(rt, "memory").expect(rt, "a file");
+    assert!(rt; found.as_slice() == [0].as_slice());
 }
 
-#[test]
-fn who(rt: HostRuntime) {
-    let index = kept_index(&rt, rt.alloc());
-    let f = path(&rt, rt.alloc(), b"f");
-    let alone = found(&rt, index.who(rt.alloc(), &f, write_request(&rt)));
-    assert!(rt; alone.as_slice() == [0].as_slice());
-    let along = found(&rt, index.who_reach(rt.alloc(), &f, write_request(&rt)));
-    assert!(rt; along.as_slice() == [0].as_slice());
+fn expect_who(rt: &impl Abort, alloc: Global, index: &Index<OwnerAlone>, f: &Path) {
+    expect_first(rt, index.who(alloc, f, write_request(rt)));
+    expect_first(rt, index.who_reach(alloc, f, write_request(rt)));
 }
 
-#[test]
-fn may(rt: HostRuntime) {
-    let index = kept_index(&rt, rt.alloc());
+fn expect_may(rt: &impl Abort, alloc: Global, index: &Index<OwnerAlone>) {
+    let may = index.may(alloc, 2, write_request(rt)).expect(rt, "memory");
+    assert!(rt; may.expect(rt, "a user").len() == 1);
+}
+
+fn expect_may_along_the_path(rt: &impl Abort, alloc: Global, index: &Index<OwnerAlone>) {
     let may = index
-        .may(rt.alloc(), 2, write_request(&rt))
-        .expect(&rt, "memory");
-    assert!(rt; may.expect(&rt, "a user").len() == 1);
+        .may_reach(alloc, 2, write_request(rt))
+        .expect(rt, "memory");
+    assert!(rt; may.expect(rt, "a user").is_empty());
 }
 
-#[test]
-fn may_along_the_path(rt: HostRuntime) {
-    let index = kept_index(&rt, rt.alloc());
-    let may = index
-        .may_reach(rt.alloc(), 2, write_request(&rt))
-        .expect(&rt, "memory");
-    assert!(rt; may.expect(&rt, "a user").is_empty());
-}
-
-#[test]
-fn rows_of_files(rt: HostRuntime) {
-    let index = kept_index(&rt, rt.alloc());
+fn expect_rows(rt: &impl Abort, index: &Index<OwnerAlone>) {
     let mut rows: FileRows<'_> = index.file_rows(true);
     let next: Option<&Path> = rows.path();
-    assert!(rt; next.expect(&rt, "the root").components().is_empty());
+    assert!(rt; next.expect(rt, "the root").components().is_empty());
     let root: Option<FileRow<'_>> = rows.next();
-    let FileRow { path, requests } = root.expect(&rt, "the root");
+    let FileRow { path, requests } = root.expect(rt, "the root");
     assert!(rt; path.components().is_empty() && requests.len() == 3);
+}
+
+#[test]
+fn verdicts_and_questions(rt: HostRuntime) {
+    let index: Index<OwnerAlone> = kept_index(&rt, rt.alloc());
+    let f: Path = path(&rt, rt.alloc(), b"f");
+    expect_verdicts(&rt, &index, &f);
+    expect_row(&rt, &index, &f);
+    expect_who(&rt, rt.alloc(), &index, &f);
+    expect_may(&rt, rt.alloc(), &index);
+    expect_may_along_the_path(&rt, rt.alloc(), &index);
+    expect_rows(&rt, &index);
 }
 
 #[test]

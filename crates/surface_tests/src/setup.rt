@@ -47,11 +47,13 @@ user::rw-\n\
 group::r--\n\
 other::---\n";
 
+fn path_of(alloc: Global, text: &[u8]) -> Option<Path> {
+    read_path(alloc, text).ok()?
+}
+
 /// The path of a text.
 pub fn path(rt: &impl Abort, alloc: Global, text: &[u8]) -> Path {
-    read_path(alloc, text)
-        .expect(rt, "memory")
-        .expect(rt, "a path")
+    path_of(alloc, text).expect(rt, "a path")
 }
 
 /// Does a command that is accepted.

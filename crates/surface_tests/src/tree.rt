@@ -5,8 +5,8 @@ use acl_edit::{Edit, EditFault, Kind, Node};
 use acl_entry::{Id, NoMemory, Subject};
 use acl_text::{DumpRecord, DumpUse, Name, Names, Path, read_dump, read_name};
 use acl_tree::{
-    Command, DumpRecords, Membership, NewFile, NewUser, Paths, People, Staged, Tree, TreeFault,
-    UserName,
+    Command, DumpRecords, FilesFinder, Membership, NewFile, NewUser, Paths, People, Staged, Tree,
+    TreeFault, UserName,
 };
 use std::alloc::Global;
 use std::process::Abort;
@@ -23,9 +23,7 @@ fn operand(rt: &impl Abort, alloc: Global, text: &[u8]) -> Paths {
     Paths::new(list)
 }
 
-#[test]
-fn people(rt: HostRuntime) {
-    let (_tree, people) = load(&rt, rt.alloc());
+fn expect_people(rt: &impl Abort, people: &People) {
     let count: usize = people.users();
     let joe: Option<usize> = people.find_user(b"joe");
     assert!(rt; count == 3 && joe == Some(1));
@@ -33,21 +31,17 @@ fn people(rt: HostRuntime) {
     assert!(rt; shown == Some(b"joe".as_slice()) && people.name(3).is_none());
 }
 
-#[test]
-fn a_subject(rt: HostRuntime) {
-    let (_tree, people) = load(&rt, rt.alloc());
-    let subject: Result<Option<Subject>, NoMemory> = people.subject(rt.alloc(), 1);
-    let subject: Subject = subject.expect(&rt, "memory").expect(&rt, "a user");
+fn expect_subject(rt: &impl Abort, alloc: Global, people: &People) {
+    let subject: Result<Option<Subject>, NoMemory> = people.subject(alloc, 1);
+    let subject: Subject = subject.expect(rt, "memory").expect(rt, "a user");
     assert!(rt; subject.uid().number() == 1000 && subject.groups().len() == 1);
 }
 
-#[test]
-fn names(rt: HostRuntime) {
-    let (_tree, people) = load(&rt, rt.alloc());
+fn expect_names(rt: &impl Abort, people: &People) {
     let id: Option<Id> = people.user_id(b"ann");
-    assert!(rt; people.user_name(id.expect(&rt, "ann")) == Some(b"ann".as_slice()));
+    assert!(rt; people.user_name(id.expect(rt, "ann")) == Some(b"ann".as_slice()));
     let group: Option<Id> = people.group_id(b"adm");
-    assert!(rt; people.group_name(group.expect(&rt, "adm")) == Some(b"adm".as_slice()));
+    assert!(rt; people.group_name(group.expect(rt, "adm")) == Some(b"adm".as_slice()));
 }
 
 /// The kind of the last file.
@@ -59,24 +53,41 @@ fn last_kind(tree: &Tree) -> Option<Kind> {
     last
 }
 
-#[test]
-fn files(rt: HostRuntime) {
-    let (tree, _people) = load(&rt, rt.alloc());
-    let node: Option<&Node> = tree.get(&path(&rt, rt.alloc(), b"log"));
-    assert!(rt; node.expect(&rt, "a file").label.group.number() == 70);
-    assert!(rt; last_kind(&tree) == Some(Kind::Plain));
+fn expect_files(rt: &impl Abort, tree: &Tree, log: &Path) {
+    let node: Option<&Node> = tree.get(log);
+    assert!(rt; node.expect(rt, "a file").label.group.number() == 70);
+    assert!(rt; last_kind(tree) == Some(Kind::Plain));
+}
+
+fn expect_look_ups(rt: &impl Abort, tree: &Tree, log: &Path, root: &Path) {
+    let mut finder: FilesFinder<'_> = tree.finder();
+    let node: Option<&Node> = finder.get(log);
+    assert!(rt; node.expect(rt, "a file").label.group.number() == 70);
+    assert!(rt; finder.get(root).is_some());
+}
+
+fn expect_above(rt: &impl Abort, alloc: Global, tree: &Tree, log: &Path) {
+    let above: Result<Vec<Path>, NoMemory> = tree.ancestors(alloc, log);
+    assert!(rt; above.expect(rt, "memory").len() == 1);
+}
+
+fn expect_within(rt: &impl Abort, alloc: Global, tree: &Tree, root: &Path) {
+    let within: Result<Vec<Path>, NoMemory> = tree.within(alloc, root);
+    assert!(rt; within.expect(rt, "memory").len() == 5);
 }
 
 #[test]
-fn files_above_and_below(rt: HostRuntime) {
-    let (tree, _people) = load(&rt, rt.alloc());
-    let above: Result<Vec<Path>, NoMemory> = tree.ancestors(
-        rt.alloc(),
-        &path(&rt, rt.alloc(), b"log"),
-    );
-    assert!(rt; above.expect(&rt, "memory").len() == 1);
-    let within: Result<Vec<Path>, NoMemory> = tree.within(rt.alloc(), &path(&rt, rt.alloc(), b"."));
-    assert!(rt; within.expect(&rt, "memory").len() == 5);
+fn people_and_files(rt: HostRuntime) {
+    let (tree, people) = load(&rt, rt.alloc());
+    expect_people(&rt, &people);
+    expect_subject(&rt, rt.alloc(), &people);
+    expect_names(&rt, &people);
+    let log: Path = path(&rt, rt.alloc(), b"log");
+    let root: Path = path(&rt, rt.alloc(), b".");
+    expect_files(&rt, &tree, &log);
+    expect_look_ups(&rt, &tree, &log, &root);
+    expect_above(&rt, rt.alloc(), &tree, &log);
+    expect_within(&rt, rt.alloc(), &tree, &root);
 }
 
 /// What a command stages, on the texts' tree: how many files changed and are gone, whose groups changed and how many
@@ -102,15 +113,6 @@ fn counts_of(staged: &Staged) -> Counts {
     )
 }
 
-/// Prepares a command, and compares what it stages.
-fn expect(rt: &impl Abort, alloc: Global, command: Command<'_>, wanted: Counts) {
-    let (tree, people) = load(rt, alloc);
-    let prepared: Result<Staged, TreeFault> = tree.prepare(alloc, &people, &command);
-    let staged: Staged = prepared.expect(rt, "a command");
-    assert!(rt; counts_of(&staged) == wanted);
-    staged.give_up();
-}
-
 #[test]
 fn a_prepared_state(rt: HostRuntime) {
     let (tree, people) = load(&rt, rt.alloc());
@@ -125,57 +127,40 @@ fn a_prepared_state(rt: HostRuntime) {
     staged.give_up();
 }
 
-#[test]
-fn a_chmod(rt: HostRuntime) {
-    let chmod = Command::Chmod {
-        paths: operand(&rt, rt.alloc(), b"pub"),
+fn chmod(rt: &impl Abort, alloc: Global) -> Command<'static> {
+    Command::Chmod {
+        paths: operand(rt, alloc, b"pub"),
         mode: 0o770,
         recursive: true,
-    };
-    expect(&rt, rt.alloc(), chmod, (1, 0, None, None, None));
+    }
 }
 
-#[test]
-fn an_edit(rt: HostRuntime) {
-    let flatten = Command::Edit {
-        paths: operand(&rt, rt.alloc(), b"pub"),
+fn flatten(rt: &impl Abort, alloc: Global) -> Command<'static> {
+    Command::Edit {
+        paths: operand(rt, alloc, b"pub"),
         edit: Edit::Flatten {
             access: true,
             dacl: true,
         },
         recursive: false,
-    };
-    expect(&rt, rt.alloc(), flatten, (1, 0, None, None, None));
+    }
 }
 
-#[test]
-fn a_new_file(rt: HostRuntime) {
-    let creat = Command::Creat(NewFile {
-        path: path(&rt, rt.alloc(), b"pub/n"),
+fn creat(rt: &impl Abort, alloc: Global) -> Command<'static> {
+    Command::Creat(NewFile {
+        path: path(rt, alloc, b"pub/n"),
         kind: Kind::Plain,
-        user: name(&rt, rt.alloc(), b"ann"),
+        user: name(rt, alloc, b"ann"),
         mode: 0o640,
         umask: 0o22,
-    });
-    expect(&rt, rt.alloc(), creat, (1, 0, None, None, None));
+    })
 }
 
-/// `rm` of a file.
 fn rm(rt: &impl Abort, alloc: Global) -> Command<'static> {
     Command::Rm {
         paths: operand(rt, alloc, b"f"),
         recursive: false,
     }
-}
-
-#[test]
-fn a_removal(rt: HostRuntime) {
-    expect(
-        &rt,
-        rt.alloc(),
-        rm(&rt, rt.alloc()),
-        (0, 1, None, None, None),
-    );
 }
 
 /// The records of a text.
@@ -186,16 +171,12 @@ fn records(rt: &impl Abort, alloc: Global, text: &[u8]) -> DumpRecords {
     DumpRecords::new(records)
 }
 
-#[test]
-fn a_restore(rt: HostRuntime) {
-    let restore = Command::Restore {
-        records: records(
-            &rt,
-            rt.alloc(),
-            b"# file: f\nuser::rwx\ngroup::r-x\nother::---\n",
-        ),
-    };
-    expect(&rt, rt.alloc(), restore, (1, 0, None, None, None));
+const RECORD: &[u8] = b"# file: f\nuser::rwx\ngroup::r-x\nother::---\n";
+
+fn restore(rt: &impl Abort, alloc: Global) -> Command<'static> {
+    Command::Restore {
+        records: records(rt, alloc, RECORD),
+    }
 }
 
 /// `gpasswd` of joe and adm.
@@ -207,42 +188,138 @@ fn gpasswd(rt: &impl Abort, alloc: Global, change: Membership) -> Command<'stati
     }
 }
 
-#[test]
-fn a_membership(rt: HostRuntime) {
-    expect(
-        &rt,
-        rt.alloc(),
-        gpasswd(&rt, rt.alloc(), Membership::Add),
-        (0, 0, Some((1, 1)), None, None),
-    );
+fn usermod(rt: &impl Abort, alloc: Global) -> Command<'static> {
+    Command::Usermod {
+        user: name(rt, alloc, b"joe"),
+        group: name(rt, alloc, b"staff"),
+    }
+}
+
+fn bob(rt: &impl Abort, alloc: Global) -> UserName {
+    let bob: Option<UserName> = UserName::new(name(rt, alloc, b"bob"));
+    bob.expect(rt, "a name")
+}
+
+fn useradd(rt: &impl Abort, alloc: Global) -> Command<'static> {
+    Command::Useradd(NewUser {
+        name: bob(rt, alloc),
+        uid: Id::new(1003).expect(rt, "an id"),
+        group: name(rt, alloc, b"staff"),
+    })
+}
+
+fn userdel(rt: &impl Abort, alloc: Global) -> Command<'static> {
+    Command::Userdel {
+        user: name(rt, alloc, b"joe"),
+    }
+}
+
+/// A command of those above.
+enum Line {
+    Chmod,
+    Flatten,
+    Creat,
+    Rm,
+    Restore,
+    Gpasswd,
+    Usermod,
+    Useradd,
+    Userdel,
+}
+
+fn command(rt: &impl Abort, alloc: Global, line: &Line) -> Command<'static> {
+    match line {
+        Line::Chmod => chmod(rt, alloc),
+        Line::Flatten => flatten(rt, alloc),
+        Line::Creat => creat(rt, alloc),
+        Line::Rm => rm(rt, alloc),
+        Line::Restore => restore(rt, alloc),
+        Line::Gpasswd => gpasswd(rt, alloc, Membership::Add),
+        Line::Usermod => usermod(rt, alloc),
+        Line::Useradd => useradd(rt, alloc),
+        Line::Userdel => userdel(rt, alloc),
+    }
+}
+
+/// A command, and what it stages on the texts' tree.
+struct Row {
+    name: &'static str,
+    line: Line,
+    counts: Counts,
+}
+
+static ROWS: [Row; 9] = [
+    Row {
+        name: "a chmod",
+        line: Line::Chmod,
+        counts: (1, 0, None, None, None),
+    },
+    Row {
+        name: "an edit",
+        line: Line::Flatten,
+        counts: (1, 0, None, None, None),
+    },
+    Row {
+        name: "a new file",
+        line: Line::Creat,
+        counts: (1, 0, None, None, None),
+    },
+    Row {
+        name: "a removal",
+        line: Line::Rm,
+        counts: (0, 1, None, None, None),
+    },
+    Row {
+        name: "a restore",
+        line: Line::Restore,
+        counts: (1, 0, None, None, None),
+    },
+    Row {
+        name: "a membership",
+        line: Line::Gpasswd,
+        counts: (0, 0, Some((1, 1)), None, None),
+    },
+    Row {
+        name: "a primary group",
+        line: Line::Usermod,
+        counts: (0, 0, Some((1, 2)), None, None),
+    },
+    Row {
+        name: "a new user",
+        line: Line::Useradd,
+        counts: (0, 0, None, Some(3), None),
+    },
+    Row {
+        name: "a user who goes",
+        line: Line::Userdel,
+        counts: (0, 0, None, None, Some(1)),
+    },
+];
+
+/// What a command stages, which is then given up.
+fn staged_counts(rt: &impl Abort, staged: Result<Staged, TreeFault>) -> Counts {
+    let staged: Staged = staged.expect(rt, "a command");
+    let counts = counts_of(&staged);
+    staged.give_up();
+    counts
+}
+
+fn expect_row(rt: &impl Abort, alloc: Global, tree: &Tree, people: &People, row: &Row) {
+    let command = command(rt, alloc, &row.line);
+    let prepared: Result<Staged, TreeFault> = tree.prepare(alloc, people, &command);
+    assert!(rt; staged_counts(rt, prepared) == row.counts, "{}", row.name);
+}
+
+fn expect_rows(rt: &impl Abort, alloc: Global, tree: &Tree, people: &People, rows: &[Row]) {
+    for row in rows {
+        expect_row(rt, alloc, tree, people, row);
+    }
 }
 
 #[test]
-fn a_primary_group(rt: HostRuntime) {
-    let usermod = Command::Usermod {
-        user: name(&rt, rt.alloc(), b"joe"),
-        group: name(&rt, rt.alloc(), b"staff"),
-    };
-    expect(&rt, rt.alloc(), usermod, (0, 0, Some((1, 2)), None, None));
-}
-
-#[test]
-fn a_new_user(rt: HostRuntime) {
-    let bob: Option<UserName> = UserName::new(name(&rt, rt.alloc(), b"bob"));
-    let useradd = Command::Useradd(NewUser {
-        name: bob.expect(&rt, "a name"),
-        uid: Id::new(1003).expect(&rt, "an id"),
-        group: name(&rt, rt.alloc(), b"staff"),
-    });
-    expect(&rt, rt.alloc(), useradd, (0, 0, None, Some(3), None));
-}
-
-#[test]
-fn a_user_who_goes(rt: HostRuntime) {
-    let userdel = Command::Userdel {
-        user: name(&rt, rt.alloc(), b"joe"),
-    };
-    expect(&rt, rt.alloc(), userdel, (0, 0, None, None, Some(1)));
+fn commands(rt: HostRuntime) {
+    let (tree, people) = load(&rt, rt.alloc());
+    expect_rows(&rt, rt.alloc(), &tree, &people, &ROWS);
 }
 
 /// The number of a fault among the faults of a command.

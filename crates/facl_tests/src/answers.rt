@@ -1,8 +1,8 @@
 //! What lines answer under judges whose verdicts are not those of acl(5)'s check.
 
+use crate::judged_rows::{Row, expect};
 use crate::judges::{OwnerAlone, OwnerAtOnce, WholeClass};
 use crate::played::play;
-use crate::rows::{Row, expect};
 use crate::texts::WHOLE;
 use std::alloc::Global;
 

@@ -5,7 +5,7 @@ use Rattle.acl_rights.specs.acl_tree.Files.{Recorded}
 use Rattle.acl_rights.specs.acl_tree.Step.{State}
 use Rattle.acl_rights.specs.Tables.{VerdictTable, IsWhole}
 use Rattle.acl_rights.proofs.Costs.{times_le}
-use Rattle.acl_rights_tests.proofs.world.play.Goals as goal
+use Rattle.facl_listings_tests.proofs.world.play.Goals as goal
 
 pub stage-requires-clause-room : goal.stage-requires-clause-room
 stage-requires-clause-room c =

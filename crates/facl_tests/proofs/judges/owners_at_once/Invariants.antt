@@ -1,6 +1,6 @@
 use Rattle.std.proofs.Common.{◌≡◌, map, take}
-use Rattle.facl_judged_tests.specs.Verdicts.{owner_alone}
-use Rattle.facl_judged_tests.proofs.judges.owners_at_once.Given as goal
+use Rattle.facl_tests.specs.Verdicts.{owner_alone}
+use Rattle.facl_tests.proofs.judges.owners_at_once.Given as goal
 
 -- the users before this place have theirs
 abbrev pub invariant-loop-at : goal.invariant-loop-at

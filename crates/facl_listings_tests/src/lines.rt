@@ -22,11 +22,13 @@ pub enum Line {
     Userdel(&'static [u8]),
 }
 
-fn path(alloc: Global, text: &[u8]) -> Option<Path> {
+/// The path of a text; none where it is not one, or memory runs out.
+pub fn path(alloc: Global, text: &[u8]) -> Option<Path> {
     read_path(alloc, text).ok()?
 }
 
-fn paths(alloc: Global, text: &[u8]) -> Option<Paths> {
+/// One operand.
+pub fn paths(alloc: Global, text: &[u8]) -> Option<Paths> {
     let mut list = Vec::new(alloc);
     list.push(path(alloc, text)?).ok()?;
     Some(Paths::new(list))

@@ -1,7 +1,6 @@
 //! Users, groups, and the words and ids that stand for them.
-use acl_entry::Id;
-use acl_people::{LoadFault, People};
-use acl_syntax::{FaultKind, Names, TextFault};
+use acl_people::LoadFault;
+use acl_tree::{FaultKind, Id, Names, People, TextFault};
 use std::alloc::Global;
 use std::process::Abort;
 

@@ -13,10 +13,12 @@ fn expect(rt: &impl Abort, alloc: Global, tool: &[u8], refused: TreeFault, want:
     assert!(rt; text.as_slice() == want.as_bytes(), "{want}");
 }
 
+fn path_of(alloc: Global, text: &[u8]) -> Option<Path> {
+    read_path(alloc, text).ok()?
+}
+
 fn path(rt: &impl Abort, alloc: Global, text: &[u8]) -> Path {
-    read_path(alloc, text)
-        .expect(rt, "memory")
-        .expect(rt, "a path")
+    path_of(alloc, text).expect(rt, "a path")
 }
 
 fn name(rt: &impl Abort, alloc: Global, text: &[u8]) -> Name {

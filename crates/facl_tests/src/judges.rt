@@ -3,7 +3,7 @@
 ghost use Rattle.std.specs.Prelude.{◌≡◌, ◌^◌, length, map};
 ghost use Rattle.facl.specs.acl_entry.Lists.{perm_at};
 ghost use Rattle.facl.specs.acl_entry.Perms.{number};
-ghost use Rattle.facl_judged_tests.specs.Verdicts.{class_set, owner_alone, owner_alone_local, whole_class, whole_class_local};
+ghost use Rattle.facl_tests.specs.Verdicts.{class_set, owner_alone, owner_alone_local, whole_class, whole_class_local};
 
 use acl_rights::Subjects;
 use facl::{Judge, Key, Label, Perm, Requests, Subject};

@@ -1,8 +1,8 @@
 //! What lines answer where two users have one id, one of them beside a file's owner, and where two labels have one mark in
 //! the index: that of a and c, and that of b, whose owner and group were computed for it.
 
+use crate::judged_rows::{Row, expect};
 use crate::played::play;
-use crate::rows::{Row, expect};
 use crate::texts::NOTHING;
 use facl::Posix;
 
