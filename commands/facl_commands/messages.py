@@ -50,7 +50,7 @@ class Command:
 
     def __init__(self, name: str) -> None:
         self.name = name.encode()
-        # Buffers of our own: where Python is told to have none, a write may be cut short.
+        # Buffers of our own: where Python has none (PYTHONUNBUFFERED), a write may be cut short.
         self.out = open(sys.stdout.fileno(), "wb", closefd=False)
         self.messages = open(sys.stderr.fileno(), "wb", closefd=False)
 

@@ -153,7 +153,7 @@ def answer_scripts(given: argparse.Namespace, snapshot: Snapshot, units: List[Un
     with Session(find_program(given.program), snapshot.folder) as session:
         old = all_files(session)
         if b"" not in old:
-            raise Failure(snapshot.folder + b": is of another version, without the directories above: make a new one")
+            raise Failure(snapshot.folder + b": has no directories above its files: make a snapshot by facl-snapshot")
         before = rights.ask_rights(session, given.reach, snapshot.passwd)
         run = Run(session, snapshot, old)
         for unit in units:

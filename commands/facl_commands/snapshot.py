@@ -34,6 +34,6 @@ def read_snapshot(folder: bytes) -> Snapshot:
         if not os.path.exists(os.path.join(folder, name)):
             raise Failure(folder + b": is no snapshot: " + name + b" is not in it")
     if not os.path.exists(os.path.join(folder, b"links")):
-        raise Failure(folder + b": is a snapshot of another version, without links: make a new one by facl-snapshot")
+        raise Failure(folder + b": is no snapshot: links is not in it: make one by facl-snapshot")
     passwd, group, links = (read_file(os.path.join(folder, name)) for name in (b"passwd", b"group", b"links"))
     return Snapshot(folder, passwd, group, read_links(links))

@@ -322,11 +322,11 @@ class BadInput(Case):
         self.expect_unusable(b"absent: no such folder: make a snapshot by facl-snapshot", "absent", "edits")
         self.expect_unusable(b"edits: no such folder: make a snapshot by facl-snapshot", "edits", "edits")
         os.rename(self.path("before/links"), self.path("links"))
-        self.expect_unusable(b"before: is a snapshot of another version, without links: make a new one by facl-snapshot", "before", "edits")
+        self.expect_unusable(b"before: is no snapshot: links is not in it: make one by facl-snapshot", "before", "edits")
         os.rename(self.path("links"), self.path("before/links"))
         dump = self.read("before/dump")
         self.write("before/dump", dump[dump.index(b"# file: /srv/share/\n"):])
-        self.expect_unusable(b"before: is of another version, without the directories above: make a new one", "before", "edits")
+        self.expect_unusable(b"before: has no directories above its files: make a snapshot by facl-snapshot", "before", "edits")
         self.write("before/dump", dump[:-23])
         line = dump[: dump.index(b"# file: /srv/share/two")].count(b"\n") + 1
         self.expect_unusable(b"before: the program does not load it: facl: setup: dump: text line %d: access list: group:: missing" % line,

@@ -19,7 +19,7 @@ What is not compared, since the program does otherwise (NOTES of docs/facl.1 has
 - names with a backslash, symbolic links, -L and -P, an option given twice;
 - lists of chacl with permissions as a digit or a bare user name, and -r beside a flag, which chacl(1) does not take;
 - a record for --restore that lacks a mask or base entries of a default list, or has a key twice, which the real tool
-  mends; --test with --restore, where the real tool sets owners and flags;
+  mends; --test with --restore, where the real tool sets flags;
 - white space before a comment in a text of -X, where the real tool takes it for a part of the name.
 
 Other lines that the real tools treat in another way are left out and counted, with the reason, at the end. The exit status

@@ -38,18 +38,18 @@ CALLS = [
     "acl_names::path::Path::is_within",
     "acl_names::path::Path::new",
     "acl_names::path::Path::order",
-    "acl_people::group::Group::names_user",
+    "acl_people::groups::Group::names_user",
     "acl_people::name_table::NameTable::place_of_name",
     "acl_people::name_table::NameTable::place_of_word",
-    "acl_syntax::letters::perms_of",
-    "acl_tree::staged::Staged::give_up",
+    "acl_syntax::fields::perms_of",
+    "acl_tree::step::Staged::give_up",
     "acl_tree::state::State::commit",
-    "acl_verdicts::posix::PosixJudge::verdict",
+    "acl_verdicts::judge::PosixJudge::verdict",
     "facl::indexed_states::IndexedStates::begin_again",
     "facl_words::text_words::is_text_word",
     "path_map::map::PathMap::from",
 ]
-ANSWER, COMMIT = "facl::session::FaclSession::", "acl_tree::staged::Staged::into_parts"
+ANSWER, COMMIT = "facl::session::FaclSession::", "acl_tree::step::Staged::into_parts"
 GROWTHS = {"malloc", "realloc", "calloc", "aligned_alloc", "posix_memalign"}
 HEAD = re.compile(r"([0-9a-f]+) <(.*)>:")
 CODE = re.compile(r"\s*([0-9a-f]+):\t(\S+)\s*(.*)")
