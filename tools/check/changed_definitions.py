@@ -39,6 +39,7 @@ TESTS = {
     "acl_attr": ["acl_attr_tests"],
     "acl_dump": ["acl_dump_tests"],
     "acl_edit": ["acl_edit_tests"],
+    "acl_subjects": ["facl_listings_tests"],
     "acl_people": ["acl_tree_tests"],
     "acl_files": ["acl_tree_tests"],
     "acl_tree": ["acl_tree_tests"],

@@ -98,8 +98,10 @@ setfacl -d -m u:joe:rw,d:g:adm:r f\n\
 setfacl -d -x d:g:adm -m u:joe:rw,d:u:joe:r nosuch\n\
 setfacl -d -x u:joe -m u:joe:r pub\n\
 setfacl -d -x u:joe -m d:u:joe:r --test pub\n\
-setfacl -d -x d:u:joe --test pub\n",
+setfacl -d -x d:u:joe --test pub\n\
+setfacl -d -x d:u:joe -m d:u:joe:r --test pub\n",
         out: b"pub: u::rwx,g::r-x,g:adm:rwx,m::rwx,o::r-x,d:u::rwx,d:u:joe:rw-,d:g::r-x,d:m::rwx,d:o::r-x\n\
+pub/: u::rwx,g::r-x,g:adm:rwx,m::rwx,o::r-x\n\
 pub/: u::rwx,g::r-x,g:adm:rwx,m::rwx,o::r-x\n\
 pub/: u::rwx,g::r-x,g:adm:rwx,m::rwx,o::r-x\n",
         err: b"line 1: setfacl: warning: default entries dropped\n\
@@ -107,7 +109,8 @@ line 2: setfacl: f: only directories have default lists\n\
 line 3: setfacl: nosuch: no such file\n\
 line 4: setfacl: entry 1: both removed and modified\n\
 line 5: setfacl: warning: default entries dropped\n\
-line 6: setfacl: warning: default entries dropped\n",
+line 6: setfacl: warning: default entries dropped\n\
+line 7: setfacl: warning: default entries dropped\n",
         status: Status::Refused,
     },
     Row {
