@@ -33,11 +33,11 @@ SECONDS = 300
 # The crates whose tests are run first for a change in a crate; then come those of whole scripts.
 TESTS = {
     "acl_entry": ["acl_entry_tests"],
-    "acl_names": ["acl_syntax_tests", "acl_tree_tests"],
+    "acl_names": ["acl_text_tests", "acl_tree_tests"],
     "path_map": ["path_map_tests", "acl_tree_tests"],
-    "acl_syntax": ["acl_syntax_tests"],
-    "acl_attr": ["acl_attr_tests"],
-    "acl_dump": ["acl_dump_tests"],
+    "acl_syntax": ["acl_text_tests"],
+    "acl_attr": ["acl_text_tests"],
+    "acl_dump": ["acl_text_tests"],
     "acl_edit": ["acl_edit_tests"],
     "acl_subjects": ["facl_listings_tests"],
     "acl_people": ["acl_tree_tests"],

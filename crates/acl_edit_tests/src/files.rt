@@ -1,6 +1,8 @@
 //! New files.
 use crate::made::{JOE, STAFF, USERS, expect_label, expect_lists, file, id};
-use acl_edit::{Kind, chmod, create};
+use acl_edit::{Kind, Node, chmod, create};
+use std::alloc::Global;
+use std::process::Abort;
 
 /// A directory with the flags that a mode gives it, and a new file in it, made by joe of users.
 struct Made {
@@ -59,17 +61,23 @@ static MADE: [Made; 4] = [
     },
 ];
 
+fn parent(rt: &impl Abort, alloc: Global, made: &Made) -> Node {
+    let mut parent = file(rt, alloc, made.parent);
+    chmod(&mut parent, made.parent_mode);
+    parent
+}
+
+fn created(rt: &impl Abort, alloc: Global, made: &Made) -> Node {
+    let (joe, users) = (id(rt, JOE), id(rt, USERS));
+    let parent = parent(rt, alloc, made);
+    create(alloc, &parent, made.kind, made.mode, made.umask, joe, users).expect(rt, "a file")
+}
+
 #[test]
 fn new_files(rt: HostRuntime) {
-    let alloc = rt.alloc();
-    let (joe, users) = (id(&rt, JOE), id(&rt, USERS));
     for made in &MADE {
-        let mut parent = file(&rt, alloc, made.parent);
-        chmod(&mut parent, made.parent_mode);
-        let node = create(alloc, &parent, made.kind, made.mode, made.umask, joe, users).expect(
-            &rt, "a file",
-        );
-        expect_lists(&rt, alloc, &node, made.lists);
+        let node = created(&rt, rt.alloc(), made);
+        expect_lists(&rt, rt.alloc(), &node, made.lists);
         expect_label(&rt, &node, JOE, made.group, made.flags);
     }
 }

@@ -214,8 +214,25 @@ static LINES: [(&str, &str, &str); 42] = [
     ),
 ];
 
-fn has(line: &str, flag: &str) -> bool {
-    line.split(' ').any(|word| word == flag)
+fn flags(line: &str) -> ChangeFlags {
+    let mut flags = ChangeFlags {
+        strip: false,
+        drop_default: false,
+        as_default: false,
+        no_mask: false,
+        remask: false,
+    };
+    for word in line.split(' ') {
+        match word {
+            "-b" => flags.strip = true,
+            "-k" => flags.drop_default = true,
+            "-d" => flags.as_default = true,
+            "-n" => flags.no_mask = true,
+            "--mask" => flags.remask = true,
+            _ => {}
+        }
+    }
+    flags
 }
 
 /// What is after an option's `=`; nothing where the line lacks the option.
@@ -230,19 +247,17 @@ fn value<'a>(line: &'a str, option: &str) -> &'a str {
     ""
 }
 
+fn entries(rt: &impl Abort, alloc: Global, line: &str, option: &str, want: Want) -> Specs {
+    Specs::new(specs(rt, alloc, value(line, option), want))
+}
+
 fn change(rt: &impl Abort, alloc: Global, line: &str) -> Edit {
     Edit::Change(Change {
-        flags: ChangeFlags {
-            strip: has(line, "-b"),
-            drop_default: has(line, "-k"),
-            as_default: has(line, "-d"),
-            no_mask: has(line, "-n"),
-            remask: has(line, "--mask"),
-        },
+        flags: flags(line),
         entries: ChangeEntries {
-            removed: Specs::new(specs(rt, alloc, value(line, "-x"), Want::WithoutPerms)),
-            set: Specs::new(specs(rt, alloc, value(line, "--set"), Want::WithPerms)),
-            modified: Specs::new(specs(rt, alloc, value(line, "-m"), Want::WithPerms)),
+            removed: entries(rt, alloc, line, "-x", Want::WithoutPerms),
+            set: entries(rt, alloc, line, "--set", Want::WithPerms),
+            modified: entries(rt, alloc, line, "-m", Want::WithPerms),
         },
     })
 }
@@ -251,6 +266,6 @@ fn change(rt: &impl Abort, alloc: Global, line: &str) -> Edit {
 fn setfacl_lines(rt: HostRuntime) {
     for (file, line, want) in &LINES {
         let edit = change(&rt, rt.alloc(), line);
-        expect(&rt, rt.alloc(), file, &edit, has(line, "-R"), want);
+        expect(&rt, rt.alloc(), file, &edit, line.starts_with("-R "), want);
     }
 }

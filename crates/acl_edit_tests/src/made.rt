@@ -2,7 +2,7 @@
 use acl_edit::{Edit, EditFault, Kind, Node, apply};
 use acl_entry::{Acl, Entry, Id, Label, Perm};
 use acl_syntax::{NoNames, Sep, Spec, Want, append_short, read_entries};
-use std::alloc::{AllocError, Global};
+use std::alloc::Global;
 use std::process::Abort;
 
 pub const JOE: u32 = 1000;
@@ -24,19 +24,22 @@ pub fn specs(rt: &impl Abort, alloc: Global, text: &str, want: Want) -> Vec<Spec
     read_entries(alloc, text.as_bytes(), Sep::Comma, want, &NoNames).expect(rt, "entries")
 }
 
+fn entry_of(spec: &Spec) -> Entry {
+    let perm = match spec.perm {
+        Some(perm) => perm.fixed,
+        None => Perm::none(),
+    };
+    Entry {
+        key: spec.key,
+        perm,
+    }
+}
+
 /// The list of a text.
 pub fn list(rt: &impl Abort, alloc: Global, text: &str) -> Acl {
     let mut entries = Vec::new(alloc);
     for spec in &specs(rt, alloc, text, Want::Plain) {
-        let perm = match spec.perm {
-            Some(perm) => perm.fixed,
-            None => Perm::none(),
-        };
-        let entry = Entry {
-            key: spec.key,
-            perm,
-        };
-        entries.push(entry).expect(rt, "memory");
+        entries.push(entry_of(spec)).expect(rt, "memory");
     }
     Acl::from_entries(alloc, &entries).expect(rt, "a list")
 }
@@ -50,35 +53,48 @@ pub fn list_of(rt: &impl Abort, alloc: Global, text: &str) -> Option<Acl> {
     }
 }
 
-/// A file of lisa and staff. After the access list of a directory is a slash, and its default list.
-pub fn file(rt: &impl Abort, alloc: Global, text: &str) -> Node {
-    let (kind, access, default) = match text.split_once('/') {
+/// The kind of a file, its access list and its default list, from a text.
+fn parts(text: &str) -> (Kind, &str, &str) {
+    match text.split_once('/') {
         Some((access, default)) => (Kind::Directory, access, default),
         None => (Kind::Plain, text, ""),
-    };
+    }
+}
+
+fn label(rt: &impl Abort, alloc: Global, access: &str) -> Label {
+    Label {
+        owner: id(rt, LISA),
+        group: id(rt, STAFF),
+        acl: list(rt, alloc, access),
+    }
+}
+
+/// A file of lisa and staff. After the access list of a directory is a slash, and its default list.
+pub fn file(rt: &impl Abort, alloc: Global, text: &str) -> Node {
+    let (kind, access, default) = parts(text);
     Node {
         kind,
-        label: Label {
-            owner: id(rt, LISA),
-            group: id(rt, STAFF),
-            acl: list(rt, alloc, access),
-        },
+        label: label(rt, alloc, access),
         flags: [false; 3],
         dacl: list_of(rt, alloc, default),
     }
 }
 
+fn push_list(rt: &impl Abort, text: &mut Vec<u8>, acl: &Acl) {
+    append_short(text, acl, &NoNames).expect(rt, "memory");
+}
+
 /// The lists of a file, as `file` reads them.
-fn lists(alloc: Global, node: &Node) -> Result<Vec<u8>, AllocError> {
+fn lists(rt: &impl Abort, alloc: Global, node: &Node) -> Vec<u8> {
     let mut text = Vec::new(alloc);
-    append_short(&mut text, &node.label.acl, &NoNames)?;
+    push_list(rt, &mut text, &node.label.acl);
     if node.kind == Kind::Directory {
-        text.push(b'/')?;
+        text.push(b'/').expect(rt, "memory");
     }
     if let Some(dacl) = &node.dacl {
-        append_short(&mut text, dacl, &NoNames)?;
+        push_list(rt, &mut text, dacl);
     }
-    Ok(text)
+    text
 }
 
 /// The edit, not of a whole subtree, made of the file.
@@ -88,8 +104,10 @@ pub fn edited(rt: &impl Abort, alloc: Global, node: &Node, edit: &Edit) -> Node 
 
 /// The lists of the file are these.
 pub fn expect_lists(rt: &impl Abort, alloc: Global, node: &Node, want: &str) {
-    let found = lists(alloc, node).expect(rt, "memory");
-    assert!(rt; found.as_slice() == want.as_bytes(), "not {want}");
+    assert!(rt;
+        lists(rt, alloc, node).as_slice() == want.as_bytes(),
+        "not {want}"
+    );
 }
 
 /// The fault reads like this.
@@ -117,6 +135,5 @@ pub fn expect(
 /// The owner, the group and the flags of the file are these.
 pub fn expect_label(rt: &impl Abort, node: &Node, owner: u32, group: u32, flags: [bool; 3]) {
     let found = (node.label.owner.number(), node.label.group.number());
-    assert!(rt; found == (owner, group), "another owner or group");
-    assert!(rt; node.flags == flags, "other flags");
+    assert!(rt; found == (owner, group) && node.flags == flags);
 }

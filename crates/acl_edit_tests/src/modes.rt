@@ -1,7 +1,9 @@
 //! Modes, and files beside one another.
 use crate::made::{ANN, JOE, LISA, STAFF, USERS, expect_label, expect_lists, file, id};
-use acl_edit::chmod;
+use acl_edit::{Node, chmod};
 use acl_entry::{Subject, granted};
+use std::alloc::Global;
+use std::process::Abort;
 
 /// A file, modes that it is given in turn, and its lists and flags afterwards.
 static MODES: [(&str, &[u16], &str, [bool; 3]); 7] = [
@@ -50,41 +52,57 @@ static MODES: [(&str, &[u16], &str, [bool; 3]); 7] = [
     ),
 ];
 
+/// The file, after the modes.
+fn with_modes(rt: &impl Abort, alloc: Global, text: &str, modes: &[u16]) -> Node {
+    let mut node = file(rt, alloc, text);
+    for mode in modes {
+        chmod(&mut node, *mode);
+    }
+    node
+}
+
 #[test]
 fn modes_are_put(rt: HostRuntime) {
     for (text, modes, lists, flags) in &MODES {
-        let mut node = file(&rt, rt.alloc(), text);
-        for mode in *modes {
-            chmod(&mut node, *mode);
-        }
+        let node = with_modes(&rt, rt.alloc(), text, modes);
         expect_lists(&rt, rt.alloc(), &node, lists);
         expect_label(&rt, &node, LISA, STAFF, *flags);
     }
 }
 
-/// joe's entry denies what users and the others may do.
+/// A user of users.
+fn of_users(rt: &impl Abort, alloc: Global, user: u32) -> Subject {
+    Subject::from_groups(alloc, id(rt, user), &[id(rt, USERS)]).expect(rt, "memory")
+}
+
+/// Users, and what they are granted, as a byte: joe's entry denies what users and the others may do.
+static GRANTED: [(u32, u8); 2] = [(JOE, 0x01), (ANN, 0xff)];
+
 #[test]
 fn a_named_user_is_not_one_of_the_others(rt: HostRuntime) {
-    let alloc = rt.alloc();
-    let f = file(
-        &rt,
-        alloc,
-        "u::rw-,u:1000:---,g::r--,g:100:rwx,m::rwx,o::r--",
-    );
-    let users = [id(&rt, USERS)];
-    let joe = Subject::from_groups(alloc, id(&rt, JOE), &users).expect(&rt, "memory");
-    let ann = Subject::from_groups(alloc, id(&rt, ANN), &users).expect(&rt, "memory");
-    assert_eq!(rt; granted(&joe, &f.label).bits(), 0x01);
-    assert_eq!(rt; granted(&ann, &f.label).bits(), 0xff);
+    let text = "u::rw-,u:1000:---,g::r--,g:100:rwx,m::rwx,o::r--";
+    let node = file(&rt, rt.alloc(), text);
+    for (user, want) in &GRANTED {
+        let asking = of_users(&rt, rt.alloc(), *user);
+        assert!(rt; granted(&asking, &node.label).bits() == *want);
+    }
+}
+
+/// Modes that a copy of a file is given, and whether its label is that of the file.
+static LABELS: [(&[u16], bool); 3] = [(&[], true), (&[0o4640], true), (&[0o4640, 0o644], false)];
+
+fn copy(rt: &impl Abort, alloc: Global, node: &Node, modes: &[u16]) -> Node {
+    let mut copy = node.try_clone(alloc).expect(rt, "memory");
+    for mode in modes {
+        chmod(&mut copy, *mode);
+    }
+    copy
 }
 
 #[test]
 fn a_changed_list_is_another_label(rt: HostRuntime) {
-    let f = file(&rt, rt.alloc(), "u::rw-,g::r--,o::---");
-    let mut other = f.try_clone(rt.alloc()).expect(&rt, "memory");
-    assert!(rt; f.same_label(&other), "a copy");
-    chmod(&mut other, 0o4640);
-    assert!(rt; f.same_label(&other), "other flags");
-    chmod(&mut other, 0o644);
-    assert!(rt; !f.same_label(&other), "another list");
+    let node = file(&rt, rt.alloc(), "u::rw-,g::r--,o::---");
+    for (modes, want) in &LABELS {
+        assert!(rt; node.same_label(&copy(&rt, rt.alloc(), &node, modes)) == *want);
+    }
 }

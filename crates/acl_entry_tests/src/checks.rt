@@ -15,6 +15,8 @@ struct Check {
     granted: u8,
 }
 
+const MINIMAL: &[Row] = &[(Owner, 6), (OwningGroup, 4), (Other, 0)];
+
 const NAMED_USER: &[Row] = &[
     (Owner, 6),
     (User(JOE), 7),
@@ -66,7 +68,29 @@ const MASKED: &[Row] = &[
     (Other, 6),
 ];
 
-static CHECKS: [Check; 13] = [
+static CHECKS: [Check; 16] = [
+    // The owner may write and read, a user of another group may do nothing, and after `chmod 604` read.
+    Check {
+        list: MINIMAL,
+        modes: &[],
+        user: LISA,
+        groups: &[STAFF],
+        granted: 0b0101_0101,
+    },
+    Check {
+        list: MINIMAL,
+        modes: &[],
+        user: JOE,
+        groups: &[USERS],
+        granted: 0b0000_0001,
+    },
+    Check {
+        list: MINIMAL,
+        modes: &[0o4604],
+        user: JOE,
+        groups: &[USERS],
+        granted: 0b0001_0001,
+    },
     // A named user is granted what the entry and the mask contain, and after `chmod 600` nothing.
     Check {
         list: NAMED_USER,
@@ -189,49 +213,27 @@ fn subject(rt: &impl Abort, alloc: Global, uid: u32, groups: &[u32]) -> Subject 
     Subject::from_groups(alloc, id(rt, uid), &ids(rt, alloc, groups)).expect(rt, "memory")
 }
 
-/// The user is granted these requests, as a byte.
-fn expect_granted(
-    rt: &impl Abort,
-    alloc: Global,
-    label: &Label,
-    user: u32,
-    groups: &[u32],
-    want: u8,
-) {
-    let asking = subject(rt, alloc, user, groups);
-    assert!(rt; granted(&asking, label).bits() == want, "not {want}");
+/// The file of a row, after its modes.
+fn checked(rt: &impl Abort, alloc: Global, check: &Check) -> Label {
+    let mut label = file(rt, list(rt, alloc, check.list));
+    for mode in check.modes {
+        label.acl.chmod(*mode);
+    }
+    label
+}
+
+/// The requests that the user of a row is granted, as a byte.
+fn bits(rt: &impl Abort, alloc: Global, check: &Check) -> u8 {
+    let label = checked(rt, alloc, check);
+    granted(&subject(rt, alloc, check.user, check.groups), &label).bits()
 }
 
 #[test]
 fn requests_are_granted(rt: HostRuntime) {
     for check in &CHECKS {
-        let mut label = file(&rt, list(&rt, rt.alloc(), check.list));
-        for mode in check.modes {
-            label.acl.chmod(*mode);
-        }
-        expect_granted(
-            &rt,
-            rt.alloc(),
-            &label,
-            check.user,
-            check.groups,
-            check.granted,
-        );
+        let found = bits(&rt, rt.alloc(), check);
+        assert!(rt; found == check.granted, "{found} and not {}", check.granted);
     }
-}
-
-/// A file of mode 0640, and the same after `chmod 604`.
-#[test]
-fn minimal_lists(rt: HostRuntime) {
-    let acl = Acl::minimal(rt.alloc(), 0o640).expect(&rt, "memory");
-    let mut label = file(&rt, acl);
-    // -w- r-- rw-
-    expect_granted(&rt, rt.alloc(), &label, LISA, &[STAFF], 0b0101_0101);
-    // only the empty request
-    expect_granted(&rt, rt.alloc(), &label, JOE, &[USERS], 0b0000_0001);
-    label.acl.chmod(0o4604);
-    // r--
-    expect_granted(&rt, rt.alloc(), &label, JOE, &[USERS], 0b0001_0001);
 }
 
 #[test]
@@ -242,23 +244,30 @@ fn what_a_label_mentions(rt: HostRuntime) {
     assert!(rt; mentioned.as_slice() == want.as_slice());
 }
 
+/// Ids, and whether that file mentions one of them.
+static MENTIONED: [([u32; 2], bool); 2] = [([3, ADM], true), ([3, JOE], false)];
+
 #[test]
 fn a_label_mentions_one_of_the_ids(rt: HostRuntime) {
     let label = file(&rt, list(&rt, rt.alloc(), TWO_GROUPS));
-    for (numbers, want) in &[([3, ADM], true), ([3, JOE], false)] {
+    for (numbers, want) in &MENTIONED {
         let ids = ids(&rt, rt.alloc(), numbers);
         assert!(rt; label.mentions_one_of(&ids) == *want);
     }
 }
 
 #[test]
-fn users_and_their_groups(rt: HostRuntime) {
+fn the_groups_of_a_user(rt: HostRuntime) {
     let joe = subject(&rt, rt.alloc(), JOE, &[USERS, ADM, USERS]);
     let groups = ids(&rt, rt.alloc(), &[ADM, USERS]);
-    assert!(rt; joe.uid() == id(&rt, JOE));
     assert!(rt; joe.groups() == groups.as_slice());
-    assert!(rt; joe.is_of(id(&rt, USERS)));
-    assert!(rt; !joe.is_of(id(&rt, STAFF)));
+}
+
+#[test]
+fn who_a_user_is(rt: HostRuntime) {
+    let (users, staff) = (id(&rt, USERS), id(&rt, STAFF));
+    let joe = subject(&rt, rt.alloc(), JOE, &[USERS, ADM, USERS]);
+    assert!(rt; joe.uid().number() == JOE && joe.is_of(users) && !joe.is_of(staff));
 }
 
 #[test]

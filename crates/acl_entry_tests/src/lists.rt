@@ -54,9 +54,12 @@ static FAULTS: [(&[Row], &str); 8] = [
     ),
 ];
 
-/// The fault of the entries' list reads like this.
-fn expect_fault(rt: &impl Abort, alloc: Global, entries: &[Entry], want: &str) {
-    let fault = Acl::from_entries(alloc, entries).err();
+fn fault_of(alloc: Global, entries: &[Entry]) -> Option<ListFault> {
+    Acl::from_entries(alloc, entries).err()
+}
+
+/// The fault reads like this.
+fn expect_fault(rt: &impl Abort, alloc: Global, fault: Option<ListFault>, want: &str) {
     let found = format!(in alloc; "{fault:?}").expect(rt, "memory");
     assert!(rt; found.as_str() == want, "not {want}");
 }
@@ -64,8 +67,8 @@ fn expect_fault(rt: &impl Abort, alloc: Global, entries: &[Entry], want: &str) {
 #[test]
 fn lists_are_refused(rt: HostRuntime) {
     for (rows, want) in &FAULTS {
-        let entries = entries(&rt, rt.alloc(), rows);
-        expect_fault(&rt, rt.alloc(), &entries, want);
+        let fault = fault_of(rt.alloc(), &entries(&rt, rt.alloc(), rows));
+        expect_fault(&rt, rt.alloc(), fault, want);
     }
 }
 
@@ -81,29 +84,42 @@ fn with_users(rt: &impl Abort, alloc: Global, named: u32) -> Vec<Entry> {
     entries
 }
 
-/// A list of so many named users, the base entries and a mask has so many entries.
-fn expect_kept(rt: &impl Abort, alloc: Global, named: u32, want: usize) {
-    let acl = Acl::from_entries(alloc, &with_users(rt, alloc, named)).expect(rt, "a valid list");
-    assert!(rt; acl.entries().len() == want, "not {want} entries");
-    let last = id(rt, named.saturating_sub(1));
-    assert!(rt;
-        acl.get(Key::User(last)) == Some(perm(rt, 4)),
-        "the last user"
-    );
-    let copy = acl.try_clone(alloc).expect(rt, "memory");
-    assert!(rt; copy.same(&acl), "a copy");
+fn number_of(perm: Option<Perm>) -> Option<u8> {
+    match perm {
+        Some(perm) => Some(perm.number()),
+        None => None,
+    }
+}
+
+/// Whether a copy of the list is the same.
+fn is_copied(rt: &impl Abort, alloc: Global, acl: &Acl) -> bool {
+    acl.try_clone(alloc).expect(rt, "memory").same(acl)
+}
+
+/// How many users are named, and how many entries the list has.
+static KEPT: [(u32, usize); 3] = [(4, 8), (5, 9), (4092, 4096)];
+
+#[test]
+fn keeps_the_most_entries(rt: HostRuntime) {
+    for (named, want) in &KEPT {
+        let last = Key::User(id(&rt, named.saturating_sub(1)));
+        let entries = with_users(&rt, rt.alloc(), *named);
+        let acl = Acl::from_entries(rt.alloc(), &entries).expect(&rt, "a valid list");
+        assert!(rt; acl.entries().len() == *want && number_of(acl.get(last)) == Some(4));
+        assert!(rt; is_copied(&rt, rt.alloc(), &acl));
+    }
 }
 
 #[test]
-fn keeps_the_most_entries_and_not_one_more(rt: HostRuntime) {
+fn refuses_one_entry_more(rt: HostRuntime) {
+    let fault = fault_of(rt.alloc(), &with_users(&rt, rt.alloc(), 4093));
+    assert!(rt; fault == Some(ListFault::TooLong));
+}
+
+#[test]
+fn limits(rt: HostRuntime) {
     limits_are_as_defined();
-    assert!(rt; INLINE_ENTRIES == 8);
-    assert!(rt; MAX_ENTRIES == 4096);
-    expect_kept(&rt, rt.alloc(), 4, 8);
-    expect_kept(&rt, rt.alloc(), 5, 9);
-    expect_kept(&rt, rt.alloc(), 4092, 4096);
-    let more = with_users(&rt, rt.alloc(), 4093);
-    expect_fault(&rt, rt.alloc(), &more, "Some(TooLong)");
+    assert!(rt; INLINE_ENTRIES == 8 && MAX_ENTRIES == 4096);
 }
 
 static SHUFFLED: [Row; 8] = [
@@ -132,8 +148,7 @@ static IN_ORDER: [Row; 8] = [
 fn entries_are_in_list_order(rt: HostRuntime) {
     let acl = list(&rt, rt.alloc(), &SHUFFLED);
     expect_entries(&rt, rt.alloc(), &acl, &IN_ORDER);
-    assert!(rt; acl.class_union() == perm(&rt, 7));
-    assert!(rt; !acl.is_minimal());
+    assert!(rt; acl.class_union().number() == 7 && !acl.is_minimal());
 }
 
 static UNION_OF_THREE: [Row; 6] = [
@@ -148,7 +163,7 @@ static UNION_OF_THREE: [Row; 6] = [
 #[test]
 fn the_class_is_named_entries_and_the_owning_group(rt: HostRuntime) {
     let acl = list(&rt, rt.alloc(), &UNION_OF_THREE);
-    assert!(rt; acl.class_union() == perm(&rt, 7));
+    assert!(rt; acl.class_union().number() == 7);
 }
 
 /// The entry for joe that setfacl makes in a file of mode 0640.
@@ -170,36 +185,45 @@ fn mode_shows_the_mask(rt: HostRuntime) {
     acl.chmod(0o600);
     assert!(rt; acl.mode() == 0o600);
     for (who, is, effective) in &MASKED {
-        assert!(rt; acl.get(key(&rt, who)) == Some(perm(&rt, *is)));
-        assert!(rt; acl.effective(key(&rt, who)) == Some(perm(&rt, *effective)));
+        assert!(rt; number_of(acl.get(key(&rt, who))) == Some(*is));
+        assert!(rt; number_of(acl.effective(key(&rt, who))) == Some(*effective));
     }
+}
+
+fn minimal(rt: &impl Abort, alloc: Global, mode: u16) -> Acl {
+    Acl::minimal(alloc, mode).expect(rt, "memory")
 }
 
 #[test]
 fn mode_of_a_minimal_list(rt: HostRuntime) {
-    let mut acl = Acl::minimal(rt.alloc(), 0o2750).expect(&rt, "memory");
-    assert!(rt; acl.is_minimal());
-    assert!(rt; acl.mode() == 0o750);
+    let mut acl = minimal(&rt, rt.alloc(), 0o2750);
+    assert!(rt; acl.is_minimal() && acl.mode() == 0o750);
     acl.chmod(0o705);
-    expect_entries(
-        &rt,
-        rt.alloc(),
-        &acl,
-        &[(Owner, 7), (OwningGroup, 0), (Other, 5)],
-    );
+    expect_entries(&rt, rt.alloc(), &acl, &CHANGED);
+}
+
+/// The entries of a minimal list after `chmod 705`.
+static CHANGED: [Row; 3] = [(Owner, 7), (OwningGroup, 0), (Other, 5)];
+
+#[test]
+fn a_minimal_list_is_restricted(rt: HostRuntime) {
+    let mut acl = minimal(&rt, rt.alloc(), 0o705);
     acl.restrict(0o644);
     assert!(rt; acl.mode() == 0o604);
     acl.restrict(0o777);
     assert!(rt; acl.mode() == 0o604);
 }
 
+/// A key of the list for joe, and its permissions once the list is restricted.
+static RESTRICTED: [Row; 3] = [(Mask, 4), (OwningGroup, 4), (User(JOE), 7)];
+
 #[test]
 fn creation_cuts_the_mask(rt: HostRuntime) {
     let mut acl = list(&rt, rt.alloc(), &NAMED_USER);
     acl.restrict(0o646);
     assert!(rt; acl.mode() == 0o640);
-    for (who, is) in &[(Mask, 4), (OwningGroup, 4), (User(JOE), 7)] {
-        assert!(rt; acl.get(key(&rt, who)) == Some(perm(&rt, *is)));
+    for (who, is) in &RESTRICTED {
+        assert!(rt; number_of(acl.get(key(&rt, who))) == Some(*is));
     }
 }
 
@@ -212,22 +236,21 @@ fn insert(rt: &impl Abort, draft: &mut Draft, who: &Who, number: u8) {
 }
 
 fn draft(rt: &impl Abort, alloc: Global) -> Draft {
-    let acl = Acl::minimal(alloc, 0o640).expect(rt, "memory");
-    Draft::of(alloc, &acl).expect(rt, "memory")
+    let mut draft = Draft::of(alloc, &minimal(rt, alloc, 0o640)).expect(rt, "memory");
+    for (who, number) in &INSERTED {
+        insert(rt, &mut draft, who, *number);
+    }
+    draft
 }
 
 #[test]
 fn a_draft_becomes_a_list(rt: HostRuntime) {
     let mut draft = draft(&rt, rt.alloc());
-    for (who, number) in &INSERTED {
-        insert(&rt, &mut draft, who, *number);
-    }
     draft.remove(&Key::Other);
     assert!(rt; draft.get(Key::Other).is_none());
     insert(&rt, &mut draft, &Other, 0);
     assert!(rt; draft.entries().len() == 5);
-    let edited = draft.finish().expect(&rt, "a valid list");
-    assert!(rt; edited.mode() == 0o670);
+    assert!(rt; draft.finish().expect(&rt, "a valid list").mode() == 0o670);
 }
 
 #[test]
@@ -237,26 +260,28 @@ fn an_empty_draft_is_refused(rt: HostRuntime) {
 }
 
 /// Permissions, and how they are written.
-static TEXTS: [(u8, &[u8]); 2] = [(5, b"r-x"), (2, b"-w-")];
+static TEXTS: [(u8, &[u8]); 3] = [(5, b"r-x"), (2, b"-w-"), (6, b"rw-")];
 
 #[test]
 fn permissions(rt: HostRuntime) {
     for (number, want) in &TEXTS {
-        assert!(rt; perm(&rt, *number).text().as_slice() == *want);
+        let perm = perm(&rt, *number);
+        assert!(rt; perm.text().as_slice() == *want && perm.number() == *number);
     }
-    assert!(rt; perm(&rt, 6).number() == 6);
     assert!(rt; Perm::from_number(8).is_none());
 }
 
 #[test]
-fn keys(rt: HostRuntime) {
+fn ids(rt: HostRuntime) {
     assert!(rt; Id::new(4294967295).is_none());
     assert!(rt; id(&rt, 4294967294).number() == 4294967294);
+}
+
+#[test]
+fn keys(rt: HostRuntime) {
     let joe = Key::User(id(&rt, JOE));
-    assert!(rt; joe.id() == Some(id(&rt, JOE)));
-    assert!(rt; Key::OwningGroup.is_class());
-    assert!(rt; Key::Other.is_base());
-    assert!(rt; Key::Group(id(&rt, ADM)).is_named());
-    assert!(rt; joe < Key::OwningGroup);
-    assert!(rt; joe.order(Key::OwningGroup).is_lt());
+    let adm = Key::Group(id(&rt, ADM));
+    assert!(rt; joe.id() == Some(id(&rt, JOE)) && adm.is_named());
+    assert!(rt; Key::OwningGroup.is_class() && Key::Other.is_base());
+    assert!(rt; joe < Key::OwningGroup && joe.order(Key::OwningGroup).is_lt());
 }

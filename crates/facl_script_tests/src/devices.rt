@@ -3,29 +3,6 @@ use std::cell::Cell;
 use std::io;
 use std::io::{ErrorKind, Read, Write};
 
-/// Gives its bytes one at a time, and fails once `left` of them were given, with the error that other code tries again.
-#[derive(Drop)]
-pub struct FailingReader<'a> {
-    pub bytes: &'a [u8],
-    pub at: usize,
-    pub left: usize,
-}
-
-impl Read for FailingReader<'_> {
-    fn read(&mut self, buf: &mut [u8]) -> io::Result<usize> {
-        if self.left == 0 {
-            return Err(io::Error::from(ErrorKind::Interrupted));
-        }
-        if buf.is_empty() || self.at >= self.bytes.len() {
-            return Ok(0);
-        }
-        buf[0] = self.bytes[self.at];
-        self.at += 1;
-        self.left -= 1;
-        Ok(1)
-    }
-}
-
 /// Gives its bytes, then 0 bytes once, and fails at each read after that.
 #[derive(Drop)]
 pub struct EndingReader<'a> {
@@ -44,16 +21,17 @@ impl Read for EndingReader<'_> {
     }
 }
 
-/// Gives its bytes one at a time. One call fails, or gives 0 bytes, and every later one works. It counts its calls.
+/// Gives its bytes one at a time. One call fails, with the error that other code tries again, or gives 0 bytes, and every
+/// later one works. It counts its calls.
 #[derive(Drop)]
-pub struct RecoveringReader<'a> {
+pub struct FaultyReader<'a> {
     pub bytes: &'a [u8],
     pub calls: usize,
     pub faulty_call: usize,
     pub gives_nothing: bool,
 }
 
-impl Read for RecoveringReader<'_> {
+impl Read for FaultyReader<'_> {
     fn read(&mut self, buf: &mut [u8]) -> io::Result<usize> {
         let call = self.calls;
         self.calls = call.saturating_add(1);
@@ -148,45 +126,16 @@ impl Read for CommentReader {
     }
 }
 
-/// Takes one byte a call, and once `left` of them were taken fails, or takes nothing.
-#[derive(Drop)]
-pub struct FailingWriter {
-    pub held: Vec<u8>,
-    pub left: usize,
-    pub takes_nothing: bool,
-}
-
-impl Write for FailingWriter {
-    fn write(&mut self, buf: &[u8]) -> io::Result<usize> {
-        if buf.is_empty() {
-            return Ok(0);
-        }
-        if self.left == 0 {
-            if self.takes_nothing {
-                return Ok(0);
-            }
-            return Err(io::Error::from(ErrorKind::Interrupted));
-        }
-        self.held.push(buf[0])?;
-        self.left -= 1;
-        Ok(1)
-    }
-
-    fn flush(&mut self) -> io::Result<()> {
-        Ok(())
-    }
-}
-
 /// Takes one byte a call. One call fails, or takes nothing, and every later one works. It counts its calls.
 #[derive(Drop)]
-pub struct RecoveringWriter {
+pub struct FaultyWriter {
     pub held: Vec<u8>,
     pub calls: usize,
     pub faulty_call: usize,
     pub takes_nothing: bool,
 }
 
-impl Write for RecoveringWriter {
+impl Write for FaultyWriter {
     fn write(&mut self, buf: &[u8]) -> io::Result<usize> {
         let call = self.calls;
         self.calls = call.saturating_add(1);

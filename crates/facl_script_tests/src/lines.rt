@@ -13,11 +13,15 @@ static WORDS: [(&[u8], &str); 6] = [
     (b"\t# ' \xff", ""),
 ];
 
+fn push(rt: &impl Abort, text: &mut String, part: &str) {
+    text.push_str(part).expect(rt, "memory");
+}
+
 fn push_words(rt: &impl Abort, text: &mut String, words: &[String]) {
     for word in words {
-        text.push_str("[").expect(rt, "memory");
-        text.push_str(word.as_str()).expect(rt, "memory");
-        text.push_str("]").expect(rt, "memory");
+        push(rt, text, "[");
+        push(rt, text, word.as_str());
+        push(rt, text, "]");
     }
 }
 

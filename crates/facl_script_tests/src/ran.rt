@@ -5,6 +5,24 @@ use std::alloc::Global;
 use std::io::{Read, Write};
 use std::process::Abort;
 
+/// Lines that are given back, two with a text; a comment; an open quote, which the session gives back too; a text without end.
+pub const SCRIPT: &[u8] = b"ab\n# x\nload c\nd\n\n.\ny -\n.\n'\nload\nz";
+
+pub const OUT: &[u8] = b"ab\nload c\nd\n\ny -\n'\n";
+
+pub const ERR: &[u8] = b"text without end\n";
+
+/// How many bytes of the output come of the units whose last LF is among the first `j` bytes of the script.
+pub fn answer_so_far(j: usize) -> usize {
+    match j {
+        0..3 => 0,
+        3..19 => 3,
+        19..25 => 13,
+        25..27 => 17,
+        _ => 19,
+    }
+}
+
 /// Runs the session over these devices.
 pub fn echo<R: Read + Drop, O: Write + Drop, E: Write + Drop>(
     alloc: Global,
@@ -32,7 +50,6 @@ pub fn expect_echo<R: Read + Drop>(
     let mut out = Vec::new(alloc);
     let mut err = Vec::new(alloc);
     let found = echo(alloc, reader, &mut out, &mut err);
-    assert_eq!(rt; found, status);
-    assert!(rt; out.as_slice() == wanted.0);
-    assert!(rt; err.as_slice() == wanted.1);
+    assert!(rt; found == status);
+    assert!(rt; out.as_slice() == wanted.0 && err.as_slice() == wanted.1);
 }

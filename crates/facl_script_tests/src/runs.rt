@@ -1,9 +1,7 @@
 //! Tests of whole runs.
-use crate::devices::{
-    CommentReader, EndingReader, FailingReader, FailingWriter, WatchedWriter, WatchingReader,
-};
+use crate::devices::{CommentReader, EndingReader, WatchedWriter, WatchingReader};
 use crate::echo::Echo;
-use crate::ran::{echo, expect_echo};
+use crate::ran::{ERR, OUT, SCRIPT, answer_so_far, echo, expect_echo};
 use facl_script::{
     Feed, SCRIPT_LIMIT, ScriptFault, Sink, StdFeed, StdSink, run_session, write_answer, write_whole,
 };
@@ -11,31 +9,20 @@ use std::alloc::Global;
 use std::cell::Cell;
 use std::process::Abort;
 
-/// Lines that are given back, two with a text; a comment; an open quote, which the session gives back too; a text without end.
-const SCRIPT: &[u8] = b"ab\n# x\nload c\nd\n\n.\ny -\n.\n'\nload\nz";
-
-const OUT: &[u8] = b"ab\nload c\nd\n\ny -\n'\n";
-
-const ERR: &[u8] = b"text without end\n";
-
 #[test]
 fn runs_over_memory(rt: HostRuntime) {
+    expect_echo(&rt, rt.alloc(), SCRIPT, Ok(true), (OUT, ERR));
+}
+
+#[test]
+fn a_session_knows_what_it_refused(rt: HostRuntime) {
     let mut session = Echo::new(rt.alloc());
-    let mut out = Vec::new(rt.alloc());
-    let mut err = Vec::new(rt.alloc());
-    let mut reader = StdFeed::new(SCRIPT);
-    let status = run_session(
-        rt.alloc(),
-        &mut session,
-        &mut reader,
-        &mut StdSink::new(&mut out),
-        &mut StdSink::new(&mut err),
-    );
-    assert_eq!(rt; status, Ok(true));
-    assert_eq!(rt; out.as_slice(), OUT);
-    assert_eq!(rt; err.as_slice(), ERR);
-    assert!(rt; session.has_refused());
-    assert!(rt; !reader.failed());
+    let mut feed = StdFeed::new(SCRIPT);
+    let mut out = StdSink::new(Vec::new(rt.alloc()));
+    let mut err = StdSink::new(Vec::new(rt.alloc()));
+    let status = run_session(rt.alloc(), &mut session, &mut feed, &mut out, &mut err);
+    assert!(rt; status == Ok(true));
+    assert!(rt; session.has_refused() && !feed.failed());
 }
 
 #[test]
@@ -63,98 +50,11 @@ fn reads_nothing_after_the_end(rt: HostRuntime) {
     }
 }
 
-fn failing_after(alloc: Global, left: usize, takes_nothing: bool) -> FailingWriter {
-    FailingWriter {
-        held: Vec::new(alloc),
-        left,
-        takes_nothing,
-    }
-}
-
-fn expect_held(rt: &impl Abort, writer: FailingWriter, bytes: &[u8]) {
-    assert!(rt; writer.held.as_slice() == bytes);
-}
-
-/// How a run ends whose writer takes so many of its bytes.
-fn status_at(taken: &[u8], all: &[u8]) -> Result<bool, ScriptFault> {
-    if taken.len() == all.len() {
-        Ok(true)
-    } else {
-        Err(ScriptFault::Write)
-    }
-}
-
-fn expect_out_fails(rt: &impl Abort, alloc: Global, taken: &[u8], takes_nothing: bool) {
-    let mut out = failing_after(alloc, taken.len(), takes_nothing);
-    let mut err = Vec::new(alloc);
-    let found = echo(alloc, SCRIPT, &mut out, &mut err);
-    assert!(rt; found == status_at(taken, OUT));
-    assert!(rt; err.is_empty() == (taken.len() < OUT.len()));
-    expect_held(rt, out, taken);
-}
-
-#[test]
-fn stops_where_out_fails(rt: HostRuntime) {
-    for k in 0..OUT.len() + 1 {
-        expect_out_fails(&rt, rt.alloc(), &OUT[..k], false);
-        expect_out_fails(&rt, rt.alloc(), &OUT[..k], true);
-    }
-}
-
-fn expect_err_fails(rt: &impl Abort, alloc: Global, taken: &[u8]) {
-    let mut err = failing_after(alloc, taken.len(), false);
-    let script = b"load\nx\n".as_slice();
-    let found = echo(alloc, script, Vec::new(alloc), &mut err);
-    assert!(rt; found == status_at(taken, ERR));
-    expect_held(rt, err, taken);
-}
-
-#[test]
-fn stops_where_err_fails(rt: HostRuntime) {
-    for k in 0..ERR.len() + 1 {
-        expect_err_fails(&rt, rt.alloc(), &ERR[..k]);
-    }
-}
-
-/// How many bytes of the output come of the units whose last LF is among the first `j` bytes of the script.
-fn answer_so_far(j: usize) -> usize {
-    match j {
-        0..3 => 0,
-        3..19 => 3,
-        19..25 => 13,
-        25..27 => 17,
-        _ => 19,
-    }
-}
-
-fn expect_reader_fails(rt: &impl Abort, alloc: Global, given: usize) {
-    let mut reader = FailingReader {
-        bytes: SCRIPT,
-        at: 0,
-        left: given,
-    };
-    let mut out = Vec::new(alloc);
-    let mut err = Vec::new(alloc);
-    let found = echo(alloc, &mut reader, &mut out, &mut err);
-    assert_eq!(rt; found, Err(ScriptFault::Read), "at {given}");
-    assert!(rt;
-        out.len() == answer_so_far(given) && err.is_empty(),
-        "at {given}"
-    );
-}
-
-#[test]
-fn stops_where_the_reader_fails(rt: HostRuntime) {
-    for given in 0..SCRIPT.len() + 1 {
-        expect_reader_fails(&rt, rt.alloc(), given);
-    }
-}
-
 /// What was written by each read: the answers to the units that were given in full, and no more.
 fn expect_written(rt: &impl Abort, seen: &[(usize, usize)]) {
     assert!(rt; !seen.is_empty());
     for (given, written) in seen {
-        assert_eq!(rt; *written, answer_so_far(*given), "at {given}");
+        assert!(rt; *written == answer_so_far(*given));
     }
 }
 
@@ -169,7 +69,7 @@ fn expect_answers_before_reads(rt: &impl Abort, alloc: Global, gives_lines: bool
     };
     let out = WatchedWriter { written: &written };
     let found = echo(alloc, &mut reader, out, Vec::new(alloc));
-    assert_eq!(rt; found, Ok(true));
+    assert!(rt; found == Ok(true));
     expect_written(rt, &reader.seen);
 }
 
@@ -281,21 +181,21 @@ fn ends_long_scripts(rt: HostRuntime) {
     }
 }
 
-#[test]
-fn writes(rt: HostRuntime) {
-    let mut held = Vec::new(rt.alloc());
-    let mut err = Vec::new(rt.alloc());
-    let mut out = StdSink::new(&mut held);
-    assert!(rt; write_whole(&mut out, b"ab").is_ok());
-    assert!(rt; write_answer(&mut out, &mut StdSink::new(&mut err), b"c", b"d").is_ok());
-    assert!(rt; !out.failed());
-    assert!(rt; held.as_slice() == b"abc".as_slice());
-    assert!(rt; err.as_slice() == b"d".as_slice());
+/// Whether the bytes are written, and the writer has not failed.
+fn writes(out: &mut Vec<u8>, bytes: &[u8]) -> bool {
+    let mut out = StdSink::new(out);
+    write_whole(&mut out, bytes).is_ok() && !out.failed()
+}
+
+fn answers(out: &mut Vec<u8>, err: &mut Vec<u8>) -> bool {
+    let mut out = StdSink::new(out);
+    write_answer(&mut out, &mut StdSink::new(err), b"c", b"d").is_ok() && !out.failed()
 }
 
 #[test]
-fn fails(rt: HostRuntime) {
-    let mut out = StdSink::new(failing_after(rt.alloc(), 1, false));
-    assert!(rt; write_whole(&mut out, b"ab").is_err());
-    assert!(rt; out.failed());
+fn all_is_written(rt: HostRuntime) {
+    let mut out = Vec::new(rt.alloc());
+    let mut err = Vec::new(rt.alloc());
+    assert!(rt; writes(&mut out, b"ab") && answers(&mut out, &mut err));
+    assert!(rt; out.as_slice() == b"abc".as_slice() && err.as_slice() == b"d".as_slice());
 }

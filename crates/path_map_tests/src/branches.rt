@@ -1,87 +1,109 @@
 //! A map of three branches: the even numbers below 80,000 as names, each with itself as value.
-use acl_names::read_path;
-use path_map::{Entries, MapEntry, PathMap, is_in_order};
+use crate::made::{Row, digit, map_of, merged, next_value, row, value_at, value_up_to};
+use acl_names::Path;
+use path_map::{Entries, Finder, PathMap};
 use std::alloc::Global;
 use std::process::Abort;
-use std::rc::Rc;
-use std::test::Fail;
 
-fn numbered(rt: &impl Abort, alloc: Global, number: u32) -> Result<Rc<MapEntry<u32>>, Fail> {
-    let text = format!(in alloc; "{number:05}")?;
-    let path = read_path(alloc, text.as_bytes())?.expect(rt, "a path");
-    Ok(Rc::new(alloc, MapEntry::new(Rc::new(alloc, path)?, number))?)
+/// The row of a number below 100,000.
+fn numbered(rt: &impl Abort, alloc: Global, number: u32) -> Row {
+    let name = [
+        digit(number / 10_000),
+        digit(number / 1_000),
+        digit(number / 100),
+        digit(number / 10),
+        digit(number),
+    ];
+    row(rt, alloc, &name, number)
 }
 
-fn evens(rt: &impl Abort, alloc: Global) -> Result<PathMap<u32>, Fail> {
-    let mut entries = Vec::new(alloc);
-    for number in (0..80_000).step_by(2) {
-        entries.push(numbered(rt, alloc, number)?)?;
+/// The rows of every second number from one to before another.
+fn numbers(rt: &impl Abort, alloc: Global, first: u32, end: u32) -> Vec<Row> {
+    let mut rows = Vec::new(alloc);
+    for number in (first..end).step_by(2) {
+        rows.push(numbered(rt, alloc, number)).expect(rt, "memory");
     }
-    assert!(rt; is_in_order(&entries));
-    Ok(PathMap::from_sorted(alloc, &entries)?)
+    rows
+}
+
+fn evens(rt: &impl Abort, alloc: Global) -> PathMap<u32> {
+    map_of(rt, alloc, &numbers(rt, alloc, 0, 80_000))
 }
 
 /// Whether the entries are the even numbers from one to before another.
 fn are_evens(mut entries: Entries<'_, u32>, first: u32, end: u32) -> bool {
     for number in (first..end).step_by(2) {
-        if entries.next().map(|entry| *entry.value()) != Some(number) {
+        if next_value(&mut entries) != Some(number) {
             return false;
         }
     }
-    entries.next().is_none()
+    next_value(&mut entries).is_none()
+}
+
+fn expect_number(rt: &impl Abort, map: &PathMap<u32>, path: &Path, number: u32) {
+    assert!(rt; value_at(map, path) == Some(number));
+    assert!(rt; value_up_to(map, path) == Some(number));
+    assert!(rt; are_evens(map.from(path), number, 80_000));
 }
 
 #[test]
-fn each_number_is_found_and_followed(rt: std::rt::HostRuntime) -> Result<(), Fail> {
-    let alloc = rt.alloc();
-    let map = evens(&rt, alloc)?;
+fn each_number_is_found_and_followed(rt: HostRuntime) {
+    let map = evens(&rt, rt.alloc());
     assert!(rt; are_evens(map.iter(), 0, 80_000));
     for number in (0..80_000).step_by(1_000) {
-        let entry = numbered(&rt, alloc, number)?;
-        assert_eq!(rt; map.get(entry.path()).copied(), Some(number));
-        assert!(rt; are_evens(map.from(entry.path()), number, 80_000));
-        assert_eq!(rt;
-            map.up_to(entry.path()).map(|last| *last.value()),
-            Some(number)
-        );
+        expect_number(&rt, &map, numbered(&rt, rt.alloc(), number).path(), number);
     }
-    Ok(())
+}
+
+/// Whether the entries are 0, 1 and then the even numbers to before the last.
+fn are_changed(mut entries: Entries<'_, u32>) -> bool {
+    next_value(&mut entries) == Some(0)
+        && next_value(&mut entries) == Some(1)
+        && are_evens(entries, 2, 79_998)
 }
 
 #[test]
-fn the_first_and_the_last_branch_are_changed(rt: std::rt::HostRuntime) -> Result<(), Fail> {
-    let alloc = rt.alloc();
-    let map = evens(&rt, alloc)?;
-    let mut puts = Vec::new(alloc);
-    puts.push(numbered(&rt, alloc, 1)?)?;
-    let mut gone = Vec::new(alloc);
-    gone.push(numbered(&rt, alloc, 79_998)?)?;
-    assert!(rt; is_in_order(&puts) && is_in_order(&gone));
-    let changed = map.merged(alloc, &puts, &gone)?;
-    let mut entries = changed.iter();
-    assert_eq!(rt; entries.next().map(|entry| *entry.value()), Some(0));
-    assert_eq!(rt; entries.next().map(|entry| *entry.value()), Some(1));
-    assert!(rt; are_evens(entries, 2, 79_998));
+fn the_first_and_the_last_branch_are_changed(rt: HostRuntime) {
+    let map = evens(&rt, rt.alloc());
+    let puts = numbers(&rt, rt.alloc(), 1, 2);
+    let gone = numbers(&rt, rt.alloc(), 79_998, 80_000);
+    let changed = merged(&rt, rt.alloc(), &map, &puts, &gone);
+    assert!(rt; are_changed(changed.iter()));
     assert!(rt; are_evens(map.iter(), 0, 80_000));
-    Ok(())
+}
+
+fn found(finder: &mut Finder<'_, u32>, path: &Path) -> Option<u32> {
+    finder.get(path).copied()
+}
+
+/// Whether the finder finds each of the entries.
+fn finds_each(finder: &mut Finder<'_, u32>, mut entries: Entries<'_, u32>) -> bool {
+    while let Some(entry) = entries.next() {
+        if found(finder, entry.path()) != Some(*entry.value()) {
+            return false;
+        }
+    }
+    true
+}
+
+/// Whether the path's entry, of this number, is the only one within it.
+fn is_alone(finder: &mut Finder<'_, u32>, path: &Path, number: u32) -> bool {
+    let mut within = finder.within(path);
+    match within.next() {
+        Some(entry) => *entry.value() == number && within.next().is_none(),
+        None => false,
+    }
 }
 
 #[test]
-fn a_finder_finds_numbers_in_order_and_out_of_it(rt: std::rt::HostRuntime) -> Result<(), Fail> {
-    let alloc = rt.alloc();
-    let map = evens(&rt, alloc)?;
+fn a_finder_finds_numbers_in_order_and_out_of_it(rt: HostRuntime) {
+    let map = evens(&rt, rt.alloc());
     let mut finder = map.finder();
-    let mut entries = map.iter();
-    while let Some(entry) = entries.next() {
-        assert_eq!(rt; finder.get(entry.path()).copied(), Some(*entry.value()));
-    }
-    let before = numbered(&rt, alloc, 500)?;
-    assert_eq!(rt; finder.get(before.path()).copied(), Some(500));
-    let after = numbered(&rt, alloc, 701)?;
-    assert!(rt; finder.get(after.path()).is_none());
+    assert!(rt; finds_each(&mut finder, map.iter()));
+    let before = numbered(&rt, rt.alloc(), 500);
+    assert!(rt; found(&mut finder, before.path()) == Some(500));
+    let after = numbered(&rt, rt.alloc(), 701);
+    assert!(rt; found(&mut finder, after.path()).is_none());
     assert!(rt; are_evens(finder.from(after.path()), 702, 80_000));
-    let mut within = finder.within(before.path());
-    assert_eq!(rt; within.next().map(|entry| *entry.value()), Some(500));
-    assert!(rt; within.next().is_none());
-    Ok(())
+    assert!(rt; is_alone(&mut finder, before.path(), 500));
 }

@@ -6,4 +6,6 @@
 #[cfg(test)]
 mod branches;
 #[cfg(test)]
+mod made;
+#[cfg(test)]
 mod maps;

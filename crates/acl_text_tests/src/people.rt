@@ -1,19 +1,19 @@
-//! Three users and four groups.
+//! Users and groups to read and write texts with.
 
 ghost use Rattle.std.specs.Prelude.{◌==◌, if◌then◌else◌, Some, None, codes};
 ghost use Rattle.std.specs.Str.{bytes_eq};
 
 use acl_entry::Id;
-use acl_syntax::Names;
+use acl_text::Names;
 
 #[derive(Clone, Copy)]
 pub struct People;
 
 impl Names for People {
     ghost naming = { λ _. record {
-      user_id = λ name. if bytes_eq name (codes "lisa") then Some 1001 else (if bytes_eq name (codes "joe") then Some 1000 else None);
-      group_id = λ name. if bytes_eq name (codes "staff") then Some 50 else (if bytes_eq name (codes "cool") then Some 60 else None);
-      user_name = λ id. if id == 1001 then Some (codes "lisa") else (if id == 1000 then Some (codes "joe") else None);
+      user_id = λ name. if bytes_eq name (codes "lisa") then Some 1001 else (if bytes_eq name (codes "joe") then Some 1000 else (if bytes_eq name (codes "ann") then Some 1002 else None));
+      group_id = λ name. if bytes_eq name (codes "staff") then Some 50 else (if bytes_eq name (codes "cool") then Some 60 else (if bytes_eq name (codes "adm") then Some 70 else None));
+      user_name = λ id. if id == 1001 then Some (codes "lisa") else (if id == 1000 then Some (codes "joe") else (if id == 2000 then Some (codes "al b") else None));
       group_name = λ id. if id == 50 then Some (codes "staff") else (if id == 60 then Some (codes "cool") else None);
     } };
 
@@ -22,6 +22,8 @@ impl Names for People {
             Id::new(1001)
         } else if name == b"joe".as_slice() {
             Id::new(1000)
+        } else if name == b"ann".as_slice() {
+            Id::new(1002)
         } else {
             None
         }
@@ -32,6 +34,8 @@ impl Names for People {
             Id::new(50)
         } else if name == b"cool".as_slice() {
             Id::new(60)
+        } else if name == b"adm".as_slice() {
+            Id::new(70)
         } else {
             None
         }
@@ -43,6 +47,8 @@ impl Names for People {
             Some(b"lisa")
         } else if number == 1000 {
             Some(b"joe")
+        } else if number == 2000 {
+            Some(b"al b")
         } else {
             None
         }

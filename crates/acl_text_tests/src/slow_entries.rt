@@ -2,9 +2,10 @@
 //! and perhaps a field of permissions, and is judged then. It knows no escapes, so a text for it has at most one backslash,
 //! and nowhere three digits in a row.
 
-use crate::known::Known;
+use crate::made::pieces;
+use crate::people::People;
 use acl_entry::{Id, Key, Perm};
-use acl_syntax::{FaultKind, Names, PermSpec, Sep, Spec, TextFault, Want};
+use acl_text::{FaultKind, Names, PermSpec, Sep, Spec, TextFault, Want};
 use std::alloc::Global;
 use std::process::Abort;
 
@@ -107,22 +108,22 @@ fn number(word: &[u8]) -> Option<u32> {
     Some(number)
 }
 
-fn key(known: &Known, tag: u8, word: &[u8]) -> Result<Key, FaultKind> {
+fn key(tag: u8, word: &[u8]) -> Result<Key, FaultKind> {
     match tag {
         b'm' => Ok(Key::Mask),
         b'o' => Ok(Key::Other),
-        b'u' => user(known, word),
-        _ => group(known, word),
+        b'u' => user(word),
+        _ => group(word),
     }
 }
 
-fn user(known: &Known, word: &[u8]) -> Result<Key, FaultKind> {
+fn user(word: &[u8]) -> Result<Key, FaultKind> {
     if word.is_empty() {
         return Ok(Key::Owner);
     }
     let id = match number(word) {
         Some(number) => Id::new(number),
-        None => known.user_id(word),
+        None => People.user_id(word),
     };
     match id {
         Some(id) => Ok(Key::User(id)),
@@ -130,13 +131,13 @@ fn user(known: &Known, word: &[u8]) -> Result<Key, FaultKind> {
     }
 }
 
-fn group(known: &Known, word: &[u8]) -> Result<Key, FaultKind> {
+fn group(word: &[u8]) -> Result<Key, FaultKind> {
     if word.is_empty() {
         return Ok(Key::OwningGroup);
     }
     let id = match number(word) {
         Some(number) => Id::new(number),
-        None => known.group_id(word),
+        None => People.group_id(word),
     };
     match id {
         Some(id) => Ok(Key::Group(id)),
@@ -145,21 +146,21 @@ fn group(known: &Known, word: &[u8]) -> Result<Key, FaultKind> {
 }
 
 /// The key of an entry to be removed.
-fn removed(known: &Known, form: Form<'_>) -> Result<Key, FaultKind> {
+fn removed(form: Form<'_>) -> Result<Key, FaultKind> {
     let (tag, word, perms) = form;
     if let Some(field) = perms
         && !field.is_empty()
     {
         return Err(FaultKind::UnwantedPerms);
     }
-    match key(known, tag, word) {
+    match key(tag, word) {
         Ok(Key::Owner | Key::OwningGroup | Key::Other) => Err(FaultKind::BaseEntry),
         found => found,
     }
 }
 
 /// The key and the permissions of any other entry.
-fn given(known: &Known, form: Form<'_>, want: Want) -> Result<(Key, PermSpec), FaultKind> {
+fn given(form: Form<'_>, want: Want) -> Result<(Key, PermSpec), FaultKind> {
     let (tag, word, perms) = form;
     let Some(field) = perms else {
         return Err(FaultKind::MissingPerms);
@@ -167,17 +168,30 @@ fn given(known: &Known, form: Form<'_>, want: Want) -> Result<(Key, PermSpec), F
     let Some(spec) = perm_spec(field, want) else {
         return Err(FaultKind::BadPerms);
     };
-    match key(known, tag, word) {
+    match key(tag, word) {
         Ok(key) => Ok((key, spec)),
         Err(kind) => Err(kind),
     }
 }
 
-fn spec(known: &Known, at: usize, fields: &[&[u8]], want: Want) -> Result<Spec, FaultKind> {
-    let (dflt, fields) = match fields {
+/// The other fields, and whether the entry is of the default list.
+pub fn without_default<'a, 'b>(fields: &'b [&'a [u8]]) -> (bool, &'b [&'a [u8]]) {
+    match fields {
         [first, others @ ..] if !others.is_empty() && is(first, b"d", b"default") => (true, others),
         all => (false, all),
-    };
+    }
+}
+
+/// The key and the permissions of an entry, without its field of the default list.
+pub fn entry(fields: &[&[u8]], want: Want) -> Result<(Key, PermSpec), FaultKind> {
+    match form(fields) {
+        Some(form) => given(form, want),
+        None => Err(FaultKind::BadTag),
+    }
+}
+
+fn spec(at: usize, fields: &[&[u8]], want: Want) -> Result<Spec, FaultKind> {
+    let (dflt, fields) = without_default(fields);
     let Some(form) = form(fields) else {
         return Err(FaultKind::BadTag);
     };
@@ -185,9 +199,9 @@ fn spec(known: &Known, at: usize, fields: &[&[u8]], want: Want) -> Result<Spec, 
         return Err(FaultKind::BadTag);
     }
     let (key, perm) = if want == Want::WithoutPerms {
-        (removed(known, form)?, None)
+        (removed(form)?, None)
     } else {
-        let (key, spec) = given(known, form, want)?;
+        let (key, spec) = given(form, want)?;
         (key, Some(spec))
     };
     Ok(Spec {
@@ -198,19 +212,26 @@ fn spec(known: &Known, at: usize, fields: &[&[u8]], want: Want) -> Result<Spec, 
     })
 }
 
-/// What counts of a piece.
-fn content(piece: &[u8], sep: Sep) -> &[u8] {
-    let counted = match sep {
-        Sep::Comma => piece,
-        Sep::Line => piece.split(|b| *b == b'#').next().unwrap_or(piece),
-    };
-    counted.trim_ascii()
+/// What is before the first `#`.
+fn before_hash<'a>(rt: &impl Abort, alloc: Global, piece: &'a [u8]) -> &'a [u8] {
+    let parts = pieces(rt, alloc, piece, b'#');
+    match parts.first() {
+        Some(first) => *first,
+        None => piece,
+    }
 }
 
-fn fields_of<'a>(rt: &impl Abort, alloc: Global, content: &'a [u8]) -> Vec<&'a [u8]> {
+/// The fields of an entry; none where nothing but blanks is there. In a line they end at a `#`.
+pub fn fields_of<'a>(rt: &impl Abort, alloc: Global, piece: &'a [u8], sep: Sep) -> Vec<&'a [u8]> {
+    let counted = match sep {
+        Sep::Comma => piece,
+        Sep::Line => before_hash(rt, alloc, piece),
+    };
     let mut fields = Vec::new(alloc);
-    for field in content.split(|b| *b == b':') {
-        fields.push(field.trim_ascii()).expect(rt, "memory");
+    if !counted.trim_ascii().is_empty() {
+        for field in &pieces(rt, alloc, counted, b':') {
+            fields.push(field.trim_ascii()).expect(rt, "memory");
+        }
     }
     fields
 }
@@ -222,18 +243,17 @@ pub fn read(
     text: &[u8],
     sep: Sep,
     want: Want,
-    known: &Known,
 ) -> Result<Vec<Spec>, TextFault> {
     let mut specs = Vec::new(alloc);
     let mut at = 0usize;
     let separator = if sep == Sep::Comma { b',' } else { b'\n' };
-    for piece in text.split(|b| *b == separator) {
+    for piece in &pieces(rt, alloc, text, separator) {
         at = at.saturating_add(1);
-        let content = content(piece, sep);
-        if content.is_empty() {
+        let fields = fields_of(rt, alloc, piece, sep);
+        if fields.is_empty() {
             continue;
         }
-        match spec(known, at, &fields_of(rt, alloc, content), want) {
+        match spec(at, &fields, want) {
             Ok(spec) => specs.push(spec).expect(rt, "memory"),
             Err(kind) => return Err(TextFault { kind, at }),
         }

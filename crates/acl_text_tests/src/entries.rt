@@ -1,14 +1,19 @@
 //! Entry texts.
 
-use crate::known::worked;
 use crate::made::Who::{Group, Mask, Other, User};
-use crate::made::{Who, key, perm};
-use acl_syntax::{Names, NoNames, PermSpec, Sep, Spec, Want, read_entries, read_perms};
+use crate::made::{Who, expect_fault, key, perm};
+use crate::people::People;
+use acl_text::{PermSpec, Sep, Spec, TextFault, Want, read_entries, read_perms};
 use std::alloc::Global;
 use std::process::Abort;
 
+/// The fault of a text of entries; none where it is read.
+pub fn fault_of(alloc: Global, text: &[u8], sep: Sep, want: Want) -> Option<TextFault> {
+    read_entries(alloc, text, sep, want, &People).err()
+}
+
 /// A text of entries, what it is for, and its first fault, with the entry's number.
-static FIRST_FAULTS: [(&str, Want, &str); 14] = [
+static FIRST_FAULTS: [(&str, Want, &str); 16] = [
     (
         "u:ann:r,u:nosuch:q,u:none:r",
         Want::WithPerms,
@@ -28,28 +33,40 @@ static FIRST_FAULTS: [(&str, Want, &str); 14] = [
     ("u:joe:r\r", Want::Plain, "BadPerms, 1"),
     ("g:joe:7", Want::Plain, "UnknownGroup, 1"),
     ("u:4294967295:q", Want::Plain, "BadPerms, 1"),
+    // One more than the greatest id.
+    ("4294967295:r", Want::Plain, "UnknownUser, 1"),
+    ("g:4294967295:r", Want::Plain, "UnknownGroup, 1"),
 ];
-
-fn expect_fault<N: Names>(
-    rt: &impl Abort,
-    alloc: Global,
-    text: &str,
-    want: Want,
-    names: &N,
-    fault: &str,
-) {
-    let read = read_entries(alloc, text.as_bytes(), Sep::Comma, want, names);
-    let found = read.err().expect(rt, "a fault");
-    let found = format!(in alloc; "{:?}, {}", found.kind, found.at).expect(rt, "memory");
-    assert!(rt; found.as_str() == fault, "{text}: not {fault}");
-}
 
 #[test]
 fn first_faults(rt: HostRuntime) {
-    let known = worked(&rt, rt.alloc());
     for (text, want, fault) in &FIRST_FAULTS {
-        expect_fault(&rt, rt.alloc(), text, *want, &known, fault);
+        let found = fault_of(rt.alloc(), text.as_bytes(), Sep::Comma, *want);
+        expect_fault(&rt, rt.alloc(), found, fault);
     }
+}
+
+static MAX_IDS: [&str; 2] = ["u:4294967294:r", "g:0004294967294:r"];
+
+#[test]
+fn greatest_ids(rt: HostRuntime) {
+    for text in &MAX_IDS {
+        let found = fault_of(rt.alloc(), text.as_bytes(), Sep::Comma, Want::Plain);
+        assert!(rt; found.is_none(), "{text}");
+    }
+}
+
+/// The text is read as these entries.
+pub fn expect_specs(
+    rt: &impl Abort,
+    alloc: Global,
+    text: &[u8],
+    sep: Sep,
+    want: Want,
+    specs: &[Spec],
+) {
+    let found = read_entries(alloc, text, sep, want, &People).expect(rt, "entries");
+    assert!(rt; found.as_slice() == specs);
 }
 
 /// What is read of an entry: its number, whether it is of the default list, its key, its permissions as a digit,
@@ -80,71 +97,38 @@ fn specs(rt: &impl Abort, alloc: Global, rows: &[Row]) -> Vec<Spec> {
     specs
 }
 
-fn expect_specs(rt: &impl Abort, alloc: Global, text: &[u8], sep: Sep, want: Want, rows: &[Row]) {
-    let known = worked(rt, alloc);
-    let found = read_entries(alloc, text, sep, want, &known).expect(rt, "entries");
-    assert!(rt; found.as_slice() == specs(rt, alloc, rows).as_slice());
-}
-
-static LINES: [Row; 4] = [
-    (1, true, User(1002), Some((4, true))),
-    (4, false, Mask, Some((7, false))),
-    (6, false, Group(60), Some((0, false))),
-    (7, false, Other, Some((0, false))),
-];
-
-#[test]
-fn lines(rt: HostRuntime) {
-    let text = b" d : user : ann : rX #x\n\n \t \nm::7\n # nothing\ngroup:cool:-\no:";
-    expect_specs(&rt, rt.alloc(), text, Sep::Line, Want::WithPerms, &LINES);
-}
-
-static REMOVED: [Row; 4] = [
-    (1, false, Mask, None),
-    (2, false, User(1000), None),
-    (3, true, Group(50), None),
-    (4, false, User(1000), None),
-];
-
-#[test]
-fn removed_entries(rt: HostRuntime) {
-    let text = b"m:,joe,d:g:50:,\\152oe";
-    expect_specs(
-        &rt,
-        rt.alloc(),
-        text,
+/// A text, how its entries are separated, what it is for, and the entries.
+static READ: [(&[u8], Sep, Want, [Row; 4]); 2] = [
+    (
+        b" d : user : ann : rX #x\n\n \t \nm::7\n # nothing\ngroup:cool:-\no:",
+        Sep::Line,
+        Want::WithPerms,
+        [
+            (1, true, User(1002), Some((4, true))),
+            (4, false, Mask, Some((7, false))),
+            (6, false, Group(60), Some((0, false))),
+            (7, false, Other, Some((0, false))),
+        ],
+    ),
+    (
+        b"m:,joe,d:g:50:,\\152oe",
         Sep::Comma,
         Want::WithoutPerms,
-        &REMOVED,
-    );
-}
+        [
+            (1, false, Mask, None),
+            (2, false, User(1000), None),
+            (3, true, Group(50), None),
+            (4, false, User(1000), None),
+        ],
+    ),
+];
 
-static MAX_IDS: [&str; 2] = ["u:4294967294:r", "g:0004294967294:r"];
-
-/// An id, and one more.
 #[test]
-fn greatest_ids(rt: HostRuntime) {
-    let alloc = rt.alloc();
-    for text in &MAX_IDS {
-        let read = read_entries(alloc, text.as_bytes(), Sep::Comma, Want::Plain, &NoNames);
-        assert!(rt; read.is_ok(), "{text}");
+fn entries_are_read(rt: HostRuntime) {
+    for (text, sep, want, rows) in &READ {
+        let specs = specs(&rt, rt.alloc(), rows);
+        expect_specs(&rt, rt.alloc(), text, *sep, *want, &specs);
     }
-    expect_fault(
-        &rt,
-        alloc,
-        "4294967295:r",
-        Want::Plain,
-        &NoNames,
-        "UnknownUser, 1",
-    );
-    expect_fault(
-        &rt,
-        alloc,
-        "g:4294967295:r",
-        Want::Plain,
-        &NoNames,
-        "UnknownGroup, 1",
-    );
 }
 
 /// A text, and the permissions that it is read as.

@@ -1,6 +1,6 @@
 //! Escapes, names and paths.
 
-use acl_syntax::{Path, is_user_name, read_name, read_path, write_name, write_path};
+use acl_text::{Path, is_user_name, read_name, read_path, write_name, write_path};
 use std::alloc::Global;
 use std::cmp::Ordering;
 use std::process::Abort;
@@ -61,8 +61,17 @@ fn paths(rt: HostRuntime) {
     assert!(rt; components.next().expect(&rt, "x") == b"x\ny\\ z".as_slice());
     assert!(rt; components.is_empty());
     expect_text(&rt, rt.alloc(), &path, b"a/x\\012y\\134 z");
+}
+
+#[test]
+fn copies(rt: HostRuntime) {
+    let path = path(&rt, rt.alloc(), b"a/b");
     let again = path.try_clone(rt.alloc()).expect(&rt, "memory");
     assert!(rt; matches!(again.order(&path), Ordering::Equal));
+}
+
+fn is_refused(rt: &impl Abort, alloc: Global, text: &[u8]) -> bool {
+    read_path(alloc, text).expect(rt, "memory").is_none()
 }
 
 static REFUSED: [&[u8]; 3] = [b"a/../b", b"..", b"a\\000"];
@@ -70,14 +79,17 @@ static REFUSED: [&[u8]; 3] = [b"a/../b", b"..", b"a\\000"];
 #[test]
 fn refused_paths(rt: HostRuntime) {
     for text in &REFUSED {
-        let read = read_path(rt.alloc(), text).expect(&rt, "memory");
-        assert!(rt; read.is_none());
+        assert!(rt; is_refused(&rt, rt.alloc(), text));
     }
+}
+
+fn root(rt: &impl Abort, alloc: Global) -> Path {
+    Path::new(Vec::new(alloc)).expect(rt, "the top")
 }
 
 #[test]
 fn the_top(rt: HostRuntime) {
-    let root = Path::new(Vec::new(rt.alloc())).expect(&rt, "the top");
+    let root = root(&rt, rt.alloc());
     expect_text(&rt, rt.alloc(), &root, b".");
     let path = path(&rt, rt.alloc(), b"/a//./x\\012y\\ z/");
     assert!(rt; matches!(root.order(&path), Ordering::Less));
@@ -91,24 +103,38 @@ static ORDERED: [(&[u8], &[u8]); 4] = [
     (b"a-b", b"b"),
 ];
 
+fn order(rt: &impl Abort, alloc: Global, first: &[u8], second: &[u8]) -> Ordering {
+    let first = path(rt, alloc, first);
+    first.order(&path(rt, alloc, second))
+}
+
 #[test]
 fn paths_are_in_order(rt: HostRuntime) {
     for (first, second) in &ORDERED {
-        let (first, second) = (path(&rt, rt.alloc(), first), path(&rt, rt.alloc(), second));
-        assert!(rt; first.order(&second).is_lt());
-        assert!(rt; second.order(&first).is_gt());
+        assert!(rt; order(&rt, rt.alloc(), first, second).is_lt());
+        assert!(rt; order(&rt, rt.alloc(), second, first).is_gt());
     }
 }
 
-/// The same path, each of its components in an allocation of its own.
-fn in_parts(rt: &impl Abort, alloc: Global, path: Path) -> Path {
+/// The path of the text, each of its components in an allocation of its own.
+fn path_in_parts(rt: &impl Abort, alloc: Global, text: &[u8]) -> Path {
+    let whole = path(rt, alloc, text);
     let mut parts = Vec::new(alloc);
-    let mut rest = path.components();
+    let mut rest = whole.components();
     while let Some(name) = rest.next() {
         let part = Vec::from_slice(alloc, name).expect(rt, "memory");
         parts.push(part).expect(rt, "memory");
     }
     Path::new(parts).expect(rt, "a path")
+}
+
+/// How a path is held: whole, or in parts.
+fn held(rt: &impl Abort, alloc: Global, text: &[u8], in_parts: bool) -> Path {
+    if in_parts {
+        path_in_parts(rt, alloc, text)
+    } else {
+        path(rt, alloc, text)
+    }
 }
 
 /// A path, and another one: whether the path is the other one or below it, and whether it is below it.
@@ -121,47 +147,27 @@ static BELOW: [(&[u8], &[u8], bool, bool); 6] = [
     (b".", b".", true, false),
 ];
 
-fn expect_below(rt: &impl Abort, below: Path, top: Path, is_within: bool, is_below: bool) {
-    assert!(rt; below.is_within(&top) == is_within);
-    assert!(rt; below.is_below(&top) == is_below);
+fn expect_below(rt: &impl Abort, alloc: Global, below_in_parts: bool, top_in_parts: bool) {
+    for (below, top, is_within, is_below) in &BELOW {
+        let below = held(rt, alloc, below, below_in_parts);
+        let top = held(rt, alloc, top, top_in_parts);
+        assert!(rt; below.is_within(&top) == *is_within);
+        assert!(rt; below.is_below(&top) == *is_below);
+    }
 }
+
+/// Whether a path and another one are held in parts.
+static HELD: [(bool, bool); 4] = [(false, false), (true, true), (true, false), (false, true)];
 
 #[test]
 fn paths_below_others(rt: HostRuntime) {
-    for (below, top, is_within, is_below) in &BELOW {
-        let (below, top) = (path(&rt, rt.alloc(), below), path(&rt, rt.alloc(), top));
-        expect_below(&rt, below, top, *is_within, *is_below);
+    for (below, top) in &HELD {
+        expect_below(&rt, rt.alloc(), *below, *top);
     }
 }
 
-#[test]
-fn paths_in_parts_below_others(rt: HostRuntime) {
-    for (below, top, is_within, is_below) in &BELOW {
-        let (below, top) = (path(&rt, rt.alloc(), below), path(&rt, rt.alloc(), top));
-        let (below, top) = (
-            in_parts(&rt, rt.alloc(), below),
-            in_parts(&rt, rt.alloc(), top),
-        );
-        expect_below(&rt, below, top, *is_within, *is_below);
-    }
-}
-
-#[test]
-fn paths_in_parts_below_whole_ones(rt: HostRuntime) {
-    for (below, top, is_within, is_below) in &BELOW {
-        let (below, top) = (path(&rt, rt.alloc(), below), path(&rt, rt.alloc(), top));
-        let below = in_parts(&rt, rt.alloc(), below);
-        expect_below(&rt, below, top, *is_within, *is_below);
-    }
-}
-
-#[test]
-fn whole_paths_below_ones_in_parts(rt: HostRuntime) {
-    for (below, top, is_within, is_below) in &BELOW {
-        let (below, top) = (path(&rt, rt.alloc(), below), path(&rt, rt.alloc(), top));
-        let top = in_parts(&rt, rt.alloc(), top);
-        expect_below(&rt, below, top, *is_within, *is_below);
-    }
+fn parent(rt: &impl Abort, alloc: Global, text: &[u8]) -> Path {
+    path(rt, alloc, text).parent(alloc).expect(rt, "memory")
 }
 
 /// A path, and its parent.
@@ -170,10 +176,14 @@ static PARENTS: [(&[u8], &[u8]); 3] = [(b"a/b/c", b"a/b"), (b"a", b"."), (b".", 
 #[test]
 fn parents(rt: HostRuntime) {
     for (below, want) in &PARENTS {
-        let below = path(&rt, rt.alloc(), below);
-        let parent = below.parent(rt.alloc()).expect(&rt, "memory");
-        expect_text(&rt, rt.alloc(), &parent, want);
+        expect_text(&rt, rt.alloc(), &parent(&rt, rt.alloc(), below), want);
     }
+}
+
+fn common(rt: &impl Abort, alloc: Global, left: &[u8], right: &[u8]) -> Path {
+    let left = path(rt, alloc, left);
+    let right = path(rt, alloc, right);
+    left.common(alloc, &right).expect(rt, "memory")
 }
 
 /// Two paths, and what they begin with.
@@ -187,9 +197,7 @@ static COMMON: [(&[u8], &[u8], &[u8]); 4] = [
 #[test]
 fn beginnings_in_common(rt: HostRuntime) {
     for (left, right, want) in &COMMON {
-        let (left, right) = (path(&rt, rt.alloc(), left), path(&rt, rt.alloc(), right));
-        let common = left.common(rt.alloc(), &right).expect(&rt, "memory");
-        expect_text(&rt, rt.alloc(), &common, want);
+        expect_text(&rt, rt.alloc(), &common(&rt, rt.alloc(), left, right), want);
     }
 }
 

@@ -1,0 +1,106 @@
+//! Keys, permission sets, lists and bytes from what a table can contain, and texts cut and changed.
+
+use acl_entry::{Acl, Entry, Id, Key, Perm};
+use acl_text::TextFault;
+use std::alloc::Global;
+use std::process::Abort;
+
+/// A key, its user or group by number.
+pub enum Who {
+    Owner,
+    User(u32),
+    OwningGroup,
+    Group(u32),
+    Mask,
+    Other,
+}
+
+/// An entry: its key, and its permissions as a digit.
+pub type Row = (Who, u8);
+
+pub fn id(rt: &impl Abort, number: u32) -> Id {
+    Id::new(number).expect(rt, "an id")
+}
+
+pub fn perm(rt: &impl Abort, number: u8) -> Perm {
+    Perm::from_number(number).expect(rt, "a permission set")
+}
+
+pub fn key(rt: &impl Abort, who: &Who) -> Key {
+    match who {
+        Who::Owner => Key::Owner,
+        Who::User(number) => Key::User(id(rt, *number)),
+        Who::OwningGroup => Key::OwningGroup,
+        Who::Group(number) => Key::Group(id(rt, *number)),
+        Who::Mask => Key::Mask,
+        Who::Other => Key::Other,
+    }
+}
+
+/// Adds the bytes.
+pub fn push(rt: &impl Abort, text: &mut Vec<u8>, bytes: &[u8]) {
+    text.extend_from_slice(bytes).expect(rt, "memory");
+}
+
+/// The list of the rows.
+pub fn list(rt: &impl Abort, alloc: Global, rows: &[Row]) -> Acl {
+    let mut entries = Vec::new(alloc);
+    for (who, number) in rows {
+        let entry = Entry {
+            key: key(rt, who),
+            perm: perm(rt, *number),
+        };
+        entries.push(entry).expect(rt, "memory");
+    }
+    Acl::from_entries(alloc, &entries).expect(rt, "a list")
+}
+
+/// The fault is of this kind, at this place.
+pub fn expect_fault(rt: &impl Abort, alloc: Global, found: Option<TextFault>, want: &str) {
+    let fault = found.expect(rt, "a fault");
+    let text = format!(in alloc; "{:?}, {}", fault.kind, fault.at).expect(rt, "memory");
+    assert!(rt; text.as_str() == want, "not {want}");
+}
+
+/// The pieces of a text that a byte separates.
+pub fn pieces<'a>(rt: &impl Abort, alloc: Global, text: &'a [u8], separator: u8) -> Vec<&'a [u8]> {
+    text.split(|b| *b == separator)
+        .collect(alloc)
+        .expect(rt, "memory")
+}
+
+/// The bytes that each byte of a text is changed to.
+static CHANGES: [u8; 6] = [0, b'#', b':', b'\\', b'/', 255];
+
+/// Adds the text with the byte at a place changed, to each of them.
+fn push_changes(
+    rt: &impl Abort,
+    alloc: Global,
+    texts: &mut Vec<Vec<u8>>,
+    text: &[u8],
+    place: usize,
+) {
+    for byte in &CHANGES {
+        let mut changed = Vec::from_slice(alloc, text).expect(rt, "memory");
+        if let Some(b) = changed.get_mut(place) {
+            *b = *byte;
+        }
+        texts.push(changed).expect(rt, "memory");
+    }
+}
+
+fn push_text(rt: &impl Abort, alloc: Global, texts: &mut Vec<Vec<u8>>, text: &[u8]) {
+    let copy = Vec::from_slice(alloc, text).expect(rt, "memory");
+    texts.push(copy).expect(rt, "memory");
+}
+
+/// A text whole, cut before each of its bytes, and with each of them changed.
+pub fn cuts_and_changes(rt: &impl Abort, alloc: Global, text: &[u8]) -> Vec<Vec<u8>> {
+    let mut texts = Vec::new(alloc);
+    push_text(rt, alloc, &mut texts, text);
+    for place in 0..text.len() {
+        push_text(rt, alloc, &mut texts, &text[..place]);
+        push_changes(rt, alloc, &mut texts, text, place);
+    }
+    texts
+}

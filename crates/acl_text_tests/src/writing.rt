@@ -1,0 +1,58 @@
+//! Written lists.
+
+use crate::made::Who::{Group, Mask, Other, Owner, OwningGroup, User};
+use crate::made::{Row, id, list, perm, push};
+use crate::people::People;
+use acl_entry::{Entry, Key};
+use acl_text::{Form, NoNames, append_entry, append_short, write_long, write_short};
+
+static ENTRIES: [Row; 7] = [
+    (Owner, 6),
+    (User(1000), 7),
+    (OwningGroup, 4),
+    (Group(7), 1),
+    (Group(60), 2),
+    (Mask, 7),
+    (Other, 0),
+];
+
+#[test]
+fn short_form(rt: HostRuntime) {
+    let acl = list(&rt, rt.alloc(), &ENTRIES);
+    let short = write_short(rt.alloc(), &acl, &People).expect(&rt, "memory");
+    assert!(rt;
+        short.as_slice() == b"u::rw-,u:joe:rwx,g::r--,g:7:--x,g:cool:-w-,m::rwx,o::---".as_slice()
+    );
+}
+
+#[test]
+fn long_form(rt: HostRuntime) {
+    let acl = list(&rt, rt.alloc(), &ENTRIES);
+    let long = write_long(rt.alloc(), &acl, &People).expect(&rt, "memory");
+    assert!(rt;
+        long.as_slice()
+            == b"user::rw-\nuser:joe:rwx\ngroup::r--\ngroup:7:--x\ngroup:cool:-w-\nmask::rwx\nother::---\n".as_slice()
+    );
+}
+
+#[test]
+fn numbers_after_a_text(rt: HostRuntime) {
+    let acl = list(&rt, rt.alloc(), &ENTRIES);
+    let mut text = Vec::new(rt.alloc());
+    push(&rt, &mut text, b"f [");
+    append_short(&mut text, &acl, &NoNames).expect(&rt, "memory");
+    assert!(rt;
+        text.as_slice() == b"f [u::rw-,u:1000:rwx,g::r--,g:7:--x,g:60:-w-,m::rwx,o::---".as_slice()
+    );
+}
+
+#[test]
+fn names_with_escapes(rt: HostRuntime) {
+    let entry = Entry {
+        key: Key::User(id(&rt, 2000)),
+        perm: perm(&rt, 4),
+    };
+    let mut text = Vec::new(rt.alloc());
+    append_entry(&mut text, &entry, Form::Long, &People).expect(&rt, "memory");
+    assert!(rt; text.as_slice() == b"user:al\\040b:r--".as_slice());
+}
