@@ -39,7 +39,7 @@ TESTS = {
     "acl_attr": ["acl_text_tests"],
     "acl_dump": ["acl_text_tests"],
     "acl_edit": ["acl_edit_tests"],
-    "acl_subjects": ["facl_listings_tests"],
+    "acl_subjects": ["acl_tree_tests", "facl_listings_tests"],
     "acl_people": ["acl_tree_tests"],
     "acl_files": ["acl_tree_tests"],
     "acl_tree": ["acl_tree_tests"],
@@ -48,6 +48,7 @@ TESTS = {
     "facl_script": ["facl_script_tests"],
     "facl_words": ["facl_tools_tests"],
     "facl_messages": ["facl_tools_tests"],
+    "facl_tools": ["facl_tools_tests"],
     "facl_listings": ["facl_listings_tests"],
 }
 WHOLE_SCRIPTS = ["facl_tests"]
