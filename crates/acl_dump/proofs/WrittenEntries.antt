@@ -33,7 +33,7 @@ use Rattle.acl_dump.specs.declared.effective.Effective.{Effective}
 use Rattle.acl_dump.specs.declared.item.Item.TheVariants as item
 use Rattle.acl_dump.specs.Lines.{content_of}
 use Rattle.acl_dump.specs.Records.{rules, entry_item, item_of}
-use Rattle.acl_dump.specs.Writing.{is_shown, tab_count, tabs, comment, front, shown}
+use Rattle.acl_dump.specs.Writing.{is_shown, tab_count, tabs, effective_text, front, shown}
 
 -- ---- blanks after a field
 
@@ -247,7 +247,7 @@ module _ (naming : Naming) where
 
   -- a line of an entry, with or without its effective permissions
   pub line_again : (at : ℕ) (how : Effective) (which : Which) (mask : Option Perms) (e : Entry) → id_of e.key < nobody → IsNamedKey e.key
-      → ReadsAs at which e (shown naming which e ++ comment how mask e (length (shown naming which e)))
+      → ReadsAs at which e (shown naming which e ++ effective_text how mask e (length (shown naming which e)))
   line_again at how which None e lt named = reads_bare at which e lt named
   line_again at how which (Some mask) e lt named =
       let bytes = length (shown naming which e) in
@@ -257,7 +257,7 @@ module _ (naming : Naming) where
         | inr without_comment ↦ subst (λ b. ReadsAs at which e (shown naming which e ++ cond b following [])) (sym without_comment) (reads_bare at which e lt named)
       ]
 
-  comment_clean : (how : Effective) (mask : Option Perms) (e : Entry) (bytes : ℕ) → AllByRecursion (λ b. (b == 10) ≡ false) (comment how mask e bytes)
+  comment_clean : (how : Effective) (mask : Option Perms) (e : Entry) (bytes : ℕ) → AllByRecursion (λ b. (b == 10) ≡ false) (effective_text how mask e bytes)
   comment_clean how None e bytes = tt
   comment_clean how (Some mask) e bytes =
       let word = codes "#effective:" in
@@ -270,7 +270,7 @@ module _ (naming : Naming) where
       ]
 
   pub line_clean : (how : Effective) (which : Which) (mask : Option Perms) (e : Entry) → id_of e.key < nobody → IsNamedKey e.key
-      → AllByRecursion (λ b. (b == 10) ≡ false) (shown naming which e ++ comment how mask e (length (shown naming which e)))
+      → AllByRecursion (λ b. (b == 10) ≡ false) (shown naming which e ++ effective_text how mask e (length (shown naming which e)))
   line_clean how which mask e lt named =
       let text = shown naming which e in
-      all-append (λ b. (b == 10) ≡ false) text (comment how mask e (length text)) (in_shown (λ b. b == 10) plain-line refl which (front_line which) e lt named) (comment_clean how mask e (length text))
+      all-append (λ b. (b == 10) ≡ false) text (effective_text how mask e (length text)) (in_shown (λ b. b == 10) plain-line refl which (front_line which) e lt named) (comment_clean how mask e (length text))

@@ -36,7 +36,7 @@ use Rattle.acl_dump.specs.declared.item.Item.{Item}
 use Rattle.acl_dump.specs.declared.item.Item.TheVariants as item
 use Rattle.acl_dump.specs.Lines.{content_of, begins_record}
 use Rattle.acl_dump.specs.Records.{named, flags_of, item_of, add, opened_draft, ends_in_slash, is_repeated, same_path, list_of, list_unless, default_list_of, has_headers, whole, begins, open_record, close, line_in, lines_of, dump_of, dump_stream}
-use Rattle.acl_dump.specs.Writing.{mark, marks, flags_text, slash_text, file_text, owner_text, group_text, shown, comment, entry_line, list_text, default_text, record_text}
+use Rattle.acl_dump.specs.Writing.{mark, marks, flags_text, slash_text, file_text, owner_text, group_text, shown, effective_text, entry_line, list_text, default_text, record_text}
 use Rattle.acl_dump.specs.Again.{IsFoundIf, AreFlags, HasHeaders, IsListIf, IsReadable, AreApart, paths, lines_if, default_count, line_count, placed, dump_text}
 use Rattle.acl_dump.proofs.Streams.{streamed_by_groups}
 use Rattle.acl_dump.proofs.WrittenEntries.{line_again, line_clean}
@@ -213,12 +213,12 @@ module _ (dump_use : DumpUse) (naming : Naming) where
   lines_text which mask es = flat_map (entry_line naming WhereMasked which mask) es
 
   abbrev plain_line : Which → Option Perms → Entry → List ℕ
-  plain_line which mask e = shown naming which e ++ comment WhereMasked mask e (length (shown naming which e))
+  plain_line which mask e = shown naming which e ++ effective_text WhereMasked mask e (length (shown naming which e))
 
   moved_line : (which : Which) (mask : Option Perms) (e : Entry) (es : List Entry) (rest : List ℕ) → lines_text which mask (e ∷ es) ++ rest ≡ plain_line which mask e ++ 10 ∷ (lines_text which mask es ++ rest)
   moved_line which mask e es rest =
       let text = shown naming which e in
-      let note = comment WhereMasked mask e (length text) in
+      let note = effective_text WhereMasked mask e (length text) in
       let more = lines_text which mask es in
       append_assoc (text ++ (note ++ 10 ∷ [])) more rest
       ∙ (append_assoc text (note ++ 10 ∷ []) (more ++ rest)

@@ -34,9 +34,9 @@ abbrev pub tabs : ℕ → List ℕ
 tabs bytes = take (tab_count bytes) (9 ∷ 9 ∷ 9 ∷ 9 ∷ [])
 
 -- what is written after an entry of this many bytes, by its list's mask
-abbrev pub comment : Effective → Option Perms → Entry → ℕ → List ℕ
-comment how None e bytes = []
-comment how (Some mask) e bytes =
+abbrev pub effective_text : Effective → Option Perms → Entry → ℕ → List ℕ
+effective_text how None e bytes = []
+effective_text how (Some mask) e bytes =
     if is_class e.key && is_shown how mask e.perm then tabs bytes ++ (codes "#effective:" ++ perms.text (perms.meet e.perm mask)) else []
 
 -- ---- flags
@@ -84,7 +84,7 @@ module _ (naming : Naming) where
   shown which e = front which ++ entry_text naming Long e
 
   abbrev pub entry_line : Effective → Which → Option Perms → Entry → List ℕ
-  entry_line how which mask e = shown which e ++ (comment how mask e (length (shown which e)) ++ 10 ∷ [])
+  entry_line how which mask e = shown which e ++ (effective_text how mask e (length (shown which e)) ++ 10 ∷ [])
 
   -- a line for each entry, in list order
   abbrev pub list_text : Effective → Which → KeyMap → List ℕ

@@ -4,7 +4,7 @@ ghost use Rattle.std.specs.Prelude.{◌≡◌};
 ghost use Rattle.std.specs.List.{flat_map};
 ghost use Rattle.acl_names.specs.Appends.{Appends, AppendsWhole};
 ghost use Rattle.acl_syntax.specs.declared.fault.Which.TheVariants.{Default};
-ghost use Rattle.acl_dump.specs.Writing.{is_shown, tab_count, comment, front, shown, entry_line, list_text, default_text};
+ghost use Rattle.acl_dump.specs.Writing.{is_shown, tab_count, effective_text, front, shown, entry_line, list_text, default_text};
 
 use crate::effective::Effective;
 use acl_entry::{Acl, Entry, Key, Perm};
@@ -40,7 +40,7 @@ fn push_comment(
     entry: &Entry,
     bytes: usize,
 ) -> Result<(), AllocError>
-    ensures { Appends result text.old text.new (comment how mask.now entry.now bytes) }
+    ensures { Appends result text.old text.new (effective_text how mask.now entry.now bytes) }
 {
     let Some(mask) = mask else {
         return Ok(());

@@ -1,4 +1,4 @@
--- Lists and lines so small that no memory is wanted for them.
+-- Lists and lines so small that they take no memory.
 use Rattle.std.specs.Prelude.{◌≡◌, ℕ, true, ◌+◌, ◌≤◌, length, Option, unwrap_or}
 use Rattle.std.specs.FinMap as maps
 use Rattle.acl_entry.specs.Lists.{KeyMap, entries, inline_entries}

@@ -11,7 +11,7 @@ use Rattle.acl_edit.specs.declared.node.Node.{Node}
 use Rattle.path_map.specs.Entries.{PathOf, IsInOrder}
 use Rattle.acl_names.proofs.Below.{below_less, below_trans, convex_below, not_below_itself}
 use Rattle.acl_files.specs.Files.{Files}
-use Rattle.acl_names.specs.Below.{is_below}
+use Rattle.acl_names.specs.Below.{is_above}
 use Rattle.acl_files.specs.Walks.{ancestors, last_or, nearest_above}
 use Rattle.acl_files.proofs.Follows.{above}
 use Rattle.acl_files.proofs.Nearest.{clash, false_from, those}
@@ -45,26 +45,26 @@ nearest_alone p es = last_alone [] (those p es) (omega arith)
 -- ---- the entries above a path
 
 module _ {A : Type 0} where
-  pub all_above : (p : PathOf) (es : List (PathOf × A)) → AllByRecursion (λ (e : PathOf × A). is_below e.0 p ≡ true) (those p es)
+  pub all_above : (p : PathOf) (es : List (PathOf × A)) → AllByRecursion (λ (e : PathOf × A). is_above e.0 p ≡ true) (those p es)
   all_above p [] = tt
-  all_above p (e ∷ es) = by (is_below e.0 p) refl (all_above p es)
+  all_above p (e ∷ es) = by (is_above e.0 p) refl (all_above p es)
     where
-      by : (b : Bool) → is_below e.0 p ≡ b → AllByRecursion (λ (e : PathOf × A). is_below e.0 p ≡ true) (those p es) → AllByRecursion (λ (e : PathOf × A). is_below e.0 p ≡ true) (cond b (e ∷ those p es) (those p es))
+      by : (b : Bool) → is_above e.0 p ≡ b → AllByRecursion (λ (e : PathOf × A). is_above e.0 p ≡ true) (those p es) → AllByRecursion (λ (e : PathOf × A). is_above e.0 p ≡ true) (cond b (e ∷ those p es) (those p es))
       by true is more = (is, more)
       by false is more = more
 
   -- the nearest is above the path
-  pub nearest_is_above : (p : PathOf) (es : List (PathOf × A)) → AllByRecursion (λ (e : PathOf × A). is_below e.0 p ≡ true) (nearest_above p es)
-  nearest_is_above p es = last_holds (λ (e : PathOf × A). is_below e.0 p ≡ true) [] (those p es) tt (all_above p es)
+  pub nearest_is_above : (p : PathOf) (es : List (PathOf × A)) → AllByRecursion (λ (e : PathOf × A). is_above e.0 p ≡ true) (nearest_above p es)
+  nearest_is_above p es = last_holds (λ (e : PathOf × A). is_above e.0 p ≡ true) [] (those p es) tt (all_above p es)
 
-  one_above : (p : PathOf) (es : List (PathOf × A)) (r : PathOf × A) → nearest_above p es ≡ r ∷ [] → is_below r.0 p ≡ true
-  one_above p es r is = (subst (AllByRecursion (λ (e : PathOf × A). is_below e.0 p ≡ true)) is (nearest_is_above p es)).0
+  one_above : (p : PathOf) (es : List (PathOf × A)) (r : PathOf × A) → nearest_above p es ≡ r ∷ [] → is_above r.0 p ≡ true
+  one_above p es r is = (subst (AllByRecursion (λ (e : PathOf × A). is_above e.0 p ≡ true)) is (nearest_is_above p es)).0
 
   later : (x p : PathOf) (es : List (PathOf × A)) → IsTrue (below_all path_cmp x es) → AllByRecursion (λ (e : PathOf × A). path_cmp x e.0 ≡ Less) (those p es)
   later x p [] h = tt
   later x p (e ∷ es) h =
       let parts = and_parts (is_lt (path_cmp x e.0)) (below_all path_cmp x es) h in
-      by (is_below e.0 p) (less (path_cmp x e.0) parts.0) (later x p es parts.1)
+      by (is_above e.0 p) (less (path_cmp x e.0) parts.0) (later x p es parts.1)
     where
       by : (b : Bool) → path_cmp x e.0 ≡ Less → AllByRecursion (λ (e : PathOf × A). path_cmp x e.0 ≡ Less) (those p es) → AllByRecursion (λ (e : PathOf × A). path_cmp x e.0 ≡ Less) (cond b (e ∷ those p es) (those p es))
       by true here more = (here, more)
@@ -78,7 +78,7 @@ module _ {A : Type 0} where
   none_later q [] h = refl
   none_later q (e ∷ es) h =
       let parts = and_parts (is_lt (path_cmp q e.0)) (below_all path_cmp q es) h in
-      let out : is_below e.0 q ≡ false = false_from (is_below e.0 q) (λ k. apart (sym (above q e.0 (less (path_cmp q e.0) parts.0)) ∙ below_less e.0 q k)) in
+      let out : is_above e.0 q ≡ false = false_from (is_above e.0 q) (λ k. apart (sym (above q e.0 (less (path_cmp q e.0) parts.0)) ∙ below_less e.0 q k)) in
       ap (λ b. cond b (e ∷ those q es) (those q es)) out ∙ none_later q es parts.1
     where
       apart : Greater ≡ Less → ⊥
@@ -92,14 +92,14 @@ module _ {A : Type 0} where
   nearest_last p [] r order is = cc
   nearest_last p (e ∷ es) r order is =
       let parts = and_parts (below_all path_cmp e.0 es) (is_sorted path_cmp es) order in
-      by (is_below e.0 p) refl (those p es) refl is parts.0 (nearest_last p es r parts.1)
+      by (is_above e.0 p) refl (those p es) refl is parts.0 (nearest_last p es r parts.1)
     where
-      by : (b : Bool) → is_below e.0 p ≡ b → (l : List (PathOf × A)) → those p es ≡ l → last_or [] (cond b (e ∷ l) l) ≡ r ∷ [] → IsTrue (below_all path_cmp e.0 es)
+      by : (b : Bool) → is_above e.0 p ≡ b → (l : List (PathOf × A)) → those p es ≡ l → last_or [] (cond b (e ∷ l) l) ≡ r ∷ [] → IsTrue (below_all path_cmp e.0 es)
           → (nearest_above p es ≡ r ∷ [] → those p es ≡ those r.0 es ++ r ∷ [])
           → cond b (e ∷ those p es) (those p es) ≡ those r.0 (e ∷ es) ++ r ∷ []
       by false out l tail last after rest =
           let found : nearest_above p es ≡ r ∷ [] = ap (last_or []) tail ∙ last in
-          let apart : is_below e.0 r.0 ≡ false = false_from (is_below e.0 r.0) (λ k. clash (is_below e.0 p) (below_trans e.0 r.0 p k (one_above p es r found)) out) in
+          let apart : is_above e.0 r.0 ≡ false = false_from (is_above e.0 r.0) (λ k. clash (is_above e.0 p) (below_trans e.0 r.0 p k (one_above p es r found)) out) in
           rest found ∙ sym (ap (λ b. cond b (e ∷ those r.0 es) (those r.0 es) ++ r ∷ []) apart)
       by true over [] tail last after rest =
           let same : e ≡ r = cc in
@@ -107,7 +107,7 @@ module _ {A : Type 0} where
           ∙ ap (λ l. l ++ r ∷ []) (sym (none_over e es after) ∙ ap (λ (x : PathOf × A). those x.0 (e ∷ es)) same)
       by true over (y ∷ l) tail last after rest =
           let found : nearest_above p es ≡ r ∷ [] = ap (last_or []) tail ∙ last in
-          let inside : is_below e.0 r.0 ≡ true = convex_below e.0 r.0 p (one_later e.0 p es r after found) (below_less r.0 p (one_above p es r found)) over in
+          let inside : is_above e.0 r.0 ≡ true = convex_below e.0 r.0 p (one_later e.0 p es r after found) (below_less r.0 p (one_above p es r found)) over in
           ap (λ l. e ∷ l) (rest found) ∙ sym (ap (λ b. cond b (e ∷ those r.0 es) (those r.0 es) ++ r ∷ []) inside)
 
 -- ---- files, from the nearest one on

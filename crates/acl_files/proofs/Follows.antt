@@ -9,7 +9,7 @@ use Rattle.acl_names.specs.Paths.{path_cmp}
 use Rattle.acl_names.proofs.Below.{below_less, convex_below, not_below_itself}
 use Rattle.acl_edit.specs.declared.node.Node.{Node}
 use Rattle.acl_files.specs.Files.{PathOf, Files, IsInOrder, holds_below}
-use Rattle.acl_names.specs.Below.{is_below}
+use Rattle.acl_names.specs.Below.{is_above}
 use Rattle.acl_files.specs.Inner.{next_file_below}
 pub use Rattle.path_map.proofs.Places.{above}
 
@@ -26,19 +26,19 @@ less Less h = refl
 less Equal h = cc
 less Greater h = cc
 
-none_below : (p : PathOf) (s : PathOf × Node) (es : Files) → is_below p s.0 ≡ false → path_cmp p s.0 ≡ Less → IsTrue (below_all path_cmp s.0 es) → holds_below es p ≡ false
+none_below : (p : PathOf) (s : PathOf × Node) (es : Files) → is_above p s.0 ≡ false → path_cmp p s.0 ≡ Less → IsTrue (below_all path_cmp s.0 es) → holds_below es p ≡ false
 none_below p s [] apart ps order = refl
 none_below p s (e ∷ es) apart ps order =
     let parts = and_parts (is_lt (path_cmp s.0 e.0)) (below_all path_cmp s.0 es) order in
-    ap (λ b. b || holds_below es p) (false_from (is_below p e.0) (λ below. not_both (is_below p s.0) (convex_below p s.0 e.0 ps (less (path_cmp s.0 e.0) parts.0) below) apart))
+    ap (λ b. b || holds_below es p) (false_from (is_above p e.0) (λ below. not_both (is_above p s.0) (convex_below p s.0 e.0 ps (less (path_cmp s.0 e.0) parts.0) below) apart))
     ∙ none_below p s es apart ps parts.1
 
 -- of the files after a path, those below it come first
 below_next : (p : PathOf) (es : Files) → IsTrue (below_all path_cmp p es) → IsInOrder es → holds_below es p ≡ next_file_below p es
 below_next p [] after order = refl
-below_next p (s ∷ es) after order = by (is_below p s.0) refl
+below_next p (s ∷ es) after order = by (is_above p s.0) refl
   where
-    by : (b : Bool) → is_below p s.0 ≡ b → (is_below p s.0 || holds_below es p) ≡ is_below p s.0
+    by : (b : Bool) → is_above p s.0 ≡ b → (is_above p s.0 || holds_below es p) ≡ is_above p s.0
     by true e = ap (λ b. b || holds_below es p) e ∙ sym e
     by false e =
         let first = and_parts (is_lt (path_cmp p s.0)) (below_all path_cmp p es) after in
@@ -53,7 +53,7 @@ not_before_below : (pre : Files) (e : PathOf × Node) (es : Files) → IsInOrder
 not_before_below [] e es order = refl
 not_before_below (q ∷ pre) e es order =
     let parts = and_parts (below_all path_cmp q.0 (pre ++ e ∷ es)) (is_sorted path_cmp (pre ++ e ∷ es)) order in
-    ap (λ b. b || holds_below pre e.0) (false_from (is_below e.0 q.0) (λ below. greater_is_not_less (sym (above q.0 e.0 (before_it q.0 pre e es parts.0)) ∙ below_less e.0 q.0 below)))
+    ap (λ b. b || holds_below pre e.0) (false_from (is_above e.0 q.0) (λ below. greater_is_not_less (sym (above q.0 e.0 (before_it q.0 pre e es parts.0)) ∙ below_less e.0 q.0 below)))
     ∙ not_before_below pre e es parts.1
   where
     greater_is_not_less : Greater ≡ Less → ⊥
@@ -68,7 +68,7 @@ pub known_by_next : (pre : Files) (e : PathOf × Node) (es : Files) → IsInOrde
 known_by_next pre e es order =
     let here = order-right pre (e ∷ es) order in
     let parts = and_parts (below_all path_cmp e.0 es) (is_sorted path_cmp es) here in
-    sym (list_any-append (λ (s : PathOf × Node). is_below e.0 s.0) pre (e ∷ es)
-    ∙ ap (λ b. b || (is_below e.0 e.0 || holds_below es e.0)) (not_before_below pre e es order)
+    sym (list_any-append (λ (s : PathOf × Node). is_above e.0 s.0) pre (e ∷ es)
+    ∙ ap (λ b. b || (is_above e.0 e.0 || holds_below es e.0)) (not_before_below pre e es order)
     ∙ ap (λ b. b || holds_below es e.0) (not_below_itself e.0)
     ∙ below_next e.0 es parts.0 parts.1)

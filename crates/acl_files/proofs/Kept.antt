@@ -9,7 +9,7 @@ use Rattle.acl_dump.specs.declared.record.DumpRecord.{DumpRecord}
 use Rattle.acl_edit.specs.declared.node.Node.{Node}
 use Rattle.acl_edit.specs.declared.node.Kind.TheVariants.{Plain, Directory}
 use Rattle.acl_files.specs.Files.{PathOf, Files, Recorded, max_files}
-use Rattle.acl_names.specs.Below.{is_below}
+use Rattle.acl_names.specs.Below.{is_above}
 use Rattle.acl_files.specs.Operands.{edit_files}
 use Rattle.acl_files.specs.Edits.{KeepsPlace}
 use Rattle.acl_files.specs.Loading.{insert_record, is_directory, node_of, has_below, as_files, files_of, in_path_order}
@@ -22,7 +22,7 @@ use Rattle.acl_files.proofs.Loaded.{files_in_order}
 
 same_below : (test : PathOf → Bool) (g : PathOf → Node → Node) (es : Files) (p : PathOf) → holds_below (edit_files test g es) p ≡ holds_below es p
 same_below test g [] p = refl
-same_below test g (e ∷ es) p = ap (λ b. is_below p e.0 || b) (same_below test g es p)
+same_below test g (e ∷ es) p = ap (λ b. is_above p e.0 || b) (same_below test g es p)
 
 module _ (test : PathOf → Bool) (g : PathOf → Node → Node) (keeps : (p : PathOf) (n : Node) → KeepsPlace n (g p n)) where
   chosen : (all : Files) (e : PathOf × Node) (b : Bool) → IsPlaced all e → IsPlaced (edit_files test g all) (e.0, if b then g e.0 e.1 else e.1)
@@ -73,7 +73,7 @@ loaded_placed all [] = tt
 loaded_placed all (r ∷ rs) = (
   record {
     directory = λ h. kind_is (is_directory (has_below all r.path) r)
-        (or_last r.slash (eqb (length r.path) 0) (is_some r.dacl) (has_below all r.path) (ap (λ b. eqb (length r.path) 0 || b) (sym (any-map (λ (e : PathOf × Node). is_below r.path e.0) (λ s. let e : PathOf × Node = (s.path, node_of (has_below all s.path) s) in e) all)) ∙ h));
+        (or_last r.slash (eqb (length r.path) 0) (is_some r.dacl) (has_below all r.path) (ap (λ b. eqb (length r.path) 0 || b) (sym (any-map (λ (e : PathOf × Node). is_above r.path e.0) (λ s. let e : PathOf × Node = (s.path, node_of (has_below all s.path) s) in e) all)) ∙ h));
     default = λ h. only_directories r.slash (eqb (length r.path) 0) (has_below all r.path) r.dacl h;
   },
   loaded_placed all rs,

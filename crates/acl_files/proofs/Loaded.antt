@@ -10,7 +10,7 @@ use Rattle.acl_dump.specs.declared.record.DumpRecord.{DumpRecord}
 use Rattle.acl_edit.specs.declared.node.Node.{Node}
 use Rattle.path_map.specs.Entries.{IsInOrder}
 use Rattle.acl_files.specs.Files.{PathOf, Files, holds_below}
-use Rattle.acl_names.specs.Below.{is_below}
+use Rattle.acl_names.specs.Below.{is_above}
 use Rattle.acl_files.specs.Loading.{insert_record, in_path_order, node_of, has_below, as_files, files_of}
 use Rattle.acl_files.specs.Inner.{next_below, files_from, next_file_below, file_before, files_before}
 use Rattle.acl_files.proofs.Shared.{in_order-put}
@@ -44,7 +44,7 @@ in_order-records h rs = in_order-fold h rs [] refl
 -- ---- below
 
 below_seen : (h : DumpRecord → Node) (rs : List DumpRecord) (p : PathOf) → holds_below (seen h rs) p ≡ has_below rs p
-below_seen h rs p = any-map (λ (e : PathOf × Node). is_below p e.0) (λ (r : DumpRecord). (r.path, h r)) rs
+below_seen h rs p = any-map (λ (e : PathOf × Node). is_above p e.0) (λ (r : DumpRecord). (r.path, h r)) rs
 
 next_seen : (h : DumpRecord → Node) (rs : List DumpRecord) (p : PathOf) → next_file_below p (seen h rs) ≡ next_below p rs
 next_seen h [] p = refl

@@ -9,7 +9,7 @@ use Rattle.acl_names.specs.Paths.{path_cmp}
 use Rattle.acl_names.proofs.PathOrder.{path_total, exact_paths}
 use Rattle.acl_dump.specs.declared.record.DumpRecord.{DumpRecord}
 use Rattle.acl_files.specs.Files.{PathOf}
-use Rattle.acl_names.specs.Below.{is_below}
+use Rattle.acl_names.specs.Below.{is_above}
 use Rattle.acl_files.specs.Loading.{insert_record, in_path_order, node_of, has_below, files_of, record_at, loaded_at}
 use Rattle.acl_files.proofs.Loaded.{seen, put_insert}
 
@@ -50,19 +50,19 @@ module _ (q : PathOf) where
   moved false true c = refl
   moved false false c = refl
 
-  below_one : (r : DumpRecord) (rs : List DumpRecord) → has_below (insert_record r rs) q ≡ (is_below q r.path || has_below rs q)
+  below_one : (r : DumpRecord) (rs : List DumpRecord) → has_below (insert_record r rs) q ≡ (is_above q r.path || has_below rs q)
   below_one r [] = refl
   below_one r (s ∷ rs) = by (path_cmp r.path s.path) refl (below_one r rs)
     where
-      by : (o : Ordering) → path_cmp r.path s.path ≡ o → has_below (insert_record r rs) q ≡ (is_below q r.path || has_below rs q)
-          → has_below (by_order o (r ∷ s ∷ rs) (r ∷ rs) (s ∷ insert_record r rs)) q ≡ (is_below q r.path || (is_below q s.path || has_below rs q))
+      by : (o : Ordering) → path_cmp r.path s.path ≡ o → has_below (insert_record r rs) q ≡ (is_above q r.path || has_below rs q)
+          → has_below (by_order o (r ∷ s ∷ rs) (r ∷ rs) (s ∷ insert_record r rs)) q ≡ (is_above q r.path || (is_above q s.path || has_below rs q))
       by Less is rest = refl
-      by Equal is rest = twice (is_below q r.path) (has_below rs q) ∙ ap (λ x. is_below q r.path || (is_below q x || has_below rs q)) (exact_paths r.path s.path is)
-      by Greater is rest = ap (λ b. is_below q s.path || b) rest ∙ swapped (is_below q s.path) (is_below q r.path) (has_below rs q)
+      by Equal is rest = twice (is_above q r.path) (has_below rs q) ∙ ap (λ x. is_above q r.path || (is_above q x || has_below rs q)) (exact_paths r.path s.path is)
+      by Greater is rest = ap (λ b. is_above q s.path || b) rest ∙ swapped (is_above q s.path) (is_above q r.path) (has_below rs q)
 
   below_among : (rs done : List DumpRecord) → has_below (fold (λ sorted r. insert_record r sorted) done rs) q ≡ (has_below rs q || has_below done q)
   below_among [] done = refl
-  below_among (r ∷ rs) done = below_among rs (insert_record r done) ∙ ap (λ b. has_below rs q || b) (below_one r done) ∙ moved (has_below rs q) (is_below q r.path) (has_below done q)
+  below_among (r ∷ rs) done = below_among rs (insert_record r done) ∙ ap (λ b. has_below rs q || b) (below_one r done) ∙ moved (has_below rs q) (is_above q r.path) (has_below done q)
 
   or_false : (a : Bool) → (a || false) ≡ a
   or_false true = refl

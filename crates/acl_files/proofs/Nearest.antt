@@ -15,7 +15,7 @@ use Rattle.path_map.specs.Below.{up_to}
 use Rattle.path_map.proofs.Places.{above, below}
 use Rattle.acl_names.proofs.Below.{convex, early_not_within, nothing_below, within_itself, within_trans}
 use Rattle.acl_names.proofs.Parents.{below_parent, common_above, common_shorter, common_within}
-use Rattle.acl_names.specs.Below.{is_within, is_below, parent, common}
+use Rattle.acl_names.specs.Below.{encloses, is_above, parent, common}
 use Rattle.acl_files.specs.Walks.{last_or, nearest_above}
 
 less : (o : Ordering) → is_lt o ≡ true → o ≡ Less
@@ -42,7 +42,7 @@ empty_path p parts b is same none = nothing p (eqb-true (length p) 0 (sym (is �
 
 -- ---- the last entry that is not after a path
 
-after_out : (t e : PathOf) → is_lt (path_cmp t e) ≡ true → is_within e t ≡ false
+after_out : (t e : PathOf) → is_lt (path_cmp t e) ≡ true → encloses e t ≡ false
 after_out t e lt = early_not_within e t (ap is_gt (above t e (less (path_cmp t e) lt)))
 
 -- entries that are all after a path
@@ -51,7 +51,7 @@ AllAfter t es = AllByRecursion (λ e. is_lt (path_cmp t e.0) ≡ true) es
 
 -- what is above a path is at or above another
 abbrev pub Alike : {A : Type 0} → PathOf → PathOf → List (PathOf × A) → Type 0
-Alike p t es = AllByRecursion (λ e. is_below e.0 p ≡ is_within e.0 t) es
+Alike p t es = AllByRecursion (λ e. is_above e.0 p ≡ encloses e.0 t) es
 
 -- those up to a path are up to another
 abbrev Bounded : {A : Type 0} → PathOf → PathOf → List (PathOf × A) → Type 0
@@ -60,7 +60,7 @@ Bounded t r es = AllByRecursion (λ e. is_lt (path_cmp t e.0) ≡ false → is_g
 module _ {A : Type 0} where
   -- the entries that a path is below
   abbrev pub those : PathOf → List (PathOf × A) → List (PathOf × A)
-  those p es = filter (λ e. is_below e.0 p) es
+  those p es = filter (λ e. is_above e.0 p) es
 
   none_above : (t : PathOf) (es : List (PathOf × A)) → up_to t es ≡ None → AllAfter t es
   none_above t [] h = tt
@@ -80,10 +80,10 @@ module _ {A : Type 0} where
   skip_after found p t [] a h = refl
   skip_after found p t (e ∷ es) a h = ap (λ b. last_or found (cond b (e ∷ those p es) (those p es))) (a.0 ∙ after_out t e.0 h.0) ∙ skip_after found p t es a.1 h.1
 
-  found_last : (found : List (PathOf × A)) (p t : PathOf) (es : List (PathOf × A)) (r : PathOf × A) → Alike p t es → up_to t es ≡ Some r → is_within r.0 t ≡ true → last_or found (those p es) ≡ r ∷ []
+  found_last : (found : List (PathOf × A)) (p t : PathOf) (es : List (PathOf × A)) (r : PathOf × A) → Alike p t es → up_to t es ≡ Some r → encloses r.0 t ≡ true → last_or found (those p es) ≡ r ∷ []
   found_last found p t [] r a h w = cc
   found_last found p t (e ∷ es) r a h w =
-      by (up_to t es) refl (is_lt (path_cmp t e.0)) h (λ k. step (is_below e.0 p) found e (those p es) ∙ found_last (cond (is_below e.0 p) (e ∷ []) found) p t es r a.1 k w)
+      by (up_to t es) refl (is_lt (path_cmp t e.0)) h (λ k. step (is_above e.0 p) found e (those p es) ∙ found_last (cond (is_above e.0 p) (e ∷ []) found) p t es r a.1 k w)
     where
       by : (u : Option (PathOf × A)) → up_to t es ≡ u → (b : Bool) → option_or u (cond b None (Some e)) ≡ Some r
           → (up_to t es ≡ Some r → last_or found (those p (e ∷ es)) ≡ r ∷ [])
@@ -92,8 +92,8 @@ module _ {A : Type 0} where
       by None is true k more = cc
       by None is false k more =
           let same : e ≡ r = cc in
-          step (is_below e.0 p) found e (those p es)
-          ∙ ap (λ b. last_or (cond b (e ∷ []) found) (those p es)) (a.0 ∙ ap (λ (x : PathOf × A). is_within x.0 t) same ∙ w)
+          step (is_above e.0 p) found e (those p es)
+          ∙ ap (λ b. last_or (cond b (e ∷ []) found) (those p es)) (a.0 ∙ ap (λ (x : PathOf × A). encloses x.0 t) same ∙ w)
           ∙ skip_after (e ∷ []) p t es a.1 (none_above t es is)
           ∙ ap (λ (x : PathOf × A). x ∷ []) same
 
@@ -140,12 +140,12 @@ module _ {A : Type 0} where
 
 -- ---- the search
 
-order_cases : (t r : PathOf) → is_lt (path_cmp t r) ≡ false → is_within r t ≡ false → path_cmp r t ≡ Less
+order_cases : (t r : PathOf) → is_lt (path_cmp t r) ≡ false → encloses r t ≡ false → path_cmp r t ≡ Less
 order_cases t r early out = by (path_cmp t r) refl
   where
     by : (o : Ordering) → path_cmp t r ≡ o → path_cmp r t ≡ Less
     by Less is = absurd (clash (is_lt (path_cmp t r)) (ap is_lt is) early)
-    by Equal is = absurd (clash (is_within r t) (ap (is_within r) (exact_paths t r is) ∙ within_itself r) out)
+    by Equal is = absurd (clash (encloses r t) (ap (encloses r) (exact_paths t r is) ∙ within_itself r) out)
     by Greater is = below t r is
 
 -- nothing is above the root
@@ -164,13 +164,13 @@ alike_begins {A = A} p es t some is = subst (λ q. Alike p q es) (sym is) (all e
     all [] = tt
     all (e ∷ es) = (below_parent e.0 p some, all es)
 
-pub alike_found : {A : Type 0} (p : PathOf) (es : List (PathOf × A)) (t : PathOf) (r : PathOf × A) → Alike p t es → up_to t es ≡ Some r → is_within r.0 t ≡ true → nearest_above p es ≡ r ∷ []
+pub alike_found : {A : Type 0} (p : PathOf) (es : List (PathOf × A)) (t : PathOf) (r : PathOf × A) → Alike p t es → up_to t es ≡ Some r → encloses r.0 t ≡ true → nearest_above p es ≡ r ∷ []
 alike_found p es t r alike is inside = found_last [] p t es r alike is inside
 
 pub alike_ends : {A : Type 0} (p : PathOf) (es : List (PathOf × A)) (t : PathOf) → Alike p t es → up_to t es ≡ None → nearest_above p es ≡ []
 alike_ends p es t alike is = skip_after [] p t es alike (none_above t es is)
 
-module _ {A : Type 0} (es : List (PathOf × A)) (t : PathOf) (r : PathOf × A) (order : IsInOrder es) (is : up_to t es ≡ Some r) (out : is_within r.0 t ≡ false) where
+module _ {A : Type 0} (es : List (PathOf × A)) (t : PathOf) (r : PathOf × A) (order : IsInOrder es) (is : up_to t es ≡ Some r) (out : encloses r.0 t ≡ false) where
   early : is_lt (path_cmp t r.0) ≡ false
   early = last_early t es r is
 
@@ -180,15 +180,15 @@ module _ {A : Type 0} (es : List (PathOf × A)) (t : PathOf) (r : PathOf × A) (
   pub alike_shorter : length (common t r.0) < length t
   alike_shorter = common_shorter t r.0 (early_not_within t r.0 (ap is_gt (above r.0 t before)))
 
-  cut_alike : (e : PathOf) → (is_lt (path_cmp t e) ≡ false → is_gt (path_cmp e r.0) ≡ false) → is_within e t ≡ is_within e (common t r.0)
-  cut_alike e bound = by (is_within e t) refl
+  cut_alike : (e : PathOf) → (is_lt (path_cmp t e) ≡ false → is_gt (path_cmp e r.0) ≡ false) → encloses e t ≡ encloses e (common t r.0)
+  cut_alike e bound = by (encloses e t) refl
     where
-      by : (b : Bool) → is_within e t ≡ b → b ≡ is_within e (common t r.0)
+      by : (b : Bool) → encloses e t ≡ b → b ≡ encloses e (common t r.0)
       by true w = sym (common_above e t r.0 w (convex e r.0 t (bound (not_after w)) before w))
         where
-          not_after : is_within e t ≡ true → is_lt (path_cmp t e) ≡ false
-          not_after w = false_from (is_lt (path_cmp t e)) (λ lt. clash (is_within e t) w (after_out t e lt))
-      by false w = sym (false_from (is_within e (common t r.0)) (λ k. clash (is_within e t) (within_trans e (common t r.0) t k (common_within t r.0)) w))
+          not_after : encloses e t ≡ true → is_lt (path_cmp t e) ≡ false
+          not_after w = false_from (is_lt (path_cmp t e)) (λ lt. clash (encloses e t) w (after_out t e lt))
+      by false w = sym (false_from (encloses e (common t r.0)) (λ k. clash (encloses e t) (within_trans e (common t r.0) t k (common_within t r.0)) w))
 
   pub alike_on : (p : PathOf) → Alike p t es → Alike p (common t r.0) es
   alike_on p alike = all es alike (last_bound t es r order is)

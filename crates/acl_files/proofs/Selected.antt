@@ -18,7 +18,7 @@ use Rattle.path_map.proofs.Merges.{before_from, later_after}
 use Rattle.path_map.proofs.Places.{above, below}
 use Rattle.path_map.proofs.Ranges.{from_from, from_end}
 use Rattle.acl_files.specs.Files.{PathOf, Files, IsInOrder}
-use Rattle.acl_names.specs.Below.{is_within}
+use Rattle.acl_names.specs.Below.{encloses}
 use Rattle.acl_files.specs.Operands.{means, is_file}
 use Rattle.acl_files.specs.Sound.{holds_below}
 use Rattle.acl_files.specs.Found.{found_file, found_in, files_found}
@@ -69,9 +69,9 @@ means_from false p q h = subst (λ z. path_cmp p z ≢ Greater) (sym (same_path 
 means_convex : (b : Bool) (p e r : PathOf) → path_cmp p e ≢ Greater → path_cmp e r ≢ Greater → means b p r ≡ true → means b p e ≡ true
 means_convex true p e r pe er h = by (path_cmp e r) refl
   where
-    by : (o : Ordering) → path_cmp e r ≡ o → is_within p e ≡ true
+    by : (o : Ordering) → path_cmp e r ≡ o → encloses p e ≡ true
     by Less is = convex p e r (gt_false _ pe) is h
-    by Equal is = subst (λ z. is_within p z ≡ true) (sym (exact_paths e r is)) h
+    by Equal is = subst (λ z. encloses p z ≡ true) (sym (exact_paths e r is)) h
     by Greater is = absurd (er is)
 means_convex false p e r pe er h = by (path_cmp e p) refl
   where

@@ -11,7 +11,7 @@ use Rattle.acl_edit.specs.declared.edit.EditFault.{EditFault}
 use Rattle.acl_edit.specs.declared.node.Node.{Node}
 use Rattle.acl_edit.specs.contracts.node.Node as node_contracts
 use Rattle.acl_files.specs.declared.edit.FileFault.{FileFault}
-use Rattle.acl_names.specs.Below.{is_below}
+use Rattle.acl_names.specs.Below.{is_above}
 use Rattle.acl_files.specs.Files.{PathOf, Files}
 use Rattle.acl_files.specs.Loading.{node_of}
 use Rattle.acl_files.specs.Edits.{and_others}
@@ -24,7 +24,7 @@ use Rattle.acl_files.specs.Restoring.{edit_of}
 -- whether the first of the records that follow is below a path
 abbrev pub next_below : PathOf → List DumpRecord → Bool
 next_below p [] = false
-next_below p (r ∷ rs) = is_below p r.path
+next_below p (r ∷ rs) = is_above p r.path
 
 -- the files of records in path order, each by the one that follows it
 abbrev pub files_from : List DumpRecord → Files
@@ -34,7 +34,7 @@ files_from (r ∷ rs) = (r.path, node_of (next_below r.path rs) r) ∷ files_fro
 -- whether the first of the files that follow is below a path
 abbrev pub next_file_below : PathOf → Files → Bool
 next_file_below p [] = false
-next_file_below p (e ∷ es) = is_below p e.0
+next_file_below p (e ∷ es) = is_above p e.0
 
 -- a record's file, before the files that follow it
 abbrev pub file_before : DumpRecord → Files → Files

@@ -9,7 +9,7 @@ use Rattle.acl_dump.specs.declared.record.DumpRecord.{DumpRecord}
 use Rattle.acl_edit.specs.declared.node.Node.{Node}
 use Rattle.acl_edit.specs.declared.node.Kind.TheVariants.{Plain, Directory}
 use Rattle.acl_files.specs.Files.{PathOf, Files}
-use Rattle.acl_names.specs.Below.{is_below}
+use Rattle.acl_names.specs.Below.{is_above}
 
 -- a record in its place in path order
 abbrev pub insert_record : DumpRecord → List DumpRecord → List DumpRecord
@@ -36,7 +36,7 @@ node_of has_below r =
 
 -- whether one of the records lies below a path
 abbrev pub has_below : List DumpRecord → PathOf → Bool
-has_below records p = list_any (λ r. is_below p r.path) records
+has_below records p = list_any (λ r. is_above p r.path) records
 
 abbrev pub as_files : List DumpRecord → List DumpRecord → Files
 as_files all records = map (λ r. (r.path, node_of (has_below all r.path) r)) records

@@ -6,13 +6,13 @@ use Rattle.std.specs.FinMap.{find}
 use Rattle.acl_names.specs.Paths.{path_cmp}
 use Rattle.acl_edit.specs.declared.node.Node.{Node}
 use Rattle.acl_files.specs.Files.{PathOf, Files}
-use Rattle.acl_names.specs.Below.{is_within}
+use Rattle.acl_names.specs.Below.{encloses}
 use Rattle.acl_files.specs.declared.fault.TreeFault.{TreeFault}
 use Rattle.acl_files.specs.declared.fault.TreeFault.TheVariants.{NoSuchFile}
 
 -- whether an operand means the file
 abbrev pub means : Bool → PathOf → PathOf → Bool
-means recursive p q = if recursive then is_within p q else eq_by_cmp path_cmp q p
+means recursive p q = if recursive then encloses p q else eq_by_cmp path_cmp q p
 
 -- whether a file is one of the command's: they are a set, whatever operands mean a file
 abbrev pub is_file : Bool → List PathOf → PathOf → Bool

@@ -4,7 +4,7 @@ ghost use Rattle.std.specs.Prelude.{◌≡◌, ◌<◌, ◌∷◌, ◌++◌, [],
 ghost use Rattle.std.specs.List.{list_all};
 ghost use Rattle.acl_names.specs.Packed.{IsPacked, unpacked};
 ghost use Rattle.acl_names.specs.Paths.{is_component, path_cmp};
-ghost use Rattle.acl_names.specs.Below.{is_within, parent, common};
+ghost use Rattle.acl_names.specs.Below.{encloses, parent, common};
 
 use crate::cut::cut;
 use std::alloc::{AllocError, Global};
@@ -88,7 +88,7 @@ impl<'a> Components<'a> {
 
     /// Whether they begin with those of a path.
     pub(crate) fn are_within(self, top: Components<'_>) -> bool
-        ensures { result ≡ is_within top.entry self.entry }
+        ensures { result ≡ encloses top.entry self.entry }
     {
         let mut parts = top;
         let mut rest = self;
@@ -229,7 +229,7 @@ pub(crate) fn packed_order(left: &[u8], right: &[u8]) -> Ordering
 pub(crate) fn packed_within(top: &[u8], bytes: &[u8]) -> bool
     requires top { IsPacked top.now }
     requires bytes { IsPacked bytes.now }
-    ensures { result ≡ is_within (unpacked top.now) (unpacked bytes.now) }
+    ensures { result ≡ encloses (unpacked top.now) (unpacked bytes.now) }
 {
     bytes.starts_with(top)
 }

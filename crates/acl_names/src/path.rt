@@ -5,7 +5,7 @@ ghost use Rattle.std.specs.List.{list_all, flat_map};
 ghost use Rattle.acl_names.specs.Appends.{Appends, AppendsWhole};
 ghost use Rattle.acl_names.specs.Names.{escaped_where, is_escaped_in_paths};
 ghost use Rattle.acl_names.specs.Paths.{is_component, is_allowed, path_from, is_nothing, is_dot_dot, is_refused, path_of, path_cmp, path_text, after_slash};
-ghost use Rattle.acl_names.specs.Below.{is_within, is_below, parent, common};
+ghost use Rattle.acl_names.specs.Below.{encloses, is_above, parent, common};
 
 use crate::components::{
     Components, pack, packed_common, packed_order, packed_parent, packed_within,
@@ -101,7 +101,7 @@ impl Path {
 
     /// Whether the path is another one or is below it. Allocates nothing.
     pub fn is_within(&self, top: &Path) -> bool
-        ensures { result ≡ is_within top.now self.now }
+        ensures { result ≡ encloses top.now self.now }
     {
         match (&top.form, &self.form) {
             (PathForm::Packed(front), PathForm::Packed(bytes)) => packed_within(front, bytes),
@@ -111,7 +111,7 @@ impl Path {
 
     /// Whether the path is below another one. Allocates nothing.
     pub fn is_below(&self, top: &Path) -> bool
-        ensures { result ≡ is_below top.now self.now }
+        ensures { result ≡ is_above top.now self.now }
     {
         self.is_within(top) && !top.is_within(self)
     }
@@ -192,7 +192,7 @@ fn is_refused(part: &[u8]) -> bool
     is_dot_dot(part) || part.contains(&0)
 }
 
-/// The path that a text stands for: decoded as a name, then cut at `/`, without empty components and
+/// The path that a text means: decoded as a name, then cut at `/`, without empty components and
 /// `.`. `None` where a component is `..` or contains a NUL byte. Fails only if memory runs out.
 pub fn read_path(alloc: Global, text: &[u8]) -> Result<Option<Path>, AllocError>
     ensures { IfOk result (λ path. path ≡ path_of text.now) }

@@ -38,7 +38,7 @@ has_name name es = is_some (position (is_name name) es)
 abbrev pub has_id : ℕ → List Named → Bool
 has_id id es = is_some (position (is_id id) es)
 
--- the place of the row that a word stands for: digits alone are always an id, any other word is a name
+-- the place of the row that a word means: digits alone are always an id, any other word is a name
 abbrev pub place_of_word : List ℕ → List Named → Option ℕ
 place_of_word word es =
     if is_number word then option_and_then (λ id. position (is_id id) es) (id_of word)

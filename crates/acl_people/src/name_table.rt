@@ -107,7 +107,7 @@ impl NameTable {
         self.first.get(&id.number()).copied()
     }
 
-    /// The place that a word stands for: digits alone are an id, any other word is a name.
+    /// The place that a word means: digits alone are an id, any other word is a name.
     pub fn place_of_word(&self, word: &[u8]) -> Option<usize>
         ensures found { result ≡ place_of_word word.now self.now }
         ensures within { IfSome result (λ at. at < length self.now) }

@@ -113,7 +113,7 @@ impl People {
         self.users.rows().len()
     }
 
-    /// The place of the user that a word stands for: digits alone are the first user of that id, any other
+    /// The place of the user that a word means: digits alone are the first user of that id, any other
     /// word is a name.
     pub fn find_user(&self, word: &[u8]) -> Option<usize>
         ensures found { result ≡ place_of_word word.now (users_of self.now) }
@@ -122,7 +122,7 @@ impl People {
         self.users.name_table().place_of_word(word)
     }
 
-    /// The place of the group that a word stands for: digits alone are the first group of that id, any other
+    /// The place of the group that a word means: digits alone are the first group of that id, any other
     /// word is a name.
     pub fn find_group(&self, word: &[u8]) -> Option<usize>
         ensures found { result ≡ place_of_word word.now (groups_of self.now) }

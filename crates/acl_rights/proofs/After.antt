@@ -6,7 +6,7 @@ use Rattle.std.proofs.lemmas.List.{length-map, length-append}
 use Rattle.acl_tree.specs.acl_entry.Mentions.{AgreeOnMentions}
 use Rattle.acl_tree.specs.acl_entry.Person.{Person}
 use Rattle.acl_tree.specs.acl_entry.declared.label.Label.{Label}
-use Rattle.acl_tree.specs.acl_names.Below.{is_below}
+use Rattle.acl_tree.specs.acl_names.Below.{is_above}
 use Rattle.acl_tree.specs.acl_edit.declared.node.Node.{Node}
 use Rattle.acl_tree.specs.Files.{PathOf, Files, Recorded}
 use Rattle.acl_tree.specs.Changed.{is_changed, changed_between, gone_between}
@@ -46,7 +46,7 @@ below_paths {A = A} (e ∷ es) (f ∷ fs) h p =
     let first : e.0 ≡ f.0 = cc in
     let rest : map (λ (e : PathOf × A). e.0) es ≡ map (λ (e : PathOf × Node). e.0) fs = cc in
     let more = below_paths es fs rest p in
-    λ i. is_below p (first i) || more i
+    λ i. is_above p (first i) || more i
 
 apart_from : (ns : Numbers) (fs gone : Files) → map (λ (e : PathOf × ℕ). e.0) ns ≡ map (λ (e : PathOf × Node). e.0) fs → AllByRecursion (λ e. holds_below fs e.0 ≡ false) gone → IsApart ns gone
 apart_from ns fs [] same h = tt

@@ -11,7 +11,7 @@ use Rattle.std.proofs.lemmas.Cmp.{tied_itself}
 use Rattle.acl_tree.specs.acl_entry.Person.{Person}
 use Rattle.acl_tree.specs.acl_names.Paths.{path_cmp}
 use Rattle.acl_tree.proofs.of_acl_names.PathOrder.{path_total, exact_paths}
-use Rattle.acl_tree.specs.acl_names.Below.{is_below}
+use Rattle.acl_tree.specs.acl_names.Below.{is_above}
 use Rattle.acl_tree.specs.Files.{PathOf}
 use Rattle.path_map.proofs.Places.{above}
 use Rattle.path_map.specs.Entries.{IsInOrder}
@@ -133,17 +133,17 @@ each_found P t (e ∷ es) q a all is ok = by (is_eq (path_cmp q e.0)) refl is (�
 
 -- ---- who passes depends only on what is above
 
-all_kept : {A : Type 0} (f : A → Bool) (p : PathOf) (es : List (PathOf × A)) → list_all (λ e. not (is_below e.0 p) || f e.1) es ≡ list_all (λ (e : PathOf × Bool). e.1) (map (λ (e : PathOf × A). (e.0, f e.1)) (filter (λ e. is_below e.0 p) es))
+all_kept : {A : Type 0} (f : A → Bool) (p : PathOf) (es : List (PathOf × A)) → list_all (λ e. not (is_above e.0 p) || f e.1) es ≡ list_all (λ (e : PathOf × Bool). e.1) (map (λ (e : PathOf × A). (e.0, f e.1)) (filter (λ e. is_above e.0 p) es))
 all_kept {A = A} f p [] = refl
-all_kept {A = A} f p (e ∷ es) = by (all_kept f p es) (is_below e.0 p)
+all_kept {A = A} f p (e ∷ es) = by (all_kept f p es) (is_above e.0 p)
   where
-    by : list_all (λ e. not (is_below e.0 p) || f e.1) es ≡ list_all (λ (e : PathOf × Bool). e.1) (map (λ (e : PathOf × A). (e.0, f e.1)) (filter (λ e. is_below e.0 p) es)) → (b : Bool) → ((not b || f e.1) && list_all (λ e. not (is_below e.0 p) || f e.1) es) ≡ list_all (λ (e : PathOf × Bool). e.1) (map (λ (e : PathOf × A). (e.0, f e.1)) (cond b (e ∷ filter (λ e. is_below e.0 p) es) (filter (λ e. is_below e.0 p) es)))
+    by : list_all (λ e. not (is_above e.0 p) || f e.1) es ≡ list_all (λ (e : PathOf × Bool). e.1) (map (λ (e : PathOf × A). (e.0, f e.1)) (filter (λ e. is_above e.0 p) es)) → (b : Bool) → ((not b || f e.1) && list_all (λ e. not (is_above e.0 p) || f e.1) es) ≡ list_all (λ (e : PathOf × Bool). e.1) (map (λ (e : PathOf × A). (e.0, f e.1)) (cond b (e ∷ filter (λ e. is_above e.0 p) es) (filter (λ e. is_above e.0 p) es)))
     by more true = ap (λ b. f e.1 && b) more
     by more false = more
 
 found_kept : {A : Type 0} (f : A → Bool) (p q : PathOf) (es : List (PathOf × A)) → IsInOrder es
-    → find path_cmp q (map (λ (e : PathOf × A). (e.0, f e.1)) (filter (λ e. is_below e.0 p) es)) ≡ (if is_below q p then option_map f (find path_cmp q es) else None)
-found_kept {A = A} f p q es o = find-values f q (filter (λ e. is_below e.0 p) es) ∙ ap (option_map f) (find-filter (λ e. is_below e.0 p) q es o) ∙ by (is_below q p) (find path_cmp q es)
+    → find path_cmp q (map (λ (e : PathOf × A). (e.0, f e.1)) (filter (λ e. is_above e.0 p) es)) ≡ (if is_above q p then option_map f (find path_cmp q es) else None)
+found_kept {A = A} f p q es o = find-values f q (filter (λ e. is_above e.0 p) es) ∙ ap (option_map f) (find-filter (λ e. is_above e.0 p) q es o) ∙ by (is_above q p) (find path_cmp q es)
   where
     by : (b : Bool) (x : Option A) → option_map f (option_and_then (λ a. if b then Some a else None) x) ≡ (if b then option_map f x else None)
     by true None = refl
@@ -152,17 +152,17 @@ found_kept {A = A} f p q es o = find-values f q (filter (λ e. is_below e.0 p) e
     by false (Some a) = refl
 
 pub alike_above : {A B : Type 0} (f : A → Bool) (g : B → Bool) (p : PathOf) (es : List (PathOf × A)) (fs : List (PathOf × B)) → IsInOrder es → IsInOrder fs
-    → ((q : PathOf) → is_below q p ≡ true → option_map f (find path_cmp q es) ≡ option_map g (find path_cmp q fs))
-    → list_all (λ e. not (is_below e.0 p) || f e.1) es ≡ list_all (λ e. not (is_below e.0 p) || g e.1) fs
+    → ((q : PathOf) → is_above q p ≡ true → option_map f (find path_cmp q es) ≡ option_map g (find path_cmp q fs))
+    → list_all (λ e. not (is_above e.0 p) || f e.1) es ≡ list_all (λ e. not (is_above e.0 p) || g e.1) fs
 alike_above {A = A} {B = B} f g p es fs o r h =
     all_kept f p es
-    ∙ ap (list_all (λ (e : PathOf × Bool). e.1)) (same_found (map (λ (e : PathOf × A). (e.0, f e.1)) (filter (λ e. is_below e.0 p) es)) (map (λ (e : PathOf × B). (e.0, g e.1)) (filter (λ e. is_below e.0 p) fs))
-    (map_values (λ (e : PathOf × A). f e.1) (filter (λ e. is_below e.0 p) es) (map_filter (λ e. is_below e.0 p) es o))
-    (map_values (λ (e : PathOf × B). g e.1) (filter (λ e. is_below e.0 p) fs) (map_filter (λ e. is_below e.0 p) fs r))
-    (λ q. found_kept f p q es o ∙ by q (is_below q p) refl ∙ sym (found_kept g p q fs r)))
+    ∙ ap (list_all (λ (e : PathOf × Bool). e.1)) (same_found (map (λ (e : PathOf × A). (e.0, f e.1)) (filter (λ e. is_above e.0 p) es)) (map (λ (e : PathOf × B). (e.0, g e.1)) (filter (λ e. is_above e.0 p) fs))
+    (map_values (λ (e : PathOf × A). f e.1) (filter (λ e. is_above e.0 p) es) (map_filter (λ e. is_above e.0 p) es o))
+    (map_values (λ (e : PathOf × B). g e.1) (filter (λ e. is_above e.0 p) fs) (map_filter (λ e. is_above e.0 p) fs r))
+    (λ q. found_kept f p q es o ∙ by q (is_above q p) refl ∙ sym (found_kept g p q fs r)))
     ∙ sym (all_kept g p fs)
   where
-    by : (q : PathOf) (b : Bool) → is_below q p ≡ b → (if b then option_map f (find path_cmp q es) else None) ≡ (if b then option_map g (find path_cmp q fs) else None)
+    by : (q : PathOf) (b : Bool) → is_above q p ≡ b → (if b then option_map f (find path_cmp q es) else None) ≡ (if b then option_map g (find path_cmp q fs) else None)
     by q true is = h q is
     by q false is = refl
 

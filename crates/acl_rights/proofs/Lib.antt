@@ -17,7 +17,7 @@ pub mod Judged
 pub mod Refreshing
 pub mod After
 pub mod Granted
-pub mod Anew
+pub mod Renumbered
 pub use Rattle.acl_tree.proofs.of_acl_dump
 pub use Rattle.acl_tree.proofs.of_acl_entry
 pub use Rattle.acl_tree.proofs.of_acl_files

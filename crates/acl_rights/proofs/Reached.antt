@@ -12,7 +12,7 @@ use Rattle.acl_tree.specs.acl_names.Paths.{path_cmp}
 use Rattle.acl_tree.proofs.of_acl_names.PathOrder.{exact_paths}
 use Rattle.std.specs.Ordering.{is_eq}
 use Rattle.acl_tree.specs.acl_edit.declared.node.Node.{Node}
-use Rattle.acl_tree.specs.acl_names.Below.{is_below}
+use Rattle.acl_tree.specs.acl_names.Below.{is_above}
 use Rattle.acl_tree.specs.Files.{PathOf, Files}
 use Rattle.acl_tree.specs.acl_people.KnownPeople.{person, persons}
 use Rattle.acl_tree.specs.Step.{State}
@@ -45,7 +45,7 @@ module _ (V : Verdict) (us : List Person) where
 
   passes_are : (user : ℕ) (u : Person) → slice_get us user ≡ Some u → (p : PathOf) (fs : Files) → passes_in (rows_of V us fs) user p ≡ passes V fs u p
   passes_are user u is p [] = refl
-  passes_are user u is p (e ∷ fs) = λ i. (not (is_below e.0 p) || search_is user u is e.1 i) && passes_are user u is p fs i
+  passes_are user u is p (e ∷ fs) = λ i. (not (is_above e.0 p) || search_is user u is e.1 i) && passes_are user u is p fs i
 
   pub reached_is : (fs : Files) (p : PathOf) → find path_cmp p (reached_rows (rows_of V us fs)) ≡ option_map (λ n. reached_from (rows_of V us fs) p 0 (cells_of V us n)) (find path_cmp p fs)
   reached_is fs p =

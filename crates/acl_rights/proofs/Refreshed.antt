@@ -13,7 +13,7 @@ use Rattle.acl_tree.specs.acl_entry.Person.{Person}
 use Rattle.acl_tree.specs.acl_entry.declared.label.Label.{Label}
 use Rattle.acl_tree.specs.acl_names.Paths.{path_cmp}
 use Rattle.acl_tree.specs.acl_edit.declared.node.Node.{Node}
-use Rattle.acl_tree.specs.acl_names.Below.{is_within, is_below}
+use Rattle.acl_tree.specs.acl_names.Below.{encloses, is_above}
 use Rattle.acl_tree.specs.Changed.{same_label, is_changed, changed_between, gone_between}
 use Rattle.acl_tree.specs.Files.{PathOf, Files, Recorded}
 use Rattle.acl_tree.specs.acl_people.KnownPeople.{persons}
@@ -102,7 +102,7 @@ module _ (V : Verdict) (us ws : List Person) (fs gs : Files) (fo : IsInOrder fs)
 
   -- ---- what is the same at a path and above it is reached alike
 
-  module _ (u w : Person) (p : PathOf) (h : (q : PathOf) → is_within q p ≡ true → option_map (λ (n : Node). V u n.label) (find path_cmp q fs) ≡ option_map (λ (n : Node). V w n.label) (find path_cmp q gs)) where
+  module _ (u w : Person) (p : PathOf) (h : (q : PathOf) → encloses q p ≡ true → option_map (λ (n : Node). V u n.label) (find path_cmp q fs) ≡ option_map (λ (n : Node). V w n.label) (find path_cmp q gs)) where
     passes_kept : passes V fs u p ≡ passes V gs w p
     passes_kept =
         alike_above (λ (n : Node). has (V u n.label) execute) (λ (n : Node). has (V w n.label) execute) p fs gs fo go
@@ -121,21 +121,21 @@ module _ (V : Verdict) (us ws : List Person) (fs gs : Files) (fo : IsInOrder fs)
   -- ---- files that neither changed nor lie below one that did
 
   module _ (apart : AllByRecursion (λ e. holds_below gs e.0 ≡ false) (gone_between fs gs)) (p : PathOf) (n : Node) (here : find path_cmp p gs ≡ Some n) (out : lies_in (changed_between fs gs) p ≡ false) where
-    not_changed : (q : PathOf) (m : Node) → is_within q p ≡ true → find path_cmp q gs ≡ Some m → is_changed fs (q, m) ≡ false
+    not_changed : (q : PathOf) (m : Node) → encloses q p ≡ true → find path_cmp q gs ≡ Some m → is_changed fs (q, m) ≡ false
     not_changed q m w is =
-        let none = any_found (λ e. is_changed fs e && is_within e.0 p) gs q m (sym (any_filter (λ e. is_within e.0 p) (is_changed fs) gs) ∙ out) is in
-        false_from (is_changed fs (q, m)) (λ c. clash (is_changed fs (q, m) && is_within q p) (and_from _ _ c w) none)
+        let none = any_found (λ e. is_changed fs e && encloses e.0 p) gs q m (sym (any_filter (λ e. encloses e.0 p) (is_changed fs) gs) ∙ out) is in
+        false_from (is_changed fs (q, m)) (λ c. clash (is_changed fs (q, m) && encloses q p) (and_from _ _ c w) none)
 
-    not_gone : (q : PathOf) (m : Node) → is_within q p ≡ true → find path_cmp q gs ≡ None → find path_cmp q fs ≡ Some m → ⊥
+    not_gone : (q : PathOf) (m : Node) → encloses q p ≡ true → find path_cmp q gs ≡ None → find path_cmp q fs ≡ Some m → ⊥
     not_gone q m w none is =
         let left = each_found (λ r. holds_below gs r ≡ false) (λ e. not (is_some (find path_cmp e.0 gs))) fs q m apart is (ap (λ o. not (is_some o)) none) in
-        let below = any_found (λ e. is_below q e.0) gs p n left here in
+        let below = any_found (λ e. is_above q e.0) gs p n left here in
         differ (find path_cmp q gs) none (ap (λ r. find path_cmp r gs) (within_cases q p w below) ∙ here)
       where
         differ : (o : Option Node) → o ≡ None → o ≡ Some n → ⊥
         differ o h k = cc
 
-    labels_kept : (q : PathOf) → is_within q p ≡ true → option_map (λ (m : Node). m.label) (find path_cmp q fs) ≡ option_map (λ (m : Node). m.label) (find path_cmp q gs)
+    labels_kept : (q : PathOf) → encloses q p ≡ true → option_map (λ (m : Node). m.label) (find path_cmp q fs) ≡ option_map (λ (m : Node). m.label) (find path_cmp q gs)
     labels_kept q w = by (find path_cmp q fs) (find path_cmp q gs) refl refl
       where
         reported : (a b : Label) → not (same_label a b) ≡ false → a ≡ b
@@ -154,7 +154,7 @@ module _ (V : Verdict) (us ws : List Person) (fs gs : Files) (fo : IsInOrder fs)
         by (Some k) None was is = absurd (not_gone q k w is was)
         by (Some k) (Some m) was is = ap Some (reported k.label m.label (ap (λ o. option_map_or (λ (k : Node). not (same_label k.label m.label)) o true) (sym was) ∙ not_changed q m w is))
 
-    verdicts_kept : (u : Person) (q : PathOf) → is_within q p ≡ true → option_map (λ (n : Node). V u n.label) (find path_cmp q fs) ≡ option_map (λ (n : Node). V u n.label) (find path_cmp q gs)
+    verdicts_kept : (u : Person) (q : PathOf) → encloses q p ≡ true → option_map (λ (n : Node). V u n.label) (find path_cmp q fs) ≡ option_map (λ (n : Node). V u n.label) (find path_cmp q gs)
     verdicts_kept u q w = twice (find path_cmp q fs) ∙ ap (option_map (V u)) (labels_kept q w) ∙ sym (twice (find path_cmp q gs))
       where
         twice : (o : Option Node) → option_map (λ (n : Node). V u n.label) o ≡ option_map (V u) (option_map (λ (n : Node). n.label) o)
@@ -317,15 +317,15 @@ module _ (V : Verdict) (local : (u w : Person) (f : Label) → AgreeOnMentions u
       next_is i w got same =
           person_same m.change.after w (sym (ap (λ (l : List Person). slice_get l at) m.change.becomes ∙ set_here us at m.change.after (got_in us at m.change.before m.change.was)) ∙ ap (slice_get ws) (sym same) ∙ got)
 
-      verdicts : (w : Person) → m.change.after ≡ w → (e : PathOf × Node) → lies_in (filter (mentions_one groups) gs) e.0 ≡ false → (q : PathOf) → is_within q e.0 ≡ true
+      verdicts : (w : Person) → m.change.after ≡ w → (e : PathOf × Node) → lies_in (filter (mentions_one groups) gs) e.0 ≡ false → (q : PathOf) → encloses q e.0 ≡ true
           → option_map (λ (n : Node). V m.change.before n.label) (find path_cmp q fs) ≡ option_map (λ (n : Node). V w n.label) (find path_cmp q gs)
       verdicts w next e out q within = ap (λ (l : Files). option_map (λ (n : Node). V m.change.before n.label) (find path_cmp q l)) files ∙ by (find path_cmp q gs) refl
         where
           by : (o : Option Node) → find path_cmp q gs ≡ o → option_map (λ (n : Node). V m.change.before n.label) o ≡ option_map (λ (n : Node). V w n.label) o
           by None here = refl
           by (Some n) here =
-              let none = any_found (λ x. mentions_one groups x && is_within x.0 e.0) gs q n (sym (any_filter (λ x. is_within x.0 e.0) (mentions_one groups) gs) ∙ out) here in
-              let unmet = false_from (mentions_one groups (q, n)) (λ c. clash (mentions_one groups (q, n) && is_within q e.0) (and_from _ _ c within) none) in
+              let none = any_found (λ x. mentions_one groups x && encloses x.0 e.0) gs q n (sym (any_filter (λ x. encloses x.0 e.0) (mentions_one groups) gs) ∙ out) here in
+              let unmet = false_from (mentions_one groups (q, n)) (λ c. clash (mentions_one groups (q, n) && encloses q e.0) (and_from _ _ c within) none) in
               ap Some (sym (local m.change.after m.change.before n.label (agree us ws at groups m n.label unmet)) ∙ ap (λ u. V u n.label) next)
 
       him : (i : ℕ) (w : Person) (e : PathOf × Node) → slice_get ws i ≡ Some w → i ≡ at → find path_cmp e.0 gs ≡ Some e.1 → lies_in (filter (mentions_one groups) gs) e.0 ≡ false → IsKept V us ws fs gs fo go (Memberships at groups) e i w

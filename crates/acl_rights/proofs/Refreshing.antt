@@ -1,9 +1,9 @@
--- How many verdicts along paths a line makes anew.
+-- How many verdicts along paths a line makes again.
 use Rattle.std.proofs.Common.{◌≡◌, ℕ, ◌+◌, ◌*◌, ◌^◌, ◌<◌, ◌≤◌, Bool, true, false, cond, ◌||◌, List, [], ◌∷◌, ◌++◌, length, map, Option, Some, length-append, refl, sym, ap, ◌∙◌, arith}
 use Rattle.std.specs.Prelude.{count_by}
 use Rattle.std.specs.List.{list_any}
 use Rattle.std.proofs.lemmas.List.Sums.{sum_by-cons}
-use Rattle.acl_tree.specs.acl_names.Below.{is_within}
+use Rattle.acl_tree.specs.acl_names.Below.{encloses}
 use Rattle.acl_tree.specs.acl_edit.declared.node.Node.{Node}
 use Rattle.acl_tree.specs.Files.{PathOf, Files}
 use Rattle.acl_tree.specs.Reports.{StagedState}
@@ -37,7 +37,7 @@ count_paths {A = A} {B = B} f (e ∷ es) (g ∷ fs) h =
     ∙ (let more = count_paths f es fs rest in λ i. cond (f (first i)) 1 0 + more i)
     ∙ sym (sum_by-cons (λ (x : PathOf × B). cond (f x.0) 1 0) g fs)
 
-pub lies_paths : {A B : Type 0} (tops : List (PathOf × A)) (others : List (PathOf × B)) → map (λ (t : PathOf × A). t.0) tops ≡ map (λ (t : PathOf × B). t.0) others → (p : PathOf) → lies_in tops p ≡ list_any (λ (t : PathOf × B). is_within t.0 p) others
+pub lies_paths : {A B : Type 0} (tops : List (PathOf × A)) (others : List (PathOf × B)) → map (λ (t : PathOf × A). t.0) tops ≡ map (λ (t : PathOf × B). t.0) others → (p : PathOf) → lies_in tops p ≡ list_any (λ (t : PathOf × B). encloses t.0 p) others
 lies_paths [] [] h p = refl
 lies_paths [] (o ∷ others) h p = cc
 lies_paths (t ∷ tops) [] h p = cc
@@ -45,7 +45,7 @@ lies_paths {A = A} {B = B} (t ∷ tops) (o ∷ others) h p =
     let first : t.0 ≡ o.0 = cc in
     let rest : map (λ (t : PathOf × A). t.0) tops ≡ map (λ (t : PathOf × B). t.0) others = cc in
     let more = lies_paths tops others rest p in
-    λ i. is_within (first i) p || more i
+    λ i. encloses (first i) p || more i
 
 count_alike : {A : Type 0} (f g : A → Bool) → ((x : A) → f x ≡ g x) → (xs : List A) → count_by f xs ≡ count_by g xs
 count_alike f g h [] = refl

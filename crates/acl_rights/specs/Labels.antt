@@ -126,7 +126,7 @@ pub record AreChangedRows (V : Verdict) (us : List Person) (changed gone : Files
   pub used : AllByRecursion (λ e. e.1 < length old.labels → IsUsed old.numbers e.1) entries
   pub numbers : new.numbers ≡ merged entries gone old.numbers
 
--- ---- rows whose numbers are given anew
+-- ---- rows that are renumbered
 
 -- the row of a path; an empty one if it is not there
 abbrev pub row_at_path : List (List ℕ) → Numbers → PathOf → List ℕ

@@ -1,6 +1,8 @@
 pub mod Tables
 pub mod Stages
 pub mod Reach
+pub mod Costs
+pub mod States
 pub mod Verdicts
 pub mod Kept
 pub mod Groups

@@ -8,7 +8,7 @@ use Rattle.acl_tree.specs.acl_entry.Person.{Person}
 use Rattle.acl_tree.specs.acl_names.Paths.{path_cmp}
 use Rattle.acl_tree.specs.acl_edit.declared.node.Node.{Node}
 use Rattle.acl_tree.specs.acl_people.KnownPeople.{persons}
-use Rattle.acl_tree.specs.acl_names.Below.{is_below}
+use Rattle.acl_tree.specs.acl_names.Below.{is_above}
 use Rattle.acl_tree.specs.Files.{PathOf, Files}
 use Rattle.acl_tree.specs.Step.{State}
 use Rattle.acl_tree.specs.Reports.{StagedState, place_left}
@@ -24,7 +24,7 @@ use Rattle.acl_rights.specs.Stages.{mentions_one}
 
 -- execute is granted on each recorded proper ancestor
 abbrev pub passes : Verdict → Files → Person → PathOf → Bool
-passes V fs u p = list_all (λ e. not (is_below e.0 p) || has (V u e.1.label) execute) fs
+passes V fs u p = list_all (λ e. not (is_above e.0 p) || has (V u e.1.label) execute) fs
 
 -- what a user may do with a file, if the user can search each recorded directory above; else nothing
 abbrev pub reach : Verdict → Files → Person → PathOf × Node → ℕ

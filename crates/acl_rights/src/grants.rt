@@ -72,7 +72,7 @@ impl Grants {
         })
     }
 
-    /// What is reached by these rows of so many files, where steps are found anew. Fails only if memory runs out.
+    /// What is reached by these rows of so many files, where all steps are found again. Fails only if memory runs out.
     pub fn of(alloc: Global, rows: LabelRows, files: usize) -> Result<Grants, AllocError>
         ensures rows { IfOk result (λ new. new.rows ≡ rows) }
         ensures kept { IfOk result (λ new. (fs : Files) → AreLabelled fs rows → AreGrants fs new) }

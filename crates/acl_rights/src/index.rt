@@ -10,6 +10,7 @@ use acl_tree::{NoMemory, People, Staged, Tree};
 use acl_verdicts::Judge;
 use std::alloc::Global;
 use std::marker::{Model, PhantomData};
+use std::mem;
 
 /// The verdicts on all users and files of a state, with and without search along the files' paths, and for each group the
 /// files that mention it.
@@ -89,10 +90,11 @@ impl Rows {
     /// Discards the table. Allocates nothing.
     pub fn give_up(self) {
         let Rows {
-            table: _table,
+            table,
             looked: _looked,
             refreshed: _refreshed,
         } = self;
+        drop(table);
     }
 }
 
@@ -193,6 +195,6 @@ impl<J: Judge> Index<J> {
     pub fn commit(&mut self, staged: Rows)
         ensures { self.new ≡ staged.table }
     {
-        *self = Index::of(staged);
+        drop(mem::replace(self, Index::of(staged)));
     }
 }

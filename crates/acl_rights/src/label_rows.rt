@@ -11,7 +11,7 @@ ghost use Rattle.acl_verdicts.specs.Ways.{rows_in};
 ghost use Rattle.acl_rights.specs.Tables.{rows_of};
 ghost use Rattle.acl_rights.specs.Labels.{labels_in, AreLabelled, row_of, row_at_path, AreChangedRows, AreAsBefore};
 
-use crate::labels::{Labelled, Labels, NumberedFiles, numbered, numbered_anew};
+use crate::labels::{Labelled, Labels, NumberedFiles, numbered, numbered_from_start};
 use acl_tree::{Path, Record};
 use acl_verdicts::{Cells, Judge, Numbered, Subjects, judged};
 use path_map::{MapEntry, PathMap};
@@ -108,7 +108,7 @@ impl LabelRows {
         ensures asked { OnOk result (J.asked_of judge.new ≡ J.asked_of judge.old + length files.now * length users.now) }
         ensures at_most { J.asked_of judge.new ≤ J.asked_of judge.old + length files.now * length users.now }
     {
-        let new = numbered_anew(alloc, files)?;
+        let new = numbered_from_start(alloc, files)?;
         let labels = &new.labels;
         let rows = judged_labels(alloc, judge, users, labels.more(), labels.counts())?;
         let all = LabelRows::of_numbered(alloc, new, rows)?;
@@ -166,7 +166,7 @@ impl LabelRows {
         ensures labelled { IfOk result (λ new. AreLabelled (map (λ f. f.value) files.now) new) }
         ensures rows { IfOk result (λ new. AreAsBefore (map (λ f. f.value) files.now) self.now new) }
     {
-        let new = numbered_anew(alloc, files)?;
+        let new = numbered_from_start(alloc, files)?;
         let rows = self.rows_of_labels(alloc, new.labels.more())?;
         let all = LabelRows::of_numbered(alloc, new, rows)?;
         Ok(all)

@@ -364,7 +364,7 @@ pub(crate) fn numbered(
 }
 
 /// The numbers of the labels of some files, where there are no labels yet.
-pub(crate) fn numbered_anew(
+pub(crate) fn numbered_from_start(
     alloc: Global,
     files: &[Rc<Record>],
 ) -> Result<NumberedFiles, AllocError>

@@ -5,6 +5,7 @@
 mod grants;
 mod index;
 mod indexed;
+mod indexed_states;
 mod label_rows;
 mod labels;
 mod lists;
@@ -29,3 +30,4 @@ pub use acl_verdicts::{Judge, Posix, Subjects, same_row};
 pub use grants::{FileRow, FileRows};
 pub use index::{Index, Rows};
 pub use indexed::{IndexedState, Verdicts};
+pub use indexed_states::{IndexedStates, States};

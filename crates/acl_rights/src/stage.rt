@@ -111,8 +111,8 @@ fn after_files<J: Judge>(
 }
 
 /// What is granted after a line by which files change and no user does. Where there are many numbers that no file has, all
-/// are given anew before.
-fn after_files_anew<J: Judge>(
+/// are renumbered first.
+fn after_files_renumbered<J: Judge>(
     alloc: Global,
     judge: &mut J,
     grants: &Grants,
@@ -134,8 +134,8 @@ fn after_files_anew<J: Judge>(
     }
     tree.soundness_law();
     let files = records(alloc, tree)?;
-    let anew = grants.renumbered(alloc, &files)?;
-    after_files(alloc, judge, &anew, staged)
+    let renumbered = grants.renumbered(alloc, &files)?;
+    after_files(alloc, judge, &renumbered, staged)
 }
 
 /// What is granted after users or groups were loaded: no file is there.
@@ -295,7 +295,7 @@ pub(crate) fn after_line<J: Judge>(
 {
     staged.tree().soundness_law();
     match staged.user_change() {
-        UserChange::Unchanged => after_files_anew(alloc, judge, grants, tree, staged),
+        UserChange::Unchanged => after_files_renumbered(alloc, judge, grants, tree, staged),
         UserChange::Loaded => after_load(alloc),
         UserChange::Memberships { user, groups } => {
             after_move(alloc, judge, grants, lists, staged, *user, groups)

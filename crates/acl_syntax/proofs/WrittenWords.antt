@@ -1,4 +1,4 @@
--- Names and numbers that are written are read as the ids that they stand for.
+-- Names and numbers that are written are read as the ids that they mean.
 use Rattle.std.proofs.Common.{◌≡◌, ℕ, ◌+◌, ◌-◌, ◌*◌, ◌/◌, ◌%◌, ◌^◌, ◌<◌, ◌≤◌, true, false, eqb, leb, List, [], ◌∷◌, ◌++◌, length, Option, Some, None, refl, ap, ◌∙◌, arith, inl, inr, length-append}
 use Rattle.std.specs.Prelude.{◌==◌, ◌||◌, ◌&&◌, decimal, nat_lt}
 use Rattle.std.specs.List.{list_all, AllByRecursion}
@@ -114,7 +114,7 @@ name_some (b ∷ bs) some = omega (arith, byte_some b, length-append (byte_text 
 
 -- ---- both
 
--- a word that stands for an id
+-- a word that means an id
 pub record IsWordOf (look_up : List ℕ → Option ℕ) (id : ℕ) (word : List ℕ) : Type 0 where
   pub again : word_id look_up word ≡ Some id
   pub plain : list_all is_plain word ≡ true

@@ -8,7 +8,7 @@ use Rattle.acl_entry.specs.Ids.{nobody}
 abbrev pub is_number : List ℕ → Bool
 is_number bytes = nat_lt 0 (length bytes) && list_all is_ascii_digit bytes
 
--- the number that digits stand for, after a number in front of them
+-- the number that digits mean, after a number in front of them
 abbrev pub number_after : ℕ → List ℕ → ℕ
 number_after n [] = n
 number_after n (b ∷ bs) = number_after (10 * n + (b - 48)) bs

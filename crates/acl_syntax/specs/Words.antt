@@ -8,6 +8,6 @@ use Rattle.acl_syntax.specs.Ids.{is_number, id_of}
 abbrev pub named_id : (List ℕ → Option ℕ) → List ℕ → Option ℕ
 named_id look_up name = if is_number name then id_of name else look_up name
 
--- the id that a word stands for, if any: it is trimmed, then decoded
+-- the id that a word means, if any: it is trimmed, then decoded
 abbrev pub word_id : (List ℕ → Option ℕ) → List ℕ → Option ℕ
 word_id look_up word = named_id look_up (decoded (trimmed word))

@@ -1,4 +1,4 @@
-//! Who is who: names and ids of users and groups, and the words that stand for them.
+//! Who is who: names and ids of users and groups, and the words that mean them.
 
 ghost use Rattle.std.specs.Prelude.{◌≡◌, IfOk};
 ghost use Rattle.std.specs.Option.{option_copied};
@@ -55,7 +55,7 @@ impl Names for NoNames {
     }
 }
 
-/// The user that a word stands for: the word is trimmed, then decoded as a name; digits alone are a number,
+/// The user that a word means: the word is trimmed, then decoded as a name; digits alone are a number,
 /// at most 4294967294 and never looked up; any other name is looked up. Fails only if memory runs out.
 pub fn read_user_word<N: Names>(
     alloc: Global,
@@ -73,7 +73,7 @@ pub fn read_user_word<N: Names>(
     }
 }
 
-/// The group that a word stands for, read as a user's word is. Fails only if memory runs out.
+/// The group that a word means, read as a user's word is. Fails only if memory runs out.
 pub fn read_group_word<N: Names>(
     alloc: Global,
     word: &[u8],

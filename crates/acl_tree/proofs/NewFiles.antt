@@ -20,7 +20,7 @@ use Rattle.acl_files.proofs.of_acl_names.Below.{below_within, not_before, not_be
 use Rattle.acl_files.proofs.of_acl_names.Parents.{below_parent}
 use Rattle.acl_files.proofs.of_path_map.Differences.{Fail, put_passes, Leads, leads_all, has_put_all}
 use Rattle.acl_files.specs.Files.{PathOf, Files, Recorded, max_files}
-use Rattle.acl_files.specs.acl_names.Below.{is_below, is_within, parent}
+use Rattle.acl_files.specs.acl_names.Below.{is_above, encloses, parent}
 use Rattle.acl_files.specs.Changed.{same_label, is_changed, changed_between, gone_between}
 use Rattle.acl_tree.specs.Creat.{exists, only_directory, directory_at, creat_in, creat_by}
 use Rattle.acl_tree.specs.declared.command.NewFile.{NewFile}
@@ -57,7 +57,7 @@ first_passes f test xs rest all (Some a) is h = sym (any_some test xs (f a) rest
 -- ---- paths
 
 -- what is above a file is at its parent or above that
-above_parent : (q p : PathOf) → is_below q p ≡ true → is_within q (parent p) ≡ true
+above_parent : (q p : PathOf) → is_above q p ≡ true → encloses q (parent p) ≡ true
 above_parent [] p h = refl
 above_parent (x ∷ q) [] h = absurd (true≢false (sym h))
 above_parent (x ∷ q) (y ∷ p) h = sym (below_parent (x ∷ q) (y ∷ p) (λ none. cc)) ∙ h
@@ -76,14 +76,14 @@ later : (a b : Bool) → b ≡ true → (a || b) ≡ true
 later true b h = refl
 later false b h = h
 
-below_put : (q p : PathOf) (n : Node) (t : Files) → holds_below (put path_cmp p n t) q ≡ true → (is_below q p || holds_below t q) ≡ true
+below_put : (q p : PathOf) (n : Node) (t : Files) → holds_below (put path_cmp p n t) q ≡ true → (is_above q p || holds_below t q) ≡ true
 below_put q p n [] h = h
 below_put q p n (e ∷ t) h = by (path_cmp p e.0) (below_put q p n t) h
   where
-    by : (o : Ordering) → (holds_below (put path_cmp p n t) q ≡ true → (is_below q p || holds_below t q) ≡ true) → holds_below (by_order o ((p, n) ∷ e ∷ t) ((e.0, n) ∷ t) (e ∷ put path_cmp p n t)) q ≡ true → (is_below q p || (is_below q e.0 || holds_below t q)) ≡ true
+    by : (o : Ordering) → (holds_below (put path_cmp p n t) q ≡ true → (is_above q p || holds_below t q) ≡ true) → holds_below (by_order o ((p, n) ∷ e ∷ t) ((e.0, n) ∷ t) (e ∷ put path_cmp p n t)) q ≡ true → (is_above q p || (is_above q e.0 || holds_below t q)) ≡ true
     by Less rest h = h
-    by Equal rest h = later (is_below q p) (is_below q e.0 || holds_below t q) h
-    by Greater rest h = either (is_below q p) (is_below q e.0) (holds_below (put path_cmp p n t) q) (holds_below t q) rest h
+    by Equal rest h = later (is_above q p) (is_above q e.0 || holds_below t q) h
+    by Greater rest h = either (is_above q p) (is_above q e.0) (holds_below (put path_cmp p n t) q) (holds_below t q) rest h
 
 same_path : (p q : PathOf) → eq_by_cmp path_cmp p q ≡ true → p ≡ q
 same_path p q h = exact_paths p q (equal (path_cmp p q) h)
@@ -94,29 +94,29 @@ same_path p q h = exact_paths p q (equal (path_cmp p q) h)
     equal Greater h = absurd (true≢false (sym h))
 
 -- above a recorded path a file is below
-recorded_below : (q p : PathOf) (d : Node) (t : Files) → find path_cmp p t ≡ Some d → is_below q p ≡ true → holds_below t q ≡ true
+recorded_below : (q p : PathOf) (d : Node) (t : Files) → find path_cmp p t ≡ Some d → is_above q p ≡ true → holds_below t q ≡ true
 recorded_below q p d [] h below = cc
 recorded_below q p d (e ∷ t) h below = by (eq_by_cmp path_cmp p e.0) refl h (λ h. recorded_below q p d t h below)
   where
-    by : (b : Bool) → eq_by_cmp path_cmp p e.0 ≡ b → cond b (Some e.1) (find path_cmp p t) ≡ Some d → (find path_cmp p t ≡ Some d → holds_below t q ≡ true) → (is_below q e.0 || holds_below t q) ≡ true
-    by true is h rest = first (is_below q e.0) (holds_below t q) (subst (λ z. is_below q z ≡ true) (same_path p e.0 is) below)
-    by false is h rest = later (is_below q e.0) (holds_below t q) (rest h)
+    by : (b : Bool) → eq_by_cmp path_cmp p e.0 ≡ b → cond b (Some e.1) (find path_cmp p t) ≡ Some d → (find path_cmp p t ≡ Some d → holds_below t q ≡ true) → (is_above q e.0 || holds_below t q) ≡ true
+    by true is h rest = first (is_above q e.0) (holds_below t q) (subst (λ z. is_above q z ≡ true) (same_path p e.0 is) below)
+    by false is h rest = later (is_above q e.0) (holds_below t q) (rest h)
 
 -- a path with no file at it or below it is not recorded, and none is below it
 absent_found : (p : PathOf) (t : Files) → exists p t ≡ false → find path_cmp p t ≡ None
 absent_found p [] h = refl
-absent_found p (e ∷ t) h = by (is_within p e.0) refl (eq_by_cmp path_cmp p e.0) refl h (absent_found p t)
+absent_found p (e ∷ t) h = by (encloses p e.0) refl (eq_by_cmp path_cmp p e.0) refl h (absent_found p t)
   where
-    by : (b : Bool) → is_within p e.0 ≡ b → (c : Bool) → eq_by_cmp path_cmp p e.0 ≡ c → (b || exists p t) ≡ false → (exists p t ≡ false → find path_cmp p t ≡ None) → cond c (Some e.1) (find path_cmp p t) ≡ None
+    by : (b : Bool) → encloses p e.0 ≡ b → (c : Bool) → eq_by_cmp path_cmp p e.0 ≡ c → (b || exists p t) ≡ false → (exists p t ≡ false → find path_cmp p t ≡ None) → cond c (Some e.1) (find path_cmp p t) ≡ None
     by true is c same h rest = absurd (true≢false h)
-    by false is true same h rest = absurd (true≢false (sym (subst (λ z. is_within p z ≡ true) (same_path p e.0 same) (within_itself p)) ∙ is))
+    by false is true same h rest = absurd (true≢false (sym (subst (λ z. encloses p z ≡ true) (same_path p e.0 same) (within_itself p)) ∙ is))
     by false is false same h rest = rest h
 
 absent_below : (p : PathOf) (t : Files) → exists p t ≡ false → holds_below t p ≡ false
 absent_below p [] h = refl
-absent_below p (e ∷ t) h = by (is_below p e.0) refl (is_within p e.0) refl h (absent_below p t)
+absent_below p (e ∷ t) h = by (is_above p e.0) refl (encloses p e.0) refl h (absent_below p t)
   where
-    by : (b : Bool) → is_below p e.0 ≡ b → (c : Bool) → is_within p e.0 ≡ c → (c || exists p t) ≡ false → (exists p t ≡ false → holds_below t p ≡ false) → (b || holds_below t p) ≡ false
+    by : (b : Bool) → is_above p e.0 ≡ b → (c : Bool) → encloses p e.0 ≡ c → (c || exists p t) ≡ false → (exists p t ≡ false → holds_below t p ≡ false) → (b || holds_below t p) ≡ false
     by b is true within h rest = absurd (true≢false h)
     by true is false within h rest = absurd (true≢false (sym (below_within p e.0 is) ∙ within))
     by false is false within h rest = rest h
@@ -149,10 +149,10 @@ module _ (t : Recorded) (sound : IsSoundTree t) (e : PathOf × Node) (new : IsNe
   some_eq a b h = cc
 
   -- what is above the new file is a directory
-  above_new : (x : PathOf × Node) → find path_cmp x.0 t.files ≡ Some x.1 → IsPlaced t.files x → is_below x.0 e.0 ≡ true → x.1.kind ≡ Directory
+  above_new : (x : PathOf × Node) → find path_cmp x.0 t.files ≡ Some x.1 → IsPlaced t.files x → is_above x.0 e.0 ≡ true → x.1.kind ≡ Directory
   above_new x found is below = by (path_cmp x.0 (parent e.0)) refl
     where
-      within : is_within x.0 (parent e.0) ≡ true
+      within : encloses x.0 (parent e.0) ≡ true
       within = above_parent x.0 e.0 below
 
       by : (o : Ordering) → path_cmp x.0 (parent e.0) ≡ o → x.1.kind ≡ Directory
@@ -178,7 +178,7 @@ module _ (t : Recorded) (sound : IsSoundTree t) (e : PathOf × Node) (new : IsNe
       by : (b : Bool) → eqb (length x.0) 0 ≡ b → (b || holds_below all x.0) ≡ true → x.1.kind ≡ Directory
       by true root h = is.directory (first (eqb (length x.0) 0) (holds_below t.files x.0) root)
       by false other h =
-          split (is_below x.0 e.0) (holds_below t.files x.0) (below_put x.0 e.0 e.1 t.files h)
+          split (is_above x.0 e.0) (holds_below t.files x.0) (below_put x.0 e.0 e.1 t.files h)
           (above_new x found is)
           (λ k. is.directory (later (eqb (length x.0) 0) (holds_below t.files x.0) k))
 
@@ -192,7 +192,7 @@ module _ (t : Recorded) (sound : IsSoundTree t) (e : PathOf × Node) (new : IsNe
     default = new.default;
   }
     where
-      none : (is_below e.0 e.0 || holds_below t.files e.0) ≡ false
+      none : (is_above e.0 e.0 || holds_below t.files e.0) ≡ false
       none = ap (λ b. b || holds_below t.files e.0) (not_below_itself e.0) ∙ absent_below e.0 t.files new.absent
 
       nothing : holds_below all e.0 ≡ true → ⊥

@@ -10,7 +10,7 @@ use Rattle.std.specs.Ordering.{is_eq}
 use Rattle.acl_files.specs.acl_names.Paths.{path_cmp}
 use Rattle.acl_files.proofs.of_acl_names.PathOrder.{exact_paths}
 use Rattle.acl_files.proofs.of_path_map.Differences.{Leads, leads_all}
-use Rattle.acl_files.specs.acl_names.Below.{is_within, parent}
+use Rattle.acl_files.specs.acl_names.Below.{encloses, parent}
 use Rattle.acl_files.specs.acl_syntax.Ids.{is_number, id_of}
 use Rattle.acl_files.specs.acl_syntax.declared.rows.PasswdRow.{PasswdRow}
 use Rattle.acl_files.specs.acl_edit.Creation.{inherit}
@@ -68,7 +68,7 @@ some_row known word row is none = some_is_not_none (row_of known word) row is (a
 -- ---- files at a path or below it
 
 -- a file that is recorded at a path or below it is one of the list
-within_exists : (p q : PathOf) (n : Node) (t : Files) → find path_cmp q t ≡ Some n → is_within p q ≡ true → exists p t ≡ true
+within_exists : (p q : PathOf) (n : Node) (t : Files) → find path_cmp q t ≡ Some n → encloses p q ≡ true → exists p t ≡ true
 within_exists p q n [] h in_it = absurd (none_is_not_some n h)
 within_exists p q n (e ∷ t) h in_it = by (path_cmp q e.0) refl h (λ h. within_exists p q n t h in_it)
   where
@@ -79,17 +79,17 @@ within_exists p q n (e ∷ t) h in_it = by (path_cmp q e.0) refl h (λ h. within
     later true b h = refl
     later false b h = h
 
-    by : (o : Ordering) → path_cmp q e.0 ≡ o → cond (is_eq o) (Some e.1) (find path_cmp q t) ≡ Some n → (find path_cmp q t ≡ Some n → exists p t ≡ true) → (is_within p e.0 || exists p t) ≡ true
-    by Equal is h rest = first (is_within p e.0) (exists p t) (subst (λ z. is_within p z ≡ true) (exact_paths q e.0 is) in_it)
-    by Less is h rest = later (is_within p e.0) (exists p t) (rest h)
-    by Greater is h rest = later (is_within p e.0) (exists p t) (rest h)
+    by : (o : Ordering) → path_cmp q e.0 ≡ o → cond (is_eq o) (Some e.1) (find path_cmp q t) ≡ Some n → (find path_cmp q t ≡ Some n → exists p t ≡ true) → (encloses p e.0 || exists p t) ≡ true
+    by Equal is h rest = first (encloses p e.0) (exists p t) (subst (λ z. encloses p z ≡ true) (exact_paths q e.0 is) in_it)
+    by Less is h rest = later (encloses p e.0) (exists p t) (rest h)
+    by Greater is h rest = later (encloses p e.0) (exists p t) (rest h)
 
 -- and of one of the list a file is recorded
 exists_within : (p : PathOf) (all t : Files) → Leads all t → exists p t ≡ true → HoldsWithin all p
 exists_within p all [] leads h = absurd (true≢false (sym h))
-exists_within p all (e ∷ t) leads h = by (is_within p e.0) refl h (λ h. exists_within p all t leads.1 h)
+exists_within p all (e ∷ t) leads h = by (encloses p e.0) refl h (λ h. exists_within p all t leads.1 h)
   where
-    by : (b : Bool) → is_within p e.0 ≡ b → (b || exists p t) ≡ true → (exists p t ≡ true → HoldsWithin all p) → HoldsWithin all p
+    by : (b : Bool) → encloses p e.0 ≡ b → (b || exists p t) ≡ true → (exists p t ≡ true → HoldsWithin all p) → HoldsWithin all p
     by true is h rest = record { path = e.0; node = e.1; recorded = leads.0; within = is }
     by false is h rest = rest h
 

@@ -13,7 +13,7 @@ pub use Rattle.acl_files.proofs.of_path_map.Rows.{in_order-filter}
 use Rattle.acl_files.specs.declared.fault.TreeFault.{TreeFault}
 use Rattle.acl_files.specs.declared.fault.TreeFault.TheVariants.{IsDirectory}
 use Rattle.acl_files.specs.Files.{PathOf, Files, Recorded, IsInOrder}
-use Rattle.acl_files.specs.acl_names.Below.{is_below, is_within}
+use Rattle.acl_files.specs.acl_names.Below.{is_above, encloses}
 use Rattle.acl_files.specs.Changed.{same_label, is_changed, changed_between, gone_between}
 use Rattle.acl_files.specs.Operands.{is_file, files_meant}
 use Rattle.acl_tree.specs.Rm.{refusal, first_refused, without_files}
@@ -81,9 +81,9 @@ module _ (keep : PathOf × Node → Bool) where
       split true b c f h = refl
       split false b c f h = f h
 
-      by : (b : Bool) → (holds_below (filter keep t) p ≡ true → holds_below t p ≡ true) → holds_below (cond b (e ∷ filter keep t) (filter keep t)) p ≡ true → (is_below p e.0 || holds_below t p) ≡ true
-      by true rest h = split (is_below p e.0) (holds_below (filter keep t) p) (holds_below t p) rest h
-      by false rest h = later (is_below p e.0) (holds_below t p) (rest h)
+      by : (b : Bool) → (holds_below (filter keep t) p ≡ true → holds_below t p ≡ true) → holds_below (cond b (e ∷ filter keep t) (filter keep t)) p ≡ true → (is_above p e.0 || holds_below t p) ≡ true
+      by true rest h = split (is_above p e.0) (holds_below (filter keep t) p) (holds_below t p) rest h
+      by false rest h = later (is_above p e.0) (holds_below t p) (rest h)
 
   fewer : (t : Files) → length (filter keep t) ≤ length t
   fewer [] = omega arith
@@ -125,13 +125,13 @@ false_from : (b : Bool) → (b ≡ true → ⊥) → b ≡ false
 false_from true h = absurd (h refl)
 false_from false h = refl
 
-file_within : (ps : List PathOf) (p q : PathOf) → is_file true ps p ≡ true → is_below p q ≡ true → is_file true ps q ≡ true
+file_within : (ps : List PathOf) (p q : PathOf) → is_file true ps p ≡ true → is_above p q ≡ true → is_file true ps q ≡ true
 file_within [] p q h below = h
-file_within (o ∷ ps) p q h below = by (is_within o p) refl (file_within ps p q) h
+file_within (o ∷ ps) p q h below = by (encloses o p) refl (file_within ps p q) h
   where
-    by : (b : Bool) → is_within o p ≡ b → (is_file true ps p ≡ true → is_below p q ≡ true → is_file true ps q ≡ true) → (b || is_file true ps p) ≡ true → (is_within o q || is_file true ps q) ≡ true
-    by true is rest h = first (is_within o q) (is_file true ps q) (within_trans o p q is (below_within p q below))
-    by false is rest h = later (is_within o q) (is_file true ps q) (rest h below)
+    by : (b : Bool) → encloses o p ≡ b → (is_file true ps p ≡ true → is_above p q ≡ true → is_file true ps q ≡ true) → (b || is_file true ps p) ≡ true → (encloses o q || is_file true ps q) ≡ true
+    by true is rest h = first (encloses o q) (is_file true ps q) (within_trans o p q is (below_within p q below))
+    by false is rest h = later (encloses o q) (is_file true ps q) (rest h below)
 
 -- with all that is below, none of it is left
 none_left : (ps : List PathOf) (p : PathOf) (t : Files) → is_file true ps p ≡ true → holds_below (without_files true ps t) p ≡ false
@@ -140,7 +140,7 @@ none_left ps p (e ∷ t) h = by (is_file true ps e.0) refl (none_left ps p t h)
   where
     by : (b : Bool) → is_file true ps e.0 ≡ b → holds_below (without_files true ps t) p ≡ false → holds_below (cond (not b) (e ∷ without_files true ps t) (without_files true ps t)) p ≡ false
     by true is rest = rest
-    by false is rest = ap (λ b. b || holds_below (without_files true ps t) p) (false_from (is_below p e.0) (λ below. true≢false (sym (file_within ps p e.0 h below) ∙ is))) ∙ rest
+    by false is rest = ap (λ b. b || holds_below (without_files true ps t) p) (false_from (is_above p e.0) (λ below. true≢false (sym (file_within ps p e.0 h below) ∙ is))) ∙ rest
 
 some_is_not_none : {A : Type 0} (a : A) → Some a ≡ None → ⊥
 some_is_not_none a h = cc

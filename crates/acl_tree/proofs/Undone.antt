@@ -14,7 +14,7 @@ use Rattle.acl_tree.specs.declared.command.Command.TheVariants.{Creat, Rm}
 use Rattle.acl_tree.specs.declared.command.NewFile.{NewFile}
 use Rattle.acl_files.specs.declared.fault.TreeFault.TheVariants.{IsDirectory}
 use Rattle.acl_files.specs.Files.{PathOf, Files}
-use Rattle.acl_files.specs.acl_names.Below.{is_within}
+use Rattle.acl_files.specs.acl_names.Below.{encloses}
 use Rattle.acl_tree.specs.Creat.{row_of, exists, creat}
 use Rattle.acl_files.specs.Operands.{is_file}
 use Rattle.acl_tree.specs.Rm.{refusal, first_refused, without_files, or_refused}
@@ -28,12 +28,12 @@ either_false false b h = (refl, h)
 either_false true b h = absurd (true≢false h)
 
 -- what is outside is not meant, with recursion or without
-not_meant : (recursive : Bool) (p q : PathOf) → is_within p q ≡ false → is_file recursive (p ∷ []) q ≡ false
+not_meant : (recursive : Bool) (p q : PathOf) → encloses p q ≡ false → is_file recursive (p ∷ []) q ≡ false
 not_meant true p q out = ap (λ b. b || false) out
 not_meant false p q out = by (eq_by_cmp path_cmp q p) refl
   where
     by : (b : Bool) → eq_by_cmp path_cmp q p ≡ b → (b || false) ≡ false
-    by true same = absurd (true≢false (sym (subst (λ z. is_within p z ≡ true) (sym (same_path p q same)) (within_itself p)) ∙ out))
+    by true same = absurd (true≢false (sym (subst (λ z. encloses p z ≡ true) (sym (same_path p q same)) (within_itself p)) ∙ out))
     by false same = refl
 
 meant_itself : (recursive : Bool) (p : PathOf) → is_file recursive (p ∷ []) p ≡ true
@@ -45,8 +45,8 @@ removed_again : (recursive : Bool) (p : PathOf) (n : Node) (t : Files) → exist
 removed_again recursive p n [] out = ap (λ b. cond (not b) ((p, n) ∷ []) []) (meant_itself recursive p)
 removed_again recursive p n (e ∷ t) out = by (path_cmp p e.0) refl (removed_again recursive p n t parts.1)
   where
-    parts : (is_within p e.0 ≡ false) × (exists p t ≡ false)
-    parts = either_false (is_within p e.0) (exists p t) out
+    parts : (encloses p e.0 ≡ false) × (exists p t ≡ false)
+    parts = either_false (encloses p e.0) (exists p t) out
 
     kept : (es : Files) → without_files recursive (p ∷ []) (e ∷ es) ≡ e ∷ without_files recursive (p ∷ []) es
     kept es = ap (λ b. cond (not b) (e ∷ without_files recursive (p ∷ []) es) (without_files recursive (p ∷ []) es)) (not_meant recursive p e.0 parts.0)
@@ -57,13 +57,13 @@ removed_again recursive p n (e ∷ t) out = by (path_cmp p e.0) refl (removed_ag
     all_kept : (es : Files) → exists p es ≡ false → without_files recursive (p ∷ []) es ≡ es
     all_kept [] h = refl
     all_kept (x ∷ es) h =
-        let outs = either_false (is_within p x.0) (exists p es) h in
+        let outs = either_false (encloses p x.0) (exists p es) h in
         ap (λ b. cond (not b) (x ∷ without_files recursive (p ∷ []) es) (without_files recursive (p ∷ []) es)) (not_meant recursive p x.0 outs.0)
         ∙ ap (λ l. x ∷ l) (all_kept es outs.1)
 
     by : (o : Ordering) → path_cmp p e.0 ≡ o → without_files recursive (p ∷ []) (put path_cmp p n t) ≡ t → without_files recursive (p ∷ []) (by_order o ((p, n) ∷ e ∷ t) ((e.0, n) ∷ t) (e ∷ put path_cmp p n t)) ≡ e ∷ t
     by Less is rest = gone (e ∷ t) ∙ kept t ∙ ap (λ l. e ∷ l) (all_kept t parts.1)
-    by Equal is rest = absurd (true≢false (sym (subst (λ z. is_within p z ≡ true) (exact_paths p e.0 is) (within_itself p)) ∙ parts.0))
+    by Equal is rest = absurd (true≢false (sym (subst (λ z. encloses p z ≡ true) (exact_paths p e.0 is) (within_itself p)) ∙ parts.0))
     by Greater is rest = kept (put path_cmp p n t) ∙ ap (λ l. e ∷ l) rest
 
 -- the new file may be removed

@@ -13,7 +13,7 @@ use Rattle.acl_tree.specs.declared.command.NewFile.{NewFile}
 use Rattle.acl_files.specs.declared.fault.TreeFault.{TreeFault}
 use Rattle.acl_files.specs.declared.fault.TreeFault.TheVariants.{NoSuchFile, NotDirectory, Exists, NoSuchUser, TooMany}
 use Rattle.acl_files.specs.Files.{PathOf, Files, Recorded, max_files}
-use Rattle.acl_files.specs.acl_names.Below.{is_within, parent}
+use Rattle.acl_files.specs.acl_names.Below.{encloses, parent}
 
 -- the row of the user that a word means
 abbrev pub row_of : KnownPeople → List ℕ → Option PasswdRow
@@ -21,7 +21,7 @@ row_of known word = option_and_then (slice_get known.users) (place_of_word word 
 
 -- whether a file is recorded at a path or below it
 abbrev pub exists : PathOf → Files → Bool
-exists p t = list_any (λ e. is_within p e.0) t
+exists p t = list_any (λ e. encloses p e.0) t
 
 abbrev pub only_directory : PathOf → Option Node → Result Node TreeFault
 only_directory p None = Err (NoSuchFile p)

@@ -10,7 +10,7 @@ use Rattle.acl_files.specs.acl_edit.declared.edit.EditFault.{EditFault}
 use Rattle.acl_files.specs.acl_edit.declared.node.Kind.{Kind}
 use Rattle.acl_files.specs.acl_edit.declared.node.Kind.TheVariants.{Plain, Directory}
 use Rattle.acl_files.specs.acl_edit.declared.node.Node.{Node}
-use Rattle.acl_files.specs.acl_names.Below.{is_within, parent}
+use Rattle.acl_files.specs.acl_names.Below.{encloses, parent}
 use Rattle.acl_files.specs.Files.{PathOf, Files, max_files}
 use Rattle.acl_files.specs.Operands.{is_file}
 use Rattle.acl_files.specs.Restoring.{restore_one, paths_of}
@@ -60,7 +60,7 @@ pub record HoldsWithin (t : Files) (p : PathOf) : Type 0 where
   pub path : PathOf
   pub node : Node
   pub recorded : find path_cmp path t ≡ Some node
-  pub within : is_within p path ≡ true
+  pub within : encloses p path ≡ true
 
 -- a path is one of these
 abbrev pub IsAmong : List PathOf → PathOf → Type 0

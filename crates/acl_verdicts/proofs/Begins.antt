@@ -9,7 +9,7 @@ use Rattle.std.proofs.lemmas.Bool.{and_parts}
 use Rattle.acl_files.specs.acl_names.Paths.{path_cmp}
 use Rattle.acl_files.proofs.of_acl_names.PathOrder.{path_total, exact_paths}
 use Rattle.acl_files.proofs.of_acl_names.Below.{below_less, below_of_within, convex, early_not_within}
-use Rattle.acl_files.specs.acl_names.Below.{is_within, is_below}
+use Rattle.acl_files.specs.acl_names.Below.{encloses, is_above}
 use Rattle.acl_files.specs.Walks.{last_or, nearest_above}
 use Rattle.acl_files.proofs.Ancestors.{nearest_is_above}
 use Rattle.acl_files.proofs.Nearest.{those}
@@ -52,8 +52,8 @@ all_from t e (r ∷ es) le h =
     let parts = and_parts (is_lt (path_cmp e r.0)) (below_all path_cmp e es) h in
     (ap is_gt (from_less t e r.0 le (less (path_cmp e r.0) parts.0)), all_from t e es le parts.1)
 
-pub from_not_below : (p r : PathOf) → is_gt (path_cmp p r) ≡ false → is_below r p ≡ false
-from_not_below p r le = false_from (is_below r p) (λ b. clash (is_gt (path_cmp p r)) (ap is_gt (above r p (below_less r p b))) le)
+pub from_not_below : (p r : PathOf) → is_gt (path_cmp p r) ≡ false → is_above r p ≡ false
+from_not_below p r le = false_from (is_above r p) (λ b. clash (is_gt (path_cmp p r)) (ap is_gt (above r p (below_less r p b))) le)
 
 -- ---- a table in two parts: what comes before a path, and what is at it or below it, with the rest after it
 
@@ -64,20 +64,20 @@ pub record Parts {A : Type 0} (top : PathOf) (es : List (PathOf × A)) : Type 0 
   pub ahead : AllBefore top pre
   pub late : AllFrom top (within top es ++ post)
 
-none_after : {A : Type 0} (top e : PathOf) (es : List (PathOf × A)) → is_gt (path_cmp top e) ≡ false → is_within top e ≡ false → IsTrue (below_all path_cmp e es) → within top es ≡ []
+none_after : {A : Type 0} (top e : PathOf) (es : List (PathOf × A)) → is_gt (path_cmp top e) ≡ false → encloses top e ≡ false → IsTrue (below_all path_cmp e es) → within top es ≡ []
 none_after top e [] le out h = refl
 none_after top e (r ∷ es) le out h =
     let parts = and_parts (is_lt (path_cmp e r.0)) (below_all path_cmp e es) h in
-    let gone = false_from (is_within top r.0) (λ w. clash (is_within top e) (convex top e r.0 le (less (path_cmp e r.0) parts.0) w) out) in
+    let gone = false_from (encloses top r.0) (λ w. clash (encloses top e) (convex top e r.0 le (less (path_cmp e r.0) parts.0) w) out) in
     ap (λ b. cond b (r ∷ within top es) (within top es)) gone ∙ none_after top e es le out parts.1
 
 late_parts : {A : Type 0} (top : PathOf) (es : List (PathOf × A)) → IsInOrder es → AllFrom top es → (post : List (PathOf × A)) × (within top es ++ post ≡ es)
 late_parts top [] o h = ([], refl)
 late_parts {A = A} top (e ∷ es) o h =
     let parts = and_parts (below_all path_cmp e.0 es) (is_sorted path_cmp es) o in
-    by (is_within top e.0) refl (late_parts top es parts.1 h.1) (none_after top e.0 es h.0)
+    by (encloses top e.0) refl (late_parts top es parts.1 h.1) (none_after top e.0 es h.0)
   where
-    by : (b : Bool) → is_within top e.0 ≡ b → ((post : List (PathOf × A)) × (within top es ++ post ≡ es)) → (is_within top e.0 ≡ false → IsTrue (below_all path_cmp e.0 es) → within top es ≡ [])
+    by : (b : Bool) → encloses top e.0 ≡ b → ((post : List (PathOf × A)) × (within top es ++ post ≡ es)) → (encloses top e.0 ≡ false → IsTrue (below_all path_cmp e.0 es) → within top es ≡ [])
         → (post : List (PathOf × A)) × (cond b (e ∷ within top es) (within top es) ++ post ≡ e ∷ es)
     by true is more none = (more.0, ap (λ l. e ∷ l) more.1)
     by false is more none = (e ∷ es, ap (λ l. l ++ e ∷ es) (none is (and_parts (below_all path_cmp e.0 es) (is_sorted path_cmp es) o).0))
@@ -105,31 +105,31 @@ parts_of {A = A} top (e ∷ es) o =
 
 -- ---- entries above a path
 
-pub above_last : {A : Type 0} (o : Option A) (p : PathOf) (es : List (PathOf × A)) → AllByRecursion (λ e. is_below e.0 p ≡ true) es → nearest_from o p es ≡ last_from o es
+pub above_last : {A : Type 0} (o : Option A) (p : PathOf) (es : List (PathOf × A)) → AllByRecursion (λ e. is_above e.0 p ≡ true) es → nearest_from o p es ≡ last_from o es
 above_last o p [] h = refl
 above_last o p (e ∷ es) h = ap (λ b. nearest_from (if b then Some e.1 else o) p es) h.0 ∙ above_last (Some e.1) p es h.1
 
-pub above_within : {A : Type 0} (top p : PathOf) (es : List (PathOf × A)) → is_within top p ≡ true → AllByRecursion (λ e. is_below e.0 top ≡ true) es → AllByRecursion (λ e. is_below e.0 p ≡ true) es
+pub above_within : {A : Type 0} (top p : PathOf) (es : List (PathOf × A)) → encloses top p ≡ true → AllByRecursion (λ e. is_above e.0 top ≡ true) es → AllByRecursion (λ e. is_above e.0 p ≡ true) es
 above_within top p [] w h = tt
 above_within top p (e ∷ es) w h = (below_of_within e.0 top p h.0 w, above_within top p es w h.1)
 
-pub above_before : {A : Type 0} (p : PathOf) (es : List (PathOf × A)) → AllByRecursion (λ e. is_below e.0 p ≡ true) es → AllBefore p es
+pub above_before : {A : Type 0} (p : PathOf) (es : List (PathOf × A)) → AllByRecursion (λ e. is_above e.0 p ≡ true) es → AllBefore p es
 above_before p [] h = tt
 above_before p (e ∷ es) h = (below_less e.0 p h.0, above_before p es h.1)
 
 -- ---- entries at a path and below it
 
-pub inside_within : {A : Type 0} (top : PathOf) (es : List (PathOf × A)) → AllByRecursion (λ r. is_within top r.0 ≡ true) (within top es)
+pub inside_within : {A : Type 0} (top : PathOf) (es : List (PathOf × A)) → AllByRecursion (λ r. encloses top r.0 ≡ true) (within top es)
 inside_within top [] = tt
-inside_within {A = A} top (e ∷ es) = by (is_within top e.0) refl (inside_within top es)
+inside_within {A = A} top (e ∷ es) = by (encloses top e.0) refl (inside_within top es)
   where
-    by : (b : Bool) → is_within top e.0 ≡ b → AllByRecursion (λ (r : PathOf × A). is_within top r.0 ≡ true) (within top es) → AllByRecursion (λ (r : PathOf × A). is_within top r.0 ≡ true) (cond b (e ∷ within top es) (within top es))
+    by : (b : Bool) → encloses top e.0 ≡ b → AllByRecursion (λ (r : PathOf × A). encloses top r.0 ≡ true) (within top es) → AllByRecursion (λ (r : PathOf × A). encloses top r.0 ≡ true) (cond b (e ∷ within top es) (within top es))
     by true is more = (is, more)
     by false is more = more
 
 pub within_values : {A B : Type 0} (g : PathOf × A → B) (top : PathOf) (es : List (PathOf × A)) → map (λ e. (e.0, g e)) (within top es) ≡ within top (map (λ e. (e.0, g e)) es)
 within_values g top [] = refl
-within_values g top (e ∷ es) = by (is_within top e.0) (within_values g top es)
+within_values g top (e ∷ es) = by (encloses top e.0) (within_values g top es)
   where
     by : (b : Bool) → map (λ e. (e.0, g e)) (within top es) ≡ within top (map (λ e. (e.0, g e)) es)
         → map (λ e. (e.0, g e)) (cond b (e ∷ within top es) (within top es)) ≡ cond b ((e.0, g e) ∷ within top (map (λ e. (e.0, g e)) es)) (within top (map (λ e. (e.0, g e)) es))
@@ -150,7 +150,7 @@ last_of_last o found (e ∷ es) = last_of_last o (e ∷ []) es
 
 nearest_is_last : {A : Type 0} (o : Option A) (p : PathOf) (es : List (PathOf × A)) → nearest_from o p es ≡ last_from o (those p es)
 nearest_is_last o p [] = refl
-nearest_is_last {A = A} o p (e ∷ es) = by (is_below e.0 p) (λ v. nearest_is_last v p es)
+nearest_is_last {A = A} o p (e ∷ es) = by (is_above e.0 p) (λ v. nearest_is_last v p es)
   where
     by : (b : Bool) → ((v : Option A) → nearest_from v p es ≡ last_from v (those p es)) → nearest_from (if b then Some e.1 else o) p es ≡ last_from o (cond b (e ∷ those p es) (those p es))
     by true more = more (Some e.1)

@@ -8,7 +8,7 @@ use Rattle.std.specs.FinMap.{find}
 use Rattle.std.specs.FinMap.Entries.{same_entries}
 use Rattle.acl_files.specs.acl_names.Paths.{path_cmp}
 use Rattle.acl_files.proofs.of_acl_names.PathOrder.{path_total, exact_paths}
-use Rattle.acl_files.specs.acl_names.Below.{is_within, is_below}
+use Rattle.acl_files.specs.acl_names.Below.{encloses, is_above}
 use Rattle.path_map.specs.Entries.{PathOf, IsInOrder}
 use Rattle.path_map.specs.Below.{lies_in, holds_below}
 use Rattle.path_map.specs.Merged.{has, merged}
@@ -60,17 +60,17 @@ module _ {A : Type 0} where
       by false other there more = more there
 
   -- maps with the same look-ups above a path have the same entries above it
-  pub same_above : (p : PathOf) (es fs : List (PathOf × A)) → IsInOrder es → IsInOrder fs → ((q : PathOf) → is_below q p ≡ true → find path_cmp q es ≡ find path_cmp q fs) → filter (λ e. is_below e.0 p) es ≡ filter (λ e. is_below e.0 p) fs
+  pub same_above : (p : PathOf) (es fs : List (PathOf × A)) → IsInOrder es → IsInOrder fs → ((q : PathOf) → is_above q p ≡ true → find path_cmp q es ≡ find path_cmp q fs) → filter (λ e. is_above e.0 p) es ≡ filter (λ e. is_above e.0 p) fs
   same_above p es fs o r h =
-      same_entries path_cmp path_total exact_paths _ _ (to_T _ (in_order-filter (λ e. is_below e.0 p) es o)) (to_T _ (in_order-filter (λ e. is_below e.0 p) fs r))
-      (λ q. find_filter (λ e. is_below e.0 p) q es o ∙ by q (is_below q p) refl ∙ sym (find_filter (λ e. is_below e.0 p) q fs r))
+      same_entries path_cmp path_total exact_paths _ _ (to_T _ (in_order-filter (λ e. is_above e.0 p) es o)) (to_T _ (in_order-filter (λ e. is_above e.0 p) fs r))
+      (λ q. find_filter (λ e. is_above e.0 p) q es o ∙ by q (is_above q p) refl ∙ sym (find_filter (λ e. is_above e.0 p) q fs r))
     where
-      none : (q : PathOf) (x : Option A) → is_below q p ≡ false → kept (λ e. is_below e.0 p) q x ≡ None
+      none : (q : PathOf) (x : Option A) → is_above q p ≡ false → kept (λ e. is_above e.0 p) q x ≡ None
       none q None is = refl
       none q (Some a) is = ap (λ b. cond b (Some a) None) is
 
-      by : (q : PathOf) (b : Bool) → is_below q p ≡ b → kept (λ e. is_below e.0 p) q (find path_cmp q es) ≡ kept (λ e. is_below e.0 p) q (find path_cmp q fs)
-      by q true is = ap (kept (λ e. is_below e.0 p) q) (h q is)
+      by : (q : PathOf) (b : Bool) → is_above q p ≡ b → kept (λ e. is_above e.0 p) q (find path_cmp q es) ≡ kept (λ e. is_above e.0 p) q (find path_cmp q fs)
+      by q true is = ap (kept (λ e. is_above e.0 p) q) (h q is)
       by q false is = none q (find path_cmp q es) is ∙ sym (none q (find path_cmp q fs) is)
 
 -- ---- entries of which some were put, and others removed
@@ -80,13 +80,13 @@ module _ {A W : Type 0} (es ts : List (PathOf × A)) (gs : List (PathOf × W)) (
   find_new q = ap (find path_cmp q) change ∙ find_merged q ts gs os to
 
   -- what is above an entry is not gone
-  not_gone : (p q : PathOf) → is_some (find path_cmp p es) ≡ true → is_below q p ≡ true → has q gs ≡ false
-  not_gone p q there below = false_from (has q gs) (λ gone. found_any (λ r. is_below q r) es p there below (each_found (λ g. holds_below es g ≡ false) gs q apart gone))
+  not_gone : (p q : PathOf) → is_some (find path_cmp p es) ≡ true → is_above q p ≡ true → has q gs ≡ false
+  not_gone p q there below = false_from (has q gs) (λ gone. found_any (λ r. is_above q r) es p there below (each_found (λ g. holds_below es g ≡ false) gs q apart gone))
 
   -- where no top is above an entry, what is above it is as before
-  pub kept_above : (p : PathOf) → is_some (find path_cmp p es) ≡ true → list_any (λ t. is_below t.0 p) ts ≡ false → (q : PathOf) → is_below q p ≡ true → find path_cmp q es ≡ find path_cmp q os
+  pub kept_above : (p : PathOf) → is_some (find path_cmp p es) ≡ true → list_any (λ t. is_above t.0 p) ts ≡ false → (q : PathOf) → is_above q p ≡ true → find path_cmp q es ≡ find path_cmp q os
   kept_above p there none q below =
-      find_new q ∙ (λ i. option_or (not_found (λ t. is_below t p) ts q none below i) (cond (not_gone p q there below i) None (find path_cmp q os)))
+      find_new q ∙ (λ i. option_or (not_found (λ t. is_above t p) ts q none below i) (cond (not_gone p q there below i) None (find path_cmp q os)))
 
   pub has_top : (p : PathOf) → has p ts ≡ true → is_some (find path_cmp p es) ≡ true
   has_top p h = ap is_some (find_new p) ∙ by (find path_cmp p ts) h
@@ -101,14 +101,14 @@ module _ {A W : Type 0} (es ts : List (PathOf × A)) (gs : List (PathOf × W)) (
   own_kept p there out = by (has p gs) refl
     where
       is : find path_cmp p es ≡ cond (has p gs) None (find path_cmp p os)
-      is = find_new p ∙ ap (λ o. option_or o (cond (has p gs) None (find path_cmp p os))) (not_found (λ t. is_within t p) ts p out (within_itself p))
+      is = find_new p ∙ ap (λ o. option_or o (cond (has p gs) None (find path_cmp p os))) (not_found (λ t. encloses t p) ts p out (within_itself p))
 
       by : (b : Bool) → has p gs ≡ b → (has p gs ≡ false) × (find path_cmp p es ≡ find path_cmp p os)
       by true gone = absurd (clash (is_some (find path_cmp p es)) there (ap is_some (is ∙ ap (λ b. cond b None (find path_cmp p os)) gone)))
       by false stays = (stays, is ∙ ap (λ b. cond b None (find path_cmp p os)) stays)
 
-  pub none_above : (p : PathOf) → lies_in ts p ≡ false → list_any (λ t. is_below t.0 p) ts ≡ false
-  none_above p out = any_less (λ t. is_within t p) (λ t. is_below t p) (λ t h. below_within t p h) ts out
+  pub none_above : (p : PathOf) → lies_in ts p ≡ false → list_any (λ t. is_above t.0 p) ts ≡ false
+  none_above p out = any_less (λ t. encloses t p) (λ t. is_above t p) (λ t h. below_within t p h) ts out
 
 -- ---- values, one by one
 

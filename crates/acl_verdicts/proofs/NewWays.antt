@@ -9,7 +9,7 @@ use Rattle.std.proofs.lemmas.List.{length-map}
 use Rattle.std.proofs.lemmas.List.Sums.{length-filter}
 use Rattle.acl_files.specs.acl_names.Paths.{path_cmp}
 use Rattle.acl_files.proofs.of_acl_names.PathOrder.{path_total, exact_paths}
-use Rattle.acl_files.specs.acl_names.Below.{is_below}
+use Rattle.acl_files.specs.acl_names.Below.{is_above}
 use Rattle.path_map.specs.Entries.{PathOf, IsInOrder}
 use Rattle.path_map.specs.Below.{lies_in}
 use Rattle.path_map.specs.Merged.{has, merged}
@@ -50,7 +50,7 @@ values_merged g puts gs es po eo =
 
 nearest_values : {A B : Type 0} (g : A → B) (o : Option A) (p : PathOf) (es : List (PathOf × A)) → nearest_from (option_map g o) p (values g es) ≡ option_map g (nearest_from o p es)
 nearest_values g o p [] = refl
-nearest_values {A = A} g o p (e ∷ es) = by (is_below e.0 p) (λ x. nearest_values g x p es)
+nearest_values {A = A} g o p (e ∷ es) = by (is_above e.0 p) (λ x. nearest_values g x p es)
   where
     by : (b : Bool) → ((x : Option A) → nearest_from (option_map g x) p (values g es) ≡ option_map g (nearest_from x p es))
         → nearest_from (if b then Some (g e.1) else option_map g o) p (values g es) ≡ option_map g (nearest_from (if b then Some e.1 else o) p es)
@@ -94,7 +94,7 @@ length_filter {A = A} {B = B} f g es = by es ∙ length-filter (λ (e : PathOf �
         either false more = more
 
 module _ {W : Type 0} (es ts : Numbers) (gs : List (PathOf × W)) (os : Numbers) (change : es ≡ merged ts gs os) (eo : IsInOrder es) (to : IsInOrder ts) (oo : IsInOrder os) (apart : IsApart es gs) where
-  numbers_above : (p : PathOf) → is_some (find path_cmp p es) ≡ true → list_any (λ t. is_below t.0 p) ts ≡ false → above_in es p ≡ above_in os p
+  numbers_above : (p : PathOf) → is_some (find path_cmp p es) ≡ true → list_any (λ t. is_above t.0 p) ts ≡ false → above_in es p ≡ above_in os p
   numbers_above p there none = ap (map (λ (e : PathOf × ℕ). e.1)) (same_above p es os eo oo (kept_above es ts gs os change eo to oo apart p there none))
 
   -- the steps of directories above a top that no other top is above lead to it

@@ -5,7 +5,7 @@ use Rattle.std.specs.FinMap.{is_sorted}
 use Rattle.std.specs.FinMap.Entries.{below_all}
 use Rattle.std.proofs.lemmas.Bool.{and_parts}
 use Rattle.acl_files.specs.acl_names.Paths.{path_cmp}
-use Rattle.acl_files.specs.acl_names.Below.{is_below}
+use Rattle.acl_files.specs.acl_names.Below.{is_above}
 use Rattle.path_map.specs.Entries.{PathOf, IsInOrder}
 use Rattle.acl_verdicts.specs.Walks.{nearest_from, nearest, AllBefore}
 use Rattle.acl_verdicts.specs.Ways.{Numbers, Way, above_in, way_in, ways, along}
@@ -18,17 +18,17 @@ use Rattle.acl_files.proofs.of_acl_names.PathOrder.{path_total}
 
 pub above_two : (es fs : Numbers) (p : PathOf) → above_in (es ++ fs) p ≡ above_in es p ++ above_in fs p
 above_two [] fs p = refl
-above_two (e ∷ es) fs p = by (is_below e.0 p) (above_two es fs p)
+above_two (e ∷ es) fs p = by (is_above e.0 p) (above_two es fs p)
   where
     by : (b : Bool) → above_in (es ++ fs) p ≡ above_in es p ++ above_in fs p
-        → map (λ x. x.1) (cond b (e ∷ filter (λ x. is_below x.0 p) (es ++ fs)) (filter (λ x. is_below x.0 p) (es ++ fs))) ≡ map (λ x. x.1) (cond b (e ∷ filter (λ x. is_below x.0 p) es) (filter (λ x. is_below x.0 p) es)) ++ above_in fs p
+        → map (λ x. x.1) (cond b (e ∷ filter (λ x. is_above x.0 p) (es ++ fs)) (filter (λ x. is_above x.0 p) (es ++ fs))) ≡ map (λ x. x.1) (cond b (e ∷ filter (λ x. is_above x.0 p) es) (filter (λ x. is_above x.0 p) es)) ++ above_in fs p
     by true more = ap (λ l. e.1 ∷ l) more
     by false more = more
 
 -- entries from a path on are not above it
 pub above_late : (es : Numbers) (p : PathOf) → AllFrom p es → above_in es p ≡ []
 above_late [] p h = refl
-above_late (e ∷ es) p h = ap (λ b. map (λ (x : PathOf × ℕ). x.1) (cond b (e ∷ filter (λ x. is_below x.0 p) es) (filter (λ x. is_below x.0 p) es))) (from_not_below p e.0 h.0) ∙ above_late es p h.1
+above_late (e ∷ es) p h = ap (λ b. map (λ (x : PathOf × ℕ). x.1) (cond b (e ∷ filter (λ x. is_above x.0 p) es) (filter (λ x. is_above x.0 p) es))) (from_not_below p e.0 h.0) ∙ above_late es p h.1
 
 -- what is above an entry is what is above it of those before it
 pub above_front : (done : Numbers) (r : PathOf × ℕ) (rest : Numbers) → IsInOrder (done ++ r ∷ rest) → above_in (done ++ r ∷ rest) r.0 ≡ above_in done r.0
@@ -42,12 +42,12 @@ above_front done r rest order = above_two done (r ∷ rest) r.0 ∙ ap (λ l. ab
     after (e ∷ es) h = after es (and_parts (below_all path_cmp e.0 (es ++ r ∷ rest)) (is_sorted path_cmp (es ++ r ∷ rest)) h).1
 
 -- of entries before a path, those above it are those above each path below it
-pub above_alike : (es : Numbers) (s t : PathOf) → AllBefore s es → is_below s t ≡ true → above_in es s ≡ above_in es t
+pub above_alike : (es : Numbers) (s t : PathOf) → AllBefore s es → is_above s t ≡ true → above_in es s ≡ above_in es t
 above_alike [] s t h below = refl
-above_alike (e ∷ es) s t h below = by (is_below e.0 s) (is_below e.0 t) (below_alike e.0 s t h.0 below) (above_alike es s t h.1 below)
+above_alike (e ∷ es) s t h below = by (is_above e.0 s) (is_above e.0 t) (below_alike e.0 s t h.0 below) (above_alike es s t h.1 below)
   where
     by : (a b : Bool) → a ≡ b → above_in es s ≡ above_in es t
-        → map (λ (x : PathOf × ℕ). x.1) (cond a (e ∷ filter (λ x. is_below x.0 s) es) (filter (λ x. is_below x.0 s) es)) ≡ map (λ (x : PathOf × ℕ). x.1) (cond b (e ∷ filter (λ x. is_below x.0 t) es) (filter (λ x. is_below x.0 t) es))
+        → map (λ (x : PathOf × ℕ). x.1) (cond a (e ∷ filter (λ x. is_above x.0 s) es) (filter (λ x. is_above x.0 s) es)) ≡ map (λ (x : PathOf × ℕ). x.1) (cond b (e ∷ filter (λ x. is_above x.0 t) es) (filter (λ x. is_above x.0 t) es))
     by true true same more = ap (λ l. e.1 ∷ l) more
     by false false same more = more
     by true false same more = cc
@@ -59,12 +59,12 @@ nearest_ways ns p order = go [] ns refl None refl
   where
     go : (done rest : Numbers) → done ++ rest ≡ ns → (o : Option Way) → along o ≡ above_in done p → along (nearest_from o p (map (way_in ns) rest)) ≡ above_in ns p
     go done [] all o is = is ∙ ap (λ l. above_in l p) (sym (append-nil done) ∙ all)
-    go done (r ∷ rest) all o is = by (is_below r.0 p) refl (go (done ++ r ∷ []) rest (append_assoc done (r ∷ []) rest ∙ all))
+    go done (r ∷ rest) all o is = by (is_above r.0 p) refl (go (done ++ r ∷ []) rest (append_assoc done (r ∷ []) rest ∙ all))
       where
         ordered : IsInOrder (done ++ r ∷ rest)
         ordered = subst IsInOrder (sym all) order
 
-        by : (b : Bool) → is_below r.0 p ≡ b → ((o : Option Way) → along o ≡ above_in (done ++ r ∷ []) p → along (nearest_from o p (map (way_in ns) rest)) ≡ above_in ns p)
+        by : (b : Bool) → is_above r.0 p ≡ b → ((o : Option Way) → along o ≡ above_in (done ++ r ∷ []) p → along (nearest_from o p (map (way_in ns) rest)) ≡ above_in ns p)
             → along (nearest_from (if b then Some (way_in ns r).1 else o) p (map (way_in ns) rest)) ≡ above_in ns p
         by true below more =
             more (Some (way_in ns r).1)

@@ -7,7 +7,7 @@ use Rattle.std.proofs.Math.Seq.{drop-append_seam}
 use Rattle.std.proofs.lemmas.List.{map-append, length-append}
 use Rattle.std.proofs.lemmas.Option.{slice_get_within, slice_get-map, unwrap_or-slice_get}
 use Rattle.acl_files.specs.acl_entry.Check.{has}
-use Rattle.acl_files.specs.acl_names.Below.{is_below}
+use Rattle.acl_files.specs.acl_names.Below.{is_above}
 use Rattle.path_map.specs.Entries.{PathOf}
 use Rattle.acl_verdicts.specs.declared.steps.Step.{Step}
 use Rattle.acl_verdicts.specs.Reach.{execute, can_search, passes_in, reached_from, reached_rows}
@@ -142,10 +142,10 @@ reach_at cells ss k w h = ap (λ l. slice_get l k) (reaches_along cells ss) ∙ 
 
 passes_rows : (cells : List (List ℕ)) (ns : Numbers) (user : ℕ) (p : PathOf) → passes_in (rows_in cells ns) user p ≡ passes_along cells (above_in ns p) user
 passes_rows cells [] user p = refl
-passes_rows cells (e ∷ ns) user p = by (is_below e.0 p) (passes_rows cells ns user p)
+passes_rows cells (e ∷ ns) user p = by (is_above e.0 p) (passes_rows cells ns user p)
   where
     by : (b : Bool) → passes_in (rows_in cells ns) user p ≡ passes_along cells (above_in ns p) user
-        → ((not b || can_search user (get_or cells e.1 [])) && passes_in (rows_in cells ns) user p) ≡ passes_along cells (map (λ (x : PathOf × ℕ). x.1) (cond b (e ∷ filter (λ x. is_below x.0 p) ns) (filter (λ x. is_below x.0 p) ns))) user
+        → ((not b || can_search user (get_or cells e.1 [])) && passes_in (rows_in cells ns) user p) ≡ passes_along cells (map (λ (x : PathOf × ℕ). x.1) (cond b (e ∷ filter (λ x. is_above x.0 p) ns) (filter (λ x. is_above x.0 p) ns))) user
     by true more = ap (λ b. can_search user (get_or cells e.1 []) && b) more
     by false more = more
 

@@ -8,7 +8,7 @@ use Rattle.std.proofs.lemmas.Bool.{and_parts}
 use Rattle.std.proofs.lemmas.Cmp.{tied_itself}
 use Rattle.acl_files.specs.acl_names.Paths.{path_cmp}
 use Rattle.acl_files.proofs.of_acl_names.PathOrder.{path_total, exact_paths}
-use Rattle.acl_files.specs.acl_names.Below.{is_within, is_below}
+use Rattle.acl_files.specs.acl_names.Below.{encloses, is_above}
 use Rattle.path_map.specs.Entries.{PathOf, IsInOrder}
 use Rattle.path_map.specs.Below.{within, lies_in}
 use Rattle.path_map.specs.Merged.{has}
@@ -24,25 +24,25 @@ filter_same f g h [] = refl
 filter_same f g h (e ∷ es) = λ i. cond (h e.0 i) (e ∷ filter_same f g h es i) (filter_same f g h es i)
 
 module _ {A : Type 0} where
-  lies_more : (seen : List (PathOf × A)) (t : PathOf × A) (p : PathOf) → lies_in (seen ++ t ∷ []) p ≡ (lies_in seen p || is_within t.0 p)
-  lies_more [] t p = or_nothing (is_within t.0 p)
+  lies_more : (seen : List (PathOf × A)) (t : PathOf × A) (p : PathOf) → lies_in (seen ++ t ∷ []) p ≡ (lies_in seen p || encloses t.0 p)
+  lies_more [] t p = or_nothing (encloses t.0 p)
     where
       or_nothing : (b : Bool) → (b || false) ≡ b
       or_nothing true = refl
       or_nothing false = refl
-  lies_more (s ∷ seen) t p = ap (λ b. is_within s.0 p || b) (lies_more seen t p) ∙ assoc (is_within s.0 p) (lies_in seen p) (is_within t.0 p)
+  lies_more (s ∷ seen) t p = ap (λ b. encloses s.0 p || b) (lies_more seen t p) ∙ assoc (encloses s.0 p) (lies_in seen p) (encloses t.0 p)
     where
       assoc : (a b c : Bool) → (a || (b || c)) ≡ ((a || b) || c)
       assoc true b c = refl
       assoc false b c = refl
 
-  lies_trans : (seen : List (PathOf × A)) (t p : PathOf) → lies_in seen t ≡ true → is_within t p ≡ true → lies_in seen p ≡ true
+  lies_trans : (seen : List (PathOf × A)) (t p : PathOf) → lies_in seen t ≡ true → encloses t p ≡ true → lies_in seen p ≡ true
   lies_trans [] t p h w = cc
-  lies_trans (s ∷ seen) t p h w = by (is_within s.0 t) refl h (λ k. lies_trans seen t p k w)
+  lies_trans (s ∷ seen) t p h w = by (encloses s.0 t) refl h (λ k. lies_trans seen t p k w)
     where
-      by : (b : Bool) → is_within s.0 t ≡ b → (b || lies_in seen t) ≡ true → (lies_in seen t ≡ true → lies_in seen p ≡ true) → (is_within s.0 p || lies_in seen p) ≡ true
+      by : (b : Bool) → encloses s.0 t ≡ b → (b || lies_in seen t) ≡ true → (lies_in seen t ≡ true → lies_in seen p ≡ true) → (encloses s.0 p || lies_in seen p) ≡ true
       by true is k more = ap (λ b. b || lies_in seen p) (within_trans s.0 t p is w)
-      by false is k more = ap (λ b. is_within s.0 p || b) (more k) ∙ or_true (is_within s.0 p)
+      by false is k more = ap (λ b. encloses s.0 p || b) (more k) ∙ or_true (encloses s.0 p)
         where
           or_true : (b : Bool) → (b || true) ≡ true
           or_true true = refl
@@ -52,17 +52,17 @@ module _ {A : Type 0} where
   lies_late : (seen : List (PathOf × A)) (t p : PathOf) → AllBefore t seen → lies_in seen t ≡ false → is_gt (path_cmp t p) ≡ false → lies_in seen p ≡ false
   lies_late [] t p h out le = refl
   lies_late (s ∷ seen) t p h out le =
-      let parts = or_false (is_within s.0 t) (lies_in seen t) out in
-      ap (λ b. b || lies_in seen p) (false_from (is_within s.0 p) (λ w. clash (is_within s.0 t) (by (path_cmp t p) refl w) parts.0)) ∙ lies_late seen t p h.1 parts.1 le
+      let parts = or_false (encloses s.0 t) (lies_in seen t) out in
+      ap (λ b. b || lies_in seen p) (false_from (encloses s.0 p) (λ w. clash (encloses s.0 t) (by (path_cmp t p) refl w) parts.0)) ∙ lies_late seen t p h.1 parts.1 le
     where
-      by : (o : Ordering) → path_cmp t p ≡ o → is_within s.0 p ≡ true → is_within s.0 t ≡ true
+      by : (o : Ordering) → path_cmp t p ≡ o → encloses s.0 p ≡ true → encloses s.0 t ≡ true
       by Less is w = convex s.0 t p (ap is_gt h.0) is w
-      by Equal is w = ap (is_within s.0) (exact_paths t p is) ∙ w
+      by Equal is w = ap (encloses s.0) (exact_paths t p is) ∙ w
       by Greater is w = absurd (clash (is_gt (path_cmp t p)) (ap is_gt is) le)
 
   -- what lies in the tops before, and then what lies in the next
   filter_two : {B : Type 0} (seen : List (PathOf × A)) (t : PathOf) → AllBefore t seen → lies_in seen t ≡ false → (es : List (PathOf × B)) → IsInOrder es
-      → filter (λ e. lies_in seen e.0) es ++ within t es ≡ filter (λ e. lies_in seen e.0 || is_within t e.0) es
+      → filter (λ e. lies_in seen e.0) es ++ within t es ≡ filter (λ e. lies_in seen e.0 || encloses t e.0) es
   filter_two seen t h out [] o = refl
   filter_two {B = B} seen t h out (e ∷ es) o = by (is_gt (path_cmp t e.0)) refl (filter_two seen t h out es (and_parts (below_all path_cmp e.0 es) (is_sorted path_cmp es) o).1)
     where
@@ -73,22 +73,22 @@ module _ {A : Type 0} where
       late_none [] all = refl
       late_none (f ∷ fs) all = ap (λ b. cond b (f ∷ filter (λ e. lies_in seen e.0) fs) (filter (λ e. lies_in seen e.0) fs)) (lies_late seen t f.0 h out all.0) ∙ late_none fs all.1
 
-      late_same : (fs : List (PathOf × B)) → AllFrom t fs → within t fs ≡ filter (λ e. lies_in seen e.0 || is_within t e.0) fs
+      late_same : (fs : List (PathOf × B)) → AllFrom t fs → within t fs ≡ filter (λ e. lies_in seen e.0 || encloses t e.0) fs
       late_same [] all = refl
-      late_same (f ∷ fs) all = let out_here = sym (lies_late seen t f.0 h out all.0) in let more = late_same fs all.1 in λ i. cond (out_here i || is_within t f.0) (f ∷ more i) (more i)
+      late_same (f ∷ fs) all = let out_here = sym (lies_late seen t f.0 h out all.0) in let more = late_same fs all.1 in λ i. cond (out_here i || encloses t f.0) (f ∷ more i) (more i)
 
-      either : (b : Bool) → lies_in seen e.0 ≡ b → filter (λ e. lies_in seen e.0) es ++ within t es ≡ filter (λ e. lies_in seen e.0 || is_within t e.0) es
+      either : (b : Bool) → lies_in seen e.0 ≡ b → filter (λ e. lies_in seen e.0) es ++ within t es ≡ filter (λ e. lies_in seen e.0 || encloses t e.0) es
           → cond b (e ∷ filter (λ e. lies_in seen e.0) es) (filter (λ e. lies_in seen e.0) es) ++ within t es
-          ≡ cond (b || false) (e ∷ filter (λ e. lies_in seen e.0 || is_within t e.0) es) (filter (λ e. lies_in seen e.0 || is_within t e.0) es)
+          ≡ cond (b || false) (e ∷ filter (λ e. lies_in seen e.0 || encloses t e.0) es) (filter (λ e. lies_in seen e.0 || encloses t e.0) es)
       either true is more = ap (λ l. e ∷ l) more
       either false is more = more
 
-      by : (b : Bool) → is_gt (path_cmp t e.0) ≡ b → filter (λ e. lies_in seen e.0) es ++ within t es ≡ filter (λ e. lies_in seen e.0 || is_within t e.0) es → filter (λ e. lies_in seen e.0) (e ∷ es) ++ within t (e ∷ es) ≡ filter (λ e. lies_in seen e.0 || is_within t e.0) (e ∷ es)
+      by : (b : Bool) → is_gt (path_cmp t e.0) ≡ b → filter (λ e. lies_in seen e.0) es ++ within t es ≡ filter (λ e. lies_in seen e.0 || encloses t e.0) es → filter (λ e. lies_in seen e.0) (e ∷ es) ++ within t (e ∷ es) ≡ filter (λ e. lies_in seen e.0 || encloses t e.0) (e ∷ es)
       by true gt more =
           let early = early_not_within t e.0 gt in
           ap (λ b. filter (λ e. lies_in seen e.0) (e ∷ es) ++ cond b (e ∷ within t es) (within t es)) early
           ∙ either (lies_in seen e.0) refl more
-          ∙ sym (ap (λ b. cond (lies_in seen e.0 || b) (e ∷ filter (λ e. lies_in seen e.0 || is_within t e.0) es) (filter (λ e. lies_in seen e.0 || is_within t e.0) es)) early)
+          ∙ sym (ap (λ b. cond (lies_in seen e.0 || b) (e ∷ filter (λ e. lies_in seen e.0 || encloses t e.0) es) (filter (λ e. lies_in seen e.0 || encloses t e.0) es)) early)
       by false le more =
           let all : AllFrom t (e ∷ es) = (le, all_from t e.0 es le parts.0) in
           ap (λ l. l ++ within t (e ∷ es)) (late_none (e ∷ es) all) ∙ late_same (e ∷ es) all
@@ -139,13 +139,13 @@ module _ {A R : Type 0} (ts : List (PathOf × A)) (order : IsInOrder ts) (reache
         }
       where
         same : (p : PathOf) → lies_in (w.seen ++ t ∷ []) p ≡ lies_in w.seen p
-        same p = lies_more w.seen t p ∙ by (is_within t.0 p) refl
+        same p = lies_more w.seen t p ∙ by (encloses t.0 p) refl
           where
             or_nothing : (b : Bool) → (b || false) ≡ b
             or_nothing true = refl
             or_nothing false = refl
 
-            by : (b : Bool) → is_within t.0 p ≡ b → (lies_in w.seen p || b) ≡ lies_in w.seen p
+            by : (b : Bool) → encloses t.0 p ≡ b → (lies_in w.seen p || b) ≡ lies_in w.seen p
             by true inside = let all = lies_trans w.seen t.0 p (here ∙ inside_last) inside in ap (λ b. b || true) all ∙ sym all
             by false out = or_nothing (lies_in w.seen p)
 
@@ -156,31 +156,31 @@ module _ {A R : Type 0} (ts : List (PathOf × A)) (order : IsInOrder ts) (reache
           seen = w.seen ++ t ∷ [];
           split = next_split;
           made = made ∙ ap (λ l. l ++ within t.0 reached) w.made ∙ filter_two w.seen t.0 ahead (here ∙ out_last) reached rows_order
-              ∙ filter_same (λ p. lies_in w.seen p || is_within t.0 p) (lies_in (w.seen ++ t ∷ [])) (λ p. sym (lies_more w.seen t p)) reached;
-          covered = λ p h. lies_more w.seen t p ∙ ap (λ b. b || is_within t.0 p) (lies_late w.seen t.0 p ahead (here ∙ out_last) (ap is_gt (end_before w.seen p h)));
+              ∙ filter_same (λ p. lies_in w.seen p || encloses t.0 p) (lies_in (w.seen ++ t ∷ [])) (λ p. sym (lies_more w.seen t p)) reached;
+          covered = λ p h. lies_more w.seen t p ∙ ap (λ b. b || encloses t.0 p) (lies_late w.seen t.0 p ahead (here ∙ out_last) (ap is_gt (end_before w.seen p h)));
         }
 
     -- no top is above it
-    pub top_outermost : covers last t.0 ≡ false → list_any (λ s. is_below s.0 t.0) ts ≡ false
+    pub top_outermost : covers last t.0 ≡ false → list_any (λ s. is_above s.0 t.0) ts ≡ false
     top_outermost out_last =
-        ap (list_any (λ s. is_below s.0 t.0)) (sym (ap (λ l. w.seen ++ l) (sym is) ∙ w.split))
+        ap (list_any (λ s. is_above s.0 t.0)) (sym (ap (λ l. w.seen ++ l) (sym is) ∙ w.split))
         ∙ any_two w.seen (t ∷ more)
         ∙ (λ i. earlier i || later i)
       where
-        any_two : (es fs : List (PathOf × A)) → list_any (λ s. is_below s.0 t.0) (es ++ fs) ≡ (list_any (λ s. is_below s.0 t.0) es || list_any (λ s. is_below s.0 t.0) fs)
+        any_two : (es fs : List (PathOf × A)) → list_any (λ s. is_above s.0 t.0) (es ++ fs) ≡ (list_any (λ s. is_above s.0 t.0) es || list_any (λ s. is_above s.0 t.0) fs)
         any_two [] fs = refl
-        any_two (e ∷ es) fs = ap (λ b. is_below e.0 t.0 || b) (any_two es fs) ∙ assoc (is_below e.0 t.0) (list_any (λ s. is_below s.0 t.0) es) (list_any (λ s. is_below s.0 t.0) fs)
+        any_two (e ∷ es) fs = ap (λ b. is_above e.0 t.0 || b) (any_two es fs) ∙ assoc (is_above e.0 t.0) (list_any (λ s. is_above s.0 t.0) es) (list_any (λ s. is_above s.0 t.0) fs)
           where
             assoc : (a b c : Bool) → (a || (b || c)) ≡ ((a || b) || c)
             assoc true b c = refl
             assoc false b c = refl
 
-        earlier : list_any (λ s. is_below s.0 t.0) w.seen ≡ false
-        earlier = any_less (λ s. is_within s t.0) (λ s. is_below s t.0) (λ s h. below_within s t.0 h) w.seen (here ∙ out_last)
+        earlier : list_any (λ s. is_above s.0 t.0) w.seen ≡ false
+        earlier = any_less (λ s. encloses s t.0) (λ s. is_above s t.0) (λ s h. below_within s t.0 h) w.seen (here ∙ out_last)
 
-        none_from : (es : List (PathOf × A)) → AllFrom t.0 es → list_any (λ s. is_below s.0 t.0) es ≡ false
+        none_from : (es : List (PathOf × A)) → AllFrom t.0 es → list_any (λ s. is_above s.0 t.0) es ≡ false
         none_from [] all = refl
-        none_from (e ∷ es) all = ap (λ b. b || list_any (λ s. is_below s.0 t.0) es) (from_not_below t.0 e.0 all.0) ∙ none_from es all.1
+        none_from (e ∷ es) all = ap (λ b. b || list_any (λ s. is_above s.0 t.0) es) (from_not_below t.0 e.0 all.0) ∙ none_from es all.1
 
         after : (es : List (PathOf × A)) → IsInOrder (es ++ t ∷ more) → IsTrue (below_all path_cmp t.0 more)
         after [] h = (and_parts (below_all path_cmp t.0 more) (is_sorted path_cmp more) h).0
@@ -189,7 +189,7 @@ module _ {A R : Type 0} (ts : List (PathOf × A)) (order : IsInOrder ts) (reache
         itself : is_gt (path_cmp t.0 t.0) ≡ false
         itself = ap is_gt (tied_itself path_total t.0)
 
-        later : list_any (λ s. is_below s.0 t.0) (t ∷ more) ≡ false
+        later : list_any (λ s. is_above s.0 t.0) (t ∷ more) ≡ false
         later = none_from (t ∷ more) (itself, all_from t.0 t.0 more itself (after w.seen ordered))
 
     pub top_there : has t.0 ts ≡ true

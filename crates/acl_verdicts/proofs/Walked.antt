@@ -6,7 +6,7 @@ use Rattle.std.specs.Ordering.{is_gt}
 use Rattle.std.proofs.lemmas.List.{map-append}
 use Rattle.acl_files.specs.acl_names.Paths.{path_cmp}
 use Rattle.acl_files.proofs.of_acl_names.PathOrder.{exact_paths}
-use Rattle.acl_files.specs.acl_names.Below.{is_within, is_below}
+use Rattle.acl_files.specs.acl_names.Below.{encloses, is_above}
 use Rattle.path_map.specs.Entries.{PathOf, IsInOrder}
 use Rattle.path_map.specs.Below.{within}
 use Rattle.acl_files.proofs.of_acl_names.Below.{not_before, nothing_below, within_below}
@@ -24,7 +24,7 @@ pub record IsWalked (top : PathOf) (ns : Numbers) (first : List Step) (before re
   pub done : Numbers
   pub post : Numbers
   pub split : done ++ (rest ++ post) ≡ ns
-  pub inside : AllByRecursion (λ r. is_within top r.0 ≡ true) rest
+  pub inside : AllByRecursion (λ r. encloses top r.0 ≡ true) rest
   pub longer : IsLonger first steps
   pub back : AreBack steps
   pub rows : (count : ℕ) → HaveRows count first → AreNumbers count ns → HaveRows count steps
@@ -33,8 +33,8 @@ pub record IsWalked (top : PathOf) (ns : Numbers) (first : List Step) (before re
   pub walked : List (PathOf × Way)
   pub are : wayed steps part ≡ known walked
   pub total : walked ++ map (way_in ns) rest ≡ within top (ways ns)
-  pub ahead : (p : PathOf) → is_within top p ≡ true → AllBefore p done → AllBefore p stack
-  pub leads : (p : PathOf) → is_within top p ≡ true → AllBefore p done → LeadsTo steps (nearest p stack) (above_in done p)
+  pub ahead : (p : PathOf) → encloses top p ≡ true → AllBefore p done → AllBefore p stack
+  pub leads : (p : PathOf) → encloses top p ≡ true → AllBefore p done → LeadsTo steps (nearest p stack) (above_in done p)
 
 module _ (top : PathOf) (ns : Numbers) (order : IsInOrder ns) (first : List Step) (before : Numbers) where
   -- a walk over the files at a path and below it, with what is above at hand
@@ -66,7 +66,7 @@ module _ (top : PathOf) (ns : Numbers) (order : IsInOrder ns) (first : List Step
           ∙ ap (λ l. above_in parts.pre top ++ l) (above_late (within top ns ++ parts.post) top parts.late)
           ∙ append-nil (above_in parts.pre top)
 
-      above_inside : (p : PathOf) → is_within top p ≡ true → above_in parts.pre top ≡ above_in parts.pre p
+      above_inside : (p : PathOf) → encloses top p ≡ true → above_in parts.pre top ≡ above_in parts.pre p
       above_inside p w = by (path_cmp top p) refl
         where
           by : (o : Ordering) → path_cmp top p ≡ o → above_in parts.pre top ≡ above_in parts.pre p
@@ -74,7 +74,7 @@ module _ (top : PathOf) (ns : Numbers) (order : IsInOrder ns) (first : List Step
           by Equal same = ap (above_in parts.pre) (exact_paths top p same)
           by Greater greater = absurd (clash (is_gt (path_cmp top p)) (ap is_gt greater) (not_before top p w))
 
-      leads : (p : PathOf) → is_within top p ≡ true → AllBefore p parts.pre → LeadsTo first (nearest p stack) (above_in parts.pre p)
+      leads : (p : PathOf) → encloses top p ≡ true → AllBefore p parts.pre → LeadsTo first (nearest p stack) (above_in parts.pre p)
       leads p w h =
           subst (λ o. LeadsTo first o (above_in parts.pre p)) (sym (above_last None p stack (above_within top p stack w near.below)))
           (subst (LeadsTo first (last_of stack)) (above_top ∙ above_inside p w) near.leads)
@@ -107,7 +107,7 @@ module _ (top : PathOf) (ns : Numbers) (order : IsInOrder ns) (first : List Step
     above_is : above_in w.done r.0 ≡ above_in ns r.0
     above_is = sym (ap (λ l. above_in l r.0) (sym w.split) ∙ above_front w.done r (rest ++ w.post) ordered)
 
-    above_more : (p : PathOf) (b : Bool) → is_below r.0 p ≡ b → above_in (w.done ++ r ∷ []) p ≡ above_in w.done p ++ map (λ (x : PathOf × ℕ). x.1) (cond b (r ∷ []) [])
+    above_more : (p : PathOf) (b : Bool) → is_above r.0 p ≡ b → above_in (w.done ++ r ∷ []) p ≡ above_in w.done p ++ map (λ (x : PathOf × ℕ). x.1) (cond b (r ∷ []) [])
     above_more p b is = above_two w.done (r ∷ []) p ∙ ap (λ b. above_in w.done p ++ map (λ (x : PathOf × ℕ). x.1) (cond b (r ∷ []) [])) is
 
     rows_on : (count : ℕ) → HaveRows count first → AreNumbers count ns → HaveRows count new
@@ -117,12 +117,12 @@ module _ (top : PathOf) (ns : Numbers) (order : IsInOrder ns) (first : List Step
         row_at [] h = h.0
         row_at (e ∷ es) h = row_at es h.1
 
-    leads_on : (p : PathOf) → is_within top p ≡ true → AllBefore p (w.done ++ r ∷ []) → LeadsTo new (nearest p (shrunk ++ (r.0, k) ∷ [])) (above_in (w.done ++ r ∷ []) p)
+    leads_on : (p : PathOf) → encloses top p ≡ true → AllBefore p (w.done ++ r ∷ []) → LeadsTo new (nearest p (shrunk ++ (r.0, k) ∷ [])) (above_in (w.done ++ r ∷ []) p)
     leads_on p in_top h =
-        subst (λ o. LeadsTo new o (above_in (w.done ++ r ∷ []) p)) (sym (nearest-append None p shrunk (r.0, k) ∙ (λ i. if is_below r.0 p then Some k else kept p (ap is_gt (before_end w.done r p h)) i)))
-        (by (is_below r.0 p) refl)
+        subst (λ o. LeadsTo new o (above_in (w.done ++ r ∷ []) p)) (sym (nearest-append None p shrunk (r.0, k) ∙ (λ i. if is_above r.0 p then Some k else kept p (ap is_gt (before_end w.done r p h)) i)))
+        (by (is_above r.0 p) refl)
       where
-        by : (b : Bool) → is_below r.0 p ≡ b → LeadsTo new (if b then Some k else nearest p stack) (above_in (w.done ++ r ∷ []) p)
+        by : (b : Bool) → is_above r.0 p ≡ b → LeadsTo new (if b then Some k else nearest p stack) (above_in (w.done ++ r ∷ []) p)
         by true below = (way, (way_is, above_more p true below ∙ ap (λ l. l ++ r.1 ∷ []) (sym (above_alike w.done r.0 p ahead_of below))))
         by false out =
             subst (LeadsTo new (nearest p stack)) (sym (above_more p false out ∙ append-nil (above_in w.done p)))
@@ -160,7 +160,7 @@ is_above_root ns ss root above is none = subst (λ p. IsAbove p ns ss above) (sy
   where
     nothing : (es : Numbers) → above_in es [] ≡ []
     nothing [] = refl
-    nothing (e ∷ es) = ap (λ b. map (λ (x : PathOf × ℕ). x.1) (cond b (e ∷ filter (λ x. is_below x.0 []) es) (filter (λ x. is_below x.0 []) es))) (nothing_below e.0) ∙ nothing es
+    nothing (e ∷ es) = ap (λ b. map (λ (x : PathOf × ℕ). x.1) (cond b (e ∷ filter (λ x. is_above x.0 []) es) (filter (λ x. is_above x.0 []) es))) (nothing_below e.0) ∙ nothing es
 
 -- all files are walked
 pub all_walked : (ss : List Step) (ns made : Numbers) (root : PathOf) → root ≡ [] → wayed ss made ≡ known (within root (ways ns)) → wayed ss made ≡ known (ways ns)

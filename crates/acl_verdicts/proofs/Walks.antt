@@ -10,7 +10,7 @@ use Rattle.std.proofs.lemmas.List.{length-map, drop_more}
 use Rattle.std.proofs.lemmas.Cmp.{tied_itself}
 use Rattle.acl_files.specs.acl_names.Paths.{path_cmp}
 use Rattle.acl_files.proofs.of_acl_names.PathOrder.{path_total, exact_paths}
-use Rattle.acl_files.specs.acl_names.Below.{is_below}
+use Rattle.acl_files.specs.acl_names.Below.{is_above}
 use Rattle.acl_files.proofs.of_acl_names.Below.{convex_below}
 use Rattle.path_map.specs.Entries.{PathOf, IsInOrder}
 use Rattle.acl_verdicts.specs.Walks.{nearest_from, nearest, last_from, last_of, lets, cut_from, AllBefore}
@@ -60,9 +60,9 @@ all_before (d ∷ es) e fs h =
 
 -- ---- the nearest above
 
-pub nearest-append : {A : Type 0} (o : Option A) (p : PathOf) (es : List (PathOf × A)) (e : PathOf × A) → nearest_from o p (es ++ e ∷ []) ≡ (if is_below e.0 p then Some e.1 else nearest_from o p es)
+pub nearest-append : {A : Type 0} (o : Option A) (p : PathOf) (es : List (PathOf × A)) (e : PathOf × A) → nearest_from o p (es ++ e ∷ []) ≡ (if is_above e.0 p then Some e.1 else nearest_from o p es)
 nearest-append o p [] e = refl
-nearest-append o p (d ∷ es) e = nearest-append (if is_below d.0 p then Some d.1 else o) p es e
+nearest-append o p (d ∷ es) e = nearest-append (if is_above d.0 p then Some d.1 else o) p es e
 
 take_none : {A : Type 0} (es : List A) → take 0 es ≡ []
 take_none [] = refl
@@ -93,26 +93,26 @@ seen_get f (x ∷ xs) (suc n) d = seen_get f xs n d
 
 -- ---- what is taken off the end
 
-not_above : (e q p : PathOf) → path_cmp e q ≡ Less → is_below e q ≡ false → is_gt (path_cmp q p) ≡ false → is_below e p ≡ false
+not_above : (e q p : PathOf) → path_cmp e q ≡ Less → is_above e q ≡ false → is_gt (path_cmp q p) ≡ false → is_above e p ≡ false
 not_above e q p before apart le = by (path_cmp q p) refl le
   where
     clash : (b : Bool) → b ≡ true → b ≡ false → ⊥
     clash b h k = cc
 
-    by : (o : Ordering) → path_cmp q p ≡ o → is_gt o ≡ false → is_below e p ≡ false
-    by Less is k = false_from (is_below e p) (λ below. clash (is_below e q) (convex_below e q p before is below) apart)
-    by Equal is k = subst (λ r. is_below e r ≡ false) (exact_paths q p is) apart
+    by : (o : Ordering) → path_cmp q p ≡ o → is_gt o ≡ false → is_above e p ≡ false
+    by Less is k = false_from (is_above e p) (λ below. clash (is_above e q) (convex_below e q p before is below) apart)
+    by Equal is k = subst (λ r. is_above e r ≡ false) (exact_paths q p is) apart
     by Greater is k = cc
 
 -- one that isn't above leads nowhere
-pub shrunk : {A : Type 0} (es : List (PathOf × A)) (n : ℕ) (d : PathOf × A) (q p : PathOf) → AllBefore q es → n < length es → is_below (get_or es n d).0 q ≡ false → is_gt (path_cmp q p) ≡ false
+pub shrunk : {A : Type 0} (es : List (PathOf × A)) (n : ℕ) (d : PathOf × A) (q p : PathOf) → AllBefore q es → n < length es → is_above (get_or es n d).0 q ≡ false → is_gt (path_cmp q p) ≡ false
     → nearest p (take n es) ≡ nearest p (take (suc n) es)
 shrunk es n d q p before lt apart le =
     sym (ap (nearest p) (take_more n es d lt)
     ∙ nearest-append None p (take n es) (get_or es n d)
     ∙ ap (λ b. if b then Some (get_or es n d).1 else nearest p (take n es)) (not_above (get_or es n d).0 q p (before_at es n d q before lt) apart le))
 
-pub last_above : {A : Type 0} (es : List (PathOf × A)) (n : ℕ) (d : PathOf × A) (q : PathOf) → n < length es → is_below (get_or es n d).0 q ≡ true → last_of (take (suc n) es) ≡ nearest q (take (suc n) es)
+pub last_above : {A : Type 0} (es : List (PathOf × A)) (n : ℕ) (d : PathOf × A) (q : PathOf) → n < length es → is_above (get_or es n d).0 q ≡ true → last_of (take (suc n) es) ≡ nearest q (take (suc n) es)
 last_above es n d q lt here =
     ap last_of (take_more n es d lt) ∙ last-append None (take n es) (get_or es n d)
     ∙ sym (ap (nearest q) (take_more n es d lt) ∙ nearest-append None q (take n es) (get_or es n d) ∙ ap (λ b. if b then Some (get_or es n d).1 else nearest q (take n es)) here)
@@ -149,23 +149,23 @@ module _ {R : Type 0} {A : Type 0} (f : R → PathOf × A) where
       let long : suc (length xs - 1) ≡ length (map f xs) = omega (arith, some, length-map xs f) in
       last_at (map f xs) (length xs - 1) (f x) long ∙ ap (λ (e : PathOf × A). Some e.1) (read xs (length xs - 1) x is)
 
-  pub shrink_step : (xs : List R) (x : R) (depth : ℕ) (q : PathOf) → x ≡ get_or xs (depth - 1) x → 0 < depth → depth ≤ length xs → AllBefore q (map f xs) → is_below (f x).0 q ≡ false
+  pub shrink_step : (xs : List R) (x : R) (depth : ℕ) (q : PathOf) → x ≡ get_or xs (depth - 1) x → 0 < depth → depth ≤ length xs → AllBefore q (map f xs) → is_above (f x).0 q ≡ false
       → ((p : PathOf) → is_gt (path_cmp q p) ≡ false → nearest p (take depth (map f xs)) ≡ nearest p (map f xs))
       → (p : PathOf) → is_gt (path_cmp q p) ≡ false → nearest p (take (depth - 1) (map f xs)) ≡ nearest p (map f xs)
   shrink_step xs x depth q is some most before apart kept p le =
       let again : suc (depth - 1) ≡ depth = omega (arith, some) in
       let lt : depth - 1 < length (map f xs) = omega (arith, some, most, length-map xs f) in
-      shrunk (map f xs) (depth - 1) (f x) q p before lt (ap (λ (e : PathOf × A). is_below e.0 q) (read xs (depth - 1) x is) ∙ apart) le
+      shrunk (map f xs) (depth - 1) (f x) q p before lt (ap (λ (e : PathOf × A). is_above e.0 q) (read xs (depth - 1) x is) ∙ apart) le
       ∙ ap (λ k. nearest p (take k (map f xs))) again ∙ kept p le
 
-  pub top_step : (xs : List R) (x : R) (depth : ℕ) (q : PathOf) → x ≡ get_or xs (depth - 1) x → 0 < depth → depth ≤ length xs → is_below (f x).0 q ≡ true
+  pub top_step : (xs : List R) (x : R) (depth : ℕ) (q : PathOf) → x ≡ get_or xs (depth - 1) x → 0 < depth → depth ≤ length xs → is_above (f x).0 q ≡ true
       → ((p : PathOf) → is_gt (path_cmp q p) ≡ false → nearest p (take depth (map f xs)) ≡ nearest p (map f xs))
       → last_of (take depth (map f xs)) ≡ nearest q (map f xs)
   top_step xs x depth q is some most here kept =
       let again : suc (depth - 1) ≡ depth = omega (arith, some) in
       let lt : depth - 1 < length (map f xs) = omega (arith, some, most, length-map xs f) in
       ap (λ k. last_of (take k (map f xs))) (sym again)
-      ∙ last_above (map f xs) (depth - 1) (f x) q lt (ap (λ (e : PathOf × A). is_below e.0 q) (read xs (depth - 1) x is) ∙ here)
+      ∙ last_above (map f xs) (depth - 1) (f x) q lt (ap (λ (e : PathOf × A). is_above e.0 q) (read xs (depth - 1) x is) ∙ here)
       ∙ ap (λ k. nearest q (take k (map f xs))) again ∙ kept q (ap is_gt (tied_itself path_total q))
 
   pub none_left : (xs : List R) (depth : ℕ) (q : PathOf) → depth ≡ 0

@@ -6,7 +6,7 @@ use Rattle.std.specs.FinMap.{find}
 use Rattle.acl_files.specs.acl_entry.Perms.{Perms}
 use Rattle.acl_files.specs.acl_entry.Check.{has}
 use Rattle.acl_files.specs.acl_names.Paths.{path_cmp}
-use Rattle.acl_files.specs.acl_names.Below.{is_below}
+use Rattle.acl_files.specs.acl_names.Below.{is_above}
 use Rattle.path_map.specs.Entries.{PathOf}
 use Rattle.acl_verdicts.specs.Rows.{Rows}
 
@@ -19,7 +19,7 @@ can_search user cells = option_map_or (λ c. has c execute) (slice_get cells use
 
 -- whether each row above a path lets a user search
 abbrev pub passes_in : Rows → ℕ → PathOf → Bool
-passes_in rows user p = list_all (λ r. not (is_below r.0 p) || can_search user r.1) rows
+passes_in rows user p = list_all (λ r. not (is_above r.0 p) || can_search user r.1) rows
 
 -- what is left of a user's verdict: all of it, or nothing
 abbrev pub reach_cell : Rows → ℕ → PathOf → ℕ → ℕ

@@ -3,14 +3,14 @@ use Rattle.std.specs.Prelude.{◌≡◌, ℕ, suc, Bool, true, List, [], ◌∷�
 use Rattle.std.specs.declared.cmp.Ordering.TheVariants.{Less}
 use Rattle.std.specs.List.{AllByRecursion}
 use Rattle.acl_files.specs.acl_names.Paths.{path_cmp}
-use Rattle.acl_files.specs.acl_names.Below.{is_below}
+use Rattle.acl_files.specs.acl_names.Below.{is_above}
 use Rattle.path_map.specs.Entries.{PathOf}
 use Rattle.acl_verdicts.specs.Reach.{can_search}
 
 -- the last of these above a path, else what is given
 abbrev pub nearest_from : {A : Type 0} → Option A → PathOf → List (PathOf × A) → Option A
 nearest_from o p [] = o
-nearest_from o p (e ∷ es) = nearest_from (if is_below e.0 p then Some e.1 else o) p es
+nearest_from o p (e ∷ es) = nearest_from (if is_above e.0 p then Some e.1 else o) p es
 
 abbrev pub nearest : {A : Type 0} → PathOf → List (PathOf × A) → Option A
 nearest p es = nearest_from None p es

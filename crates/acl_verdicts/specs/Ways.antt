@@ -2,7 +2,7 @@
 use Rattle.std.specs.Prelude.{◌≡◌, ◌<◌, ℕ, suc, Bool, true, false, List, [], ◌∷◌, ◌++◌, map, filter, slice_get, get_or, Option, Some, None, option_and_then, if◌then◌else◌}
 use Rattle.std.specs.List.{list_all, list_any, AllByRecursion}
 use Rattle.std.specs.Option.{option_map_or}
-use Rattle.acl_files.specs.acl_names.Below.{is_below}
+use Rattle.acl_files.specs.acl_names.Below.{is_above}
 use Rattle.path_map.specs.Entries.{PathOf}
 use Rattle.acl_verdicts.specs.declared.steps.Step.{Step}
 use Rattle.acl_verdicts.specs.Rows.{Rows}
@@ -25,7 +25,7 @@ pub record Way : Type 0 where
   pub row : ℕ
 
 abbrev pub above_in : Numbers → PathOf → List ℕ
-above_in ns p = map (λ e. e.1) (filter (λ e. is_below e.0 p) ns)
+above_in ns p = map (λ e. e.1) (filter (λ e. is_above e.0 p) ns)
 
 abbrev pub way_in : Numbers → PathOf × ℕ → PathOf × Way
 way_in ns e = (e.0, record { above = above_in ns e.0; row = e.1 })
@@ -121,11 +121,11 @@ LeadsTo ss (Some k) numbers = (w : Way) × ((slice_get (ways_of ss) k ≡ Some w
 
 -- the steps of directories above a path, of which the last leads to it
 pub record IsAbove (p : PathOf) (ns : Numbers) (ss : List Step) (above : Numbers) : Type 0 where
-  pub below : AllByRecursion (λ e. is_below e.0 p ≡ true) above
+  pub below : AllByRecursion (λ e. is_above e.0 p ≡ true) above
   pub leads : LeadsTo ss (last_of above) (above_in ns p)
 
 -- where no top is above a top, the steps above it are as before
 abbrev pub AreAbove : {A : Type 0} → List (PathOf × A) → Numbers → List Step → Numbers → Type 0
 AreAbove tops ns ss old =
-    (p : PathOf) → has p tops ≡ true → list_any (λ t. is_below t.0 p) tops ≡ false
+    (p : PathOf) → has p tops ≡ true → list_any (λ t. is_above t.0 p) tops ≡ false
     → (above : Numbers) → IsNearest p old above → IsAbove p ns ss above

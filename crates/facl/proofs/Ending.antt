@@ -10,9 +10,10 @@ use Rattle.facl_tools.specs.facl_words.TextWords.{line_asks}
 use Rattle.facl_tools.specs.facl_messages.Faults.{run_fault_of_script}
 use Rattle.facl_tools.specs.facl_messages.declared.fault.RunFault.{RunFault}
 use Rattle.facl_tools.specs.Tools.{Verdict}
-use Rattle.facl.specs.Costs.{all_pairs}
-use Rattle.facl.specs.declared.indexed_states.States.{States}
-use Rattle.facl.specs.Units.{answered, from_start}
+use Rattle.facl_tools.specs.acl_rights.Costs.{all_pairs}
+use Rattle.facl_tools.specs.acl_rights.declared.indexed_states.States.{States}
+use Rattle.facl_tools.specs.acl_rights.States.{from_start}
+use Rattle.facl.specs.Units.{answered}
 use Rattle.facl.specs.Runs.{Devices, EndsBy}
 
 end_of_run : (fault : ScriptFault) (verdict : Verdict) (initial_state : Result State RunFault) (start : State) (states : States) (asked : ℕ) (old new : Devices)

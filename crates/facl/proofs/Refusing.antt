@@ -1,41 +1,45 @@
--- Lines that are refused before their words are known, and what a session returns for a unit.
-use Rattle.std.proofs.Common.{◌≡◌, ◌≢◌, ◌∙◌, ◌+◌, ◌≤◌, ℕ, Bool, true, false, [], Err, ap, sym, subst, refl, true≢false}
+-- Lines that are refused, and units that are not silent.
+use Rattle.std.proofs.Common.{◌≡◌, ◌≢◌, ◌∙◌, ◌+◌, ◌≤◌, ℕ, List, Bool, true, false, [], Err, ap, sym, subst, refl, arith, true≢false}
 use Rattle.facl_tools.specs.acl_rights.Tables.{Verdict}
+use Rattle.facl_tools.specs.acl_rights.declared.indexed_states.States.{States}
 use Rattle.facl_tools.specs.facl_script.Play.{Answer}
 use Rattle.facl_tools.specs.facl_script.Run.{IsAnswer}
 use Rattle.facl_tools.specs.facl_script.Units.{ScriptUnit}
-use Rattle.facl_tools.specs.facl_messages.Messages.{message}
+use Rattle.facl_tools.specs.facl_words.Forms.{Text}
 use Rattle.facl_tools.specs.facl_messages.declared.fault.LineFault.{LineFault}
 use Rattle.facl_tools.specs.facl_messages.declared.fault.LineFault.TheVariants.{NoMemory}
-use Rattle.facl.specs.declared.session.FaclSession.{FaclSession}
-use Rattle.facl.specs.declared.indexed_states.States.{States}
-use Rattle.facl.specs.Sessions.{states_of, out_of, err_of, IsAtAnswer}
 use Rattle.facl.specs.Units.{is_silent, words_of_line, refused, answer_of_words, unless_out_of_memory, answered_line, answered}
 
--- a line without words is refused as one, unless memory runs out for it
-pub refused_line : {J : Type 0} (V : Verdict) (u : ScriptUnit) (ran_out : Bool) (number : ℕ) (fault : LineFault) (s : States) (f : FaclSession J)
-    → u.number ≡ number → (fault ≡ NoMemory → ran_out ≡ true) → (fault ≢ NoMemory → words_of_line u.line ≡ Err fault)
-    → IsAtAnswer (unless_out_of_memory ran_out number s (refused number [] fault s)) f true → IsAtAnswer (answered_line V ran_out u s) f true
-refused_line V u true number fault s f same memory content h = record {
-  state = h.state;
-  out = h.out;
-  err = h.err ∙ ap (λ n. message n [] NoMemory) (sym same);
-  refused = h.refused;
-}
-refused_line V u false number fault s f same memory content h =
-    subst (λ a. IsAtAnswer a f true) (ap (λ n. refused n [] fault s) (sym same)
-    ∙ ap (answer_of_words V u s) (sym (content (λ e. true≢false (sym (memory e)))))) h
+-- a line for which memory ran out is refused, whatever its answer is
+pub lacks_memory : (ran_out : Bool) (number : ℕ) (w new : States) (a : Answer States) (asked asked' : ℕ) (out err : List ℕ)
+    → ran_out ≡ true → asked' ≤ asked + a.cost
+    → IsAnswer (unless_out_of_memory ran_out number w (refused number [] NoMemory w)) new asked' asked' out err true
+    → IsAnswer (unless_out_of_memory ran_out number w a) new asked asked' out err true
+lacks_memory true number w new a asked asked' out err is le h =
+    record { state_is = h.state_is; spends = le; out_is = h.out_is; err_is = h.err_is; refused_is = h.refused_is }
+lacks_memory false number w new a asked asked' out err is le h = absurd (true≢false (sym is))
 
--- what a session returns for an answer, where it asked for no more verdicts than the answer costs
-pub is_answer : {J : Type 0} (a : Answer States) (f : FaclSession J) (asked asked' : ℕ) (is_refused : Bool) → IsAtAnswer a f is_refused → asked' ≤ asked + a.cost
-    → IsAnswer a (states_of f) asked asked' (out_of f) (err_of f) is_refused
-is_answer a f asked asked' is_refused h le = record {
-  state_is = h.state;
-  spends = le;
-  out_is = h.out;
-  err_is = h.err;
-  refused_is = h.refused;
-}
+-- a line whose answer is the refusal for a fault is refused so, unless memory runs out for it
+pub refused_as : (ran_out : Bool) (number : ℕ) (tool : Text) (fault : LineFault) (w new : States) (a : Answer States) (asked : ℕ) (out err : List ℕ)
+    → (fault ≡ NoMemory → ran_out ≡ true) → (fault ≢ NoMemory → a ≡ refused number tool fault w)
+    → IsAnswer (unless_out_of_memory ran_out number w (refused number tool fault w)) new asked asked out err true
+    → IsAnswer (unless_out_of_memory ran_out number w a) new asked asked out err true
+refused_as true number tool fault w new a asked out err memory is h =
+    record { state_is = h.state_is; spends = more asked a.cost; out_is = h.out_is; err_is = h.err_is; refused_is = h.refused_is }
+  where
+    more : (n m : ℕ) → n ≤ n + m
+    more n m = omega (arith)
+refused_as false number tool fault w new a asked out err memory is h =
+    subst (λ b. IsAnswer b new asked asked out err true) (sym (is (λ e. true≢false (sym (memory e))))) h
+
+-- a line without words is refused as one
+pub refused_line : (V : Verdict) (u : ScriptUnit) (ran_out : Bool) (number : ℕ) (fault : LineFault) (w new : States) (asked : ℕ) (out err : List ℕ)
+    → u.number ≡ number → (fault ≡ NoMemory → ran_out ≡ true) → (fault ≢ NoMemory → words_of_line u.line ≡ Err fault)
+    → IsAnswer (unless_out_of_memory ran_out number w (refused number [] fault w)) new asked asked out err true
+    → IsAnswer (answered_line V ran_out u w) new asked asked out err true
+refused_line V u ran_out number fault w new asked out err same memory is h =
+    refused_as ran_out u.number [] fault w new (answer_of_words V u w (words_of_line u.line)) asked out err memory (λ other. ap (answer_of_words V u w) (is other))
+    (subst (λ n. IsAnswer (unless_out_of_memory ran_out n w (refused n [] fault w)) new asked asked out err true) (sym same) h)
 
 -- a unit whose line is neither blank nor a comment
 pub not_silent : (V : Verdict) (u : ScriptUnit) (ran_out : Bool) (s : States) → is_silent u.line ≡ false

@@ -14,7 +14,7 @@ use Rattle.facl_tools.specs.Replies.{Reply, after}
 use Rattle.facl_tools.specs.Tools.{Verdict, row_of, read_line, tool_named}
 use Rattle.facl_tools.specs.declared.tools.Tool.{Tool}
 use Rattle.facl_tools.specs.declared.tools.ToolLine.{ToolLine}
-use Rattle.facl.specs.declared.indexed_states.States.{States}
+use Rattle.facl_tools.specs.acl_rights.declared.indexed_states.States.{States}
 use Rattle.facl.specs.Units.{answered, answer_of, reply, text_or_fault, tool_word, words_of_line}
 
 -- ---- the parts of a line, and their order
@@ -102,7 +102,7 @@ pub record IsRequestAtFault (s : State) (u : ScriptUnit) (part : requests.Part) 
   pub at_fault : requests.IsAtFault s line text part fault
 
 -- ---- which parts are at fault at the present state, whatever other ones are; neither a judge nor the state after the
--- texts were loaded has a say in it
+-- texts were loaded matters
 
 abbrev pub IsAtFault : State → ScriptUnit → LinePart → LineFault → Type 0
 IsAtFault s u in_length fault = (fault ≡ faults.LineTooLong) × (u.line ≡ None)

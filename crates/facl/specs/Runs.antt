@@ -14,9 +14,10 @@ use Rattle.facl_tools.specs.facl_messages.declared.fault.RunFault.TheVariants.{R
 use Rattle.facl.specs.declared.status.Status.{Status}
 use Rattle.facl.specs.declared.status.Status.TheVariants.{Accepted, Refused}
 use Rattle.facl_tools.specs.Tools.{Verdict}
-use Rattle.facl.specs.Costs.{all_pairs}
-use Rattle.facl.specs.declared.indexed_states.States.{States}
-use Rattle.facl.specs.Units.{answered, from_start}
+use Rattle.facl_tools.specs.acl_rights.Costs.{all_pairs}
+use Rattle.facl_tools.specs.acl_rights.declared.indexed_states.States.{States}
+use Rattle.facl_tools.specs.acl_rights.States.{from_start}
+use Rattle.facl.specs.Units.{answered}
 
 -- what the reader has left, and what the two writers hold, where it is known
 pub record Devices : Type 0 where

@@ -1,18 +1,11 @@
 -- What a contract sees of a session: its states, and the output and the message of the last line.
 use Rattle.std.specs.Prelude.{◌≡◌, ℕ, Bool, false, if◌then◌else◌, List, []}
-use Rattle.std.specs.Option.{option_map_or}
-use Rattle.facl_tools.specs.acl_tree.Step.{State}
 use Rattle.facl_tools.specs.facl_script.Play.{Answer}
+use Rattle.facl_tools.specs.facl_script.Run.{IsAnswer}
 use Rattle.facl.specs.declared.session.FaclSession.{FaclSession}
-use Rattle.facl.specs.declared.indexed_states.States.{States}
-use Rattle.facl.specs.declared.indexed_states.IndexedStates.{IndexedStates}
-
--- the state after the texts were loaded: the present one, where no line has changed the state since
-abbrev pub loaded_state : {J : Type 0} → IndexedStates J → State
-loaded_state w = option_map_or (λ loaded. loaded) w.loaded w.state
-
-abbrev pub states_in : {J : Type 0} → IndexedStates J → States
-states_in w = record { loaded = loaded_state w; now = w.state }
+use Rattle.facl_tools.specs.acl_rights.declared.indexed_states.States.{States}
+use Rattle.facl_tools.specs.acl_rights.States.{states_in}
+use Rattle.facl.specs.Units.{unless_out_of_memory}
 
 abbrev pub states_of : {J : Type 0} → FaclSession J → States
 states_of f = states_in f.indexed_states
@@ -33,10 +26,8 @@ pub record IsQuiet {J : Type 0} (f : FaclSession J) : Type 0 where
   pub err : f.err.items ≡ []
   pub memory : f.lacks_memory ≡ false
 
--- the session is at the states of the answer, with its output and its message; and the line is refused where the answer
--- is
-pub record IsAtAnswer {J : Type 0} (a : Answer States) (f : FaclSession J) (is_refused : Bool) : Type 0 where
-  pub state : states_of f ≡ a.state
-  pub out : out_of f ≡ a.out
-  pub err : err_of f ≡ a.err
-  pub refused : is_refused ≡ a.refused
+-- The session gives this answer to a line, or that memory ran out for it: it is at the answer's states, with its output
+-- and its message, the judge was asked for no more verdicts than it costs, and the line is refused where the answer is.
+abbrev pub Answers : {J : Type 0} → (number : ℕ) → Answer States → (old new : FaclSession J) → (asked asked' : ℕ) → (is_refused : Bool) → Type 0
+Answers number a old new asked asked' is_refused =
+    IsAnswer (unless_out_of_memory (ran_out_of_memory new) number (states_of old) a) (states_of new) asked asked' (out_of new) (err_of new) is_refused

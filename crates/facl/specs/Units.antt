@@ -7,7 +7,6 @@ use Rattle.facl_tools.specs.facl_script.Words.{has_no_words, line_words}
 use Rattle.facl_tools.specs.facl_script.declared.words.SplitFault.{SplitFault}
 use Rattle.facl_tools.specs.facl_words.Args.{files_for}
 use Rattle.facl_tools.specs.facl_words.Forms.{Text}
-use Rattle.facl_tools.specs.acl_tree.Step.{State}
 use Rattle.facl_tools.specs.facl_messages.Faults.{line_fault_of_split}
 use Rattle.facl_tools.specs.facl_messages.Messages.{message, warning}
 use Rattle.facl_tools.specs.facl_messages.declared.fault.LineFault.{LineFault}
@@ -15,22 +14,13 @@ use Rattle.facl_tools.specs.facl_messages.declared.fault.LineFault.TheVariants.{
 use Rattle.facl_tools.specs.Replies.{Reply, after, or_fault, printed}
 use Rattle.facl_tools.specs.Tools.{Verdict, loads, tool_line, tool_named}
 use Rattle.facl_tools.specs.declared.tools.Tool.{Tool}
-use Rattle.facl.specs.declared.indexed_states.States.{States}
-use Rattle.facl.specs.Costs.{most_between}
-
--- ---- the states that lines see: the one after the texts were loaded, and the present one
-
--- both, before the first line
-abbrev pub from_start : State → States
-from_start s = record { loaded = s; now = s }
+use Rattle.facl_tools.specs.acl_rights.declared.indexed_states.States.{States}
+use Rattle.facl_tools.specs.acl_rights.Costs.{most_between}
+use Rattle.facl_tools.specs.acl_rights.States.{states_after}
 
 -- whether the tool of this name loads a text
 abbrev pub loads_by_name : Text → Bool
 loads_by_name name = option_map_or loads (tool_named name) false
-
--- both after an accepted line: a load begins again
-abbrev pub states_after : (loads : Bool) → States → (new : State) → States
-states_after loads w new = record { loaded = if loads then new else w.loaded; now = new }
 
 -- a line that is blank or a comment, as far as it is within the limit
 abbrev pub is_silent : Option (List ℕ) → Bool

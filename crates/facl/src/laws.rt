@@ -4,12 +4,12 @@ ghost use Rattle.std.specs.Prelude.{◌≡◌, false};
 ghost use Rattle.facl_tools.specs.facl_script.Units.{ScriptUnit};
 ghost use Rattle.facl_tools.specs.Tools.{Verdict};
 ghost use Rattle.facl.specs.FirstFault.{IsAnsweredByFirst};
-ghost use Rattle.facl.specs.declared.indexed_states.States.{States};
+ghost use Rattle.facl_tools.specs.acl_rights.declared.indexed_states.States.{States};
 ghost use Rattle.facl.specs.Units.{is_silent};
 
 /// Proof only: which parts of a line are at fault is defined for each part by itself, without an order: its length, its
 /// bytes, its quotes, its tool, the text after it, its words, and each part of what it asks for; neither a judge's
-/// verdict nor the state after the texts were loaded has a say in it. A line that is neither blank nor a comment is
+/// verdict nor the state after the texts were loaded matters. A line that is neither blank nor a comment is
 /// refused exactly if one of them is at fault, and for the first of those in one order.
 pub fn lines_are_refused_for_their_first_fault()
     ensures { (verdict : Verdict) (w : States) (u : ScriptUnit) → is_silent u.line ≡ false → IsAnsweredByFirst verdict w u }

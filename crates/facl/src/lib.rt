@@ -5,7 +5,6 @@
 //! whole: what is written are the bytes of a session made from scratch.
 #![tactic(auto)]
 
-mod indexed_states;
 mod laws;
 mod line;
 mod program;

@@ -5,13 +5,14 @@ ghost use Rattle.facl_tools.specs.facl_script.Units.{UnitText};
 ghost use Rattle.facl_tools.specs.facl_script.Held.{IsLineHeld, IsTextHeld};
 ghost use Rattle.facl_tools.specs.facl_script.declared.held.HeldLine.TheVariants.{TooLong};
 ghost use Rattle.facl_tools.specs.facl_messages.declared.fault.LineFault.TheVariants.{LineTooLong};
-ghost use Rattle.facl_tools.specs.Replies.{Gives, IsPrepared, Replies};
+ghost use Rattle.facl_tools.specs.acl_rights.States.{IsPrepared, loaded_state, states_in};
+ghost use Rattle.facl_tools.specs.Replies.{Gives, Replies};
 ghost use Rattle.facl_tools.specs.Tools.{tool_line};
-ghost use Rattle.facl.specs.Sessions.{loaded_state, states_in};
 ghost use Rattle.facl.specs.Units.{is_silent, words_of_line, text_or_fault, tool_reply};
 
-use crate::indexed_states::IndexedStates;
-use facl_tools::{Effect, HeldLine, HeldText, Judge, LineFault, Tool, split_words, tool_line};
+use facl_tools::{
+    Effect, HeldLine, HeldText, IndexedStates, Judge, LineFault, Tool, split_words, tool_line,
+};
 use std::alloc::Global;
 
 /// Whether a line within the limit is blank or a comment.

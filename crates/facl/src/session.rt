@@ -1,22 +1,24 @@
 //! The session of a script: its states with their indexes, and the output and the message of the last line. Lines are
 //! answered one by one.
 
-ghost use Rattle.std.specs.Prelude.{◌≡◌, ◌+◌, ◌≤◌, [], ◌∷◌, true, false, Some, map, string_bytes, IfOk, OnOk, OnErr};
+ghost use Rattle.std.specs.Prelude.{◌≡◌, ℕ, ◌+◌, ◌≤◌, [], ◌∷◌, true, false, Some, map, string_bytes, IfOk, OnOk, OnErr};
 ghost use Rattle.facl_tools.specs.facl_script.Units.{ScriptUnit, UnitText};
 ghost use Rattle.facl_tools.specs.facl_script.Held.{IsTextHeld, IsUnitHeld};
 ghost use Rattle.facl_tools.specs.facl_words.TextWords.{line_asks};
 ghost use Rattle.facl_tools.specs.facl_messages.declared.fault.LineFault.TheVariants.{NoMemory};
-ghost use Rattle.facl_tools.specs.Replies.{reply_of, IsPrepared};
-ghost use Rattle.facl.specs.Costs.{IsReady, IsReadyAfter, all_pairs};
+ghost use Rattle.facl_tools.specs.acl_rights.Costs.{all_pairs};
+ghost use Rattle.facl_tools.specs.acl_rights.States.{IsPrepared, from_start};
+ghost use Rattle.facl_tools.specs.Replies.{reply_of};
+ghost use Rattle.facl.specs.Costs.{IsReady, IsReadyAfter};
 ghost use Rattle.facl_tools.specs.Tools.{tool_named};
-ghost use Rattle.facl.specs.Units.{accepted, refused, from_start, answer_of, reply, tool_reply, tool_word, unless_out_of_memory, warning_if, answered_line, answered};
-ghost use Rattle.facl.specs.Sessions.{states_of, out_of, err_of, ran_out_of_memory, IsQuiet, IsAtAnswer};
+ghost use Rattle.facl.specs.Units.{accepted, refused, words_of_line, answer_of, answer_of_words, reply, tool_reply, tool_word, warning_if, answered};
+ghost use Rattle.facl_tools.specs.facl_script.Run.{IsAnswer};
+ghost use Rattle.facl.specs.Sessions.{states_of, out_of, err_of, ran_out_of_memory, IsQuiet, Answers};
 
-use crate::indexed_states::{IndexedStates, States};
 use crate::line::{is_silent, tool_reply, words_of_line};
 use facl_tools::{
-    Effect, HeldLine, HeldUnit, Judge, LineFault, ReservedMessage, Session, State, Tool,
-    append_message, append_warning, asks_for_text,
+    Effect, HeldLine, HeldUnit, IndexedStates, Judge, LineFault, ReservedMessage, Session, State,
+    States, Tool, append_message, append_warning, asks_for_text,
 };
 use std::alloc::{AllocError, Global};
 
@@ -76,8 +78,7 @@ impl<J: Judge> FaclSession<J> {
     /// Refuses a line. The message of a line for which memory ran out is written without an allocation.
     fn refuse(&mut self, number: u64, tool: &[u8], fault: &LineFault)
         requires { IsQuiet self.old }
-        ensures answer { IsAtAnswer (unless_out_of_memory (ran_out_of_memory self.new) number (states_of self.old)
-            (refused number tool.now fault.now (states_of self.old))) self.new true }
+        ensures answer { (asked : ℕ) → Answers number (refused number tool.now fault.now (states_of self.old)) self.old self.new asked asked true }
         ensures memory { fault.now ≡ NoMemory → ran_out_of_memory self.new ≡ true }
         ensures indexed_states { self.new.indexed_states ≡ self.old.indexed_states }
     {
@@ -101,7 +102,8 @@ impl<J: Judge> FaclSession<J> {
         requires quiet { IsQuiet self.old }
         requires ready { IsReady (J.asked_of judge.old) number }
         requires prepared { IsPrepared (states_of self.old).now effect.staged }
-        ensures answer { OnOk result (IsAtAnswer (accepted number loads (states_of self.old) (reply_of (states_of self.old).now effect)) self.new false) }
+        ensures answer { OnOk result (IsAnswer (accepted number loads (states_of self.old) (reply_of (states_of self.old).now effect))
+            (states_of self.new) (J.asked_of judge.old) (J.asked_of judge.new) (out_of self.new) (err_of self.new) false) }
         ensures memory { ran_out_of_memory self.new ≡ false }
         ensures quiet { OnErr result (IsQuiet self.new) }
         ensures unchanged { OnErr result (states_of self.new ≡ states_of self.old) }
@@ -132,16 +134,17 @@ impl<J: Judge> FaclSession<J> {
         requires quiet { IsQuiet self.old }
         requires ready { IsReady (J.asked_of judge.old) number }
         requires prepared { IsPrepared (states_of self.old).now effect.staged }
-        ensures answer { IsAtAnswer (unless_out_of_memory (ran_out_of_memory self.new) number (states_of self.old)
-            (accepted number loads (states_of self.old) (reply_of (states_of self.old).now effect))) self.new result }
-        ensures asked { J.asked_of judge.new ≤ J.asked_of judge.old + (accepted number loads (states_of self.old) (reply_of (states_of self.old).now effect)).cost }
+        ensures answer { Answers number (accepted number loads (states_of self.old) (reply_of (states_of self.old).now effect))
+            self.old self.new (J.asked_of judge.old) (J.asked_of judge.new) result }
         ensures ready { IsReadyAfter (J.asked_of judge.new) number }
     {
-        let is_refused = self.do_line(judge, number, loads, effect).is_err();
-        if is_refused {
-            self.refuse(number, b"", &LineFault::NoMemory);
+        match self.do_line(judge, number, loads, effect) {
+            Ok(()) => false,
+            Err(_) => {
+                self.refuse(number, b"", &LineFault::NoMemory);
+                true
+            }
         }
-        is_refused
     }
 
     /// Answers a line of a tool by the words after the tool's name, and returns whether it is refused.
@@ -157,19 +160,16 @@ impl<J: Judge> FaclSession<J> {
         requires ready { IsReady (J.asked_of judge.old) unit.now.number }
         requires named { tool_named name.now ≡ Some tool }
         ensures answer { (content : UnitText) → IsTextHeld unit.now.text content
-            → IsAtAnswer (unless_out_of_memory (ran_out_of_memory self.new) unit.now.number (states_of self.old)
-            (answer_of unit.now.number name.now (states_of self.old)
-            (tool_reply J.verdict_of (states_of self.old) content (map string_bytes words.now) tool))) self.new result }
-        ensures asked { (content : UnitText) → IsTextHeld unit.now.text content
-            → J.asked_of judge.new ≤ J.asked_of judge.old
-            + (answer_of unit.now.number name.now (states_of self.old)
-            (tool_reply J.verdict_of (states_of self.old) content (map string_bytes words.now) tool)).cost }
+            → Answers unit.now.number (answer_of unit.now.number name.now (states_of self.old)
+            (tool_reply J.verdict_of (states_of self.old) content (map string_bytes words.now) tool))
+            self.old self.new (J.asked_of judge.old) (J.asked_of judge.new) result }
         ensures ready { IsReadyAfter (J.asked_of judge.new) unit.now.number }
     {
         match tool_reply(self.alloc, &self.indexed_states, &unit.text, words, tool) {
             Ok(effect) => self.accept(judge, unit.number, tool.loads(), effect),
             Err(fault) => {
                 self.refuse(unit.number, name, &fault);
+                drop(fault);
                 true
             }
         }
@@ -186,13 +186,9 @@ impl<J: Judge> FaclSession<J> {
         requires quiet { IsQuiet self.old }
         requires ready { IsReady (J.asked_of judge.old) unit.now.number }
         ensures answer { (content : UnitText) → IsTextHeld unit.now.text content
-            → IsAtAnswer (unless_out_of_memory (ran_out_of_memory self.new) unit.now.number (states_of self.old)
-            (answer_of unit.now.number name.now (states_of self.old)
-            (reply J.verdict_of (states_of self.old) content (name.now ∷ map string_bytes words.now)))) self.new result }
-        ensures asked { (content : UnitText) → IsTextHeld unit.now.text content
-            → J.asked_of judge.new ≤ J.asked_of judge.old
-            + (answer_of unit.now.number name.now (states_of self.old)
-            (reply J.verdict_of (states_of self.old) content (name.now ∷ map string_bytes words.now))).cost }
+            → Answers unit.now.number (answer_of unit.now.number name.now (states_of self.old)
+            (reply J.verdict_of (states_of self.old) content (name.now ∷ map string_bytes words.now)))
+            self.old self.new (J.asked_of judge.old) (J.asked_of judge.new) result }
         ensures ready { IsReadyAfter (J.asked_of judge.new) unit.now.number }
     {
         match Tool::named(name) {
@@ -209,13 +205,9 @@ impl<J: Judge> FaclSession<J> {
         requires quiet { IsQuiet self.old }
         requires ready { IsReady (J.asked_of judge.old) unit.now.number }
         ensures answer { (content : UnitText) → IsTextHeld unit.now.text content
-            → IsAtAnswer (unless_out_of_memory (ran_out_of_memory self.new) unit.now.number (states_of self.old)
-            (answer_of unit.now.number (tool_word (map string_bytes words.now)) (states_of self.old)
-            (reply J.verdict_of (states_of self.old) content (map string_bytes words.now)))) self.new result }
-        ensures asked { (content : UnitText) → IsTextHeld unit.now.text content
-            → J.asked_of judge.new ≤ J.asked_of judge.old
-            + (answer_of unit.now.number (tool_word (map string_bytes words.now)) (states_of self.old)
-            (reply J.verdict_of (states_of self.old) content (map string_bytes words.now))).cost }
+            → Answers unit.now.number (answer_of unit.now.number (tool_word (map string_bytes words.now)) (states_of self.old)
+            (reply J.verdict_of (states_of self.old) content (map string_bytes words.now)))
+            self.old self.new (J.asked_of judge.old) (J.asked_of judge.new) result }
         ensures ready { IsReadyAfter (J.asked_of judge.new) unit.now.number }
     {
         match words {
@@ -232,15 +224,15 @@ impl<J: Judge> FaclSession<J> {
         requires quiet { IsQuiet self.old }
         requires ready { IsReady (J.asked_of judge.old) unit.now.number }
         ensures answer { (u : ScriptUnit) → IsUnitHeld line_asks unit.now u
-            → IsAtAnswer (answered_line J.verdict_of (ran_out_of_memory self.new) u (states_of self.old)) self.new result }
-        ensures asked { (u : ScriptUnit) → IsUnitHeld line_asks unit.now u
-            → J.asked_of judge.new ≤ J.asked_of judge.old + (answered_line J.verdict_of (ran_out_of_memory self.new) u (states_of self.old)).cost }
+            → Answers u.number (answer_of_words J.verdict_of u (states_of self.old) (words_of_line u.line))
+            self.old self.new (J.asked_of judge.old) (J.asked_of judge.new) result }
         ensures ready { IsReadyAfter (J.asked_of judge.new) unit.now.number }
     {
         match words_of_line(self.alloc, &unit.line) {
             Ok(words) => self.answer_words(judge, unit, &words),
             Err(fault) => {
                 self.refuse(unit.number, b"", &fault);
+                drop(fault);
                 true
             }
         }

@@ -38,7 +38,9 @@ fn prepared(alloc: Global, which: Table, text: &[u8], state: &State) -> Result<S
         (λ fault. fault ≢ runs.NoMemory → set_up which (load state.now which text.now) ≡ Err fault) }
 {
     let command = Command::Load { which, bytes: text };
-    match state.prepare(alloc, &command) {
+    let outcome = state.prepare(alloc, &command);
+    drop(command);
+    match outcome {
         Ok(staged) => Ok(staged),
         Err(fault) => Err(setup_fault(which, fault)),
     }

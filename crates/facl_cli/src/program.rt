@@ -3,9 +3,8 @@
 ghost use Rattle.std.specs.Prelude.{◌≡◌, ◌⊎◌, false, Err, IfErr, IfOk, IfSome, OnOk, true, map, string_bytes};
 ghost use Rattle.std.specs.Io.KnownBytes.{IsAtEnd};
 ghost use Rattle.std.specs.Process.{exit_status};
-ghost use Rattle.facl_cli.specs.Files.{texts_of};
 ghost use Rattle.facl_cli.specs.Lines.{IsReported, status_of};
-ghost use Rattle.facl_cli.specs.Program.{FailsBy, HaveTexts, IsUnloaded, Ran};
+ghost use Rattle.facl_cli.specs.Program.{FailsBy, Ran};
 ghost use Rattle.facl.specs.Runs.{devices};
 ghost use Rattle.facl.specs.facl_messages.declared.fault.RunFault.TheVariants as runs;
 ghost use Rattle.facl.specs.facl_script.Streams.{streams};
@@ -13,28 +12,13 @@ ghost use Rattle.facl.specs.facl_script.Streams.{streams};
 use crate::args::files_named;
 use crate::fault::{ProgramFault, write_fault};
 use crate::file_store::FileStore;
-use crate::files::{Texts, read_texts};
+use crate::files::read_texts;
 use facl::{Feed, Sink, Status, run};
 use std::alloc::Global;
 use std::process::ExitCode;
 
 /// What the program ends with at a fault.
 const FAULT_STATUS: u8 = 2;
-
-/// The texts of the files that the words name.
-fn texts_named<S: FileStore>(
-    alloc: Global,
-    words: &[String],
-    file_store: &mut S,
-) -> Result<Texts, ProgramFault>
-    requires { S.has_failed file_store.old ≡ false }
-    ensures ok { IfOk result (λ texts.
-        HaveTexts (S.bytes_of file_store.old) (map string_bytes words.now) (texts_of texts)) }
-    ensures err { IfErr result (IsUnloaded (S.bytes_of file_store.old) (map string_bytes words.now)) }
-{
-    let files = files_named(alloc, words)?;
-    read_texts(alloc, file_store, files)
-}
 
 /// Loads the texts of the files that the words name, then answers the script. The first of the words is the program's
 /// name.
@@ -69,7 +53,8 @@ pub(crate) fn answer_words<S: FileStore, R: Feed, O: Sink, E: Sink>(
     ensures write { result ≡ Err (ProgramFault.Run runs.Write)
         → (O.has_failed out.new ≡ true) ⊎ (E.has_failed err.new ≡ true) }
 {
-    let texts = texts_named(alloc, words, file_store)?;
+    let files = files_named(alloc, words)?;
+    let texts = read_texts(alloc, file_store, files)?;
     let status = run(alloc, &texts.setup(), reader, out, err)?;
     Ok(status)
 }

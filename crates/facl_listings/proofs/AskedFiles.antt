@@ -9,7 +9,7 @@ use Rattle.std.proofs.lemmas.List.Folds.{list_any-append}
 use Rattle.acl_rights.specs.acl_names.Paths.{path_cmp}
 use Rattle.acl_rights.proofs.of_acl_names.PathOrder.{path_total, exact_paths}
 use Rattle.acl_rights.specs.acl_edit.declared.node.Node.{Node}
-use Rattle.acl_rights.specs.acl_names.Below.{is_below, is_within}
+use Rattle.acl_rights.specs.acl_names.Below.{is_above, encloses}
 use Rattle.acl_rights.specs.acl_files.Walks.{ancestors}
 use Rattle.acl_rights.specs.acl_tree.Files.{PathOf, Files}
 use Rattle.acl_rights.specs.acl_tree.Found.{found_in, files_found}
@@ -53,15 +53,15 @@ and_true true = refl
 and_true false = refl
 
 -- a path is within another as one that is below it, or as the same
-pub within_is : (q p : PathOf) → is_within q p ≡ (is_below q p || same q p)
+pub within_is : (q p : PathOf) → encloses q p ≡ (is_above q p || same q p)
 unfolding path_cmp
 within_is [] [] = refl
 within_is [] (y ∷ p) = refl
 within_is (x ∷ q) [] = refl
 within_is (x ∷ q) (y ∷ p) = by (slice_cmp nat_cmp x y) (within_is q p)
   where
-    by : (o : Ordering) → is_within q p ≡ (is_below q p || is_eq (slice_cmp (slice_cmp nat_cmp) q p))
-        → (is_eq o && is_within q p) ≡ ((is_eq o && is_below q p) || is_eq (ordering_then o (slice_cmp (slice_cmp nat_cmp) q p)))
+    by : (o : Ordering) → encloses q p ≡ (is_above q p || is_eq (slice_cmp (slice_cmp nat_cmp) q p))
+        → (is_eq o && encloses q p) ≡ ((is_eq o && is_above q p) || is_eq (ordering_then o (slice_cmp (slice_cmp nat_cmp) q p)))
     by Less rest = refl
     by Equal rest = rest
     by Greater rest = refl
@@ -77,22 +77,22 @@ recorded q (e ∷ t) = by (same q e.0) (recorded q t)
 
 module _ (q p : PathOf) where
   -- those above a path are the recorded ones that it is below
-  among_above : (t : Files) → list_any (λ x. same q x) (ancestors p t) ≡ (is_below q p && among q t)
-  among_above [] = sym (and_false (is_below q p))
-  among_above (e ∷ t) = by (same q e.0) refl (is_below e.0 p) refl (among_above t)
+  among_above : (t : Files) → list_any (λ x. same q x) (ancestors p t) ≡ (is_above q p && among q t)
+  among_above [] = sym (and_false (is_above q p))
+  among_above (e ∷ t) = by (same q e.0) refl (is_above e.0 p) refl (among_above t)
     where
       above : List PathOf
       above = ancestors p t
 
-      by : (a : Bool) → same q e.0 ≡ a → (b : Bool) → is_below e.0 p ≡ b → list_any (λ x. same q x) (ancestors p t) ≡ (is_below q p && among q t)
-          → list_any (λ x. same q x) (map (λ (e : PathOf × Node). e.0) (cond b (e ∷ filter (λ (e : PathOf × Node). is_below e.0 p) t) (filter (λ (e : PathOf × Node). is_below e.0 p) t)))
-          ≡ (is_below q p && (a || among q t))
+      by : (a : Bool) → same q e.0 ≡ a → (b : Bool) → is_above e.0 p ≡ b → list_any (λ x. same q x) (ancestors p t) ≡ (is_above q p && among q t)
+          → list_any (λ x. same q x) (map (λ (e : PathOf × Node). e.0) (cond b (e ∷ filter (λ (e : PathOf × Node). is_above e.0 p) t) (filter (λ (e : PathOf × Node). is_above e.0 p) t)))
+          ≡ (is_above q p && (a || among q t))
       by true is true below rest =
           ap (λ c. c || list_any (λ x. same q x) (ancestors p t)) is
-          ∙ sym (ap (λ c. c && true) (ap (λ x. is_below x p) (one_path q e.0 is) ∙ below))
+          ∙ sym (ap (λ c. c && true) (ap (λ x. is_above x p) (one_path q e.0 is) ∙ below))
       by true is false below rest =
-          rest ∙ ap (λ c. c && among q t) (ap (λ x. is_below x p) (one_path q e.0 is) ∙ below)
-          ∙ sym (ap (λ c. c && true) (ap (λ x. is_below x p) (one_path q e.0 is) ∙ below))
+          rest ∙ ap (λ c. c && among q t) (ap (λ x. is_above x p) (one_path q e.0 is) ∙ below)
+          ∙ sym (ap (λ c. c && true) (ap (λ x. is_above x p) (one_path q e.0 is) ∙ below))
       by false is true below rest = ap (λ c. c || list_any (λ x. same q x) (ancestors p t)) is ∙ rest
       by false is false below rest = rest
 
@@ -104,10 +104,10 @@ module _ (t : Files) where
       list_any-append (λ x. same q x) (ancestors p t ++ p ∷ []) (ways paths t)
       ∙ (λ i. one i || is_meant q there paths i)
     where
-      one : list_any (λ x. same q x) (ancestors p t ++ p ∷ []) ≡ is_within q p
+      one : list_any (λ x. same q x) (ancestors p t ++ p ∷ []) ≡ encloses q p
       one =
           list_any-append (λ x. same q x) (ancestors p t) (p ∷ [])
-          ∙ (λ i. (among_above q p t ∙ ap (λ b. is_below q p && b) there ∙ and_true (is_below q p)) i || or_false (same q p) i)
+          ∙ (λ i. (among_above q p t ∙ ap (λ b. is_above q p && b) there ∙ and_true (is_above q p)) i || or_false (same q p) i)
           ∙ sym (within_is q p)
 
   meant : (paths : List PathOf) (es : Files) → ((q : PathOf) → among q es ≡ true → among q t ≡ true)
@@ -121,13 +121,13 @@ module _ (t : Files) where
   -- no path is missing for one above it
   none_missing : (p : PathOf) (rest : List PathOf) (es : Files) → ((q : PathOf) → among q es ≡ true → among q t ≡ true) → first_missing (ancestors p es ++ rest) t ≡ first_missing rest t
   none_missing p rest [] there = refl
-  none_missing p rest (e ∷ es) there = by (is_below e.0 p) (none_missing p rest es (λ q h. there q (or_true (same q e.0) (among q es) h)))
+  none_missing p rest (e ∷ es) there = by (is_above e.0 p) (none_missing p rest es (λ q h. there q (or_true (same q e.0) (among q es) h)))
     where
       found : is_some (find path_cmp e.0 t) ≡ true
       found = recorded e.0 t ∙ there e.0 (ap (λ b. b || among e.0 es) (same_itself e.0))
 
       by : (b : Bool) → first_missing (ancestors p es ++ rest) t ≡ first_missing rest t
-          → first_missing (map (λ (e : PathOf × Node). e.0) (cond b (e ∷ filter (λ (e : PathOf × Node). is_below e.0 p) es) (filter (λ (e : PathOf × Node). is_below e.0 p) es)) ++ rest) t ≡ first_missing rest t
+          → first_missing (map (λ (e : PathOf × Node). e.0) (cond b (e ∷ filter (λ (e : PathOf × Node). is_above e.0 p) es) (filter (λ (e : PathOf × Node). is_above e.0 p) es)) ++ rest) t ≡ first_missing rest t
       by true more = ap (λ b. cond b (first_missing (ancestors p es ++ rest) t) (Some e.0)) found ∙ more
       by false more = more
 

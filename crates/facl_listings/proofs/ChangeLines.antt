@@ -150,9 +150,9 @@ walked_shown t done (e ∷ es) [] all order h = absurd (cc h)
 walked_shown t done (e ∷ es) (row ∷ rows) all order h =
     let here : row.0 ≡ e.0 = cc in
     let later : paths rows ≡ paths es = cc in
-    let is_below : has_next_below e.0 (first es) ≡ holds_below t e.0 = next_below e.0 es ∙ known_by_next done e es (subst IsInOrder all order) ∙ ap (λ (l : Files). holds_below l e.0) (sym all) in
+    let has_file_below : has_next_below e.0 (first es) ≡ holds_below t e.0 = next_below e.0 es ∙ known_by_next done e es (subst IsInOrder all order) ∙ ap (λ (l : Files). holds_below l e.0) (sym all) in
     let more = walked_shown t (done ++ e ∷ []) es rows (all ∙ sym (append_assoc done (e ∷ []) es)) order later in
-    λ i. (here i, path_shown (found_file (is_below i) e)) ∷ more i
+    λ i. (here i, path_shown (found_file (has_file_below i) e)) ∷ more i
 
 -- ---- of a state with its table
 

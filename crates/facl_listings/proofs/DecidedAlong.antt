@@ -12,7 +12,7 @@ use Rattle.acl_rights.specs.acl_entry.Perms.{Perms}
 use Rattle.acl_rights.specs.acl_entry.Person.{Person}
 use Rattle.acl_rights.specs.acl_names.Paths.{path_cmp}
 use Rattle.acl_rights.specs.acl_edit.declared.node.Node.{Node}
-use Rattle.acl_rights.specs.acl_names.Below.{is_below, is_within}
+use Rattle.acl_rights.specs.acl_names.Below.{is_above, encloses}
 use Rattle.acl_rights.specs.acl_tree.Files.{PathOf, Files, IsInOrder}
 use Rattle.acl_rights.specs.acl_tree.Found.{found_file}
 use Rattle.acl_rights.specs.acl_tree.Sound.{holds_below}
@@ -76,7 +76,7 @@ module _ (u : Person) (q : Perms) (p : PathOf) where
 
   -- search is granted where the path is below
   abbrev lets_pass : PathOf × Node → Bool
-  lets_pass e = not (is_below e.0 p) || has (rights u e.1.label) execute
+  lets_pass e = not (is_above e.0 p) || has (rights u e.1.label) execute
 
   abbrev at_path : Files → Bool
   at_path es = option_map_or (λ n. has (rights u n.label) q) (find path_cmp p es) true
@@ -87,8 +87,8 @@ module _ (u : Person) (q : Perms) (p : PathOf) where
   along : (es : Files) → IsInOrder es → AllByRecursion HasValidList es → list_all of_file (asked es) ≡ (list_all lets_pass es && at_path es)
   along [] order valid = refl
   along (e ∷ es) order valid =
-      ap (λ b. list_all of_file (cond b (e ∷ asked es) (asked es))) (or_false (is_within e.0 p) ∙ within_is e.0 p ∙ ap (λ b. is_below e.0 p || b) (same_back p e.0))
-      ∙ by (is_below e.0 p) (eq_by_cmp path_cmp p e.0) refl refl (along es parts.1 valid.1)
+      ap (λ b. list_all of_file (cond b (e ∷ asked es) (asked es))) (or_false (encloses e.0 p) ∙ within_is e.0 p ∙ ap (λ b. is_above e.0 p || b) (same_back p e.0))
+      ∙ by (is_above e.0 p) (eq_by_cmp path_cmp p e.0) refl refl (along es parts.1 valid.1)
     where
       parts : (below_all path_cmp e.0 es ≡ true) × (is_sorted path_cmp es ≡ true)
       parts = and_parts (below_all path_cmp e.0 es) (is_sorted path_cmp es) order
@@ -99,11 +99,11 @@ module _ (u : Person) (q : Perms) (p : PathOf) where
       not_later : p ≡ e.0 → at_path es ≡ true
       not_later at = ap (λ o. option_map_or (λ (n : Node). has (rights u n.label) q) o true) (nothing_at p es (ap (λ x. below_all path_cmp x es) at ∙ parts.0))
 
-      by : (below here : Bool) → is_below e.0 p ≡ below → eq_by_cmp path_cmp p e.0 ≡ here
+      by : (below here : Bool) → is_above e.0 p ≡ below → eq_by_cmp path_cmp p e.0 ≡ here
           → list_all of_file (asked es) ≡ (list_all lets_pass es && at_path es)
           → list_all of_file (cond (below || here) (e ∷ asked es) (asked es))
           ≡ (((not below || has (rights u e.1.label) execute) && list_all lets_pass es) && option_map_or (λ (n : Node). has (rights u n.label) q) (cond here (Some e.1) (find path_cmp p es)) true)
-      by true true under is rest = absurd (true≢false (sym under ∙ ap (λ x. is_below x p) (sym (one_path p e.0 is)) ∙ not_below_itself p))
+      by true true under is rest = absurd (true≢false (sym under ∙ ap (λ x. is_above x p) (sym (one_path p e.0 is)) ∙ not_below_itself p))
       by true false under is rest = (λ i. granted_as false is i && rest i) ∙ and_assoc (has (rights u e.1.label) execute) (list_all lets_pass es) (at_path es)
       by false true under is rest =
           (λ i. granted_as true is i && rest i)

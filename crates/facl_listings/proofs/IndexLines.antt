@@ -56,11 +56,11 @@ module _ (V : Verdict) (s : State) (order : IsInOrder s.tree.files) where
   each_file : (done es : Files) → s.tree.files ≡ done ++ es → lines_of_walk written (walk_of es (rows_of V (persons s.people) es)) ≡ flat_map file_lines (found_in s.tree.files es)
   each_file done [] all = refl
   each_file done (e ∷ es) all =
-      let is_below : has_next_below e.0 (first es) ≡ holds_below s.tree.files e.0 =
+      let has_file_below : has_next_below e.0 (first es) ≡ holds_below s.tree.files e.0 =
       next_below e.0 es ∙ known_by_next done e es (subst IsInOrder all order) ∙ ap (λ (l : Files). holds_below l e.0) (sym all)
       in
       let here : row_lines (shown_before (first es) e) written (cells_of V (persons s.people) e.1) ≡ file_lines (found_file (holds_below s.tree.files e.0) e) =
-      ap (λ b. row_lines (path_shown (found_file b e)) written (cells_of V (persons s.people) e.1)) is_below
+      ap (λ b. row_lines (path_shown (found_file b e)) written (cells_of V (persons s.people) e.1)) has_file_below
       ∙ each_user (path_shown (found_file (holds_below s.tree.files e.0) e)) e.1 s.people.users
       in
       let more = each_file (done ++ e ∷ []) es (all ∙ sym (append_assoc done (e ∷ []) es)) in

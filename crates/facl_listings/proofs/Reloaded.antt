@@ -22,7 +22,7 @@ use Rattle.acl_rights.specs.acl_files.declared.fault.TreeFault.{TreeFault}
 use Rattle.acl_rights.specs.acl_files.declared.fault.TreeFault.TheVariants.{TooMany}
 use Rattle.acl_rights.specs.acl_syntax.Naming.{Naming}
 use Rattle.acl_rights.specs.acl_tree.Files.{PathOf, Files, IsInOrder, no_files}
-use Rattle.acl_rights.specs.acl_names.Below.{is_below}
+use Rattle.acl_rights.specs.acl_names.Below.{is_above}
 use Rattle.acl_rights.specs.acl_files.Loading.{node_of, has_below, as_files, files_of}
 use Rattle.acl_rights.specs.acl_tree.Operands.{is_file}
 use Rattle.acl_rights.specs.acl_tree.Sound.{holds_below, IsPlaced, ArePlaced}
@@ -127,7 +127,7 @@ files_again known all records same at (e ∷ es) are again =
 
 below_same : (all es : Files) (at : ℕ) (p : PathOf) → has_below (placed at (records_of all es)) p ≡ holds_below es p
 below_same all [] at p = refl
-below_same all (e ∷ es) at p = ap (λ b. is_below p e.0 || b) (below_same all es (at + line_count (record_of (found all e))) p)
+below_same all (e ∷ es) at p = ap (λ b. is_above p e.0 || b) (below_same all es (at + line_count (record_of (found all e))) p)
 
 paths_placed : (all es : Files) (at : ℕ) → paths (placed at (records_of all es)) ≡ paths_of es
 paths_placed all [] at = refl

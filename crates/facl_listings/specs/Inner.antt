@@ -19,7 +19,7 @@ use Rattle.acl_rights.specs.acl_names.Paths.{path_cmp}
 use Rattle.acl_rights.specs.acl_edit.declared.node.Node.{Node}
 use Rattle.acl_rights.specs.acl_files.Walks.{ancestors}
 use Rattle.acl_rights.specs.acl_tree.Files.{PathOf, Files}
-use Rattle.acl_rights.specs.acl_names.Below.{is_below}
+use Rattle.acl_rights.specs.acl_names.Below.{is_above}
 use Rattle.acl_rights.specs.acl_files.path_map.Entries.{first}
 use Rattle.acl_rights.specs.acl_files.path_map.Merged.{put_all}
 use Rattle.acl_rights.specs.acl_names.Names.{escaped}
@@ -118,7 +118,7 @@ Walked = List (PathOf × (List ℕ × List ℕ))
 
 -- whether the next file, if there is one, is below a path
 abbrev pub has_next_below : PathOf → Option (PathOf × Node) → Bool
-has_next_below p next = option_map_or (λ e. is_below p e.0) next false
+has_next_below p next = option_map_or (λ e. is_above p e.0) next false
 
 abbrev pub shown_before : Option (PathOf × Node) → PathOf × Node → List ℕ
 shown_before next e = path_shown (found_file (has_next_below e.0 next) e)

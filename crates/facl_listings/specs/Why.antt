@@ -17,7 +17,7 @@ use Rattle.acl_rights.specs.acl_syntax.declared.fault.Which.TheVariants.{Access}
 use Rattle.acl_rights.specs.acl_dump.Writing.{file_text, entry_line}
 use Rattle.acl_rights.specs.acl_dump.declared.effective.Effective.TheVariants.{WhereMasked}
 use Rattle.acl_rights.specs.acl_edit.declared.node.Node.{Node}
-use Rattle.acl_rights.specs.acl_names.Below.{is_within}
+use Rattle.acl_rights.specs.acl_names.Below.{encloses}
 use Rattle.acl_rights.specs.acl_tree.Files.{PathOf, Files}
 use Rattle.acl_rights.specs.acl_tree.Found.{FoundFile, found_in}
 use Rattle.acl_rights.specs.Reach.{reach, execute}
@@ -40,7 +40,7 @@ deciding u f = filter (decides u f) (entries f.acl)
 
 -- whether a path is one of these, or with `along` above one of them too
 abbrev pub is_asked : Bool → List PathOf → PathOf → Bool
-is_asked along paths q = list_any (λ p. if along then is_within q p else eq_by_cmp path_cmp q p) paths
+is_asked along paths q = list_any (λ p. if along then encloses q p else eq_by_cmp path_cmp q p) paths
 
 -- the files of these paths, and with `along` the recorded directories above them too: each once, in path order
 abbrev pub files_asked : Bool → List PathOf → Files → List FoundFile

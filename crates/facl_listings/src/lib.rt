@@ -20,9 +20,9 @@ mod why;
 pub use acl_attr::decode_attr;
 pub use acl_rights::{
     Acl, Change, ChangeEntries, ChangeFlags, Command, Draft, DumpRecord, DumpRecords, DumpUse,
-    Edit, Effective, Entry, FaultKind, Found, Id, IndexedState, Judge, Key, Kind, Label,
-    Membership, Name, NewFile, NewUser, Path, Paths, People, Perm, Posix, Record, Requests,
-    Selection, Sep, Spec, Specs, Staged, State, Subject, Table, TextFault, Tree, TreeFault,
+    Edit, Effective, Entry, FaultKind, Found, Id, IndexedState, IndexedStates, Judge, Key, Kind,
+    Label, Membership, Name, NewFile, NewUser, Path, Paths, People, Perm, Posix, Record, Requests,
+    Selection, Sep, Spec, Specs, Staged, State, States, Subject, Table, TextFault, Tree, TreeFault,
     UserName, Verdicts, Want, Which, each_file_is_edited, read_dump, read_entries, read_id,
     read_name, read_path, read_perms, trim,
 };

@@ -18,7 +18,7 @@ use acl_tree::{
 use itoa::Buffer;
 use std::alloc::AllocError;
 
-/// Who reports a fault: the tool, once the line has words and a text, and before that the program.
+/// Who reports a fault: the tool, once the line has words and a text; before that, and where memory runs out, the program.
 fn reporter<'a>(tool: &'a [u8], fault: &LineFault) -> &'a [u8]
     ensures { result.now ≡ reporter tool.now fault.now }
 {

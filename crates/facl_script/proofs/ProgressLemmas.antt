@@ -51,7 +51,7 @@ below_before n n' b m m' grows h k lt = h k (omega (arith, lt, grows)) ∙ updat
 below_at : (n n' : ℕ) (b : Bool) (m m' : ℕ → Bool) → n < n' → AgreesBelow n' (updated n b m) m' → m' n ≡ b
 below_at n n' b m m' grows h = h n grows ∙ updated_at n b m
 
--- nothing is handed out
+-- nothing is returned
 pub begins : {S : Type 0} (asks : List ℕ → Bool) (answered : Bool → ScriptUnit → S → Answer S) (start : S) → Progress asks answered start [] 1 false (quiet start)
 begins asks answered start = record { done = []; m = λ _. false; splits = λ rest h. refl; full = λ h. refl; plays = λ m' h. refl }
 
@@ -63,7 +63,7 @@ plays_more answered start done m answer_so_far u b h e =
     ∙ ap (λ w. joined answer_so_far (joined (answered w u answer_so_far.state) (quiet (answered w u answer_so_far.state).state))) e
     ∙ ap (joined answer_so_far) (joined-quiet (answered b u answer_so_far.state))
 
--- the units of what was handed out and of the piece after it
+-- the units of what was returned and of the piece after it
 pub next_splits : {S : Type 0} (asks : List ℕ → Bool) (answered : Bool → ScriptUnit → S → Answer S) (start : S) (taken : List ℕ) (number number' : ℕ) (answer_so_far : Answer S) (p : Progress asks answered start taken number false answer_so_far)
     (before after : Option (List ℕ)) (old new : ℕ) (piece : List ℕ) (u : ScriptUnit) (next : IsNextUnit asks before after old new number number' piece u) (rest : List ℕ) → (u.is_full ≡ false → rest ≡ [])
     → units_of asks ((taken ++ piece) ++ rest) ≡ (p.done ++ u ∷ []) ++ cut asks outside number' (lines_of rest)
@@ -93,7 +93,7 @@ goes_on asks answered start taken number number' answer_so_far p before after ol
       (ap m' next.numbered ∙ below_at number number' ran_out p.m m' next.grows agrees);
 }
 
--- the answer to the units done, where the rest that was handed out has none
+-- the answer to the units done, where the rest that was returned has none
 pub full_answer : {S : Type 0} (asks : List ℕ → Bool) (answered : Bool → ScriptUnit → S → Answer S) (start : S) (taken : List ℕ) (number : ℕ) (answer_so_far : Answer S) (p : Progress asks answered start taken number false answer_so_far) (tail : List ℕ)
     → HasNoUnit asks tail → play answered p.m (full_units (units_of asks (taken ++ tail))) start ≡ answer_so_far
 full_answer asks answered start taken number answer_so_far p tail none =

@@ -1,4 +1,4 @@
--- What a source has read and handed out.
+-- What a source has read and returned.
 use Rattle.std.specs.Prelude.{◌≡◌, ◌<◌, ◌+◌, ℕ, Bool, true, false, List, [], ◌++◌, length, slice_range, Option, None, Some}
 use Rattle.std.specs.Io.KnownBytes.{Keeps, Consumes, IsAtEnd, prepend_known}
 use Rattle.facl_script.specs.declared.fault.ScriptFault.{ScriptFault}
@@ -8,19 +8,19 @@ use Rattle.facl_script.specs.declared.source.LineRead.{LineRead}
 use Rattle.facl_script.specs.Limits.{script_limit}
 use Rattle.facl_script.specs.Lines.{HasNoLineFeed, Held, spelled}
 
--- what was read and not yet handed out
+-- what was read and not yet returned
 abbrev pub pending : ByteSource → List ℕ
 pending s = slice_range s.chunk s.start s.end
 
--- how many bytes were handed out
+-- how many bytes were returned
 abbrev pub taken_count : ByteSource → ℕ
 taken_count s = s.taken
 
--- what is still to be handed out, over what the reader has left
+-- what is still to be returned, over what the reader has left
 abbrev pub unread : ByteSource → Option (List ℕ) → Option (List ℕ)
 unread s remaining = prepend_known (pending s) remaining
 
--- The source handed out the text and then stopped with this fault.
+-- The source returned the text and then stopped with this fault.
 abbrev pub StopsAfter : ScriptFault → Option (List ℕ) → ByteSource → Option (List ℕ) → Bool → List ℕ → Type 0
 StopsAfter Read before s remaining failed text = Consumes before remaining text × (pending s ≡ []) × (failed ≡ true)
 StopsAfter TooLong before s remaining failed text = ((more : List ℕ) × (length more ≡ 1) × Consumes before remaining (text ++ more)) × (pending s ≡ []) × (taken_count s ≡ script_limit)

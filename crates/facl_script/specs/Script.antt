@@ -4,11 +4,11 @@ use Rattle.facl_script.specs.ByteSource.{unread, taken_count, StopsAfter}
 use Rattle.facl_script.specs.declared.fault.ScriptFault.{ScriptFault}
 use Rattle.facl_script.specs.declared.unit.Script.{Script}
 
--- what is still to be handed out, over what the reader has left
+-- what is still to be returned, over what the reader has left
 abbrev pub script_left : Script → Option (List ℕ) → Option (List ℕ)
 script_left s remaining = unread s.source remaining
 
--- how many bytes were handed out
+-- how many bytes were returned
 abbrev pub script_taken : Script → ℕ
 script_taken s = taken_count s.source
 
@@ -28,6 +28,6 @@ line_held s = s.line.items
 abbrev pub text_held : Script → List ℕ
 text_held s = s.text.items
 
--- The script handed out this text, which has no unit to its end, and then stopped with this fault.
+-- The script returned this text, which has no unit to its end, and then stopped with this fault.
 abbrev pub ScriptStopsAfter : ScriptFault → Option (List ℕ) → Script → Option (List ℕ) → Bool → List ℕ → Type 0
 ScriptStopsAfter fault before s remaining failed text = StopsAfter fault before s.source remaining failed text

@@ -34,8 +34,8 @@ pub trait Session {
     /// What has to be true of a session before the line with a number is answered, so that its counts fit.
     ghost is_ready: { ℕ → Self → Type 0 } = { λ _ _. Unit {0} };
 
-    /// The name of the reference that a session holds to what it spends from, if it holds one. The caller, who lent
-    /// that reference to the session, knows it again by that name.
+    /// The name of the reference that a session holds to what it spends from, if it holds one. The caller, from whom
+    /// that reference is borrowed, knows it again by that name.
     ghost held: { Self → ℕ } = { λ _. 0 };
 
     /// What the last unit writes to the output.

@@ -1,4 +1,4 @@
-//! The script's bytes, read in chunks and handed out by lines.
+//! The script's bytes, read in chunks and returned by lines.
 ghost use Rattle.std.specs.Prelude.{◌≡◌, ◌≤◌, ◌<◌, ◌+◌, ◌-◌, ℕ, true, false, List, [], ◌∷◌, ◌++◌, take, drop, length, IfOk, IfErr, OnOk, OnErr, MatchOption};
 ghost use Rattle.std.specs.Io.KnownBytes.{Keeps, Consumes, IsAtEnd};
 ghost use Rattle.facl_script.specs.Lines.{HasNoLineFeed, Held};
@@ -68,7 +68,7 @@ fn read_some<R: Feed>(reader: &mut R, chunk: &mut [u8], room: usize) -> Result<u
     }
 }
 
-/// What was read and not yet handed out.
+/// What was read and not yet returned.
 #[derive(Drop)]
 pub(crate) struct ByteSource {
     chunk: [u8; CHUNK],

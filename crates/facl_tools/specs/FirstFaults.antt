@@ -229,7 +229,7 @@ OfTask s recursive tasks.List files = OfListing s.tree.files files
 abbrev pub file_at : CreatLine → PathOf → NewFile
 file_at line path = record { path = path; kind = line.kind; user = name_meant line.user; mode = line.mode; umask = line.umask }
 
--- which parts of a line are at fault, and with which fault; no judge has a say in it
+-- which parts of a line are at fault, and with which fault; no judge matters
 abbrev pub IsAtFault : State → ToolLine → List ℕ → Part → LineFault → Type 0
 IsAtFault s (lines.Load line) text = OfCommand (load.answered s line text)
 IsAtFault s (lines.Getfacl line) text = OfListing s.tree.files line.files

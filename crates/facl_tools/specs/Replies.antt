@@ -1,14 +1,14 @@
 -- What is answered to a line: a reply, or the line's first fault.
 use Rattle.std.specs.Option.{option_map_or}
-use Rattle.std.specs.Prelude.{◌≡◌, ◌≢◌, ℕ, Bool, false, List, [], Option, None, Some, IfSome, Result, Ok, Err, MatchResult}
+use Rattle.std.specs.Prelude.{◌≡◌, ◌≢◌, ℕ, Bool, false, List, [], Option, None, Some, Result, Ok, Err, MatchResult}
 use Rattle.facl_listings.specs.acl_syntax.InTurn.{GivesUnless}
-use Rattle.facl_listings.specs.acl_tree.Sound.{IsSoundTree}
 use Rattle.facl_listings.specs.acl_tree.Step.{State, step}
-use Rattle.facl_listings.specs.acl_tree.Reports.{StagedState, Reports, users_move}
+use Rattle.facl_listings.specs.acl_tree.Reports.{users_move}
 use Rattle.facl_listings.specs.acl_tree.declared.command.Command.{Command}
 use Rattle.facl_listings.specs.acl_files.declared.fault.TreeFault.{TreeFault}
 use Rattle.facl_listings.specs.acl_tree.declared.user_change.UserChange.{UserChange}
 use Rattle.facl_listings.specs.acl_tree.declared.user_change.UserChange.TheVariants.{Unchanged}
+use Rattle.facl_listings.specs.acl_rights.States.{IsPrepared}
 use Rattle.facl_messages.specs.declared.fault.LineFault.{LineFault}
 use Rattle.facl_messages.specs.declared.fault.LineFault.TheVariants.{NoMemory}
 use Rattle.facl_messages.specs.Faults.{line_fault_of_tree}
@@ -59,10 +59,6 @@ reply_of s effect = record {
   out = effect.out.items;
   warns = effect.warns;
 }
-
--- a staged state was prepared from this one: it reports what differs, and its tree is sound
-abbrev pub IsPrepared : State → Option StagedState → Type 0
-IsPrepared s staged = IfSome staged (λ new. Reports s new × IsSoundTree new.state.tree)
 
 -- A call gives what is to be given, or returns exactly the fault, unless memory ran out.
 abbrev pub Gives : {A B : Type 0} → (A → B) → Result A LineFault → Result B LineFault → Type 0

@@ -65,7 +65,7 @@ all_tools = tools.Load ∷ tools.Getfacl ∷ tools.Setfacl ∷ tools.Chacl ∷ t
 abbrev pub tool_named : Text → Option Tool
 tool_named name = find (λ tool. bytes_eq (tool_name tool) name) all_tools
 
--- the tool loads a text: after a line of it, what a script has changed is counted anew
+-- the tool loads a text: after a line of it, what a script has changed is counted from there
 abbrev pub loads : Tool → Bool
 loads tools.Load = true
 loads tools.Getfacl = false

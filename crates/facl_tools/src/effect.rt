@@ -77,8 +77,8 @@ pub(crate) fn prepared(
     Ok(Effect::changes(alloc, staged))
 }
 
-/// The same of a command that is then discarded. A tool hands over the one that it made: each function that discards
-/// a command is dear to prove.
+/// The same of a command that is then dropped. A tool passes the one that it made: a command that goes out of scope is
+/// dear to prove, and one that is dropped by name is not.
 pub(crate) fn effect_of(
     alloc: Global,
     state: &State,
@@ -86,5 +86,7 @@ pub(crate) fn effect_of(
 ) -> Result<Effect, LineFault>
     ensures { Replies state.now result (done state.now command.entry) }
 {
-    prepared(alloc, state, &command)
+    let outcome = prepared(alloc, state, &command);
+    drop(command);
+    outcome
 }

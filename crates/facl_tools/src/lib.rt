@@ -40,8 +40,8 @@ mod why;
 
 pub use effect::Effect;
 pub use facl_listings::{
-    Command, IndexedState, Judge, Key, Label, Perm, Posix, Requests, Staged, State, Subject, Table,
-    TreeFault,
+    Command, IndexedState, IndexedStates, Judge, Key, Label, Perm, Posix, Requests, Staged, State,
+    States, Subject, Table, TreeFault,
 };
 pub use facl_messages::{
     Feed, Flags, HeldLine, HeldText, HeldUnit, LineFault, LineRows, LineWord, OperandRow, Operands,

@@ -123,9 +123,11 @@ pub(crate) fn do_or_test(
 ) -> Result<Effect, LineFault>
     ensures { Replies state.now result (done_or_tested is_test state.now command.entry) }
 {
-    if is_test {
+    let outcome = if is_test {
         test(alloc, state, &command)
     } else {
         prepared(alloc, state, &command)
-    }
+    };
+    drop(command);
+    outcome
 }

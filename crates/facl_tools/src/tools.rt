@@ -129,7 +129,7 @@ impl Tool {
         TOOLS.iter().copied().find(|tool| tool.name() == name)
     }
 
-    /// Whether the tool loads a text: after a line of it, what a script has changed is counted anew.
+    /// Whether the tool loads a text: after a line of it, what a script has changed is counted from there.
     pub fn loads(self) -> bool
         ensures { result ≡ loads self }
     {

@@ -48,7 +48,7 @@ app_for l = with_rules bare_app (rules_of l)
 abbrev pub is_on : Text → List Row → Bool
 is_on id rows = option_map_or (λ v. bytes_eq v (codes "true")) (first_of id rows) false
 
--- an option's value, or what stands for it
+-- an option's value, or what takes its place
 abbrev pub value_or : Option Text → Option Text → Option Text
 value_or None value = value
 value_or (Some fallback) value = Some (unwrap_or value fallback)

@@ -5,7 +5,7 @@ use Rattle.acl_tree.specs.Files.{PathOf}
 use Rattle.acl_rights.specs.Labels.{labels_in, row_at_path}
 use Rattle.acl_rights.proofs.Orders.{same_order}
 use Rattle.acl_rights.proofs.Judged.{labelled_paths}
-use Rattle.acl_rights.proofs.Anew.{anew_labelled, anew_rows}
+use Rattle.acl_rights.proofs.Renumbered.{renumbered_labelled, renumbered_rows}
 use Rattle.acl_rights.proofs.label_rows.LabelRows.renumbered.Goals as goal
 
 pub of_numbered-requires : goal.of_numbered-requires
@@ -22,7 +22,7 @@ returns-clause-labelled c =
     let new = c.in_ok-new.new in
     let rows : c.in_ok-rows.rows.items ≡ map row new.labels.more.items = c.in_ok-rows.ensures ∙ ap (map row) c.more.ensures.files in
     let all = c.in_ok-all.ensures in
-    anew_labelled (map f c.args.files.now) [] [] new.labels (map h new.entries.items) c.args.self.now c.in_ok-all.all refl c.in_ok-new.ensures
+    renumbered_labelled (map f c.args.files.now) [] [] new.labels (map h new.entries.items) c.args.self.now c.in_ok-all.all refl c.in_ok-new.ensures
     all.numbers all.labels (all.cells ∙ rows)
 
 pub returns-clause-rows : goal.returns-clause-rows
@@ -33,5 +33,5 @@ returns-clause-rows c =
     let new = c.in_ok-new.new in
     let rows : c.in_ok-rows.rows.items ≡ map row new.labels.more.items = c.in_ok-rows.ensures ∙ ap (map row) c.more.ensures.files in
     let all = c.in_ok-all.ensures in
-    anew_rows (map f c.args.files.now) [] [] new.labels (map h new.entries.items) c.args.self.now c.in_ok-all.all refl c.in_ok-new.ensures
+    renumbered_rows (map f c.args.files.now) [] [] new.labels (map h new.entries.items) c.args.self.now c.in_ok-all.all refl c.in_ok-new.ensures
     all.numbers all.labels (all.cells ∙ rows) c.requires

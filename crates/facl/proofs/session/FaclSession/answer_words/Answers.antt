@@ -1,7 +1,7 @@
 use Rattle.std.proofs.Common.{rules, of_calls, arith, ◌≡◌, ◌∙◌, ◌∷◌, ◌-◌, length, map, string_bytes, take, drop, ap, subst}
 use Rattle.std.proofs.lemmas.List.{take_all, length-drop}
-use Rattle.facl.specs.Units.{answer_of, reply, tool_word, unless_out_of_memory}
-use Rattle.facl.specs.Sessions.{states_of, ran_out_of_memory, IsAtAnswer}
+use Rattle.facl.specs.Units.{answer_of, reply, tool_word}
+use Rattle.facl.specs.Sessions.{states_of, Answers}
 use Rattle.facl.proofs.session.FaclSession.answer_words.Goals as goal
 
 pub returns-in-len1-up-clause-answer : goal.returns-in-len1-up-clause-answer
@@ -15,5 +15,6 @@ returns-in-len1-up-clause-answer g c = λ content held.
     let rest : take (length words - 1) (drop 1 words) ≡ drop 1 words = take_all (length words - 1) (drop 1 words) (omega (arith, left)) in
     let all : c.deref.result.now ∷ map string_bytes (drop 1 words) ≡ map string_bytes words = search (rules, of_calls) in
     let same = ap (λ ws. c.deref.result.now ∷ map string_bytes ws) rest ∙ all in
-    subst (λ ws. IsAtAnswer (unless_out_of_memory (ran_out_of_memory new) number states (answer_of number (tool_word ws) states (reply V states content ws))) new c.answer_named.result)
-    same (c.answer_named.ensures.answer content held)
+    let asked = g.J.Judge.asked_of in
+    subst (λ ws. Answers number (answer_of number (tool_word ws) states (reply V states content ws)) c.args.self.now new
+    (asked c.args.judge.now) (asked c.answer_named.new.judge) c.answer_named.result) same (c.answer_named.ensures.answer content held)

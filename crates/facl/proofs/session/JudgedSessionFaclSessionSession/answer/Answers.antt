@@ -1,7 +1,9 @@
-use Rattle.std.proofs.Common.{◌∙◌, ◌+◌, ◌≤◌, sym, subst, ap}
-use Rattle.facl.specs.Sessions.{states_in, states_of, ran_out_of_memory, IsAtAnswer}
+use Rattle.std.proofs.Common.{◌∙◌, sym, subst, ap}
+use Rattle.facl_tools.specs.facl_script.Run.{IsAnswer}
+use Rattle.facl_tools.specs.acl_rights.States.{states_in}
+use Rattle.facl.specs.Sessions.{states_of, out_of, err_of, ran_out_of_memory}
 use Rattle.facl.specs.Units.{answered_line}
-use Rattle.facl.proofs.Refusing.{is_answer, not_silent}
+use Rattle.facl.proofs.Refusing.{not_silent}
 use Rattle.facl.proofs.session.JudgedSessionFaclSessionSession.answer.Goals as goal
 
 pub returns-clause-answers : goal.returns-clause-answers
@@ -9,11 +11,10 @@ returns-clause-answers g c = λ u found.
     let V = g.J.Judge.verdict_of in
     let new = c.answer_line.new.self in
     let ran_out = ran_out_of_memory new in
-    let asked = g.J.Judge.asked_of c.args.self.now.judge.now in
+    let asked = g.J.Judge.asked_of in
     let silent = sym (c.is_silent.ensures u.line found.line_is) ∙ c.if-is_silent.false in
-    let answer = ap (λ w. answered_line V ran_out u (states_in w)) c.fall_silent.ensures.indexed_states ∙ sym (not_silent V u ran_out (states_of c.args.self.now.session) silent) in
-    let asked' = g.J.Judge.asked_of c.answer_line.new.judge in (
+    let answer = ap (λ w. answered_line V ran_out u (states_in w)) c.fall_silent.ensures.indexed_states ∙ sym (not_silent V u ran_out (states_of c.args.self.now.session) silent) in (
       ran_out,
-      is_answer _ new asked asked' c.answer_line.result (subst (λ a. IsAtAnswer a new c.answer_line.result) answer (c.answer_line.ensures.answer u found))
-          (subst (λ a. asked' ≤ asked + a.cost) answer (c.answer_line.ensures.asked u found)),
+      subst (λ a. IsAnswer a (states_of new) (asked c.args.self.now.judge.now) (asked c.answer_line.new.judge) (out_of new) (err_of new) c.answer_line.result)
+          answer (c.answer_line.ensures.answer u found),
     )

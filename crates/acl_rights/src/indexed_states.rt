@@ -3,20 +3,20 @@
 
 ghost use Rattle.std.specs.Prelude.{◌≡◌, ◌+◌, ◌<◌, ◌≤◌, ◌^◌, IfOk, OnOk, OnErr};
 ghost use Rattle.std.specs.Option.{option_map_or};
-ghost use Rattle.facl_tools.specs.acl_tree.Reports.{Reports};
-ghost use Rattle.facl_tools.specs.acl_tree.declared.user_change.UserChange.TheVariants.{Unchanged};
-ghost use Rattle.facl_tools.specs.Replies.{IsPrepared};
-ghost use Rattle.facl.specs.Costs.{all_pairs, most_pairs, most_between};
-ghost use Rattle.facl.specs.Sessions.{loaded_state, states_in};
-ghost use Rattle.facl.specs.Units.{from_start, states_after};
+ghost use Rattle.acl_tree.specs.Reports.{Reports};
+ghost use Rattle.acl_tree.specs.declared.user_change.UserChange.TheVariants.{Unchanged};
+ghost use Rattle.acl_rights.specs.Costs.{all_pairs, most_pairs, most_between};
+ghost use Rattle.acl_rights.specs.States.{IsPrepared, from_start, loaded_state, states_after, states_in};
 
-use facl_tools::{IndexedState, Judge, Staged, State};
+use crate::indexed::IndexedState;
+use acl_tree::{Staged, State};
+use acl_verdicts::Judge;
 use std::alloc::{AllocError, Global};
 use std::mem;
 
 /// The present state with its index, and the one after the texts were loaded. Both share what did not change.
 #[derive(Drop)]
-pub(crate) struct IndexedStates<J: Judge> {
+pub struct IndexedStates<J: Judge> {
     pub state: IndexedState<J>,
     /// The state after the texts were loaded; `None` where no line that may change the state was accepted since.
     pub loaded: Option<IndexedState<J>>,
@@ -57,7 +57,7 @@ impl<J: Judge> IndexedStates<J> {
         ensures { states_in self.new ≡ states_after loads (states_in self.old) self.old.state }
     {
         if loads {
-            self.loaded = None;
+            drop(self.loaded.take());
         }
     }
 
@@ -68,15 +68,13 @@ impl<J: Judge> IndexedStates<J> {
         ensures state { self.new.state ≡ state }
     {
         let before = mem::replace(&mut self.state, state);
-        if self.loaded.is_none() {
-            self.loaded = Some(before);
-        }
+        let _loaded = self.loaded.get_or_insert(before);
     }
 
     /// Puts a prepared state with its index in place of the present one; where a load prepared it, it is the state after
     /// the texts were loaded too. The index is made first, which fails only if memory runs out: then the prepared state
     /// is discarded, and all is as it was.
-    pub fn accept(
+    fn accept(
         &mut self,
         alloc: Global,
         judge: &mut J,
@@ -98,7 +96,9 @@ impl<J: Judge> IndexedStates<J> {
         Ok(())
     }
 
-    /// The same, where there is a prepared state; else both stay.
+    /// Puts a prepared state, if there is one, with its index in place of the present one; after a load it is the state
+    /// after the texts were loaded too. Fails only if memory runs out: then both states stay, and the prepared one is
+    /// discarded.
     pub fn accept_if(
         &mut self,
         alloc: Global,
@@ -126,7 +126,7 @@ impl<J: Judge> IndexedStates<J> {
 
 /// The state after the texts were loaded, and the present one: what contracts know of a session.
 #[derive(Drop)]
-pub(crate) struct States {
+pub struct States {
     pub loaded: State,
     pub now: State,
 }

@@ -5,7 +5,7 @@ use Rattle.acl_tree.specs.acl_edit.declared.node.Node.{Node}
 use Rattle.acl_tree.specs.Files.{PathOf}
 use Rattle.acl_verdicts.specs.Ways.{Numbers}
 use Rattle.acl_rights.specs.Labels.{AreNumbered}
-use Rattle.acl_rights.proofs.labels.numbered_anew.Goals as goal
+use Rattle.acl_rights.proofs.labels.numbered_from_start.Goals as goal
 
 pub returns : goal.returns
 returns c =

@@ -1,4 +1,4 @@
--- Rows whose numbers are given anew.
+-- Rows that are renumbered.
 use Rattle.std.proofs.Common.{◌≡◌, ℕ, zero, suc, List, [], ◌∷◌, length, map, get_or, Option, Some, None, refl, sym, ap, subst, ◌∙◌}
 use Rattle.std.specs.Prelude.{slice_get, option_map, option_and_then}
 use Rattle.std.specs.List.{AllByRecursion, Contains}
@@ -54,20 +54,20 @@ module _ (V : Verdict) (us : List Person) (fs : Files) (order : IsInOrder fs) (o
 
 module _ (fs : Files) (none : List Label) (given : Numbers) (more : MoreLabels) (entries : Numbers) (old new : LabelRows) (nothing : none ≡ []) (n : AreNumbered none given fs more entries) (numbers : new.numbers ≡ entries)
     (labels : new.labels ≡ labels_in more) (cells : new.cells ≡ map (λ (f : PathOf × Node). row_at_path old.cells old.numbers f.0) more.more.items) where
-  pub anew_labelled : AreLabelled fs new
-  anew_labelled =
+  pub renumbered_labelled : AreLabelled fs new
+  renumbered_labelled =
       all_numbered fs none given more entries new nothing n numbers labels
       (ap length cells ∙ length-map more.more.items (λ (f : PathOf × Node). row_at_path old.cells old.numbers f.0) ∙ sym (length-map more.more.items (λ (f : PathOf × Node). f.1.label)))
 
-  pub anew_rows : IsInOrder fs → AreAsBefore fs old new
-  anew_rows order V us is =
+  pub renumbered_rows : IsInOrder fs → AreAsBefore fs old new
+  renumbered_rows order V us is =
       all_rows V us fs none given more entries new nothing n numbers labels
       (cells ∙ rows_among V us fs order old is more.more.items n.among ∙ sym (map_twice (λ (f : PathOf × Node). f.1.label) (row_of V us) more.more.items)) order
 
--- ---- a line goes on from what is granted anew
+-- ---- a line goes on from what is granted to rows that are renumbered
 
-pub goes_anew : (V : Verdict) (fs : Files) (old new : Grants) (t : StagedState) → GoesOnFrom V fs old t → (es : Files) → es ≡ fs → AreGrants es new → AreAsBefore es old.rows new.rows → GoesOn V new t
-goes_anew V fs old new t from es same kept rows =
+pub goes_renumbered : (V : Verdict) (fs : Files) (old new : Grants) (t : StagedState) → GoesOnFrom V fs old t → (es : Files) → es ≡ fs → AreGrants es new → AreAsBefore es old.rows new.rows → GoesOn V new t
+goes_renumbered V fs old new t from es same kept rows =
     let state = from.goes.goes.state in
     let here : es ≡ state.tree.files = same ∙ sym from.files in
     record {

@@ -1,0 +1,20 @@
+use Rattle.std.proofs.Common.{◌≡◌, ◌∙◌, None, true, map, string_bytes, subst, sym}
+use Rattle.facl_tools.specs.Replies.{after, or_fault}
+use Rattle.facl_tools.specs.Tools.{tool_named}
+use Rattle.facl_tools.specs.facl_messages.declared.fault.LineFault.TheVariants.{UnknownTool}
+use Rattle.facl.specs.Sessions.{states_of, Answers}
+use Rattle.facl.specs.Units.{answer_of, refused, tool_reply}
+use Rattle.facl.proofs.session.FaclSession.answer_named.Goals as goal
+
+pub returns-in-None-clause-answer : goal.returns-in-None-clause-answer
+returns-in-None-clause-answer g c = λ content held.
+    let V = g.J.Judge.verdict_of in
+    let states = states_of c.args.self.now in
+    let number = c.args.unit.now.number in
+    let name = c.args.name.now in
+    let words = map string_bytes c.args.words.now in
+    let new = c.refuse.new.self in
+    let asked = g.J.Judge.asked_of c.args.judge.now in
+    let none : tool_named name ≡ None = sym c.named.ensures ∙ c.in-None.is in
+    subst (λ t. Answers number (answer_of number name states (after (or_fault UnknownTool t) (tool_reply V states content words))) c.args.self.now new asked asked true) (sym none)
+    (subst (λ word. Answers number (refused number word UnknownTool states) c.args.self.now new asked asked true) c.as_bytes-in-None.ensures.value (c.refuse.ensures.answer asked))
