@@ -23,7 +23,9 @@ lisa: staff cool\njoe: users\nann: users\n";
 
 fn prepared(rt: &impl Abort, alloc: Global, state: &State, line: &Line) -> Staged {
     let command = command(rt, alloc, state.people(), line);
-    state.prepare(alloc, &command).expect(rt, "a command")
+    let prepared = state.prepare(alloc, &command);
+    drop(command);
+    prepared.expect(rt, "a command")
 }
 
 /// What a prepared command would leave, which is given up.
@@ -50,6 +52,7 @@ fn files_come_in_path_order(rt: HostRuntime) {
     let state = after(&rt, rt.alloc(), &[&PEOPLE, &FOUR]);
     state.tree().soundness_law();
     expect_state(&rt, rt.alloc(), &state, BEFORE);
+    drop(state);
 }
 
 static REMOVAL: Line = Line::Rm(true, &[b"d"]);
@@ -60,6 +63,7 @@ fn a_prepared_command_is_given_up(rt: HostRuntime) {
     let state = after(&rt, alloc, &[&PEOPLE, &FOUR]);
     expect_prepared(&rt, alloc, &state, &REMOVAL, PREPARED);
     expect_state(&rt, alloc, &state, BEFORE);
+    drop(state);
 }
 
 fn line_end(has_below: bool) -> &'static [u8] {
@@ -104,4 +108,5 @@ fn operands_mean_their_files_once(rt: HostRuntime) {
     let state = after(&rt, rt.alloc(), &[&PEOPLE, &FOUR]);
     let want = "d 1002 above\nd/e 1002\nf 1001\n";
     expect_found(&rt, rt.alloc(), state.tree(), &OPERANDS, want);
+    drop(state);
 }

@@ -271,6 +271,7 @@ static FIRST_USER: [Row; 2] = [
 fn expect_users(rt: &impl Abort, alloc: Global, tables: &[&[Row]], want: &str) {
     let state = after(rt, alloc, tables);
     let text = listing(rt, alloc, state.tree(), state.people());
+    drop(state);
     expect_text(rt, text, want);
 }
 
@@ -287,6 +288,7 @@ fn expect_each_granted(rt: &impl Abort, alloc: Global, state: &State, granted: &
 fn expect_grants(rt: &impl Abort, alloc: Global, tables: &[&[Row]], granted: &[Granted]) {
     let state = after(rt, alloc, tables);
     expect_each_granted(rt, alloc, &state, granted);
+    drop(state);
 }
 
 static AS_A_MEMBER: [Granted; 2] = [
@@ -409,4 +411,5 @@ fn at_most_so_many_users(rt: HostRuntime) {
     let passwd = many_users(&rt, alloc);
     assert!(rt; are_loaded(&rt, alloc, &mut state, &passwd));
     assert!(rt; is_one_too_many(&rt, alloc, &mut state, &ONE_MORE));
+    drop(state);
 }

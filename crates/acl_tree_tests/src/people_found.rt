@@ -1,4 +1,4 @@
-//! Users, groups, and the words and ids that stand for them.
+//! Users, groups, and the words and ids that mean them.
 use acl_people::LoadFault;
 use acl_tree::{FaultKind, Id, Names, People, TextFault};
 use std::alloc::Global;

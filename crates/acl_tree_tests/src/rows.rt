@@ -188,7 +188,9 @@ pub fn after(rt: &impl Abort, alloc: Global, tables: &[&[Row]]) -> State {
 /// Plays a table of rows after those of a setup.
 fn expect_table(rt: &impl Abort, alloc: Global, setup: &[&[Row]], rows: &[Row], at: usize) {
     let mut state = after(rt, alloc, setup);
-    expect_none(rt, first_wrong(rt, alloc, &mut state, rows), at);
+    let wrong = first_wrong(rt, alloc, &mut state, rows);
+    drop(state);
+    expect_none(rt, wrong, at);
 }
 
 /// Plays each of some tables of rows after those of a setup.

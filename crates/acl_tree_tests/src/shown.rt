@@ -180,7 +180,9 @@ fn staged_text(rt: &impl Abort, alloc: Global, staged: &Staged) -> Vec<u8> {
 
 /// Runs a command, and returns its outcome as a text.
 pub fn outcome(rt: &impl Abort, alloc: Global, state: &mut State, command: Command<'_>) -> Vec<u8> {
-    match state.prepare(alloc, &command) {
+    let prepared = state.prepare(alloc, &command);
+    drop(command);
+    match prepared {
         Ok(staged) => {
             let text = staged_text(rt, alloc, &staged);
             state.commit(staged);

@@ -11,6 +11,7 @@ use facl_listings::{
     write_index, write_may, write_who, write_why,
 };
 use std::alloc::Global;
+use std::mem;
 use std::process::Abort;
 
 /// What is asked, its operands as they are written.
@@ -112,7 +113,9 @@ fn prepared(alloc: Global, state: &State, line: &Line) -> Option<Staged>
     ensures { IfSome result (λ staged. Reports state.now staged) }
 {
     let command = command(alloc, state.people(), line)?;
-    match state.prepare(alloc, &command) {
+    let outcome = state.prepare(alloc, &command);
+    drop(command);
+    match outcome {
         Ok(staged) => Some(staged),
         Err(_) => None,
     }
@@ -132,7 +135,7 @@ fn is_accepted(alloc: Global, world: &mut World, line: &Line) -> bool {
     staged.people().soundness_law();
     match world.indexed.after(alloc, &mut world.judge, staged) {
         Ok(indexed) => {
-            world.indexed = indexed;
+            drop(mem::replace(&mut world.indexed, indexed));
             true
         }
         Err(_) => false,
@@ -168,6 +171,8 @@ fn expect_row(rt: &impl Abort, alloc: Global, setup: &[Line], row: &Row, at: usi
         &row.question,
         row.along,
     );
+    drop(loaded);
+    drop(world);
     assert!(rt; is_answered(found, row.answer), "row {at}");
 }
 

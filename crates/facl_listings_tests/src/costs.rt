@@ -359,7 +359,7 @@ pub fn after(rt: &impl Abort, alloc: Global, rows: &[Row]) -> World
 /// Plays each of some tables of rows after the setup.
 fn expect_all(rt: &impl Abort, alloc: Global, tables: &[&[Row]]) {
     for rows in tables {
-        after(rt, alloc, rows);
+        drop(after(rt, alloc, rows));
     }
 }
 
@@ -379,7 +379,9 @@ fn lines_on_people_cost_what_they_change(rt: HostRuntime) {
 
 /// An index that is made of a state asks for so many verdicts.
 fn expect_build(rt: &impl Abort, alloc: Global, world: World, asked: u64) {
-    assert!(rt; asked_by_build(alloc, &world.state) == Some(asked));
+    let found = asked_by_build(alloc, &world.state);
+    drop(world);
+    assert!(rt; found == Some(asked));
 }
 
 #[test]

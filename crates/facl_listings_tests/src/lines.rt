@@ -69,6 +69,31 @@ fn member(
     })
 }
 
+fn edit(
+    alloc: Global,
+    people: &People,
+    modify: &[u8],
+    recursive: bool,
+    text: &[u8],
+) -> Option<Command<'static>> {
+    let edit = change(alloc, people, modify)?;
+    Some(Command::Edit {
+        paths: paths(alloc, text)?,
+        edit,
+        recursive,
+    })
+}
+
+fn new_user(alloc: Global, text: &[u8], uid: u32, group: &[u8]) -> Option<Command<'static>> {
+    let uid = Id::new(uid)?;
+    let name_of_group = name(alloc, group)?;
+    Some(Command::Useradd(NewUser {
+        name: UserName::new(name(alloc, text)?)?,
+        uid,
+        group: name_of_group,
+    }))
+}
+
 /// The command of a line; none where its texts are not valid.
 pub fn command(alloc: Global, people: &People, line: &Line) -> Option<Command<'static>> {
     match line {
@@ -81,11 +106,7 @@ pub fn command(alloc: Global, people: &People, line: &Line) -> Option<Command<'s
             mode: *mode,
             recursive: false,
         }),
-        Line::Setfacl(modify, recursive, text) => Some(Command::Edit {
-            paths: paths(alloc, text)?,
-            edit: change(alloc, people, modify)?,
-            recursive: *recursive,
-        }),
+        Line::Setfacl(modify, recursive, text) => edit(alloc, people, modify, *recursive, text),
         Line::Rm(text) => Some(Command::Rm {
             paths: paths(alloc, text)?,
             recursive: false,
@@ -96,11 +117,7 @@ pub fn command(alloc: Global, people: &People, line: &Line) -> Option<Command<'s
             user: name(alloc, user)?,
             group: name(alloc, group)?,
         }),
-        Line::Useradd(text, uid, group) => Some(Command::Useradd(NewUser {
-            name: UserName::new(name(alloc, text)?)?,
-            uid: Id::new(*uid)?,
-            group: name(alloc, group)?,
-        })),
+        Line::Useradd(text, uid, group) => new_user(alloc, text, *uid, group),
         Line::Userdel(user) => Some(Command::Userdel {
             user: name(alloc, user)?,
         }),

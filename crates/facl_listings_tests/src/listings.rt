@@ -99,4 +99,5 @@ fn files(rt: HostRuntime) {
         expect_listing(&rt, rt.alloc(), &state, row);
     }
     listing_is_loaded_again(state.people(), state.tree());
+    drop(state);
 }

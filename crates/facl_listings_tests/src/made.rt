@@ -20,8 +20,9 @@ default:mask::r-x\ndefault:other::---\n";
 
 fn load(rt: &impl Abort, alloc: Global, state: &mut State, which: Table, bytes: &[u8]) {
     let command = Command::Load { which, bytes };
-    let staged = state.prepare(alloc, &command).expect(rt, "a text");
-    state.commit(staged);
+    let prepared = state.prepare(alloc, &command);
+    drop(command);
+    state.commit(prepared.expect(rt, "a text"));
 }
 
 /// The state of the texts above.

@@ -70,5 +70,6 @@ fn each_file_has_a_row(rt: HostRuntime) {
     let world = after(&rt, alloc, &ROOT_CLOSED);
     let alone = are(alloc, world.index.file_rows(false), &ALONE);
     let along = are(alloc, world.index.file_rows(true), &ALONG);
+    drop(world);
     assert!(rt; (alone, along) == (Some(true), Some(true)));
 }

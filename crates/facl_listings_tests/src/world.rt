@@ -63,10 +63,9 @@ pub fn asked_by_build(alloc: Global, state: &State) -> Option<u64> {
     state.tree().soundness_law();
     state.people().soundness_law();
     let mut judge = Posix::new();
-    match Index::build(alloc, &mut judge, state.tree(), state.people()) {
-        Ok(_) => Some(judge.asked()),
-        Err(_) => None,
-    }
+    let index = Index::build(alloc, &mut judge, state.tree(), state.people()).ok()?;
+    drop(index);
+    Some(judge.asked())
 }
 
 /// What a user may do with a file after a line: the user's place, the file, and the byte of the requests.
@@ -127,7 +126,9 @@ fn is_as_reported(alloc: Global, world: &mut World, row: &Row) -> bool
     let Some(command) = command(alloc, world.state.people(), &row.line) else {
         return false;
     };
-    let Some(costs) = play(alloc, world, &command) else {
+    let costs = play(alloc, world, &command);
+    drop(command);
+    let Some(costs) = costs else {
         return false;
     };
     is_within(&costs, row)
@@ -152,10 +153,7 @@ pub fn first_wrong(alloc: Global, world: &mut World, rows: &[Row]) -> Option<usi
 pub fn nothing(alloc: Global) -> Option<World>
     ensures { IfSome result (λ world. IsWhole rights world.state world.index) }
 {
-    let state = match State::new(alloc) {
-        Ok(state) => state,
-        Err(_) => return None,
-    };
+    let state = State::new(alloc).ok()?;
     let mut judge = Posix::new();
     match Index::build(alloc, &mut judge, state.tree(), state.people()) {
         Ok(index) => Some(World {
@@ -163,6 +161,9 @@ pub fn nothing(alloc: Global) -> Option<World>
             index,
             judge,
         }),
-        Err(_) => None,
+        Err(_) => {
+            drop(state);
+            None
+        }
     }
 }

@@ -64,6 +64,8 @@ mod searches;
 #[cfg(test)]
 mod setups;
 #[cfg(test)]
+mod surface;
+#[cfg(test)]
 mod texts;
 #[cfg(test)]
 mod twins;

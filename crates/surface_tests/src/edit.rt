@@ -49,8 +49,10 @@ fn modifying(rt: &impl Abort, alloc: Global, text: &[u8]) -> Edit {
 }
 
 /// A file after an edit that is accepted.
-fn edited(rt: &impl Abort, alloc: Global, node: &Node, edit: &Edit) -> Node {
-    let edited: Result<Node, EditFault> = apply(alloc, node, edit, false);
+fn edited(rt: &impl Abort, alloc: Global, node: Node, edit: Edit) -> Node {
+    let edited: Result<Node, EditFault> = apply(alloc, &node, &edit, false);
+    drop(node);
+    drop(edit);
     edited.expect(rt, "an edit")
 }
 
@@ -58,7 +60,9 @@ fn edited(rt: &impl Abort, alloc: Global, node: &Node, edit: &Edit) -> Node {
 fn a_line(rt: HostRuntime) {
     let node: Node = file(&rt, rt.alloc(), Kind::Plain, 0o640);
     let edit: Edit = modifying(&rt, rt.alloc(), b"u:1000:rwx");
-    assert!(rt; edited(&rt, rt.alloc(), &node, &edit).label.acl.mode() == 0o670);
+    let node: Node = edited(&rt, rt.alloc(), node, edit);
+    assert!(rt; node.label.acl.mode() == 0o670);
+    drop(node);
 }
 
 /// The number of the fault of an edit; 0 where it is accepted.
@@ -76,6 +80,8 @@ fn the_faults_of_edits(rt: HostRuntime) {
     let edit: Edit = modifying(&rt, rt.alloc(), b"d:u:1000:rwx");
     assert!(rt; refused(rt.alloc(), &node, &edit, false) == 1);
     assert!(rt; refused(rt.alloc(), &node, &edit, true) == 0);
+    drop(node);
+    drop(edit);
 }
 
 /// The number of a fault among the faults of an edit.
@@ -109,7 +115,7 @@ fn put(rt: &impl Abort, alloc: Global) -> Edit {
 /// A directory with both lists.
 fn with_lists(rt: &impl Abort, alloc: Global) -> Node {
     let node: Node = file(rt, alloc, Kind::Directory, 0o750);
-    edited(rt, alloc, &node, &put(rt, alloc))
+    edited(rt, alloc, node, put(rt, alloc))
 }
 
 #[test]
@@ -117,6 +123,7 @@ fn whole_lists(rt: HostRuntime) {
     let node: Node = with_lists(&rt, rt.alloc());
     assert!(rt; look(&node) == (0o700, 1001, 50, false));
     assert!(rt; node.dacl.is_some());
+    drop(node);
 }
 
 #[test]
@@ -125,8 +132,9 @@ fn a_flat_file(rt: HostRuntime) {
         access: true,
         dacl: true,
     };
-    let node: Node = with_lists(&rt, rt.alloc());
-    assert!(rt; edited(&rt, rt.alloc(), &node, &flatten).dacl.is_none());
+    let node: Node = edited(&rt, rt.alloc(), with_lists(&rt, rt.alloc()), flatten);
+    assert!(rt; node.dacl.is_none());
+    drop(node);
 }
 
 /// A restore of a list, an owner and flags.
@@ -143,8 +151,9 @@ fn restore(rt: &impl Abort, alloc: Global) -> Edit {
 #[test]
 fn a_restore(rt: HostRuntime) {
     let node: Node = file(&rt, rt.alloc(), Kind::Directory, 0o750);
-    let restored: Node = edited(&rt, rt.alloc(), &node, &restore(&rt, rt.alloc()));
+    let restored: Node = edited(&rt, rt.alloc(), node, restore(&rt, rt.alloc()));
     assert!(rt; look(&restored) == (0o755, 1000, 50, true));
+    drop(restored);
 }
 
 /// A directory whose mode was set.
@@ -156,7 +165,9 @@ fn parent_directory(rt: &impl Abort, alloc: Global) -> Node {
 
 #[test]
 fn modes(rt: HostRuntime) {
-    assert!(rt; look(&parent_directory(&rt, rt.alloc())) == (0o750, 1001, 50, true));
+    let parent: Node = parent_directory(&rt, rt.alloc());
+    assert!(rt; look(&parent) == (0o750, 1001, 50, true));
+    drop(parent);
 }
 
 #[test]
@@ -172,5 +183,8 @@ fn new_files(rt: HostRuntime) {
         joe,
         joe,
     );
-    assert!(rt; look(&created.expect(&rt, "memory")) == (0o755, 1000, 50, true));
+    drop(parent);
+    let new: Node = created.expect(&rt, "memory");
+    assert!(rt; look(&new) == (0o755, 1000, 50, true));
+    drop(new);
 }

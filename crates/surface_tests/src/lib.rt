@@ -1,5 +1,5 @@
-//! The public surface as a user of the crates sees it: each public call once, by its crate and its name, with its types
-//! written out, and a judge of the user's own.
+//! The public surface as a user of the crates sees it: each public call of the crates below facl once, by its crate and
+//! its name, with its types written out, and a judge of the user's own.
 #![tactic(auto)]
 
 #[cfg(test)]
@@ -14,8 +14,6 @@ mod judge;
 mod nobody;
 #[cfg(test)]
 mod rights;
-#[cfg(test)]
-mod run;
 #[cfg(test)]
 mod setup;
 #[cfg(test)]

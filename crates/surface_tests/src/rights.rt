@@ -17,18 +17,18 @@ fn followed(rt: &impl Abort, alloc: Global) -> Followed {
         group: read_name(alloc, b"adm").expect(rt, "memory"),
         change: Membership::Add,
     };
-    follow(alloc, &mut tree, &mut people, &gpasswd).expect(rt, "a command")
+    let followed = follow(alloc, &mut tree, &mut people, &gpasswd);
+    drop(gpasswd);
+    drop(tree);
+    drop(people);
+    followed.expect(rt, "a command")
 }
 
 #[test]
 fn costs(rt: HostRuntime) {
-    let Followed {
-        index: _index,
-        asked,
-        looked,
-        refreshed,
-    } = followed(&rt, rt.alloc());
-    assert!(rt; asked == 2 && looked == 2 && refreshed == 2);
+    let Followed { index, costs } = followed(&rt, rt.alloc());
+    drop(index);
+    assert!(rt; costs.asked == 2 && costs.looked == 2 && costs.refreshed == 2);
 }
 
 /// The index after joe joined adm.
@@ -96,6 +96,7 @@ fn verdicts_and_questions(rt: HostRuntime) {
     expect_may(&rt, rt.alloc(), &index);
     expect_may_along_the_path(&rt, rt.alloc(), &index);
     expect_rows(&rt, &index);
+    drop(index);
 }
 
 #[test]

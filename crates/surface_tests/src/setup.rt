@@ -78,13 +78,9 @@ pub fn load(rt: &impl Abort, alloc: Global) -> (Tree, People) {
         (Table::Dump, DUMP),
     ];
     for (which, bytes) in texts {
-        accept(
-            rt,
-            alloc,
-            &mut tree,
-            &mut people,
-            &Command::Load { which, bytes },
-        );
+        let load = Command::Load { which, bytes };
+        accept(rt, alloc, &mut tree, &mut people, &load);
+        drop(load);
     }
     (tree, people)
 }

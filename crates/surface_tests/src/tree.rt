@@ -88,6 +88,8 @@ fn people_and_files(rt: HostRuntime) {
     expect_look_ups(&rt, &tree, &log, &root);
     expect_above(&rt, rt.alloc(), &tree, &log);
     expect_within(&rt, rt.alloc(), &tree, &root);
+    drop(tree);
+    drop(people);
 }
 
 /// What a command stages, on the texts' tree: how many files changed and are gone, whose groups changed and how many
@@ -116,11 +118,9 @@ fn counts_of(staged: &Staged) -> Counts {
 #[test]
 fn a_prepared_state(rt: HostRuntime) {
     let (tree, people) = load(&rt, rt.alloc());
-    let prepared: Result<Staged, TreeFault> = tree.prepare(
-        rt.alloc(),
-        &people,
-        &gpasswd(&rt, rt.alloc(), Membership::Add),
-    );
+    let joins: Command<'_> = gpasswd(&rt, rt.alloc(), Membership::Add);
+    let prepared: Result<Staged, TreeFault> = tree.prepare(rt.alloc(), &people, &joins);
+    drop(joins);
     let staged: Staged = prepared.expect(&rt, "a command");
     let after: (&Tree, &People) = (staged.tree(), staged.people());
     assert!(rt; after.0.get(&path(&rt, rt.alloc(), b".")).is_some() && after.1.users() == 3);
@@ -307,6 +307,7 @@ fn staged_counts(rt: &impl Abort, staged: Result<Staged, TreeFault>) -> Counts {
 fn expect_row(rt: &impl Abort, alloc: Global, tree: &Tree, people: &People, row: &Row) {
     let command = command(rt, alloc, &row.line);
     let prepared: Result<Staged, TreeFault> = tree.prepare(alloc, people, &command);
+    drop(command);
     assert!(rt; staged_counts(rt, prepared) == row.counts, "{}", row.name);
 }
 
@@ -320,6 +321,8 @@ fn expect_rows(rt: &impl Abort, alloc: Global, tree: &Tree, people: &People, row
 fn commands(rt: HostRuntime) {
     let (tree, people) = load(&rt, rt.alloc());
     expect_rows(&rt, rt.alloc(), &tree, &people, &ROWS);
+    drop(tree);
+    drop(people);
 }
 
 /// The number of a fault among the faults of a command.
@@ -361,18 +364,20 @@ fn refused(alloc: Global, tree: &Tree, people: &People, command: &Command<'_>) -
 fn a_refused_command(rt: HostRuntime) {
     let (tree, people) = load(&rt, rt.alloc());
     let leave: Command<'_> = gpasswd(&rt, rt.alloc(), Membership::Remove);
-    assert!(rt; refused(rt.alloc(), &tree, &people, &leave) == 7);
+    let fault: u8 = refused(rt.alloc(), &tree, &people, &leave);
+    drop(leave);
+    drop(tree);
+    drop(people);
+    assert!(rt; fault == 7);
 }
 
 #[test]
 fn an_accepted_command(rt: HostRuntime) {
     let (mut tree, mut people) = load(&rt, rt.alloc());
-    accept(
-        &rt,
-        rt.alloc(),
-        &mut tree,
-        &mut people,
-        &rm(&rt, rt.alloc()),
-    );
+    let removal: Command<'_> = rm(&rt, rt.alloc());
+    accept(&rt, rt.alloc(), &mut tree, &mut people, &removal);
+    drop(removal);
     assert!(rt; tree.get(&path(&rt, rt.alloc(), b"f")).is_none());
+    drop(tree);
+    drop(people);
 }

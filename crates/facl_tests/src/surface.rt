@@ -1,19 +1,14 @@
-//! facl: sessions, and the words of lines and of the program.
-use crate::judge::OwnerAlone;
-use crate::setup::{DUMP, GROUP, PASSWD};
-use acl_rights::Judge;
+//! The public surface of facl as a user sees it: sessions, and the words of lines and of the program, with types written
+//! out.
+
+use crate::judges::OwnerAlone;
+use crate::texts::WHOLE;
 use facl::{
-    LineFault, RunFault, Setup, Source, Status, StdFeed, StdSink, Tool, Words, read_args,
+    Judge, LineFault, RunFault, Setup, Source, Status, StdFeed, StdSink, Tool, Words, read_args,
     read_words, run, run_judged,
 };
 use std::alloc::Global;
 use std::process::Abort;
-
-const SETUP: Setup<'static> = Setup {
-    passwd: Some(PASSWD),
-    group: Some(GROUP),
-    dump: Some(DUMP),
-};
 
 #[test]
 fn a_session(rt: HostRuntime) {
@@ -22,7 +17,7 @@ fn a_session(rt: HostRuntime) {
     let script: &[u8] = b"setfacl -m u:joe:rwx f\nchacl -l f\nfrob\n";
     let ended: Result<Status, RunFault> = run(
         rt.alloc(),
-        &SETUP,
+        &WHOLE,
         &mut StdFeed::new(script),
         &mut StdSink::new(&mut out),
         &mut StdSink::new(&mut err),
@@ -37,7 +32,7 @@ fn asked(alloc: Global, script: &[u8]) -> u64 {
     let mut judge = OwnerAlone::new();
     let _status: Option<Status> = run_judged(
         alloc,
-        &SETUP,
+        &WHOLE,
         &mut judge,
         &mut StdFeed::new(script),
         &mut StdSink::new(Vec::new(alloc)),
