@@ -91,7 +91,7 @@ def edits_of(top: str, crate: str) -> Iterator[Edit]:
 
 
 def exported(crate: Crate) -> List[Function]:
-    """The functions that a crate hands out: those of its public items, and of public modules; of a program all that are public."""
+    """The functions that others may call: those of its public items, and of public modules; of a program all that are public."""
     lib = crate.sources.get("src/lib.rt")
     if lib is None:
         return [function for function in crate.functions if function.is_public]

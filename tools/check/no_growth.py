@@ -45,7 +45,7 @@ CALLS = [
     "acl_tree::step::Staged::give_up",
     "acl_tree::state::State::commit",
     "acl_verdicts::judge::PosixJudge::verdict",
-    "facl::indexed_states::IndexedStates::begin_again",
+    "acl_rights::indexed_states::IndexedStates::begin_again",
     "facl_words::text_words::is_text_word",
     "path_map::map::PathMap::from",
 ]
