@@ -1,11 +1,11 @@
 //! Listings.
 
 use crate::rows::{Row, check};
-use crate::texts::{FIRST, LARGEST, MANUAL, SPACED, WHOLE};
+use crate::texts::{FIRST, GROUPS_ALONE, LARGEST, MANUAL, SPACED, WHOLE};
 use facl::Status;
 use std::test::Fail;
 
-static LISTINGS: [Row; 10] = [
+static LISTINGS: [Row; 11] = [
     Row {
         name: "one listing",
         setup: FIRST,
@@ -22,6 +22,20 @@ other::---\n\
         err: b"line 2: getfacl: g: no such file\n\
 line 3: facl: unknown tool\n",
         status: Status::Refused,
+    },
+    Row {
+        name: "groups without users",
+        setup: GROUPS_ALONE,
+        script: b"getfacl f\n",
+        out: b"# file: f\n\
+# owner: 7\n\
+# group: staff\n\
+user::rw-\n\
+group::r--\n\
+other::---\n\
+\n",
+        err: b"",
+        status: Status::Accepted,
     },
     Row {
         name: "the manual's example",

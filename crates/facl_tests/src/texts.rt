@@ -188,6 +188,13 @@ user::rw-\n\
 group::r--\n\
 other::r--\n";
 
+const NUMBER_DUMP: &[u8] = b"# file: f\n\
+# owner: 7\n\
+# group: staff\n\
+user::rw-\n\
+group::r--\n\
+other::---\n";
+
 pub const NOTHING: Setup<'static> = Setup {
     passwd: None,
     group: None,
@@ -241,6 +248,13 @@ pub const LARGEST: Setup<'static> = Setup {
     passwd: Some(PASSWD),
     group: Some(GROUP),
     dump: Some(LARGEST_DUMP),
+};
+
+/// Groups without users, and a file whose owner is a number.
+pub const GROUPS_ALONE: Setup<'static> = Setup {
+    passwd: None,
+    group: Some(GROUP),
+    dump: Some(NUMBER_DUMP),
 };
 
 /// Users with a repeated name, a repeated id, a name of digits and one with a space, and a file.
