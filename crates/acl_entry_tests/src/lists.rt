@@ -105,8 +105,11 @@ fn keeps_the_most_entries(rt: HostRuntime) {
         let last = Key::User(id(&rt, named.saturating_sub(1)));
         let entries = with_users(&rt, rt.alloc(), *named);
         let acl = Acl::from_entries(rt.alloc(), &entries).expect(&rt, "a valid list");
-        assert!(rt; acl.entries().len() == *want && number_of(acl.get(last)) == Some(4));
-        assert!(rt; is_copied(&rt, rt.alloc(), &acl));
+        assert!(rt;
+            acl.entries().len() == *want && number_of(acl.get(last)) == Some(4),
+            "{named}"
+        );
+        assert!(rt; is_copied(&rt, rt.alloc(), &acl), "{named}");
     }
 }
 
@@ -266,7 +269,10 @@ static TEXTS: [(u8, &[u8]); 3] = [(5, b"r-x"), (2, b"-w-"), (6, b"rw-")];
 fn permissions(rt: HostRuntime) {
     for (number, want) in &TEXTS {
         let perm = perm(&rt, *number);
-        assert!(rt; perm.text().as_slice() == *want && perm.number() == *number);
+        assert!(rt;
+            perm.text().as_slice() == *want && perm.number() == *number,
+            "{number}"
+        );
     }
     assert!(rt; Perm::from_number(8).is_none());
 }

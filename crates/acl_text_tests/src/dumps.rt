@@ -36,12 +36,12 @@ static LISTINGS: [(&[u8], &[u8]); 3] = [(SOMEDIR, LISTED), (LISTED, LISTED), (BE
 
 #[test]
 fn records_are_written(rt: HostRuntime) {
-    for (bytes, want) in &LISTINGS {
+    for (at, (bytes, want)) in LISTINGS.iter().enumerate() {
         let mut text = Vec::new(rt.alloc());
         for record in &load(&rt, rt.alloc(), bytes) {
             append(&rt, &mut text, record);
         }
-        assert!(rt; text.as_slice() == *want);
+        assert!(rt; text.as_slice() == *want, "row {at}");
     }
 }
 
@@ -241,10 +241,13 @@ fn headers_of(rt: &impl Abort, alloc: Global, bytes: &[u8]) -> Vec<u8> {
 
 #[test]
 fn headers_are_written_as_they_were(rt: HostRuntime) {
-    for want in &HEADERS {
+    for (at, want) in HEADERS.iter().enumerate() {
         let mut bytes = Vec::from_slice(rt.alloc(), want).expect(&rt, "memory");
         push(&rt, &mut bytes, b"user::rwx\ngroup::r-x\nother::r-x\n");
-        assert!(rt; headers_of(&rt, rt.alloc(), &bytes).as_slice() == *want);
+        assert!(rt;
+            headers_of(&rt, rt.alloc(), &bytes).as_slice() == *want,
+            "row {at}"
+        );
     }
 }
 

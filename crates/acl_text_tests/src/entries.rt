@@ -147,11 +147,11 @@ static PERMISSIONS: [(&[u8], Option<u8>); 10] = [
 
 #[test]
 fn permissions(rt: HostRuntime) {
-    for (text, want) in &PERMISSIONS {
+    for (at, (text, want)) in PERMISSIONS.iter().enumerate() {
         let found = match read_perms(text) {
             Some(perm) => Some(perm.number()),
             None => None,
         };
-        assert!(rt; found == *want);
+        assert!(rt; found == *want, "row {at}");
     }
 }

@@ -19,9 +19,9 @@ static ESCAPES: [(&[u8], &[u8]); 8] = [
 
 #[test]
 fn escapes_are_read(rt: HostRuntime) {
-    for (text, want) in &ESCAPES {
+    for (at, (text, want)) in ESCAPES.iter().enumerate() {
         let name = read_name(rt.alloc(), text).expect(&rt, "memory");
-        assert!(rt; name.as_bytes() == *want);
+        assert!(rt; name.as_bytes() == *want, "row {at}");
     }
 }
 
@@ -78,8 +78,8 @@ static REFUSED: [&[u8]; 3] = [b"a/../b", b"..", b"a\\000"];
 
 #[test]
 fn refused_paths(rt: HostRuntime) {
-    for text in &REFUSED {
-        assert!(rt; is_refused(&rt, rt.alloc(), text));
+    for (at, text) in REFUSED.iter().enumerate() {
+        assert!(rt; is_refused(&rt, rt.alloc(), text), "row {at}");
     }
 }
 
@@ -110,9 +110,9 @@ fn order(rt: &impl Abort, alloc: Global, first: &[u8], second: &[u8]) -> Orderin
 
 #[test]
 fn paths_are_in_order(rt: HostRuntime) {
-    for (first, second) in &ORDERED {
-        assert!(rt; order(&rt, rt.alloc(), first, second).is_lt());
-        assert!(rt; order(&rt, rt.alloc(), second, first).is_gt());
+    for (at, (first, second)) in ORDERED.iter().enumerate() {
+        assert!(rt; order(&rt, rt.alloc(), first, second).is_lt(), "row {at}");
+        assert!(rt; order(&rt, rt.alloc(), second, first).is_gt(), "row {at}");
     }
 }
 
@@ -148,11 +148,11 @@ static BELOW: [(&[u8], &[u8], bool, bool); 6] = [
 ];
 
 fn expect_below(rt: &impl Abort, alloc: Global, below_in_parts: bool, top_in_parts: bool) {
-    for (below, top, is_within, is_below) in &BELOW {
+    for (at, (below, top, is_within, is_below)) in BELOW.iter().enumerate() {
         let below = held(rt, alloc, below, below_in_parts);
         let top = held(rt, alloc, top, top_in_parts);
-        assert!(rt; below.is_within(&top) == *is_within);
-        assert!(rt; below.is_below(&top) == *is_below);
+        assert!(rt; below.is_within(&top) == *is_within, "row {at}");
+        assert!(rt; below.is_below(&top) == *is_below, "row {at}");
     }
 }
 
@@ -213,7 +213,7 @@ static USER_NAMES: [(&[u8], bool); 7] = [
 
 #[test]
 fn names_of_new_users(rt: HostRuntime) {
-    for (name, want) in &USER_NAMES {
-        assert!(rt; is_user_name(name) == *want);
+    for (at, (name, want)) in USER_NAMES.iter().enumerate() {
+        assert!(rt; is_user_name(name) == *want, "row {at}");
     }
 }

@@ -110,8 +110,11 @@ static USERS: [(&[u8], &[u8]); 11] = [
 
 #[test]
 fn users(rt: HostRuntime) {
-    for (text, want) in &USERS {
-        assert!(rt; printed_users(&rt, rt.alloc(), text).as_slice() == *want);
+    for (at, (text, want)) in USERS.iter().enumerate() {
+        assert!(rt;
+            printed_users(&rt, rt.alloc(), text).as_slice() == *want,
+            "row {at}"
+        );
     }
 }
 
@@ -132,7 +135,10 @@ static GROUPS: [(&[u8], &[u8]); 9] = [
 
 #[test]
 fn groups(rt: HostRuntime) {
-    for (text, want) in &GROUPS {
-        assert!(rt; printed_groups(&rt, rt.alloc(), text).as_slice() == *want);
+    for (at, (text, want)) in GROUPS.iter().enumerate() {
+        assert!(rt;
+            printed_groups(&rt, rt.alloc(), text).as_slice() == *want,
+            "row {at}"
+        );
     }
 }
