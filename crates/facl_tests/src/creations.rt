@@ -1,11 +1,11 @@
 //! Files that are made and removed: creat, rm(1).
 
 use crate::rows::{Row, check};
-use crate::texts::WHOLE;
+use crate::texts::{ROOT, WHOLE};
 use facl::Status;
 use std::test::Fail;
 
-static CREATIONS: [Row; 6] = [
+static CREATIONS: [Row; 7] = [
     Row {
         name: "under a default list",
         setup: WHOLE,
@@ -15,6 +15,15 @@ creat -d --user=ann --mode=0750 pub/s\n\
 chacl -l pub/n pub/s\n",
         out: b"pub/n [u::rw-,u:joe:rwx,g::r-x,m::r--,o::---]\n\
 pub/s [u::rwx,u:joe:rwx,g::r-x,m::r-x,o::---/u::rwx,u:joe:rwx,g::r-x,m::rwx,o::r-x]\n",
+        err: b"",
+        status: Status::Accepted,
+    },
+    Row {
+        name: "below a root that is recorded alone",
+        setup: ROOT,
+        script: b"creat --user=lisa --mode=600 f\n\
+chacl -l f\n",
+        out: b"f [u::rw-,g::---,o::---]\n",
         err: b"",
         status: Status::Accepted,
     },

@@ -188,6 +188,13 @@ user::rw-\n\
 group::r--\n\
 other::r--\n";
 
+const ROOT_DUMP: &[u8] = b"# file: .\n\
+# owner: lisa\n\
+# group: staff\n\
+user::rwx\n\
+group::r-x\n\
+other::r-x\n";
+
 const NUMBER_DUMP: &[u8] = b"# file: f\n\
 # owner: 7\n\
 # group: staff\n\
@@ -248,6 +255,13 @@ pub const LARGEST: Setup<'static> = Setup {
     passwd: Some(PASSWD),
     group: Some(GROUP),
     dump: Some(LARGEST_DUMP),
+};
+
+/// The root alone, with nothing below it.
+pub const ROOT: Setup<'static> = Setup {
+    passwd: Some(PASSWD),
+    group: Some(GROUP),
+    dump: Some(ROOT_DUMP),
 };
 
 /// Groups without users, and a file whose owner is a number.
