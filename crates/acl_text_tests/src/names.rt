@@ -103,19 +103,6 @@ static ORDERED: [(&[u8], &[u8]); 4] = [
     (b"a-b", b"b"),
 ];
 
-fn order(rt: &impl Abort, alloc: Global, first: &[u8], second: &[u8]) -> Ordering {
-    let first = path(rt, alloc, first);
-    first.order(&path(rt, alloc, second))
-}
-
-#[test]
-fn paths_are_in_order(rt: HostRuntime) {
-    for (at, (first, second)) in ORDERED.iter().enumerate() {
-        assert!(rt; order(&rt, rt.alloc(), first, second).is_lt(), "row {at}");
-        assert!(rt; order(&rt, rt.alloc(), second, first).is_gt(), "row {at}");
-    }
-}
-
 /// The path of the text, each of its components in an allocation of its own.
 fn path_in_parts(rt: &impl Abort, alloc: Global, text: &[u8]) -> Path {
     let whole = path(rt, alloc, text);
@@ -137,6 +124,25 @@ fn held(rt: &impl Abort, alloc: Global, text: &[u8], in_parts: bool) -> Path {
     }
 }
 
+/// Whether a path and another one are held in parts.
+static HELD: [(bool, bool); 4] = [(false, false), (true, true), (true, false), (false, true)];
+
+fn expect_order(rt: &impl Abort, alloc: Global, first_in_parts: bool, second_in_parts: bool) {
+    for (at, (first, second)) in ORDERED.iter().enumerate() {
+        let first = held(rt, alloc, first, first_in_parts);
+        let second = held(rt, alloc, second, second_in_parts);
+        assert!(rt; first.order(&second).is_lt(), "row {at}");
+        assert!(rt; second.order(&first).is_gt(), "row {at}");
+    }
+}
+
+#[test]
+fn paths_are_in_order(rt: HostRuntime) {
+    for (first, second) in &HELD {
+        expect_order(&rt, rt.alloc(), *first, *second);
+    }
+}
+
 /// A path, and another one: whether the path is the other one or below it, and whether it is below it.
 static BELOW: [(&[u8], &[u8], bool, bool); 6] = [
     (b"a/b", b"a", true, true),
@@ -155,9 +161,6 @@ fn expect_below(rt: &impl Abort, alloc: Global, below_in_parts: bool, top_in_par
         assert!(rt; below.is_below(&top) == *is_below, "row {at}");
     }
 }
-
-/// Whether a path and another one are held in parts.
-static HELD: [(bool, bool); 4] = [(false, false), (true, true), (true, false), (false, true)];
 
 #[test]
 fn paths_below_others(rt: HostRuntime) {
