@@ -36,7 +36,7 @@ BUILT = folder_of(PROGRAM, "out", PROGRAM)
 TARGET = "x86_64-unknown-linux-gnu"
 KEPT = os.path.join(TOP, "out", "proved")
 GIGABYTES_A_CRATE = 4
-# of a crate beside the one with the longest way: a check that is shared takes a minute of processor more
+# of a crate beside the one with the longest way: a check that is shared takes more processor time
 CHECKS_OF_OTHERS = 1
 
 
@@ -59,19 +59,26 @@ class Kept:
 
     def __init__(self, crates: Crates, kit: Kit) -> None:
         self.crates, self.kit = crates, kit
-        self.sums: Dict[str, str] = {}
+        self.sums = self.sums_now()
 
-    def sum_of(self, crate: str) -> str:
-        """A sum of the kit, of the files of a crate, and of those of all crates below it."""
-        if crate not in self.sums:
-            found = hashlib.sha256(self.kit.version + self.crates.rows[crate].encode())
-            for path in files_of(crate):
-                with open(path, "rb") as file:
-                    found.update(repr((os.path.relpath(path, TOP), file.read())).encode())
-            for used in self.crates.uses[crate]:
-                found.update(self.sum_of(used).encode())
-            self.sums[crate] = found.hexdigest()
-        return self.sums[crate]
+    def sums_now(self) -> Dict[str, str]:
+        """For each crate a sum of the kit, of its files as they are now, and of those of all crates below it."""
+        sums: Dict[str, str] = {}
+
+        def sum_of(crate: str) -> str:
+            if crate not in sums:
+                found = hashlib.sha256(self.kit.version + self.crates.rows[crate].encode())
+                for path in files_of(crate):
+                    with open(path, "rb") as file:
+                        found.update(repr((os.path.relpath(path, TOP), file.read())).encode())
+                for used in self.crates.uses[crate]:
+                    found.update(sum_of(used).encode())
+                sums[crate] = found.hexdigest()
+            return sums[crate]
+
+        for crate in self.crates.needed(PROGRAM):
+            sum_of(crate)
+        return sums
 
     def library(self, crate: str) -> str:
         return os.path.join(KEPT, crate + ".rlib")
@@ -79,9 +86,9 @@ class Kept:
     def text(self, crate: str) -> str:
         """What stands beside a crate that is proved: the sum, and of the program its own too."""
         if crate != PROGRAM:
-            return self.sum_of(crate)
+            return self.sums[crate]
         with open(BUILT, "rb") as program:
-            return f"{self.sum_of(crate)} {hashlib.sha256(program.read()).hexdigest()}"
+            return f"{self.sums[crate]} {hashlib.sha256(program.read()).hexdigest()}"
 
     def has(self, crate: str) -> bool:
         """Whether a crate is proved as it is now."""
@@ -99,6 +106,9 @@ class Kept:
         return {crate for crate in proved if self.crates.needed(crate) <= proved}
 
     def note(self, crate: str) -> None:
+        """Notes that a crate is proved, unless files that its check may have read have changed since the script began."""
+        if self.sums_now()[crate] != self.sums[crate]:
+            raise script.Failed(f"files of {crate} or below it were changed while it was proved: run this again")
         with open(os.path.join(KEPT, crate + ".sum"), "w", encoding="ascii") as text:
             text.write(self.text(crate))
 
