@@ -1,8 +1,8 @@
 -- What is granted after a line.
-use Rattle.std.proofs.Common.{◌≡◌, ℕ, ◌+◌, ◌-◌, ◌<◌, ◌++◌, ◌||◌, false, List, [], ◌∷◌, length, map, filter, get_or, Some, refl, sym, ap, subst, ◌∙◌, arith}
-use Rattle.std.specs.Prelude.{count_by, slice_get, option_map}
+use Rattle.std.proofs.Common.{◌≡◌, ℕ, ◌+◌, ◌-◌, ◌++◌, ◌||◌, false, List, [], ◌∷◌, length, map, filter, Some, None, refl, sym, ap, subst, ◌∙◌, arith}
+use Rattle.std.specs.Prelude.{count_by, slice_get}
 use Rattle.std.specs.List.{AllByRecursion}
-use Rattle.std.proofs.lemmas.List.{length-map, length-append}
+use Rattle.std.proofs.lemmas.List.{length-append}
 use Rattle.acl_tree.specs.acl_entry.Mentions.{AgreeOnMentions}
 use Rattle.acl_tree.specs.acl_entry.Person.{Person}
 use Rattle.acl_tree.specs.acl_entry.declared.label.Label.{Label}
@@ -24,19 +24,19 @@ use Rattle.acl_verdicts.specs.declared.ways.Ways.{Ways}
 use Rattle.acl_rights.specs.Tables.{Verdict, rows_of}
 use Rattle.acl_rights.specs.Stages.{mentions_one}
 use Rattle.acl_rights.specs.Reach.{moves_refreshed, verdicts_refreshed}
-use Rattle.acl_rights.specs.declared.label_rows.LabelRows.{LabelRows}
-use Rattle.acl_rights.specs.declared.grants.Grants.{Grants}
-use Rattle.acl_rights.specs.Labels.{labelled, row_of, AreLabelled, AreJudged, AreLonger, AreShorter, AreAgain, AreChangedRows}
+use Rattle.acl_verdicts.specs.declared.label_rows.LabelRows.{LabelRows}
+use Rattle.acl_verdicts.specs.declared.grants.Grants.{Grants}
+use Rattle.acl_verdicts.specs.Labels.{labelled, row_of, AreLabelled, AreJudged, AreLonger, AreShorter, AreAgain, AreChangedRows}
 use Rattle.acl_rights.specs.Grants.{rows_at, AreGrants, GoesOn}
-use Rattle.acl_rights.proofs.Maps.{map_filter, same_length}
-use Rattle.acl_rights.proofs.Orders.{same_order}
-use Rattle.std.proofs.lemmas.Option.{slice_get-map, slice_get-get_or}
+use Rattle.acl_verdicts.proofs.Maps.{map_filter, same_length}
+use Rattle.acl_verdicts.proofs.Orders.{same_order}
 use Rattle.acl_rights.proofs.Costs.{nothing_changed}
 use Rattle.acl_rights.proofs.Counts.{person_same}
-use Rattle.acl_rights.proofs.Numbers.{get_later}
+use Rattle.acl_verdicts.proofs.Numbers.{get_later}
 use Rattle.acl_rights.proofs.Goes.{moves, joins, leaves}
 use Rattle.acl_rights.proofs.Refreshing.{pairs_paths, count_lying, users_refreshed}
-use Rattle.acl_rights.proofs.Judged.{labelled_paths, numbers_in, rows_are, judged_are, changed_labelled, changed_judged, longer_labelled, longer_judged, shorter_labelled, shorter_judged, again_labelled, again_judged}
+use Rattle.acl_verdicts.proofs.Labelled.{labelled_paths, numbers_in, rows_are, judged_are, grants_made}
+use Rattle.acl_rights.proofs.Judged.{changed_labelled, changed_judged, longer_labelled, longer_judged, shorter_labelled, shorter_judged, again_labelled, again_judged}
 
 pub below_paths : {A : Type 0} (es : List (PathOf × A)) (fs : Files) → map (λ (e : PathOf × A). e.0) es ≡ map (λ (e : PathOf × Node). e.0) fs → (p : PathOf) → holds_below es p ≡ holds_below fs p
 below_paths [] [] h p = refl
@@ -60,18 +60,6 @@ pub none_labelled : (rows : LabelRows) → rows.numbers ≡ [] → rows.labels �
 none_labelled rows numbers labels cells = record { long = ap length cells ∙ sym (ap length labels); are = ap (labelled rows.labels) numbers }
 
 -- grants that are made of rows and steps
-pub grants_made : (rows : LabelRows) (ways : Ways) (new : Grants) → new.rows ≡ rows → new.ways ≡ ways → new.reaches ≡ reaches_of rows.cells ways.steps
-    → (fs : Files) → AreLabelled fs rows → AreSteps ways.steps ways.places rows.numbers → HaveRows (length rows.cells) ways.steps → AreGrants fs new
-grants_made rows ways new same_rows same_ways reaches fs w steps within =
-    let r = sym same_rows in
-    let y = sym same_ways in
-    record {
-      labelled = subst (AreLabelled fs) r w;
-      steps = subst (λ (x : LabelRows). AreSteps new.ways.steps new.ways.places x.numbers) r (subst (λ (x : Ways). AreSteps x.steps x.places rows.numbers) y steps);
-      within = subst (λ (x : LabelRows). HaveRows (length x.cells) new.ways.steps) r (subst (λ (x : Ways). HaveRows (length rows.cells) x.steps) y within);
-      reaches = reaches ∙ (λ i. reaches_of (r i).cells (y i).steps);
-    }
-
 -- where files keep their numbers, they keep their steps
 pub grants_kept : (rows : LabelRows) (ways : Ways) (old new : Grants) → new.rows ≡ rows → new.ways ≡ ways → new.reaches ≡ reaches_of rows.cells ways.steps → ways ≡ old.ways
     → (es fs : Files) → AreGrants es old → AreLabelled fs rows → rows.numbers ≡ old.rows.numbers → rows.labels ≡ old.rows.labels → AreGrants fs new
@@ -191,18 +179,21 @@ module _ (V : Verdict) (g : Grants) (t : StagedState) (goes : GoesOn V g t) (ord
   joined_long is = numbers_long gs g.rows (same_files (joins V (rows_at g) t goes.goes is).0)
 
   -- the user who came is the last of those who are there
-  pub joined_last : {S : Type 0} (f : S → Person) (ss : List S) (is : t.user_change ≡ Added) (s : S) → map f ss ≡ us → s ≡ get_or ss (length ss - 1) s → us ≡ before ++ f s ∷ []
-  joined_last f ss is s are last =
+  last_of_all : t.user_change ≡ Added → (next : Person) × ((us ≡ before ++ next ∷ []) × (slice_get us (length us - 1) ≡ Some next))
+  last_of_all is =
       let j = (joins V (rows_at g) t goes.goes is).1 in
       let long = length-append before (j.next ∷ []) in
-      let wide = ap length (are ∙ j.becomes) in
-      let mapped = length-map ss f in
-      let i = length ss - 1 in
-      let at : i ≡ length before + 0 = omega (arith, long, wide, mapped) in
-      let within : i < length ss = omega (arith, long, wide, mapped) in
-      let got : slice_get ss i ≡ Some s = slice_get-get_or ss i s within ∙ ap Some (sym last) in
-      let same = sym (slice_get-map f ss i ∙ ap (option_map f) got) ∙ ap (λ (l : List Person). slice_get l i) (are ∙ j.becomes) ∙ get_later before (j.next ∷ []) i 0 at in
-      j.becomes ∙ ap (λ (u : Person). before ++ u ∷ []) (sym (person_same (f s) j.next same))
+      let wide = ap length j.becomes in
+      let at : length us - 1 ≡ length before + 0 = omega (arith, long, wide) in
+      (j.next, (j.becomes, ap (λ (l : List Person). slice_get l (length us - 1)) j.becomes ∙ get_later before (j.next ∷ []) (length us - 1) 0 at))
+
+  pub joined_last : (is : t.user_change ≡ Added) (u : Person) → slice_get us (length us - 1) ≡ Some u → us ≡ before ++ u ∷ []
+  joined_last is u got =
+      let l = last_of_all is in
+      l.1.0 ∙ ap (λ (u : Person). before ++ u ∷ []) (person_same l.0 u (sym l.1.1 ∙ got))
+
+  pub joined_some : t.user_change ≡ Added → slice_get us (length us - 1) ≡ None → ⊥
+  joined_some is none = let e = sym (last_of_all is).1.1 ∙ none in cc
 
   module _ (is : t.user_change ≡ Added) (u : Person) (last : us ≡ before ++ u ∷ []) (new : LabelRows) (h : AreLonger V u g.rows new) where
     pub joined_labelled : AreLabelled gs new

@@ -14,7 +14,7 @@ use Rattle.acl_tree.specs.Files.{PathOf, Files}
 use Rattle.acl_tree.specs.acl_people.KnownPeople.{person, persons}
 use Rattle.acl_tree.specs.Step.{State}
 use Rattle.acl_rights.specs.Tables.{Verdict, VerdictTable, IsWhole, Rows, cells_of, rows_of, cell_at, places_from, who_in, grants_to, may_in, verdict_at, users_granted, files_granted}
-use Rattle.acl_rights.proofs.Maps.{find-values}
+use Rattle.acl_verdicts.proofs.Maps.{find-values}
 
 pub got-map : {A B : Type 0} (f : A → B) (xs : List A) (i : ℕ) → slice_get (map f xs) i ≡ option_map f (slice_get xs i)
 got-map f [] i = refl

@@ -18,7 +18,8 @@ use Rattle.acl_tree.specs.declared.user_change.UserChange.TheVariants.{Unchanged
 use Rattle.path_map.specs.Entries.{IsInOrder}
 use Rattle.acl_rights.specs.Tables.{Verdict, Rows}
 use Rattle.acl_rights.specs.Kept.{GoesFrom}
-use Rattle.acl_rights.proofs.Maps.{map_filter, find-filter, same_found}
+use Rattle.acl_verdicts.proofs.Maps.{map_filter, find-filter, same_found, one_more}
+use Rattle.acl_verdicts.proofs.RowLists.{times_le}
 use Rattle.acl_rights.proofs.Goes.{moves, moved_user_in, joins}
 use Rattle.acl_rights.specs.Stages.{mentions_one, moves_asked, most_asked}
 
@@ -47,16 +48,8 @@ joined_cost t is =
 
 -- ---- a line costs no more than every user at every file
 
-one_more : (n u : ℕ) → suc n * u ≡ u + n * u
-one_more n u = grind arith
-
 no_times : (u : ℕ) → 0 * u ≡ 0
 no_times u = grind arith
-
-pub times_le : (a b u : ℕ) → a ≤ b → a * u ≤ b * u
-times_le zero b u h = omega arith
-times_le (suc a) zero u h = absurd (omega arith)
-times_le (suc a) (suc b) u h = omega (arith, one_more a u, one_more b u, times_le a b u (omega arith))
 
 some_times : (n u : ℕ) → 0 < u → n ≤ n * u
 some_times zero u h = omega arith

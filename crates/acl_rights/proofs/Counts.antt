@@ -18,7 +18,8 @@ use Rattle.path_map.specs.Entries.{IsInOrder}
 use Rattle.acl_rights.specs.Tables.{Rows}
 use Rattle.acl_rights.specs.Reach.{reached_from}
 use Rattle.acl_verdicts.specs.Differing.{fails_from}
-use Rattle.acl_rights.proofs.Maps.{map_values, map_filter, find-values, find-filter, same_found}
+use Rattle.acl_verdicts.proofs.Maps.{map_filter, find-values, find-filter, same_found}
+use Rattle.acl_verdicts.proofs.Orders.{in_order-values}
 
 pub clash : (b : Bool) → b ≡ true → b ≡ false → ⊥
 clash b h k = cc
@@ -157,8 +158,8 @@ pub alike_above : {A B : Type 0} (f : A → Bool) (g : B → Bool) (p : PathOf) 
 alike_above {A = A} {B = B} f g p es fs o r h =
     all_kept f p es
     ∙ ap (list_all (λ (e : PathOf × Bool). e.1)) (same_found (map (λ (e : PathOf × A). (e.0, f e.1)) (filter (λ e. is_above e.0 p) es)) (map (λ (e : PathOf × B). (e.0, g e.1)) (filter (λ e. is_above e.0 p) fs))
-    (map_values (λ (e : PathOf × A). f e.1) (filter (λ e. is_above e.0 p) es) (map_filter (λ e. is_above e.0 p) es o))
-    (map_values (λ (e : PathOf × B). g e.1) (filter (λ e. is_above e.0 p) fs) (map_filter (λ e. is_above e.0 p) fs r))
+    (in_order-values (λ (e : PathOf × A). f e.1) (filter (λ e. is_above e.0 p) es) (map_filter (λ e. is_above e.0 p) es o))
+    (in_order-values (λ (e : PathOf × B). g e.1) (filter (λ e. is_above e.0 p) fs) (map_filter (λ e. is_above e.0 p) fs r))
     (λ q. found_kept f p q es o ∙ by q (is_above q p) refl ∙ sym (found_kept g p q fs r)))
     ∙ sym (all_kept g p fs)
   where
@@ -180,10 +181,6 @@ sum_le f F a P [] all h = omega arith
 sum_le f F a P (e ∷ es) all h =
     let more = sum_le f F a P es all.1 h in
     omega (arith, sum_by-cons F (f e) (map f es), sum_by-cons a e es, h e all.0, more)
-
-pub map_twice : {A B C : Type 0} (f : A → B) (g : B → C) (es : List A) → map g (map f es) ≡ map (λ e. g (f e)) es
-map_twice f g [] = refl
-map_twice f g (e ∷ es) = ap (λ l. g (f e) ∷ l) (map_twice f g es)
 
 pub finds : {A : Type 0} (all pre es : List (PathOf × A)) → pre ++ es ≡ all → IsInOrder all → AllByRecursion (λ e. find path_cmp e.0 all ≡ Some e.1) es
 finds all pre [] is o = tt

@@ -9,7 +9,7 @@ use Rattle.acl_tree.specs.declared.user_change.UserChange.TheVariants.{Membershi
 use Rattle.path_map.specs.Entries.{IsInOrder}
 use Rattle.acl_rights.specs.Tables.{Verdict, Rows, rows_of}
 use Rattle.acl_rights.specs.Kept.{GoesFrom}
-use Rattle.acl_rights.proofs.Orders.{same_order}
+use Rattle.acl_verdicts.proofs.Orders.{same_order}
 use Rattle.acl_rights.proofs.Lines.{row_paths, moved_in, moved_long}
 
 module _ (V : Verdict) (rows : Rows) (t : StagedState) (goes : GoesFrom V rows t) where

@@ -10,9 +10,9 @@ use Rattle.acl_verdicts.specs.declared.steps.Step.{Step}
 use Rattle.acl_verdicts.specs.Reach.{reached_rows}
 use Rattle.acl_verdicts.specs.Ways.{Numbers, Way, rows_in, ways, ways_of, wayed, known, reached_by, reaches_of, AreNumbers}
 use Rattle.acl_verdicts.proofs.Reaching.{reach_at, reached_places}
-use Rattle.acl_rights.specs.declared.grants.Grants.{Grants}
+use Rattle.acl_verdicts.specs.declared.grants.Grants.{Grants}
 use Rattle.acl_rights.specs.Grants.{rows_at, AreGrants}
-use Rattle.acl_rights.proofs.Judged.{numbers_in}
+use Rattle.acl_verdicts.proofs.Labelled.{numbers_in}
 
 rows_found : (cells : List (List ℕ)) (ns : Numbers) → AreNumbers (length cells) ns → (p : PathOf) → option_and_then (slice_get cells) (find path_cmp p ns) ≡ find path_cmp p (rows_in cells ns)
 rows_found cells [] h p = refl

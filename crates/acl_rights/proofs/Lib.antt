@@ -1,4 +1,3 @@
-pub mod Orders
 pub mod Lines
 pub mod Goes
 pub mod Costs
@@ -7,12 +6,9 @@ pub mod AskedAlong
 pub mod Reached
 pub mod Counts
 pub mod Refreshed
-pub mod Maps
 pub mod Listed
 pub mod Replaced
 pub mod Noting
-pub mod Numbers
-pub mod RowLists
 pub mod Judged
 pub mod Refreshing
 pub mod After

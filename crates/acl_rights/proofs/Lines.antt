@@ -24,7 +24,8 @@ use Rattle.acl_rights.specs.Stages.{mentions_one}
 use Rattle.path_map.specs.Merged.{merged, put_all}
 use Rattle.path_map.proofs.Merges.{in_order-put_all}
 use Rattle.path_map.proofs.Rows.{find_put_all, rows_merged}
-use Rattle.acl_rights.proofs.Maps.{map_values, map_filter, find-values, find-filter, same_found}
+use Rattle.acl_verdicts.proofs.Maps.{map_filter, find-values, find-filter, same_found}
+use Rattle.acl_verdicts.proofs.Orders.{in_order-values}
 
 -- ---- files that change
 
@@ -131,9 +132,9 @@ module _ (V : Verdict) (us ws : List Person) (at : ℕ) (groups : List ℕ) (m :
     pub moved_whole : (fs : Files) → IsInOrder fs → put_all (rows_of V ws (filter (mentions_one groups) fs)) (rows_of V us fs) ≡ rows_of V ws fs
     moved_whole fs o =
         let puts = rows_of V ws (filter (mentions_one groups) fs) in
-        let puts_order = map_values (λ (e : PathOf × Node). cells_of V ws e.1) (filter (mentions_one groups) fs) (map_filter (mentions_one groups) fs o) in
+        let puts_order = in_order-values (λ (e : PathOf × Node). cells_of V ws e.1) (filter (mentions_one groups) fs) (map_filter (mentions_one groups) fs o) in
         same_found (put_all puts (rows_of V us fs)) (rows_of V ws fs)
-        (in_order-put_all puts (rows_of V us fs) (map_values (λ (e : PathOf × Node). cells_of V us e.1) fs o)) (map_values (λ (e : PathOf × Node). cells_of V ws e.1) fs o) (λ p.
+        (in_order-put_all puts (rows_of V us fs) (in_order-values (λ (e : PathOf × Node). cells_of V us e.1) fs o)) (in_order-values (λ (e : PathOf × Node). cells_of V ws e.1) fs o) (λ p.
         find_put_all p puts (rows_of V us fs) puts_order
         ∙ (λ i. option_or ((find-values (cells_of V ws) p (filter (mentions_one groups) fs) ∙ ap (option_map (cells_of V ws)) (find-filter (mentions_one groups) p fs o)) i) (find-values (cells_of V us) p fs i))
         ∙ row_moved (find path_cmp p fs)
@@ -174,9 +175,3 @@ module _ (V : Verdict) where
   pub row_paths : (us : List Person) (fs : Files) → map (λ (r : PathOf × List ℕ). r.0) (rows_of V us fs) ≡ map (λ (e : PathOf × Node). e.0) fs
   row_paths us [] = refl
   row_paths us (e ∷ fs) = ap (λ ps. e.0 ∷ ps) (row_paths us fs)
-
--- ---- a file with the label of another
-
-map_twice : {A B C : Type 0} (f : A → B) (g : B → C) (es : List A) → map g (map f es) ≡ map (λ e. g (f e)) es
-map_twice f g [] = refl
-map_twice f g (e ∷ es) = ap (λ l. g (f e) ∷ l) (map_twice f g es)

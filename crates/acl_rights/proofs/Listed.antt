@@ -18,7 +18,8 @@ use Rattle.path_map.proofs.Rows.{find_put_all}
 use Rattle.acl_rights.specs.declared.lists.GroupLists.{GroupLists}
 use Rattle.acl_rights.specs.Groups.{mentions_group, mentions_one, set_of, mentioning, list_at, AreLists, sum_mentioning}
 use Rattle.acl_rights.specs.Inner.{has_one}
-use Rattle.acl_rights.proofs.Maps.{map_values, map_filter, find-values, find-filter, if_passes, same_found}
+use Rattle.acl_verdicts.proofs.Maps.{map_filter, find-values, find-filter, if_passes, same_found}
+use Rattle.acl_verdicts.proofs.Orders.{in_order-values}
 
 abbrev pub unit : Node → Unit {0}
 unit n = tt
@@ -38,7 +39,7 @@ pub set_found : (p : PathOf) (test : PathOf × Node → Bool) (fs : Files) → I
 set_found p test fs order = find-values unit p (filter test fs) ∙ ap (option_map unit) (find-filter test p fs order)
 
 pub set_order : (test : PathOf × Node → Bool) (fs : Files) → IsInOrder fs → IsInOrder (set_of (filter test fs))
-set_order test fs order = map_values (λ (e : PathOf × Node). tt) (filter test fs) (map_filter test fs order)
+set_order test fs order = in_order-values (λ (e : PathOf × Node). tt) (filter test fs) (map_filter test fs order)
 
 -- these paths and others
 pub united_are : (test other : PathOf × Node → Bool) (fs : Files) → IsInOrder fs → put_all (set_of (filter other fs)) (set_of (filter test fs)) ≡ set_of (filter (λ e. test e || other e) fs)

@@ -14,7 +14,8 @@ use Rattle.path_map.specs.Below.{within, lies_in}
 use Rattle.acl_verdicts.specs.Subtrees.{covers, AreWalked}
 use Rattle.acl_verdicts.proofs.Tops.{tops_walk}
 use Rattle.acl_rights.specs.Reach.{moves_refreshed, verdicts_refreshed}
-use Rattle.acl_rights.proofs.Costs.{few_pass, times_le}
+use Rattle.acl_rights.proofs.Costs.{few_pass}
+use Rattle.acl_verdicts.proofs.RowLists.{times_le}
 
 pub no_length : {A : Type 0} (xs : List A) → length xs ≡ 0 → xs ≡ []
 no_length [] h = refl

@@ -25,7 +25,7 @@ use Rattle.path_map.proofs.Rows.{find_merged}
 use Rattle.acl_rights.specs.Groups.{mentions_group, PathSet, set_of}
 use Rattle.acl_rights.specs.Inner.{mentioned_group, same_ids, same_mentions, is_regrouped, regrouped, ByGroups, noted_at, list_with, AreNone}
 use Rattle.acl_rights.specs.declared.lists.ListChanges.{ListChanges}
-use Rattle.acl_rights.proofs.Maps.{map_filter, find-filter, if_passes, same_found}
+use Rattle.acl_verdicts.proofs.Maps.{map_filter, find-filter, if_passes, same_found}
 use Rattle.acl_rights.proofs.Listed.{unit, set_found, set_order}
 
 -- ---- files that mention other groups than before

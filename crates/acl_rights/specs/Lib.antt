@@ -7,7 +7,6 @@ pub mod Verdicts
 pub mod Kept
 pub mod Groups
 pub mod Inner
-pub mod Labels
 pub mod Grants
 pub use Rattle.acl_tree.specs.acl_dump
 pub use Rattle.acl_tree.specs.acl_edit

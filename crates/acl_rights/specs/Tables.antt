@@ -4,21 +4,12 @@ use Rattle.std.specs.Coded.{Coded, code_by, coded×, coded_ℕ}
 use Rattle.std.specs.FinMap.{find}
 use Rattle.acl_tree.specs.acl_entry.Check.{has}
 use Rattle.acl_tree.specs.acl_entry.Perms.{Perms}
-use Rattle.acl_tree.specs.acl_entry.Person.{Person}
 use Rattle.acl_tree.specs.acl_names.Paths.{path_cmp}
 use Rattle.acl_tree.specs.acl_people.KnownPeople.{persons}
-use Rattle.acl_tree.specs.acl_edit.declared.node.Node.{Node}
 use Rattle.acl_tree.specs.Files.{PathOf, Files}
 use Rattle.acl_tree.specs.Step.{State}
 use Rattle.acl_tree.specs.Reports.{coded_files}
-pub use Rattle.acl_verdicts.specs.Rows.{Verdict, Rows, coded_rows, places_from, who_in, grants_to, may_in}
-
--- what each user may do with a file
-abbrev pub cells_of : Verdict → List Person → Node → List ℕ
-cells_of V users n = map (λ u. V u n.label) users
-
-abbrev pub rows_of : Verdict → List Person → Files → Rows
-rows_of V users fs = map (λ e. (e.0, cells_of V users e.1)) fs
+pub use Rattle.acl_verdicts.specs.Rows.{Verdict, Rows, cells_of, rows_of, coded_rows, places_from, who_in, grants_to, may_in}
 
 -- how many users there are, the files, and a row for each
 pub record VerdictTable : Type 0 where

@@ -1,14 +1,15 @@
 //! The index: the whole table of verdicts of a state, and of verdicts along paths.
 
 ghost use Rattle.std.specs.Prelude.{◌≡◌, ◌+◌, ◌*◌, ◌<◌, ◌≤◌, ◌^◌, length, IfOk, OnOk, true};
+ghost use Rattle.acl_tree.specs.acl_people.KnownPeople.{persons};
+ghost use Rattle.acl_rights.specs.Tables.{rows_of};
+ghost use Rattle.acl_rights.specs.Grants.{rows_at, AreGrants};
 
-use crate::grants::Grants;
-use crate::label_rows::LabelRows;
 use crate::lists::{GroupLists, records};
 use crate::stage::{After, after_line};
 use acl_tree::{NoMemory, People, Staged, Tree};
-use acl_verdicts::Judge;
-use std::alloc::Global;
+use acl_verdicts::{Grants, Judge, LabelRows};
+use std::alloc::{AllocError, Global};
 use std::marker::{Model, PhantomData};
 use std::mem;
 
@@ -98,6 +99,27 @@ impl Rows {
     }
 }
 
+/// What is granted on all files: a verdict is asked for on every user and every file.
+fn all_granted<J: Judge>(
+    alloc: Global,
+    judge: &mut J,
+    tree: &Tree,
+    people: &People,
+) -> Result<Grants, AllocError>
+    requires room { J.asked_of judge.old + length tree.now.files * length people.now.users < 2 ^ 64 }
+    ensures grants { IfOk result (λ new. AreGrants tree.now.files new) }
+    ensures rows { IfOk result (λ new. rows_at new ≡ rows_of J.verdict_of (persons people.now) tree.now.files) }
+    ensures asked { OnOk result (J.asked_of judge.new ≡ J.asked_of judge.old + length tree.now.files * length people.now.users) }
+    ensures at_most { J.asked_of judge.new ≤ J.asked_of judge.old + length tree.now.files * length people.now.users }
+{
+    tree.soundness_law();
+    let files = records(alloc, tree)?;
+    let rows = LabelRows::of_files(alloc, judge, &files, people.all_subjects())?;
+    let new = Grants::of(alloc, rows, files.len())?;
+    drop(files);
+    Ok(new)
+}
+
 impl<J: Judge> Index<J> {
     ghost use Rattle.acl_rights.specs.Tables.{IsWhole};
     ghost use Rattle.acl_rights.specs.Stages.{CanStage, most_asked, most_looked, moves_looked, moves_groups};
@@ -115,15 +137,12 @@ impl<J: Judge> Index<J> {
         ensures asked { OnOk result (J.asked_of judge.new ≡ J.asked_of judge.old + length tree.now.files * length people.now.users) }
         ensures at_most { J.asked_of judge.new ≤ J.asked_of judge.old + length tree.now.files * length people.now.users }
     {
-        tree.soundness_law();
+        let grants = all_granted(alloc, judge, tree, people)?;
         let lists = GroupLists::of_tree(alloc, tree)?;
-        let shared = tree.share()?;
-        let files = records(alloc, tree)?;
-        let rows = LabelRows::of_files(alloc, judge, &files, people.all_subjects())?;
         let table = VerdictTable {
             users: people.users(),
-            tree: shared,
-            grants: Grants::of(alloc, rows, files.len())?,
+            tree: tree.share()?,
+            grants,
             lists,
         };
         Ok(Index {

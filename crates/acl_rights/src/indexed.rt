@@ -6,10 +6,9 @@ ghost use Rattle.acl_rights.specs.Stages.{most_asked};
 ghost use Rattle.acl_rights.specs.Tables.{IsWhole};
 ghost use Rattle.acl_rights.specs.Verdicts.{can_requests, users_granted, paths_granted, rows_granted};
 
-use crate::grants::FileRows;
 use crate::index::Index;
 use acl_tree::{Path, Perm, Requests, Staged, State};
-use acl_verdicts::Judge;
+use acl_verdicts::{FileRows, Judge};
 use std::alloc::{AllocError, Global};
 use std::marker::Model;
 use std::rc::Rc;

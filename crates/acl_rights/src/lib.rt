@@ -2,19 +2,14 @@
 //! group the files whose labels mention it, by which a change of memberships finds them.
 #![tactic(auto)]
 
-mod grants;
 mod index;
 mod indexed;
 mod indexed_states;
-mod label_rows;
-mod labels;
 mod lists;
-mod marks;
 mod mentioned;
 mod paths_of_groups;
 mod questions;
 mod stage;
-mod user_rows;
 
 pub use acl_tree::{
     Acl, Change, ChangeEntries, ChangeFlags, Command, Draft, DumpRecord, DumpRecords, DumpUse,
@@ -26,8 +21,7 @@ pub use acl_tree::{
     read_name, read_path, read_perms, records_are_read_again, restore_of_what_is_changes_nothing,
     trim, write_name,
 };
-pub use acl_verdicts::{Judge, Posix, Subjects, same_row};
-pub use grants::{FileRow, FileRows};
+pub use acl_verdicts::{FileRow, FileRows, Judge, Posix, Subjects, same_row};
 pub use index::{Index, Rows};
 pub use indexed::{IndexedState, Verdicts};
 pub use indexed_states::{IndexedStates, States};

@@ -155,8 +155,12 @@ impl GroupLists {
         let empty = Tree::new(alloc)?;
         let files = records(alloc, tree)?;
         let gone: Vec<Rc<Record>> = Vec::new(alloc);
-        let lists = none.staged(alloc, &empty, tree, &files, &gone)?;
-        Ok(lists)
+        let lists = none.staged(alloc, &empty, tree, &files, &gone);
+        drop(gone);
+        drop(files);
+        drop(empty);
+        drop(none);
+        lists
     }
 
     /// The lists of a new tree, where these are those of the old one. Only the lists of groups that a file mentions

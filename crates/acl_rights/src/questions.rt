@@ -6,10 +6,9 @@ ghost use Rattle.std.specs.FinMap.{find};
 ghost use Rattle.acl_tree.specs.acl_names.Paths.{path_cmp};
 ghost use Rattle.acl_tree.specs.Step as step;
 
-use crate::grants::FileRows;
 use crate::index::Index;
 use acl_tree::{NoMemory, Path, Perm, Requests};
-use acl_verdicts::{Judge, granted_paths, granted_users};
+use acl_verdicts::{FileRows, Judge, granted_paths, granted_users};
 use std::alloc::Global;
 use std::rc::Rc;
 
@@ -214,10 +213,7 @@ impl<J: Judge> Index<J> {
         ensures { result ≡ self.now.rows }
     {
         let now = &self.table;
-        FileRows {
-            numbers: now.grants.rows.numbers.iter(),
-            cells: &now.grants.rows.cells,
-        }
+        FileRows::of(&now.grants.rows.numbers, &now.grants.rows.cells)
     }
 
     /// Each file with what of its row is left with search along its path.
@@ -225,10 +221,7 @@ impl<J: Judge> Index<J> {
         ensures { result ≡ reached_rows self.now.rows }
     {
         let now = &self.table;
-        FileRows {
-            numbers: now.grants.ways.places().iter(),
-            cells: &now.grants.reaches,
-        }
+        FileRows::of(now.grants.ways.places(), &now.grants.reaches)
     }
 
     /// Each file with what each user may do with it, in path order; with `along` only where the user can search each

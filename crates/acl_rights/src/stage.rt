@@ -1,6 +1,6 @@
 //! What is granted, and what is reached, after a line, by how the line moves the users.
 
-ghost use Rattle.std.specs.Prelude.{◌≡◌, ◌+◌, ◌*◌, ◌<◌, ◌≤◌, ◌^◌, true, [], Some, length, map, slice_get, count_by, IfOk};
+ghost use Rattle.std.specs.Prelude.{◌≡◌, ◌+◌, ◌-◌, ◌*◌, ◌<◌, ◌≤◌, ◌^◌, true, false, ℕ, [], Some, length, map, get_or, slice_get, count_by, IfOk};
 ghost use Rattle.path_map.specs.Entries.{IsInOrder};
 ghost use Rattle.path_map.specs.Below.{within, lies_in};
 ghost use Rattle.acl_tree.specs.acl_people.KnownPeople.{persons};
@@ -9,15 +9,16 @@ ghost use Rattle.acl_rights.specs.Groups.{AreLists};
 ghost use Rattle.acl_rights.specs.Tables.{rows_of};
 ghost use Rattle.acl_rights.specs.Stages.{most_asked, most_looked, moves_looked, moves_groups};
 ghost use Rattle.acl_rights.specs.Reach.{verdicts_refreshed};
+ghost use Rattle.acl_verdicts.specs.Ways.{reaches_of, AreFirst};
 ghost use Rattle.acl_rights.specs.Grants.{rows_at, AreGrants, GoesOn, GoesOnFrom};
 
-use crate::grants::Grants;
-use crate::label_rows::{ChangedRows, LabelRows};
 use crate::lists::{GroupLists, records};
 use crate::paths_of_groups::paths_of_groups;
-use crate::user_rows::UpdatedRows;
 use acl_tree::{GroupIds, Path, Staged, Subject, Tree, UserChange};
-use acl_verdicts::{Judge, Numbered, UpdatedWays, is_covered, reaches_after, updated_reaches};
+use acl_verdicts::{
+    ChangedRows, Grants, Judge, LabelRows, Numbered, UpdatedRows, UpdatedWays, Ways, is_covered,
+    reaches_after, updated_reaches,
+};
 use path_map::{Finder, PathMap};
 use std::alloc::{AllocError, Global};
 use std::rc::Rc;
@@ -66,6 +67,28 @@ fn count_within(numbers: &PathMap<usize>, paths: &[Rc<Path>]) -> u64
     count
 }
 
+/// What is reached by rows and steps of which the first are known.
+fn reached_on(
+    alloc: Global,
+    grants: &Grants,
+    rows: LabelRows,
+    ways: Ways,
+) -> Result<Grants, AllocError>
+    requires { AreFirst rows.cells ways.steps grants.now.reaches }
+    ensures rows { IfOk result (λ new. new.rows ≡ rows) }
+    ensures ways { IfOk result (λ new. new.ways ≡ ways) }
+    ensures reaches { IfOk result (λ new. new.reaches ≡ reaches_of rows.cells ways.steps) }
+{
+    let none = Numbered::new(alloc);
+    let reaches = reaches_after(alloc, &rows.cells, ways.steps(), &grants.reaches, &none)?;
+    Ok(Grants {
+        rows,
+        ways,
+        reaches,
+        max_numbers: grants.max_numbers,
+    })
+}
+
 /// What is granted after a line by which files change and no user does: labels that no file had are asked for, and files
 /// that changed, and what is below them, are walked.
 fn after_files<J: Judge>(
@@ -96,15 +119,8 @@ fn after_files<J: Judge>(
         .ways
         .updated(alloc, &old.numbers, &rows.numbers, &puts, gone)?;
     let UpdatedWays { ways, walked } = updated;
-    let none = Numbered::new(alloc);
-    let reaches = reaches_after(alloc, &rows.cells, ways.steps(), &grants.reaches, &none)?;
     Ok(After {
-        grants: Grants {
-            rows,
-            ways,
-            reaches,
-            max_numbers: grants.max_numbers,
-        },
+        grants: reached_on(alloc, grants, rows, ways)?,
         looked: 0,
         refreshed: walked * staged.people().users() as u64,
     })
@@ -135,7 +151,10 @@ fn after_files_renumbered<J: Judge>(
     tree.soundness_law();
     let files = records(alloc, tree)?;
     let renumbered = grants.renumbered(alloc, &files)?;
-    after_files(alloc, judge, &renumbered, staged)
+    let new = after_files(alloc, judge, &renumbered, staged);
+    drop(renumbered);
+    drop(files);
+    new
 }
 
 /// What is granted after users or groups were loaded: no file is there.
@@ -169,6 +188,25 @@ fn moved_user<'a, J: Judge>(
     }
 }
 
+/// What is reached by rows of which some were asked for again. Files keep their steps.
+fn reached_again(alloc: Global, grants: &Grants, updated: UpdatedRows) -> Result<Grants, AllocError>
+    requires reached { grants.now.reaches ≡ reaches_of grants.now.rows.cells grants.now.ways.steps }
+    requires same { (n : ℕ) → get_or updated.marks.items n false ≡ false → get_or grants.now.rows.cells n [] ≡ get_or updated.rows.cells n [] }
+    ensures rows { IfOk result (λ new. new.rows ≡ updated.rows) }
+    ensures ways { IfOk result (λ new. new.ways ≡ grants.now.ways) }
+    ensures reaches { IfOk result (λ new. new.reaches ≡ reaches_of updated.rows.cells grants.now.ways.steps) }
+{
+    let UpdatedRows { rows, marks } = updated;
+    let ways = grants.ways.share()?;
+    let reaches = updated_reaches(alloc, &rows.cells, ways.steps(), &grants.reaches, &marks)?;
+    Ok(Grants {
+        rows,
+        ways,
+        reaches,
+        max_numbers: grants.max_numbers,
+    })
+}
+
 /// What is granted after a line that moves a user: that user's verdict is asked for again on labels of files that mention
 /// a group that joined or left. Files keep their steps.
 fn after_move<J: Judge>(
@@ -200,19 +238,24 @@ fn after_move<J: Judge>(
     let updated = grants
         .rows
         .with_user_updated(alloc, judge, paths, at, user)?;
-    let UpdatedRows { rows, marks } = updated;
-    let ways = grants.ways.share()?;
-    let reaches = updated_reaches(alloc, &rows.cells, ways.steps(), &grants.reaches, &marks)?;
+    let new = reached_again(alloc, grants, updated)?;
     Ok(After {
-        refreshed: count_within(&rows.numbers, paths),
-        grants: Grants {
-            rows,
-            ways,
-            reaches,
-            max_numbers: grants.max_numbers,
-        },
+        refreshed: count_within(&new.rows.numbers, paths),
+        grants: new,
         looked: paths.len() as u64,
     })
+}
+
+/// The user who came, the last.
+fn joined_user<'a, J: Judge>(grants: &Grants, staged: &'a Staged) -> &'a Subject
+    requires goes { GoesOn J.verdict_of grants.now staged.now }
+    requires moved { staged.now.user_change ≡ Added }
+    ensures { slice_get (persons staged.now.state.people) (length (persons staged.now.state.people) - 1) ≡ Some result.now }
+{
+    match staged.people().subjects().last() {
+        Some(user) => user,
+        None => unreachable!(),
+    }
 }
 
 /// What is granted after a line by which a user comes, the last: that user's verdict is asked for on each label that a
@@ -234,8 +277,7 @@ fn after_join<J: Judge>(
 {
     staged.tree().soundness_law();
     grants.rows.numbers.order_law();
-    let users = staged.people().subjects();
-    let user = &users[users.len() - 1];
+    let user = joined_user::<J>(grants, staged);
     let rows = grants.rows.with_user(alloc, judge, user)?;
     let ways = grants.ways.share()?;
     let none = Numbered::new(alloc);

@@ -2,6 +2,7 @@
 use acl_people::{added_member_is_removed, added_user_is_removed, group_held_otherwise_stays};
 use acl_tree::{Id, Name, Names, People, UserName};
 use std::alloc::Global;
+use std::mem;
 use std::process::Abort;
 
 const PASSWD: &[u8] = b"lisa:x:1001:50:Lisa:/home/lisa:/bin/sh\n\
@@ -14,7 +15,10 @@ adm:x:70:\nbob:x:80:bob\nsquad:x:60:joe\n";
 fn known(rt: &impl Abort, alloc: Global) -> People {
     let nobody = People::new(alloc).expect(rt, "memory");
     let users = nobody.load_passwd(alloc, PASSWD).expect(rt, "users");
-    users.load_group(alloc, GROUP).expect(rt, "groups")
+    let people = users.load_group(alloc, GROUP).expect(rt, "groups");
+    drop(users);
+    drop(nobody);
+    people
 }
 
 fn id(rt: &impl Abort, number: u32) -> Id {
@@ -217,10 +221,12 @@ fn expect_members(rt: &impl Abort, people: &People, step: &Step) {
 fn expect_steps(rt: &impl Abort, alloc: Global, steps: &[Step]) {
     let mut people = known(rt, alloc);
     for step in steps {
-        people = changed(rt, alloc, &people, step);
+        let next = changed(rt, alloc, &people, step);
+        drop(mem::replace(&mut people, next));
         expect_all_groups(rt, &people, step);
         expect_members(rt, &people, step);
     }
+    drop(people);
 }
 
 #[test]
@@ -256,6 +262,7 @@ fn words_name_groups(rt: HostRuntime) {
     for (word, want) in &WORDS {
         assert!(rt; people.find_group(word) == *want);
     }
+    drop(people);
 }
 
 fn user_name(rt: &impl Abort, alloc: Global, name: &[u8]) -> Option<UserName> {
@@ -288,9 +295,11 @@ fn with_user(
     let taken = people.has_user_named(new.as_name().as_bytes());
     assert!(rt; !taken, "the name of a user");
     assert!(rt; !people.is_full(), "no room");
-    people
+    let with_new = people
         .with_user(alloc, &new, id(rt, number), group)
-        .expect(rt, "memory")
+        .expect(rt, "memory");
+    drop(new);
+    with_new
 }
 
 #[test]
@@ -299,25 +308,31 @@ fn names_and_ids_of_users(rt: HostRuntime) {
     assert!(rt; people.has_user_named(b"joe") && !people.has_user_named(b"bob"));
     assert!(rt; people.has_user_id(id(&rt, 1000)) && !people.has_user_id(id(&rt, 1003)));
     assert!(rt; !people.has_user_named(b"1000"), "an id is no name");
+    drop(people);
 }
 
 #[test]
 fn users_come(rt: HostRuntime) {
     let alloc = rt.alloc();
-    let people = with_user(&rt, alloc, &known(&rt, alloc), b"bob", 1003, b"staff");
+    let before = known(&rt, alloc);
+    let people = with_user(&rt, alloc, &before, b"bob", 1003, b"staff");
+    drop(before);
     assert!(rt; people.find_user(b"bob") == Some(3));
     assert!(rt; people.find_user(b"1003") == Some(3));
     assert!(rt; people.user_name(id(&rt, 1003)) == Some(b"bob".as_slice()));
     // A row named bob before.
     expect_groups(&rt, &people, b"bob", &[50, 80]);
     expect_groups(&rt, &people, b"joe", &[60, 100]);
+    drop(people);
 }
 
 /// `userdel joe`
 fn without_joe(rt: &impl Abort, alloc: Global) -> People {
     let people = known(rt, alloc);
     let user = people.find_user(b"joe").expect(rt, "a user");
-    people.without_user(alloc, user).expect(rt, "memory")
+    let left = people.without_user(alloc, user).expect(rt, "memory");
+    drop(people);
+    left
 }
 
 #[test]
@@ -329,6 +344,7 @@ fn users_go(rt: HostRuntime) {
     assert!(rt; people.user_name(id(&rt, 1000)).is_none());
     expect_groups(&rt, &people, b"lisa", &[50, 60]);
     expect_groups(&rt, &people, b"ann", &[100]);
+    drop(people);
     added_user_is_removed();
 }
 
@@ -336,6 +352,9 @@ fn users_go(rt: HostRuntime) {
 #[test]
 fn users_come_again(rt: HostRuntime) {
     let alloc = rt.alloc();
-    let people = with_user(&rt, alloc, &without_joe(&rt, alloc), b"joe", 1000, b"users");
+    let before = without_joe(&rt, alloc);
+    let people = with_user(&rt, alloc, &before, b"joe", 1000, b"users");
+    drop(before);
     expect_groups(&rt, &people, b"joe", &[100]);
+    drop(people);
 }

@@ -22,7 +22,10 @@ fn known(rt: &impl Abort, alloc: Global) -> People {
     assert!(rt; !nobody.passwd_loaded() && !nobody.group_loaded());
     let with_users = nobody.load_passwd(alloc, PASSWD).expect(rt, "users");
     assert!(rt; with_users.passwd_loaded() && !with_users.group_loaded());
-    with_users.load_group(alloc, GROUP).expect(rt, "groups")
+    let people = with_users.load_group(alloc, GROUP).expect(rt, "groups");
+    drop(with_users);
+    drop(nobody);
+    people
 }
 
 fn id(rt: &impl Abort, number: u32) -> Id {
@@ -51,6 +54,7 @@ fn words_name_users(rt: HostRuntime) {
     }
     assert!(rt; people.name(3) == Some(b"twin".as_slice()));
     assert!(rt; people.name(4).is_none());
+    drop(people);
 }
 
 /// A name, and the place of the first user of it: digits too are a name.
@@ -67,6 +71,7 @@ fn users_have_names(rt: HostRuntime) {
     for (name, want) in &NAMES {
         assert!(rt; people.user_named(name) == *want);
     }
+    drop(people);
 }
 
 #[test]
@@ -79,6 +84,7 @@ fn ids_print_as_names(rt: HostRuntime) {
     );
     assert!(rt; people.group_name(id(&rt, 8)) == Some(b"wheel".as_slice()));
     assert!(rt; people.group_name(id(&rt, 60)) == Some(b"cool".as_slice()));
+    drop(people);
 }
 
 #[test]
@@ -89,6 +95,7 @@ fn names_have_ids(rt: HostRuntime) {
     assert!(rt; people.group_id(b"joe").is_none());
     people.naming_is_read_back();
     people.soundness_law();
+    drop(people);
 }
 
 /// The place of a user, a group, and whether it is one of the user's groups.
@@ -106,7 +113,10 @@ static GROUPS: [(usize, u32, bool); 10] = [
 ];
 
 fn shared(rt: &impl Abort, alloc: Global) -> People {
-    known(rt, alloc).share().expect(rt, "memory")
+    let people = known(rt, alloc);
+    let shared = people.share().expect(rt, "memory");
+    drop(people);
+    shared
 }
 
 #[test]
@@ -116,6 +126,7 @@ fn users_have_their_groups(rt: HostRuntime) {
         let subject = shared.subject_at(*user).expect(&rt, "a user");
         assert!(rt; subject.is_of(id(&rt, *group)) == *want);
     }
+    drop(shared);
 }
 
 #[test]
@@ -125,6 +136,7 @@ fn people_are_shared(rt: HostRuntime) {
     let lisa = shared.subject_at(0).expect(&rt, "lisa");
     assert!(rt; lisa.uid() == id(&rt, 1001));
     assert!(rt; shared.subject_at(4).is_none());
+    drop(shared);
 }
 
 fn expect_fault(rt: &impl Abort, loaded: Result<People, LoadFault>, want: LoadFault) {
@@ -138,6 +150,7 @@ fn texts_are_loaded_once(rt: HostRuntime) {
     expect_fault(&rt, users, LoadFault::AlreadyLoaded);
     let groups = people.load_group(rt.alloc(), b"");
     expect_fault(&rt, groups, LoadFault::AlreadyLoaded);
+    drop(people);
 }
 
 #[test]
@@ -150,13 +163,15 @@ fn bad_rows_are_not_loaded(rt: HostRuntime) {
     let groups = nobody.load_group(rt.alloc(), b"a:x:1:\nnot a row");
     expect_fault(&rt, groups, LoadFault::Text(bad));
     assert!(rt; !nobody.group_loaded());
+    drop(nobody);
 }
 
 #[test]
 fn no_users_are_loaded(rt: HostRuntime) {
-    let empty = nobody(&rt, rt.alloc())
-        .load_passwd(rt.alloc(), b"")
-        .expect(&rt, "users");
+    let nobody = nobody(&rt, rt.alloc());
+    let empty = nobody.load_passwd(rt.alloc(), b"").expect(&rt, "users");
+    drop(nobody);
     assert!(rt; empty.passwd_loaded());
     assert!(rt; empty.users() == 0);
+    drop(empty);
 }

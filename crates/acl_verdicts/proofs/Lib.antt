@@ -11,3 +11,8 @@ mod Along
 mod Reached
 pub mod NewWays
 mod Walked
+pub mod Maps
+pub mod Numbers
+pub mod RowLists
+pub mod Labelled
+mod Renumbered

@@ -1,19 +1,19 @@
 -- Entries in path order: those above a path, and the nearest of them.
-use Rattle.std.proofs.Common.{◌≡◌, ℕ, zero, suc, ◌+◌, ◌-◌, ◌<◌, ◌≤◌, Bool, true, false, ◌&&◌, List, [], ◌∷◌, length, map, take, drop, get_or, Option, Some, None, Ordering, Less, Equal, Greater, ◌++◌, append_assoc, IsTrue, refl, sym, ap, subst, ◌∙◌, arith}
+use Rattle.std.proofs.Common.{◌≡◌, ℕ, zero, suc, ◌-◌, ◌<◌, ◌≤◌, Bool, true, false, ◌&&◌, List, [], ◌∷◌, length, map, take, get_or, Option, Some, None, Ordering, Less, Equal, Greater, ◌++◌, IsTrue, refl, sym, ap, subst, ◌∙◌, arith}
 use Rattle.std.specs.Prelude.{if◌then◌else◌}
 use Rattle.std.specs.List.{list_all}
 use Rattle.std.specs.Ordering.{is_gt, is_lt}
 use Rattle.std.specs.FinMap.{is_sorted}
 use Rattle.std.specs.FinMap.Entries.{below_all}
 use Rattle.std.proofs.lemmas.Bool.{and_parts}
-use Rattle.std.proofs.lemmas.List.{length-map, drop_more}
+use Rattle.std.proofs.lemmas.List.{length-map}
 use Rattle.std.proofs.lemmas.Cmp.{tied_itself}
 use Rattle.acl_files.specs.acl_names.Paths.{path_cmp}
 use Rattle.acl_files.proofs.of_acl_names.PathOrder.{path_total, exact_paths}
 use Rattle.acl_files.specs.acl_names.Below.{is_above}
 use Rattle.acl_files.proofs.of_acl_names.Below.{convex_below}
 use Rattle.path_map.specs.Entries.{PathOf, IsInOrder}
-use Rattle.acl_verdicts.specs.Walks.{nearest_from, nearest, last_from, last_of, lets, cut_from, AllBefore}
+use Rattle.acl_verdicts.specs.Walks.{nearest_from, nearest, last_from, last_of, cut_from, AllBefore}
 
 less : (o : Ordering) → is_lt o ≡ true → o ≡ Less
 less Less h = refl
@@ -174,3 +174,9 @@ module _ {R : Type 0} {A : Type 0} (f : R → PathOf × A) where
   none_left xs depth q none kept =
       ap (λ k. last_of (take k (map f xs))) none ∙ ap last_of (take_none (map f xs)) ∙ sym (ap (nearest q) (take_none (map f xs))) ∙ ap (λ k. nearest q (take k (map f xs))) (sym none)
       ∙ kept q (ap is_gt (tied_itself path_total q))
+
+-- ---- verdicts that are cut
+
+pub cut_from_length : (above : Option (List ℕ)) (n : ℕ) (cells : List ℕ) → length (cut_from above n cells) ≡ length cells
+cut_from_length above n [] = refl
+cut_from_length above n (c ∷ cells) = ap suc (cut_from_length above (suc n) cells)

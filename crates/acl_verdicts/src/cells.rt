@@ -1,6 +1,6 @@
 //! The verdicts of all users on one file, and a row without those of users who cannot search above.
 
-ghost use Rattle.std.specs.Prelude.{◌≡◌, ◌+◌, ◌*◌, ◌++◌, ◌∷◌, [], ◌<◌, ◌≤◌, ◌^◌, true, length, map, IfOk, OnOk, slice_set, slice_get, Some, if◌then◌else◌};
+ghost use Rattle.std.specs.Prelude.{◌≡◌, ◌↔◌, ◌+◌, ◌*◌, ◌++◌, ◌∷◌, [], ◌<◌, ◌≤◌, ◌^◌, true, length, map, IfOk, OnOk, slice_set, slice_get, Some, if◌then◌else◌};
 ghost use Rattle.std.specs.List.{remove};
 ghost use Rattle.acl_verdicts.specs.Reach.{execute};
 ghost use Rattle.acl_verdicts.specs.Walks.{lets, cut_from};
@@ -26,10 +26,10 @@ impl Model for Cells {
     ghost view = { λ c. c.requests.value.items };
 }
 
-/// Whether two rows of verdicts are the same, where it says so. The loop does not end early, so that it compares many at a time.
-/// Allocates nothing.
+/// Whether two rows of verdicts are the same. The loop does not end early, so that it compares many at a time. Allocates
+/// nothing.
 pub fn same_row(some: &[Requests], others: &[Requests]) -> bool
-    ensures { result ≡ true → some.now ≡ others.now }
+    ensures { (result ≡ true) ↔ (some.now ≡ others.now) }
 {
     if some.len() != others.len() {
         return false;
@@ -106,7 +106,7 @@ impl Cells {
 
 /// The verdicts of all users on a label, as many as there are users, for so many files that have it. Where those of
 /// another row are the same, they are shared. Fails only if memory runs out.
-pub fn judged<J: Judge>(
+pub(crate) fn judged<J: Judge>(
     alloc: Global,
     judge: &mut J,
     users: &Subjects,
@@ -126,7 +126,7 @@ pub fn judged<J: Judge>(
 }
 
 /// The verdicts with that of one user asked for again. Fails only if memory runs out.
-pub fn judged_at<J: Judge>(
+pub(crate) fn judged_at<J: Judge>(
     alloc: Global,
     judge: &mut J,
     cells: &Cells,
@@ -147,7 +147,7 @@ pub fn judged_at<J: Judge>(
 }
 
 /// The verdicts with that of one user more, the last. Fails only if memory runs out.
-pub fn judged_last<J: Judge>(
+pub(crate) fn judged_last<J: Judge>(
     alloc: Global,
     judge: &mut J,
     cells: &[Requests],
@@ -166,7 +166,7 @@ pub fn judged_last<J: Judge>(
 }
 
 /// The verdicts without that of one user. Fails only if memory runs out.
-pub fn without(
+pub(crate) fn without(
     alloc: Global,
     cells: &[Requests],
     at: usize,
@@ -230,10 +230,11 @@ fn cut(alloc: Global, cells: &[Requests], above: &[Requests]) -> Result<Cells, A
     Cells::new(alloc, new)
 }
 
-/// Whether a row has the verdicts of those who can search above, and nothing for others, where it says so. The loop does not
-/// end early, so that it compares many at a time.
+/// Whether a row has the verdicts of those who can search above, and nothing for others; never where the row above has fewer
+/// users. The loop does not end early, so that it compares many at a time.
+#[tactic(auto, using(crate::proofs::Walks::cut_from_length))]
 fn is_cut(row: &[Requests], cells: &[Requests], above: &[Requests]) -> bool
-    ensures { result ≡ true → row.now ≡ cut_from (Some above.now) 0 cells.now }
+    ensures { (result ≡ true) ↔ ((length cells.now ≤ length above.now) × (row.now ≡ cut_from (Some above.now) 0 cells.now)) }
 {
     if row.len() != cells.len() || above.len() < cells.len() {
         return false;

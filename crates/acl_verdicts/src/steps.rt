@@ -170,7 +170,7 @@ struct Hint {
 /// Copies share what they have in common, as lists of numbers do: hints are in a few blocks, each in the order of its
 /// marks, and each more than twice as long as the next.
 #[derive(Drop)]
-pub struct Hints {
+pub(crate) struct Hints {
     blocks: Vec<Rc<Vec<Hint>>>,
 }
 
@@ -268,6 +268,6 @@ impl Hints {
 const SPREAD: u64 = 0x9E37_79B9_7F4A_7C15;
 
 /// A mark with a number worked into it.
-pub fn mixed(mark: u64, number: u64) -> u64 {
+pub(crate) fn mixed(mark: u64, number: u64) -> u64 {
     (mark ^ number).wrapping_mul(SPREAD).rotate_left(29)
 }

@@ -1,10 +1,11 @@
-use Rattle.std.proofs.Common.{List, map, length, refl, ap, sym, subst, ◌∙◌, arith}
+use Rattle.std.proofs.Common.{map, length, ap, sym, subst, ◌∙◌, arith}
 use Rattle.path_map.specs.Entries.{IsInOrder}
 use Rattle.acl_tree.specs.Files.{Recorded}
 use Rattle.acl_tree.specs.acl_people.KnownPeople.{KnownPeople, persons}
-use Rattle.acl_verdicts.specs.declared.steps.Step.{Step}
-use Rattle.acl_verdicts.specs.Ways.{AreFirst, reaches_of}
-use Rattle.acl_rights.proofs.After.{changed_order, gone_order, after_labelled, after_puts, after_apart, after_first, after_within, after_walked, after_rows, grants_made}
+use Rattle.acl_verdicts.specs.declared.label_rows.LabelRows.{LabelRows}
+use Rattle.acl_verdicts.specs.Ways.{rows_in}
+use Rattle.acl_verdicts.proofs.Labelled.{grants_made}
+use Rattle.acl_rights.proofs.After.{changed_order, gone_order, after_labelled, after_puts, after_apart, after_first, after_within, after_walked, after_rows}
 use Rattle.acl_rights.proofs.Refreshing.{files_refreshed, files_fit}
 use Rattle.acl_rights.proofs.stage.after_files.Goals as goal
 
@@ -47,15 +48,14 @@ updated-requires-clause-apart g c =
     (map (λ r. r.value) c.changed.result.now) (map (λ r. r.value) c.gone-gone.result.now) c.changed.ensures c.gone-gone.ensures c.all_subjects-users.result.now (c.all_subjects-users.ensures ∙ ap persons c.people.ensures)
     c.in_ok-new.new.rows (map (λ e. e.value) c.in_ok-new.new.puts.items) c.in_ok-new.ensures.rows
 
-pub reaches_after-requires : goal.reaches_after-requires
-reaches_after-requires g c =
+pub reached_on-requires : goal.reached_on-requires
+reached_on-requires g c =
     let V = g.J.Judge.verdict_of in
     let t = c.args.staged.now in
     let order = subst (λ (r : Recorded). IsInOrder r.files) c.tree.ensures c.soundness_law.ensures.order in
-    subst (λ (ss : List Step). AreFirst c.in_ok-new.new.rows.cells ss c.args.grants.now.reaches) (sym c.steps.ensures)
-    (after_first V c.args.grants.now t c.requires.goes c.order_law.ensures order c.requires.moved
+    after_first V c.args.grants.now t c.requires.goes c.order_law.ensures order c.requires.moved
     (map (λ r. r.value) c.changed.result.now) (map (λ r. r.value) c.gone-gone.result.now) c.changed.ensures c.gone-gone.ensures c.all_subjects-users.result.now (c.all_subjects-users.ensures ∙ ap persons c.people.ensures)
-    c.in_ok-new.new.rows (map (λ e. e.value) c.in_ok-new.new.puts.items) c.in_ok-new.ensures.rows c.in_ok-updated.updated.ways.steps c.in_ok-updated.ensures.kept)
+    c.in_ok-new.new.rows (map (λ e. e.value) c.in_ok-new.new.puts.items) c.in_ok-new.ensures.rows c.in_ok-updated.updated.ways.steps c.in_ok-updated.ensures.kept
 
 pub overflow_mul-result : goal.overflow_mul-result
 overflow_mul-result g c =
@@ -75,7 +75,7 @@ returns-clause-grants g c =
     let t = c.args.staged.now in
     let order = subst (λ (r : Recorded). IsInOrder r.files) c.tree.ensures c.soundness_law.ensures.order in
     let ways = c.in_ok-updated.updated.ways in
-    grants_made c.in_ok-new.new.rows ways (record { rows = c.in_ok-new.new.rows; ways = ways; reaches = c.in_ok-reaches.reaches; max_numbers = c.args.grants.now.max_numbers }) refl refl (c.in_ok-reaches.ensures ∙ ap (λ (ss : List Step). reaches_of c.in_ok-new.new.rows.cells ss) c.steps.ensures) t.state.tree.files
+    grants_made c.in_ok-new.new.rows ways c.in_ok-reached_on.field-0 c.in_ok-reached_on.ensures.rows c.in_ok-reached_on.ensures.ways c.in_ok-reached_on.ensures.reaches t.state.tree.files
     (after_labelled V c.args.grants.now t c.requires.goes c.order_law.ensures order c.requires.moved
     (map (λ r. r.value) c.changed.result.now) (map (λ r. r.value) c.gone-gone.result.now) c.changed.ensures c.gone-gone.ensures c.all_subjects-users.result.now (c.all_subjects-users.ensures ∙ ap persons c.people.ensures)
     c.in_ok-new.new.rows (map (λ e. e.value) c.in_ok-new.new.puts.items) c.in_ok-new.ensures.rows)
@@ -89,7 +89,8 @@ returns-clause-rows g c =
     let V = g.J.Judge.verdict_of in
     let t = c.args.staged.now in
     let order = subst (λ (r : Recorded). IsInOrder r.files) c.tree.ensures c.soundness_law.ensures.order in
-    after_rows V c.args.grants.now t c.requires.goes c.order_law.ensures order c.requires.moved
+    ap (λ (r : LabelRows). rows_in r.cells r.numbers) c.in_ok-reached_on.ensures.rows
+    ∙ after_rows V c.args.grants.now t c.requires.goes c.order_law.ensures order c.requires.moved
     (map (λ r. r.value) c.changed.result.now) (map (λ r. r.value) c.gone-gone.result.now) c.changed.ensures c.gone-gone.ensures c.all_subjects-users.result.now (c.all_subjects-users.ensures ∙ ap persons c.people.ensures)
     c.in_ok-new.new.rows (map (λ e. e.value) c.in_ok-new.new.puts.items) c.in_ok-new.ensures.rows c.order_law-2.ensures
 

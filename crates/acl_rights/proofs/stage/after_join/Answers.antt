@@ -1,10 +1,8 @@
-use Rattle.std.proofs.Common.{◌++◌, ◌∷◌, [], sym, ap, subst, ◌∙◌, arith}
+use Rattle.std.proofs.Common.{sym, ap, subst, ◌∙◌, arith}
 use Rattle.path_map.specs.Entries.{IsInOrder}
-use Rattle.acl_tree.specs.acl_entry.Person.{Person}
-use Rattle.acl_tree.specs.acl_people.KnownPeople.{persons}
 use Rattle.acl_tree.specs.Files.{Recorded}
 use Rattle.acl_verdicts.specs.Ways.{rows_in}
-use Rattle.acl_rights.specs.declared.label_rows.LabelRows.{LabelRows}
+use Rattle.acl_verdicts.specs.declared.label_rows.LabelRows.{LabelRows}
 use Rattle.acl_rights.proofs.Costs.{joined_cost}
 use Rattle.acl_rights.proofs.After.{joined_long, joined_last, joined_labelled, joined_rows, joined_refreshed, grants_kept}
 use Rattle.acl_rights.proofs.stage.after_join.Goals as goal
@@ -14,18 +12,18 @@ returns-clause-grants g c =
     let V = g.J.Judge.verdict_of in
     let t = c.args.staged.now in
     let order = subst (λ (r : Recorded). IsInOrder r.files) c.tree.ensures c.soundness_law.ensures.order in
-    let last = joined_last V c.args.grants.now t c.requires.goes c.order_law.ensures order (λ s. s.value) c.subjects-users.result.now c.requires.moved c.index-users-users.result (c.subjects-users.ensures ∙ ap persons c.people.ensures) c.index-users-users.is in
+    let last = joined_last V c.args.grants.now t c.requires.goes c.order_law.ensures order c.requires.moved c.joined_user-user.result.now c.joined_user-user.ensures in
     grants_kept c.in_ok-rows.rows c.in_ok-ways.ways c.args.grants.now c.in_ok-reached.field-0 c.in_ok-reached.ensures.rows c.in_ok-reached.ensures.ways c.in_ok-reached.ensures.reaches c.in_ok-ways.ensures
-    c.requires.goes.goes.state.tree.files t.state.tree.files c.requires.goes.kept (joined_labelled V c.args.grants.now t c.requires.goes c.order_law.ensures order c.requires.moved c.deref.result.now (last ∙ ap (λ (u : Person). persons c.requires.goes.goes.state.people ++ u ∷ []) (sym c.deref.ensures)) c.in_ok-rows.rows c.in_ok-rows.ensures.rows) c.in_ok-rows.ensures.rows.numbers c.in_ok-rows.ensures.rows.labels
+    c.requires.goes.goes.state.tree.files t.state.tree.files c.requires.goes.kept (joined_labelled V c.args.grants.now t c.requires.goes c.order_law.ensures order c.requires.moved c.joined_user-user.result.now last c.in_ok-rows.rows c.in_ok-rows.ensures.rows) c.in_ok-rows.ensures.rows.numbers c.in_ok-rows.ensures.rows.labels
 
 pub returns-clause-rows : goal.returns-clause-rows
 returns-clause-rows g c =
     let V = g.J.Judge.verdict_of in
     let t = c.args.staged.now in
     let order = subst (λ (r : Recorded). IsInOrder r.files) c.tree.ensures c.soundness_law.ensures.order in
-    let last = joined_last V c.args.grants.now t c.requires.goes c.order_law.ensures order (λ s. s.value) c.subjects-users.result.now c.requires.moved c.index-users-users.result (c.subjects-users.ensures ∙ ap persons c.people.ensures) c.index-users-users.is in
+    let last = joined_last V c.args.grants.now t c.requires.goes c.order_law.ensures order c.requires.moved c.joined_user-user.result.now c.joined_user-user.ensures in
     ap (λ (r : LabelRows). rows_in r.cells r.numbers) c.in_ok-reached.ensures.rows
-    ∙ joined_rows V c.args.grants.now t c.requires.goes c.order_law.ensures order c.requires.moved c.deref.result.now (last ∙ ap (λ (u : Person). persons c.requires.goes.goes.state.people ++ u ∷ []) (sym c.deref.ensures)) c.in_ok-rows.rows c.in_ok-rows.ensures.rows (subst IsInOrder (sym c.in_ok-rows.ensures.rows.numbers) c.order_law.ensures)
+    ∙ joined_rows V c.args.grants.now t c.requires.goes c.order_law.ensures order c.requires.moved c.joined_user-user.result.now last c.in_ok-rows.rows c.in_ok-rows.ensures.rows (subst IsInOrder (sym c.in_ok-rows.ensures.rows.numbers) c.order_law.ensures)
 
 pub returns-clause-at_most : goal.returns-clause-at_most
 returns-clause-at_most g c =
@@ -40,5 +38,5 @@ returns-clause-refreshed g c =
     let V = g.J.Judge.verdict_of in
     let t = c.args.staged.now in
     let order = subst (λ (r : Recorded). IsInOrder r.files) c.tree.ensures c.soundness_law.ensures.order in
-    let last = joined_last V c.args.grants.now t c.requires.goes c.order_law.ensures order (λ s. s.value) c.subjects-users.result.now c.requires.moved c.index-users-users.result (c.subjects-users.ensures ∙ ap persons c.people.ensures) c.index-users-users.is in
-    joined_refreshed V c.args.grants.now t c.requires.goes c.order_law.ensures order c.requires.moved c.deref.result.now (last ∙ ap (λ (u : Person). persons c.requires.goes.goes.state.people ++ u ∷ []) (sym c.deref.ensures)) c.in_ok-rows.rows c.in_ok-rows.ensures.rows c.len.result c.len.ensures
+    let last = joined_last V c.args.grants.now t c.requires.goes c.order_law.ensures order c.requires.moved c.joined_user-user.result.now c.joined_user-user.ensures in
+    joined_refreshed V c.args.grants.now t c.requires.goes c.order_law.ensures order c.requires.moved c.joined_user-user.result.now last c.in_ok-rows.rows c.in_ok-rows.ensures.rows c.len.result c.len.ensures

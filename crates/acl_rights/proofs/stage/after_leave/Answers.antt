@@ -2,7 +2,7 @@ use Rattle.std.proofs.Common.{sym, ap, subst, ◌∙◌}
 use Rattle.path_map.specs.Entries.{IsInOrder}
 use Rattle.acl_tree.specs.Files.{Recorded}
 use Rattle.acl_verdicts.specs.Ways.{rows_in}
-use Rattle.acl_rights.specs.declared.label_rows.LabelRows.{LabelRows}
+use Rattle.acl_verdicts.specs.declared.label_rows.LabelRows.{LabelRows}
 use Rattle.acl_rights.proofs.After.{left_labelled, left_rows, left_refreshed, grants_kept}
 use Rattle.acl_rights.proofs.stage.after_leave.Goals as goal
 

@@ -1,14 +1,15 @@
-use Rattle.std.proofs.Common.{◌≤◌, ℕ, Bool, false, List, map, filter, length, get_or, refl, sym, ap, subst, ◌∙◌, arith}
+use Rattle.std.proofs.Common.{◌≤◌, ℕ, List, map, filter, length, refl, sym, ap, subst, ◌∙◌, arith}
 use Rattle.std.proofs.lemmas.List.Sums.{length-filter}
 use Rattle.path_map.specs.Entries.{IsInOrder}
 use Rattle.acl_tree.specs.acl_edit.declared.node.Node.{Node}
 use Rattle.acl_tree.specs.Files.{PathOf, Recorded, max_files}
 use Rattle.acl_tree.specs.declared.user_change.UserChange.{UserChange}
-use Rattle.acl_verdicts.specs.Ways.{reaches_of}
-use Rattle.acl_verdicts.specs.declared.steps.Step.{Step}
-use Rattle.acl_verdicts.specs.declared.ways.Ways.{Ways}
+use Rattle.std.specs.List.{count_by}
+use Rattle.path_map.specs.Below.{lies_in}
+use Rattle.acl_verdicts.specs.Ways.{rows_in}
+use Rattle.acl_verdicts.specs.declared.label_rows.LabelRows.{LabelRows}
 use Rattle.acl_rights.specs.Stages.{mentions_one, moves_looked, most_looked}
-use Rattle.acl_rights.proofs.Maps.{same_length}
+use Rattle.acl_verdicts.proofs.Maps.{same_length}
 use Rattle.acl_rights.proofs.Costs.{moved_cost}
 use Rattle.acl_rights.proofs.Listed.{looked_le}
 use Rattle.acl_rights.proofs.After.{moved_labelled, moved_rows, moved_order, moved_refreshed, numbers_long, grants_kept}
@@ -34,18 +35,8 @@ returns-in_err-updated-clause-at_most g c =
     let long = same_length (λ p. p.value) (λ (e : PathOf × Node). e.0) c.deref-paths.result.now touched paths in
     omega (arith, long, moved_cost t c.args.at c.args.groups.now c.requires.moved, c.with_user_updated.ensures.at_most)
 
-pub returns-in_err-ways-clause-at_most : goal.returns-in_err-ways-clause-at_most
-returns-in_err-ways-clause-at_most g c =
-    let V = g.J.Judge.verdict_of in
-    let t = c.args.staged.now in
-    let order = subst (λ (r : Recorded). IsInOrder r.files) c.tree.ensures c.soundness_law.ensures.order in
-    let touched = filter (mentions_one c.args.groups.now) t.state.tree.files in
-    let paths = ap (map (λ p. p.value)) c.deref-paths.ensures.value ∙ c.in_ok-paths.ensures t.state.tree.files order c.requires.lists ∙ ap (λ (ids : List ℕ). map (λ (e : PathOf × Node). e.0) (filter (mentions_one ids) t.state.tree.files)) c.as_slice.ensures in
-    let long = same_length (λ p. p.value) (λ (e : PathOf × Node). e.0) c.deref-paths.result.now touched paths in
-    omega (arith, long, moved_cost t c.args.at c.args.groups.now c.requires.moved, c.with_user_updated.ensures.at_most)
-
-pub returns-in_err-reaches-clause-at_most : goal.returns-in_err-reaches-clause-at_most
-returns-in_err-reaches-clause-at_most g c =
+pub returns-in_err-new-clause-at_most : goal.returns-in_err-new-clause-at_most
+returns-in_err-new-clause-at_most g c =
     let V = g.J.Judge.verdict_of in
     let t = c.args.staged.now in
     let order = subst (λ (r : Recorded). IsInOrder r.files) c.tree.ensures c.soundness_law.ensures.order in
@@ -73,7 +64,8 @@ count_within-requires-clause-few g c =
     let paths = ap (map (λ p. p.value)) c.deref-paths.ensures.value ∙ c.in_ok-paths.ensures t.state.tree.files order c.requires.lists ∙ ap (λ (ids : List ℕ). map (λ (e : PathOf × Node). e.0) (filter (mentions_one ids) t.state.tree.files)) c.as_slice.ensures in
     let files = numbers_long t.state.tree.files c.in_ok-updated.updated.rows (moved_labelled V c.args.grants.now t c.requires.goes c.order_law.ensures order g.met.J.Judge.local c.args.at c.args.groups.now c.requires.moved c.moved_user-user.result.now c.moved_user-user.ensures (map (λ p. p.value) c.deref-paths.result.now) paths c.in_ok-updated.updated.rows c.in_ok-updated.ensures.rows) in
     let few = subst (λ (r : Recorded). length r.files ≤ max_files) c.tree.ensures c.soundness_law.ensures.few in
-    omega (arith, files, few)
+    let same = ap (λ (r : LabelRows). length r.numbers) c.in_ok-new.ensures.rows in
+    omega (arith, files, few, same)
 
 pub count_within-requires-clause-order : goal.count_within-requires-clause-order
 count_within-requires-clause-order g c =
@@ -92,19 +84,8 @@ returns-clause-grants g c =
     let touched = filter (mentions_one c.args.groups.now) t.state.tree.files in
     let paths = ap (map (λ p. p.value)) c.deref-paths.ensures.value ∙ c.in_ok-paths.ensures t.state.tree.files order c.requires.lists ∙ ap (λ (ids : List ℕ). map (λ (e : PathOf × Node). e.0) (filter (mentions_one ids) t.state.tree.files)) c.as_slice.ensures in
     let rows = c.in_ok-updated.updated.rows in
-    let ways = c.in_ok-ways.ways in
-    grants_kept rows ways c.args.grants.now (record { rows = rows; ways = ways; reaches = c.in_ok-reaches.reaches; max_numbers = c.args.grants.now.max_numbers }) refl refl
-    (c.in_ok-reaches.ensures ∙ ap (λ (ss : List Step). reaches_of rows.cells ss) c.steps.ensures) c.in_ok-ways.ensures
+    grants_kept rows c.args.grants.now.ways c.args.grants.now c.in_ok-new.new c.in_ok-new.ensures.rows c.in_ok-new.ensures.ways c.in_ok-new.ensures.reaches refl
     c.requires.goes.goes.state.tree.files t.state.tree.files c.requires.goes.kept (moved_labelled V c.args.grants.now t c.requires.goes c.order_law.ensures order g.met.J.Judge.local c.args.at c.args.groups.now c.requires.moved c.moved_user-user.result.now c.moved_user-user.ensures (map (λ p. p.value) c.deref-paths.result.now) paths rows c.in_ok-updated.ensures.rows) c.in_ok-updated.ensures.rows.numbers c.in_ok-updated.ensures.rows.labels
-
-pub updated_reaches-requires : goal.updated_reaches-requires
-updated_reaches-requires g c =
-    let old = c.args.grants.now in
-    record {
-      before = old.rows.cells;
-      reached = c.requires.goes.kept.reaches ∙ ap (λ (ss : List Step). reaches_of old.rows.cells ss) (sym (c.steps.ensures ∙ ap (λ (w : Ways). w.steps) c.in_ok-ways.ensures));
-      same = λ n unmarked. c.in_ok-updated.ensures.same n (ap (λ (ms : List Bool). get_or ms n false) (sym c.deref.ensures.value) ∙ unmarked);
-    }
 
 pub returns-clause-rows : goal.returns-clause-rows
 returns-clause-rows g c =
@@ -113,7 +94,8 @@ returns-clause-rows g c =
     let order = subst (λ (r : Recorded). IsInOrder r.files) c.tree.ensures c.soundness_law.ensures.order in
     let touched = filter (mentions_one c.args.groups.now) t.state.tree.files in
     let paths = ap (map (λ p. p.value)) c.deref-paths.ensures.value ∙ c.in_ok-paths.ensures t.state.tree.files order c.requires.lists ∙ ap (λ (ids : List ℕ). map (λ (e : PathOf × Node). e.0) (filter (mentions_one ids) t.state.tree.files)) c.as_slice.ensures in
-    moved_rows V c.args.grants.now t c.requires.goes c.order_law.ensures order g.met.J.Judge.local c.args.at c.args.groups.now c.requires.moved c.moved_user-user.result.now c.moved_user-user.ensures (map (λ p. p.value) c.deref-paths.result.now) paths c.in_ok-updated.updated.rows c.in_ok-updated.ensures.rows (subst IsInOrder (sym c.in_ok-updated.ensures.rows.numbers) c.order_law.ensures)
+    ap (λ (r : LabelRows). rows_in r.cells r.numbers) c.in_ok-new.ensures.rows
+    ∙ moved_rows V c.args.grants.now t c.requires.goes c.order_law.ensures order g.met.J.Judge.local c.args.at c.args.groups.now c.requires.moved c.moved_user-user.result.now c.moved_user-user.ensures (map (λ p. p.value) c.deref-paths.result.now) paths c.in_ok-updated.updated.rows c.in_ok-updated.ensures.rows (subst IsInOrder (sym c.in_ok-updated.ensures.rows.numbers) c.order_law.ensures)
 
 pub returns-clause-looked : goal.returns-clause-looked
 returns-clause-looked g c =
@@ -146,4 +128,5 @@ returns-clause-refreshed g c =
     let order = subst (λ (r : Recorded). IsInOrder r.files) c.tree.ensures c.soundness_law.ensures.order in
     let touched = filter (mentions_one c.args.groups.now) t.state.tree.files in
     let paths = ap (map (λ p. p.value)) c.deref-paths.ensures.value ∙ c.in_ok-paths.ensures t.state.tree.files order c.requires.lists ∙ ap (λ (ids : List ℕ). map (λ (e : PathOf × Node). e.0) (filter (mentions_one ids) t.state.tree.files)) c.as_slice.ensures in
-    moved_refreshed V c.args.grants.now t c.requires.goes c.order_law.ensures order g.met.J.Judge.local c.args.at c.args.groups.now c.requires.moved c.moved_user-user.result.now c.moved_user-user.ensures (map (λ p. p.value) c.deref-paths.result.now) paths c.in_ok-updated.updated.rows c.in_ok-updated.ensures.rows (λ p. p.value) c.deref-paths.result.now paths c.count_within.result c.count_within.ensures
+    moved_refreshed V c.args.grants.now t c.requires.goes c.order_law.ensures order g.met.J.Judge.local c.args.at c.args.groups.now c.requires.moved c.moved_user-user.result.now c.moved_user-user.ensures (map (λ p. p.value) c.deref-paths.result.now) paths c.in_ok-updated.updated.rows c.in_ok-updated.ensures.rows (λ p. p.value) c.deref-paths.result.now paths c.count_within.result
+    (c.count_within.ensures ∙ ap (λ (r : LabelRows). count_by (λ (e : PathOf × ℕ). lies_in (map (λ p. (p.value, p.value)) c.deref-paths.result.now) e.0) r.numbers) c.in_ok-new.ensures.rows)

@@ -9,6 +9,7 @@ pub returns : goal.returns
 returns g c =
     let t = c.now.inside in
     let same = ap (λ (t : VerdictTable). t.rows) (c.now.view_is ∙ c.self.view_is) in
-    ap (λ (ns : Numbers). rows_in t.grants.reaches ns) (c.iter.ensures ∙ c.places.ensures)
+    c.of.ensures
+    ∙ ap (λ (ns : Numbers). rows_in t.grants.reaches ns) c.places.ensures
     ∙ reaches_are t.tree.files t.grants c.now.invariant.1
     ∙ ap reached_rows same

@@ -6,7 +6,7 @@ use Rattle.acl_rights.specs.Tables.{VerdictTable, Rows, rows_of}
 use Rattle.acl_rights.specs.Reach.{unlike}
 use Rattle.acl_rights.specs.Kept.{GoesFrom}
 use Rattle.acl_rights.specs.Grants.{AreGrants}
-use Rattle.acl_rights.proofs.Maps.{map_values}
+use Rattle.acl_verdicts.proofs.Orders.{in_order-values}
 use Rattle.acl_rights.proofs.Costs.{most_le}
 use Rattle.acl_rights.proofs.Refreshed.{line_most}
 use Rattle.acl_rights.proofs.index.Index.stage.Goals as goal
@@ -51,7 +51,7 @@ returns-clause-refreshed_least g c =
     let old : Rows = c.args.self.now.rows in
     let goes : GoesFrom V old t = record { state = c.requires.goes.state; rows_are = c.requires.goes.whole.rows; reports = c.requires.goes.reports } in
     let rows = ap (λ (x : VerdictTable). x.rows) (c.now.view_is ∙ c.self.view_is) in
-    let order : IsInOrder old = subst IsInOrder rows (map_values (λ (e : PathOf × ℕ). get_or c.now.inside.grants.rows.cells e.1 []) c.now.inside.grants.rows.numbers c.order_law.ensures) in
+    let order : IsInOrder old = subst IsInOrder rows (in_order-values (λ (e : PathOf × ℕ). get_or c.now.inside.grants.rows.cells e.1 []) c.now.inside.grants.rows.numbers c.order_law.ensures) in
     let most = line_most V g.met.J.Judge.local old t goes order (subst (λ (r : Recorded). IsInOrder r.files) c.tree.ensures c.soundness_law.ensures.order) in
     subst (λ (rs : Rows). unlike t.user_change old rs ≤ c.in_ok-new.new.refreshed) (sym c.in_ok-new.ensures.rows)
     (subst (λ n. unlike t.user_change old (rows_of V (persons t.state.people) t.state.tree.files) ≤ n) (sym c.in_ok-new.ensures.refreshed) most)

@@ -4,6 +4,6 @@ use Rattle.acl_tree.specs.Changed.{changed_between}
 use Rattle.acl_rights.proofs.Replaced.{all_are_changed}
 use Rattle.acl_rights.proofs.lists.GroupLists.of_tree.Goals as goal
 
-pub staged-requires-clause-changed : goal.staged-requires-clause-changed
-staged-requires-clause-changed c =
+pub staged-lists-requires-clause-changed : goal.staged-lists-requires-clause-changed
+staged-lists-requires-clause-changed c =
     ap (map (λ r. r.value)) c.deref.ensures.value ∙ c.in_ok-files.ensures ∙ all_are_changed c.args.tree.now.files ∙ ap (λ (r : Recorded). changed_between r.files c.args.tree.now.files) (sym c.in_ok-empty.ensures)

@@ -5,7 +5,7 @@ use Rattle.acl_tree.specs.Files.{Files}
 use Rattle.acl_tree.specs.Changed.{gone_between}
 use Rattle.acl_rights.specs.Groups.{set_of, mentioning, mentions_group}
 use Rattle.acl_rights.specs.Inner.{mentioned_group, is_regrouped, regrouped}
-use Rattle.acl_rights.proofs.Maps.{map_filter}
+use Rattle.acl_verdicts.proofs.Maps.{map_filter}
 use Rattle.acl_rights.proofs.Listed.{set_order}
 use Rattle.acl_rights.proofs.Replaced.{list_after, regrouped_of_changed}
 use Rattle.acl_rights.proofs.lists.GroupLists.staged.Goals as goal
