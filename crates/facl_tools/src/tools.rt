@@ -2,7 +2,7 @@
 
 ghost use Rattle.std.specs.Prelude.{◌≡◌, IfOk, is_some, map, string_bytes};
 ghost use Rattle.facl_messages.specs.facl_words.Rows.{line_of};
-ghost use Rattle.facl_tools.specs.Replies.{Gives, Replies};
+ghost use Rattle.facl_tools.specs.Replies.{Gives, Replies, after};
 ghost use Rattle.facl_tools.specs.Tools.{answered, line_or_fault, loads, tool_name, read_line, row_of, tool_line, tool_named, words_of, words_or_fault};
 
 use crate::attr::{self, AttrLine};
@@ -321,6 +321,21 @@ fn answer<J: Judge>(
     }
 }
 
+/// What the line of a tool that words give does at a state.
+fn words_answer<J: Judge>(
+    alloc: Global,
+    loaded: &IndexedState<J>,
+    indexed: &IndexedState<J>,
+    tool: Tool,
+    words: &Words,
+    text: &[u8],
+) -> Result<Effect, LineFault>
+    ensures { Replies indexed.now result (after (line_or_fault tool words.now) (λ line. answered J.verdict_of loaded.now indexed.now line text.now)) }
+{
+    let line = line_of(alloc, tool, words)?;
+    answer(alloc, loaded, indexed, line, text)
+}
+
 /// What a tool does at a state, by the words after its name and the text after the line. `changes` alone looks at the
 /// state after the texts were loaded.
 pub fn tool_line<J: Judge>(
@@ -334,6 +349,7 @@ pub fn tool_line<J: Judge>(
     ensures { Replies indexed.now result (tool_line J.verdict_of loaded.now indexed.now tool (map string_bytes words.now) text.now) }
 {
     let words = words_of(alloc, tool, words)?;
-    let line = line_of(alloc, tool, &words)?;
-    answer(alloc, loaded, indexed, line, text)
+    let effect = words_answer(alloc, loaded, indexed, tool, &words, text);
+    drop(words);
+    effect
 }
