@@ -1,10 +1,10 @@
-use Rattle.std.proofs.Common.{◌*◌, ◌≤◌, length, subst, sym, arith}
+use Rattle.std.proofs.Common.{◌≤◌, length, subst, sym, arith}
 use Rattle.acl_rights.specs.acl_entry.Check.{rights}
 use Rattle.acl_rights.specs.acl_people.KnownPeople.{KnownPeople}
 use Rattle.acl_rights.specs.acl_tree.Files.{Recorded}
 use Rattle.acl_rights.specs.acl_tree.Step.{State}
 use Rattle.acl_rights.specs.Tables.{VerdictTable, IsWhole}
-use Rattle.acl_rights.proofs.Costs.{times_le}
+use native.Mathlib.Nat.{mul-le-mul_right}
 use Rattle.facl_listings_tests.proofs.world.play.Goals as goal
 
 pub stage-requires-clause-room : goal.stage-requires-clause-room
@@ -12,7 +12,7 @@ stage-requires-clause-room c =
     let s = c.in-Ok.staged.state in
     let files = subst (λ (r : Recorded). length r.files ≤ 1048576) c.tree.ensures c.soundness_law.ensures.few in
     let users = subst (λ (r : KnownPeople). length r.users ≤ 65536) c.people.ensures c.soundness_law-2.ensures.few_users in
-    let times = times_le (length s.tree.files) 1048576 (length s.people.users) files in
+    let times = mul-le-mul_right (length s.people.users) files in
     omega (arith, times, users, c.if-before-gt1000000.false, c.asked-before.ensures)
 
 pub stage-requires-clause-goes : goal.stage-requires-clause-goes
