@@ -1,6 +1,6 @@
 //! New files: acl(5), "OBJECT CREATION AND DEFAULT ACLs".
-ghost use Rattle.std.specs.Prelude.{◌≡◌, IfOk, IfErr, IsOk};
-ghost use Rattle.acl_edit.specs.Nodes.{IsSound, HasValidLists};
+ghost use Rattle.std.specs.Prelude.{◌≡◌, None, if◌then◌else◌, IfOk, IfErr, IsOk};
+ghost use Rattle.acl_edit.specs.Nodes.{IsSound, HasValidLists, is_directory};
 ghost use Rattle.acl_edit.specs.Rooms.{Fits, size_of};
 ghost use Rattle.acl_edit.specs.Creation.{inherit, inherited_access};
 ghost use Rattle.acl_edit.specs.declared.edit.EditFault.TheVariants.{NoMemory};
@@ -40,6 +40,21 @@ pub fn create(
     Ok(node)
 }
 
+/// The default list of a new file: of a directory that of the directory that it is in.
+fn inherited_default(
+    alloc: Global,
+    dacl: &Option<Acl>,
+    kind: Kind,
+) -> Result<Option<Acl>, AllocError>
+    ensures made { IfOk result (λ given. given ≡ (if is_directory kind then dacl.now else None)) }
+    ensures room { Fits (size_of dacl.now) → IsOk result }
+{
+    match kind {
+        Kind::Directory => clone_of(alloc, dacl),
+        Kind::Plain => Ok(None),
+    }
+}
+
 /// What a new file gets of its directory.
 fn inherit(
     alloc: Global,
@@ -54,13 +69,8 @@ fn inherit(
     ensures room { Fits (size_of parent.now.dacl) → IsOk result }
 {
     let [_setuid, setgid, _sticky] = parent.flags;
+    let dacl = inherited_default(alloc, &parent.dacl, kind)?;
     let acl = inherited_access(alloc, &parent.dacl, mode, umask)?;
-    let is_directory = kind == Kind::Directory;
-    let dacl = if is_directory {
-        clone_of(alloc, &parent.dacl)?
-    } else {
-        None
-    };
     Ok(Node {
         kind,
         label: Label {
@@ -68,7 +78,7 @@ fn inherit(
             group: if setgid { parent.label.group } else { group },
             acl,
         },
-        flags: [false, setgid && is_directory, false],
+        flags: [false, setgid && kind == Kind::Directory, false],
         dacl,
     })
 }

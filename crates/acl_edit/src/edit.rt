@@ -3,6 +3,7 @@
 
 ghost use Rattle.std.specs.Prelude.{◌≡◌, ◌≢◌, true, None, Ok, Err, IfOk, IfErr, IsOk};
 ghost use Rattle.acl_edit.specs.declared.edit.EditFault.TheVariants.{NoMemory, DefaultOnFile};
+ghost use Rattle.acl_entry.specs.Lists.{or_else};
 ghost use Rattle.acl_edit.specs.Edits as edits;
 ghost use Rattle.acl_edit.specs.Edits.{allowed};
 ghost use Rattle.acl_edit.specs.Nodes.{IsSound, HasValidLists};
@@ -183,6 +184,21 @@ fn allowed(
     }
 }
 
+/// The default list that is given, or else the file's own again.
+fn given_or_clone(
+    alloc: Global,
+    given: Option<Acl>,
+    dacl: &Option<Acl>,
+) -> Result<Option<Acl>, AllocError>
+    ensures made { IfOk result (λ d. d ≡ or_else given dacl.now) }
+    ensures room { Fits (size_of dacl.now) → IsOk result }
+{
+    match given {
+        Some(dacl) => Ok(Some(dacl)),
+        None => clone_of(alloc, dacl),
+    }
+}
+
 /// Each list that is given, and else the file's own.
 #[tactic(auto, unfolding(crate::specs::Edits::put))]
 fn put(
@@ -199,14 +215,9 @@ fn put(
     ensures sound { IsSound node.now → IfOk result IsSound }
 {
     let given = allowed(alloc, node.kind, in_recursion, dacl)?;
-    let acl = match access {
-        Some(acl) => acl.try_clone(alloc)?,
-        None => node.label.acl.try_clone(alloc)?,
-    };
-    let dacl = match given {
-        Some(dacl) => Some(dacl),
-        None => clone_of(alloc, &node.dacl)?,
-    };
+    let dacl = given_or_clone(alloc, given, &node.dacl)?;
+    let acl = access.as_ref().unwrap_or(&node.label.acl);
+    let acl = acl.try_clone(alloc)?;
     Ok(node.with_lists(acl, dacl))
 }
 

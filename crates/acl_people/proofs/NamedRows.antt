@@ -28,27 +28,18 @@ insert-absent {K} {V} eq p f k v agrees (e ∷ es) none =
         let rest = none_from _ (sym (ap (λ b. cond b (Some 0) (option_map (λ i. i + 1) (position p (map f es)))) is) ∙ found) in
         ap (λ xs. f e ∷ xs) (more rest)
 
-module _ (old new : List Named) (y : Named) (pushed : new ≡ old ++ y ∷ []) where
-  -- the first place, once it is kept unless there is one
-  pub first_more : (p : Named → Bool) (was now : Option ℕ) (place : ℕ) → place ≡ length old → was ≡ position p old → now ≡ option_or was (if p y then Some place else None) → now ≡ position p new
-  first_more p was now place last is noted =
-      noted
-      ∙ ap (λ o. option_or o (if p y then Some place else None)) is
-      ∙ ap (λ n. option_or (position p old) (if p y then Some n else None)) last
-      ∙ sym (position-push p old y)
-      ∙ ap (λ es. position p es) (sym pushed)
+-- the first place, once it is kept unless there is one
+pub first_more : (old new : List Named) (y : Named) → new ≡ old ++ y ∷ [] → (p : Named → Bool) (was now : Option ℕ) (place : ℕ) → place ≡ length old → was ≡ position p old → now ≡ option_or was (if p y then Some place else None) → now ≡ position p new
+first_more old new y pushed p was now place last is noted =
+    noted
+    ∙ ap (λ o. option_or o (if p y then Some place else None)) is
+    ∙ ap (λ n. option_or (position p old) (if p y then Some n else None)) last
+    ∙ sym (position-push p old y)
+    ∙ ap (λ es. position p es) (sym pushed)
 
-  -- it stays where the last does not pass
-  pub first_same : (p : Named → Bool) (was now : Option ℕ) → p y ≡ false → was ≡ position p old → now ≡ was → now ≡ position p new
-  first_same p was now fails is same =
-      same ∙ is ∙ stays (position p old)
-      ∙ ap (λ b. option_or (position p old) (if b then Some (length old) else None)) (sym fails)
-      ∙ sym (position-push p old y)
-      ∙ ap (λ es. position p es) (sym pushed)
-    where
-      stays : (o : Option ℕ) → o ≡ option_or o None
-      stays None = refl
-      stays (Some i) = refl
+pub or_none : (o : Option ℕ) → o ≡ option_or o None
+or_none None = refl
+or_none (Some i) = refl
 
 pub and_true : (b c : Bool) → c ≡ false → (b && not c) ≡ b
 and_true true c e = ap not e

@@ -1,9 +1,21 @@
 //! Values that are shared among copies.
 
-ghost use Rattle.std.specs.Prelude.{◌≡◌, map, IfOk};
+ghost use Rattle.std.specs.Prelude.{◌≡◌, ◌<◌, ◌++◌, ◌∷◌, [], length, map, slice_set, IfOk, OnOk};
 
 use std::alloc::{AllocError, Global};
 use std::rc::Rc;
+
+/// Adds an item, the last, with a pointer of its own. Fails only if memory runs out.
+pub(crate) fn push_shared<T: Drop>(
+    alloc: Global,
+    all: &mut Vec<Rc<T>>,
+    item: T,
+) -> Result<(), AllocError>
+    ensures { OnOk result (map (λ i. i.value) all.new.items ≡ map (λ i. i.value) all.old.items ++ item ∷ []) }
+{
+    all.push(Rc::new(alloc, item)?)?;
+    Ok(())
+}
 
 /// The items, each with a pointer of its own. Fails only if memory runs out.
 pub(crate) fn each_shared<T: Drop>(alloc: Global, items: Vec<T>) -> Result<Vec<Rc<T>>, AllocError>
@@ -11,7 +23,23 @@ pub(crate) fn each_shared<T: Drop>(alloc: Global, items: Vec<T>) -> Result<Vec<R
 {
     let mut all = Vec::with_capacity(alloc, items.len())?;
     for item in items {
-        all.push(Rc::new(alloc, item)?)?;
+        push_shared(alloc, &mut all, item)?;
     }
+    Ok(all)
+}
+
+/// The items with another one at a place; the rest are shared. Fails only if memory runs out.
+pub(crate) fn each_but_one<T: Drop>(
+    alloc: Global,
+    items: &[Rc<T>],
+    at: usize,
+    item: T,
+) -> Result<Vec<Rc<T>>, AllocError>
+    requires { at < length items.now }
+    ensures { IfOk result (λ all. map (λ i. i.value) all.items ≡ slice_set (map (λ i. i.value) items.now) at item) }
+{
+    let item = Rc::new(alloc, item)?;
+    let mut all = items.to_vec(alloc)?;
+    all[at] = item;
     Ok(all)
 }

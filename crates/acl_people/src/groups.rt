@@ -9,7 +9,7 @@ ghost use Rattle.acl_people.specs.Changes.{change_at, name_added, name_removed};
 ghost use Rattle.std.specs.Str.{bytes_eq};
 ghost use Rattle.acl_people.specs.KnownPeople.{names_user};
 
-use crate::each_shared::each_shared;
+use crate::each_shared::{each_but_one, each_shared, push_shared};
 use crate::name_table::{NameTable, NamedRow};
 use acl_entry::Id;
 use acl_names::Name;
@@ -51,25 +51,39 @@ impl NamedRow for GroupRow {
     }
 }
 
+/// Adds a row, the last. Fails only if memory runs out.
+fn push_row(alloc: Global, groups: &mut Vec<Rc<Group>>, row: GroupRow) -> Result<(), AllocError>
+    ensures { OnOk result (map (λ r. r.value) groups.new.items ≡ map (λ r. r.value) groups.old.items ++ row ∷ []) }
+{
+    let group = Group::new(alloc, row)?;
+    push_shared(alloc, groups, group)
+}
+
 /// The rows, shared among copies.
 fn shared_rows(alloc: Global, rows: Vec<GroupRow>) -> Result<Vec<Rc<Group>>, AllocError>
     ensures { IfOk result (λ groups. map (λ r. r.value) groups.items ≡ rows.items) }
 {
     let mut groups = Vec::with_capacity(alloc, rows.len())?;
     for row in rows {
-        groups.push(Rc::new(alloc, Group::new(alloc, row)?)?)?;
+        push_row(alloc, &mut groups, row)?;
     }
     Ok(groups)
 }
 
-/// The row without a name. A row that does not contain it is shared.
-fn row_without(alloc: Global, row: &Rc<Group>, name: &[u8]) -> Result<Rc<Group>, AllocError>
-    ensures { IfOk result (λ group. group.value ≡ name_removed name.now row.now.value) }
+/// Adds the row without a name, the last. A row that does not contain it is shared.
+fn push_without(
+    alloc: Global,
+    groups: &mut Vec<Rc<Group>>,
+    row: &Rc<Group>,
+    name: &[u8],
+) -> Result<(), AllocError>
+    ensures { OnOk result (map (λ r. r.value) groups.new.items ≡ map (λ r. r.value) groups.old.items ++ name_removed name.now row.now.value ∷ []) }
 {
     if row.names_user(name) {
-        Ok(Rc::new(alloc, row.without_name(alloc, name)?)?)
+        push_shared(alloc, groups, row.without_name(alloc, name)?)
     } else {
-        Ok(row.clone()?)
+        groups.push(row.clone()?)?;
+        Ok(())
     }
 }
 
@@ -83,7 +97,7 @@ fn rows_without(
 {
     let mut groups = Vec::with_capacity(alloc, rows.len())?;
     for row in rows {
-        groups.push(row_without(alloc, row, name)?)?;
+        push_without(alloc, &mut groups, row, name)?;
     }
     Ok(groups)
 }
@@ -93,10 +107,17 @@ impl Groups {
     pub fn new(alloc: Global) -> Result<Groups, AllocError>
         ensures { IfOk result (λ groups. groups ≡ []) }
     {
-        Ok(Groups {
-            rows: Vec::new(alloc),
-            name_table: Rc::new(alloc, NameTable::of::<GroupRow>(alloc, &[])?)?,
-        })
+        Groups::of(alloc, Vec::new(alloc))
+    }
+
+    /// The groups of these rows. Fails only if memory runs out.
+    fn of(alloc: Global, rows: Vec<GroupRow>) -> Result<Groups, AllocError>
+        requires { AreCounted (map group_entry rows.items) }
+        ensures { IfOk result (λ groups. groups ≡ rows.items) }
+    {
+        let name_table = NameTable::shared(alloc, &rows)?;
+        let rows = shared_rows(alloc, rows)?;
+        Ok(Groups { rows, name_table })
     }
 
     /// The groups of a group text.
@@ -104,9 +125,8 @@ impl Groups {
         ensures { Gives (λ groups. groups) result (group_of bytes.now) }
     {
         let rows = read_group(alloc, bytes)?;
-        let name_table = Rc::new(alloc, NameTable::of(alloc, &rows)?)?;
-        let rows = shared_rows(alloc, rows)?;
-        Ok(Groups { rows, name_table })
+        let groups = Groups::of(alloc, rows)?;
+        Ok(groups)
     }
 
     /// The rows.
@@ -129,8 +149,7 @@ impl Groups {
         requires entry { map group_entry (slice_set self.now at row) ≡ map group_entry self.now }
         ensures { IfOk result (λ groups. groups ≡ slice_set self.now at row) }
     {
-        let mut rows = self.rows.clone()?;
-        rows[at] = Rc::new(alloc, row)?;
+        let rows = each_but_one(alloc, &self.rows, at, row)?;
         Ok(Groups {
             rows,
             name_table: self.name_table.clone()?,

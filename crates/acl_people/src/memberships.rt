@@ -103,10 +103,7 @@ fn join<'a>(
 ) -> Result<(), AllocError>
     ensures { OnOk result ((q : List ℕ) → gids_at members.new q ≡ (if bytes_eq name.now q then gids_at members.old q ++ gid ∷ [] else gids_at members.old q)) }
 {
-    let mut gids = match members.remove(name) {
-        Some(gids) => gids,
-        None => Vec::new(alloc),
-    };
+    let mut gids = members.remove(name).unwrap_or(Vec::new(alloc));
     gids.push(gid)?;
     members.insert(name, gids)?;
     Ok(())

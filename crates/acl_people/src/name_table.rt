@@ -5,7 +5,7 @@ ghost use Rattle.std.specs.Prelude.{◌≡◌, ◌<◌, ◌++◌, ◌∷◌, [],
 ghost use Rattle.std.specs.Ordering.{nat_cmp};
 ghost use Rattle.std.specs.BTreeMap.{get};
 ghost use Rattle.std.specs.Option.{option_copied, option_or};
-ghost use Rattle.acl_people.specs.NameTables.{is_name, is_id, prints, id_named, name_shown, place_of_word, AreNames};
+ghost use Rattle.acl_people.specs.NameTables.{is_name, is_id, prints, id_named, name_shown, place_of_word, AreNames, Named};
 ghost use Rattle.acl_people.specs.Hashes.{keyed};
 
 use acl_entry::Id;
@@ -16,6 +16,7 @@ use std::alloc::{AllocError, Global};
 use std::collections::BTreeMap;
 use std::hash::{BuildHasher, DefaultHasher, Hasher};
 use std::marker::Model;
+use std::rc::Rc;
 
 /// Names in the order of their rows, each once, with their ids. The first place of each id, and the first
 /// place of each id whose name is not digits alone, are kept beside them.
@@ -49,6 +50,29 @@ fn note(places: &mut BTreeMap<u32, usize>, id: u32, place: usize) -> Result<(), 
     Ok(())
 }
 
+/// Adds a name, which is not among them, with its id, and keeps its place. Fails only if memory runs out.
+fn add(
+    alloc: Global,
+    ids: &mut IndexMap<Vec<u8>, Id, NameHashes>,
+    first: &mut BTreeMap<u32, usize>,
+    shown: &mut BTreeMap<u32, usize>,
+    name: &[u8],
+    id: Id,
+) -> Result<(), AllocError>
+    requires { position (is_name name.now) (map {B = Named} (λ e. (e.0.items, e.1)) ids.old.entries) ≡ None }
+    ensures added { OnOk result (map {B = Named} (λ e. (e.0.items, e.1)) ids.new.entries ≡ map (λ e. (e.0.items, e.1)) ids.old.entries ++ (name.now, id) ∷ []) }
+    ensures first { OnOk result ((q : ℕ) → get nat_cmp first.new q ≡ option_or (get nat_cmp first.old q) (if is_id q (name.now, id) then Some (length ids.old.entries) else None)) }
+    ensures shown { OnOk result ((q : ℕ) → get nat_cmp shown.new q ≡ option_or (get nat_cmp shown.old q) (if prints q (name.now, id) then Some (length ids.old.entries) else None)) }
+{
+    let place = ids.len();
+    note(first, id.number(), place)?;
+    if !is_number(name) {
+        note(shown, id.number(), place)?;
+    }
+    ids.insert(Vec::from_slice(alloc, name)?, id)?;
+    Ok(())
+}
+
 impl NameTable {
     /// The names of the rows, hashed with a key that all of them make. A user that comes or goes makes a new
     /// name table, so a name is never added under a key that was known before. Fails only if memory runs out.
@@ -63,6 +87,15 @@ impl NameTable {
         Ok(name_table)
     }
 
+    /// The names of the rows, for those that share them. Fails only if memory runs out.
+    pub fn shared<R: NamedRow>(alloc: Global, rows: &[R]) -> Result<Rc<NameTable>, AllocError>
+        requires { AreNames (map R.named rows.now) }
+        ensures { IfOk result (λ name_table. name_table.value ≡ map R.named rows.now) }
+    {
+        let name_table = NameTable::of(alloc, rows)?;
+        Ok(Rc::new(alloc, name_table)?)
+    }
+
     /// No names, and room for some.
     fn with_room(alloc: Global, count: usize, hashes: NameHashes) -> Result<NameTable, AllocError>
         ensures { IfOk result (λ name_table. name_table ≡ []) }
@@ -75,22 +108,19 @@ impl NameTable {
     }
 
     /// The names and one more, which is not among them.
-    fn with(self, alloc: Global, name: &[u8], id: Id) -> Result<NameTable, AllocError>
+    fn with(mut self, alloc: Global, name: &[u8], id: Id) -> Result<NameTable, AllocError>
         requires { position (is_name name.now) self ≡ None }
         ensures { IfOk result (λ name_table. name_table ≡ self ++ (name.now, id) ∷ []) }
     {
-        let NameTable {
-            mut ids,
-            mut first,
-            mut shown,
-        } = self;
-        let place = ids.len();
-        note(&mut first, id.number(), place)?;
-        if !is_number(name) {
-            note(&mut shown, id.number(), place)?;
-        }
-        ids.insert(Vec::from_slice(alloc, name)?, id)?;
-        Ok(NameTable { ids, first, shown })
+        add(
+            alloc,
+            &mut self.ids,
+            &mut self.first,
+            &mut self.shown,
+            name,
+            id,
+        )?;
+        Ok(self)
     }
 
     /// The place of a name.

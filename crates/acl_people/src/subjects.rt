@@ -1,10 +1,11 @@
 //! Each user as the check of access sees one.
 
-ghost use Rattle.std.specs.Prelude.{◌≡◌, ◌∷◌, map, IfOk};
+ghost use Rattle.std.specs.Prelude.{◌≡◌, ◌++◌, ◌∷◌, [], map, IfOk, OnOk};
 ghost use Rattle.std.specs.FinSet as sets;
 ghost use Rattle.acl_people.specs.Members.{gids_at};
 ghost use Rattle.acl_people.specs.KnownPeople.{person};
 
+use crate::each_shared::push_shared;
 use crate::groups::{Group, Groups};
 use crate::memberships::members_of;
 use acl_entry::{Id, Subject};
@@ -29,6 +30,20 @@ fn subject_of(
     Subject::from_groups(alloc, row.uid, &gids)
 }
 
+/// Adds the user of a row, the last. Fails only if memory runs out.
+fn push_subject(
+    alloc: Global,
+    subjects: &mut Vec<Rc<Subject>>,
+    members: &BTreeMap<&[u8], Vec<Id>>,
+    row: &PasswdRow,
+) -> Result<(), AllocError>
+    ensures { OnOk result (map (λ s. s.value) subjects.new.items ≡ map (λ s. s.value) subjects.old.items
+        ++ record { uid = row.now.uid; groups = sets.from_list (row.now.gid ∷ gids_at members.now row.now.name) } ∷ []) }
+{
+    let subject = subject_of(alloc, members, row)?;
+    push_shared(alloc, subjects, subject)
+}
+
 /// Every user's id and groups, in the order of the users' rows: one pass over the group rows, and one over
 /// the users.
 pub(crate) fn subjects_of(
@@ -41,7 +56,7 @@ pub(crate) fn subjects_of(
     let members = members_of(alloc, groups)?;
     let mut subjects = Vec::with_capacity(alloc, users.len())?;
     for row in users {
-        subjects.push(Rc::new(alloc, subject_of(alloc, &members, row)?)?)?;
+        push_subject(alloc, &mut subjects, &members, row)?;
     }
     Ok(subjects)
 }

@@ -8,7 +8,7 @@ ghost use Rattle.acl_people.specs.NameTables.{AreCounted};
 ghost use Rattle.acl_people.specs.Entries.{user_entry};
 ghost use Rattle.acl_people.specs.Changes.{change_at, with_gid};
 
-use crate::each_shared::each_shared;
+use crate::each_shared::{each_but_one, each_shared};
 use crate::name_table::{NameTable, NamedRow};
 use acl_entry::Id;
 use acl_syntax::{PasswdRow, TextFault, read_passwd};
@@ -62,7 +62,7 @@ impl Users {
         requires { AreCounted (map user_entry (map (λ r. r.value) rows.items)) }
         ensures { IfOk result (λ users. users ≡ map (λ r. r.value) rows.items) }
     {
-        let name_table = Rc::new(alloc, NameTable::of(alloc, &rows)?)?;
+        let name_table = NameTable::shared(alloc, &rows)?;
         Ok(Users { rows, name_table })
     }
 
@@ -100,8 +100,7 @@ impl Users {
             uid: row.uid,
             gid,
         };
-        let mut rows = self.rows.clone()?;
-        rows[user] = Rc::new(alloc, changed)?;
+        let rows = each_but_one(alloc, &self.rows, user, changed)?;
         Ok(Users {
             rows,
             name_table: self.name_table.clone()?,

@@ -9,8 +9,8 @@ use Rattle.acl_people.proofs.users.Users.of.Goals.{After-deref}
 named : (c : After-deref) → map user_entry (map (λ r. r.value) c.args.rows.items) ≡ map (λ r. user_entry r.value) c.deref.result.now
 named c = map-map user_entry (λ r. r.value) c.args.rows.items ∙ ap (λ rows. map (λ r. user_entry r.value) rows) (sym c.deref.ensures.value)
 
-pub of-requires : goal.of-requires
-of-requires c = subst AreNames (named (goal.at.of-requires c).After-deref) c.requires.names
+pub shared-requires : goal.shared-requires
+shared-requires c = subst AreNames (named (goal.at.shared-requires c).After-deref) c.requires.names
 
 pub invariant_of-result : goal.invariant_of-result
-invariant_of-result c = (c.in_ok-name_table.ensures.ok ∙ c.in_ok-of.ensures ∙ sym (named (goal.at.invariant_of-result c).After-deref), c.requires)
+invariant_of-result c = (c.in_ok-name_table.ensures ∙ sym (named (goal.at.invariant_of-result c).After-deref), c.requires)
