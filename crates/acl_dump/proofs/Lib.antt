@@ -1,3 +1,4 @@
+pub mod Appending
 pub mod ApartPaths
 pub mod WatchedPaths
 pub mod SeenPaths

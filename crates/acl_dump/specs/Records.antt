@@ -148,11 +148,15 @@ abbrev pub has_headers : DumpUse → RecordDraft → Bool
 has_headers Load draft = is_some draft.owner && is_some draft.group
 has_headers Restore draft = true
 
+-- a record that has these lists, and all else of its lines
+abbrev pub record_with : RecordDraft → KeyMap → Option KeyMap → DumpRecord
+record_with draft access dacl = record { at = draft.at; path = draft.path; slash = draft.slash; owner = draft.owner; group = draft.group; flags = draft.flags; access = access; dacl = dacl }
+
 abbrev pub whole : RecordDraft → Result DumpRecord FaultKind
 whole draft = do
   access ← list_of Access draft.access
   dacl ← default_list_of draft.dacl
-  Ok (record { at = draft.at; path = draft.path; slash = draft.slash; owner = draft.owner; group = draft.group; flags = draft.flags; access = access; dacl = dacl })
+  Ok (record_with draft access dacl)
 
 abbrev pub record_of : DumpUse → RecordDraft → Result DumpRecord FaultKind
 record_of dump_use draft = if has_headers dump_use draft then whole draft else Err MissingHeader

@@ -1,8 +1,8 @@
 //! Records as a whole.
 
-ghost use Rattle.std.specs.Prelude.{◌≡◌, Some, OnOk, List, is_some};
+ghost use Rattle.std.specs.Prelude.{◌≡◌, ◌++◌, ◌∷◌, [], Some, OnOk, List, is_some};
 ghost use Rattle.acl_syntax.specs.InTurn.{Gives, GivesAt};
-ghost use Rattle.acl_dump.specs.Records.{list_of, default_list_of, has_headers, record_of, close};
+ghost use Rattle.acl_dump.specs.Records.{list_of, default_list_of, has_headers, record_with, record_of, close};
 ghost use Rattle.acl_dump.specs.Seen.{SeenPathsAre};
 
 use crate::draft::RecordDraft;
@@ -10,7 +10,7 @@ use crate::record::{DumpRecord, DumpUse};
 use crate::seen::{Seen, watch};
 use acl_entry::{Acl, Entry, ListFault};
 use acl_syntax::{FaultKind, TextFault, Which};
-use std::alloc::Global;
+use std::alloc::{AllocError, Global};
 
 /// The list of a record's entries, or its fault.
 fn list_of(alloc: Global, at: usize, which: Which, entries: &[Entry]) -> Result<Acl, TextFault>
@@ -49,12 +49,16 @@ fn has_headers(dump_use: DumpUse, draft: &RecordDraft) -> bool
     }
 }
 
-/// The record of all its lines, or what it lacks as a whole, at its `file:` line.
-fn record_of(alloc: Global, dump_use: DumpUse, draft: RecordDraft) -> Result<DumpRecord, TextFault>
-    ensures { GivesAt draft.at (λ r. r) result (record_of dump_use draft) }
+/// The access list and the default list of a record, or what it lacks as a whole, at its `file:` line.
+fn lists_of(
+    alloc: Global,
+    dump_use: DumpUse,
+    draft: &RecordDraft,
+) -> Result<(Acl, Option<Acl>), TextFault>
+    ensures { GivesAt draft.now.at (λ lists. record_with draft.now lists.0 lists.1) result (record_of dump_use draft.now) }
 {
     let at = draft.at;
-    if !has_headers(dump_use, &draft) {
+    if !has_headers(dump_use, draft) {
         return Err(TextFault {
             kind: FaultKind::MissingHeader,
             at,
@@ -62,8 +66,15 @@ fn record_of(alloc: Global, dump_use: DumpUse, draft: RecordDraft) -> Result<Dum
     }
     let access = list_of(alloc, at, Which::Access, draft.access.as_slice())?;
     let dacl = default_list_of(alloc, at, draft.dacl.as_slice())?;
-    Ok(DumpRecord {
-        at,
+    Ok((access, dacl))
+}
+
+/// The record that has these lists, and all else of its lines.
+fn record_with(draft: RecordDraft, access: Acl, dacl: Option<Acl>) -> DumpRecord
+    ensures { result ≡ record_with draft access dacl }
+{
+    DumpRecord {
+        at: draft.at,
         path: draft.path,
         slash: draft.slash,
         owner: draft.owner,
@@ -71,7 +82,32 @@ fn record_of(alloc: Global, dump_use: DumpUse, draft: RecordDraft) -> Result<Dum
         flags: draft.flags,
         access,
         dacl,
-    })
+    }
+}
+
+/// The record of all its lines, or what it lacks as a whole, at its `file:` line.
+fn record_of(alloc: Global, dump_use: DumpUse, draft: RecordDraft) -> Result<DumpRecord, TextFault>
+    ensures { GivesAt draft.at (λ r. r) result (record_of dump_use draft) }
+{
+    let (access, dacl) = lists_of(alloc, dump_use, &draft)?;
+    Ok(record_with(draft, access, dacl))
+}
+
+/// Adds a record to the others, and its path to those that are watched.
+fn push_record(
+    alloc: Global,
+    records: &mut Vec<DumpRecord>,
+    seen: &mut Option<Seen>,
+    dump_record: DumpRecord,
+) -> Result<(), AllocError>
+    requires { SeenPathsAre seen.old records.old.items }
+    ensures pushed { OnOk result (records.new.items ≡ records.old.items ++ dump_record ∷ []) }
+    ensures seen_are { OnOk result (SeenPathsAre seen.new records.new.items) }
+    ensures watched { is_some seen.new ≡ is_some seen.old }
+{
+    watch(alloc, seen, &dump_record.path)?;
+    records.push(dump_record)?;
+    Ok(())
 }
 
 /// Adds the open record, if there is one, to the others.
@@ -91,7 +127,6 @@ pub(crate) fn close(
         return Ok(());
     };
     let record = record_of(alloc, dump_use, draft)?;
-    watch(alloc, seen, &record.path)?;
-    records.push(record)?;
+    push_record(alloc, records, seen, record)?;
     Ok(())
 }

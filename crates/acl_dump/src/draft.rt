@@ -77,75 +77,64 @@ impl RecordDraft {
     {
         self.access.as_slice().is_empty() && self.dacl.as_slice().is_empty()
     }
-}
 
-/// The record with the content of a line at a place.
-fn with_item(draft: RecordDraft, at: usize, item: Item) -> Result<RecordDraft, TextFault>
-    ensures { GivesAt at (λ draft. draft) result (with_item item draft) }
-{
-    match item {
-        Item::Owner(id) => {
-            if draft.owner.is_some() || !draft.has_no_entry() {
-                return Err(bad_header(at));
+    /// Adds the content of a line at a place.
+    fn add_item(&mut self, at: usize, item: Item) -> Result<(), TextFault>
+        ensures { GivesAt at (λ _. self.new) result (with_item item self.old) }
+    {
+        match item {
+            Item::Owner(id) => {
+                if self.owner.is_some() || !self.has_no_entry() {
+                    return Err(bad_header(at));
+                }
+                self.owner = Some(id);
             }
-            Ok(RecordDraft {
-                owner: Some(id),
-                ..draft
-            })
-        }
-        Item::OwningGroup(id) => {
-            if draft.group.is_some() || !draft.has_no_entry() {
-                return Err(bad_header(at));
+            Item::OwningGroup(id) => {
+                if self.group.is_some() || !self.has_no_entry() {
+                    return Err(bad_header(at));
+                }
+                self.group = Some(id);
             }
-            Ok(RecordDraft {
-                group: Some(id),
-                ..draft
-            })
-        }
-        Item::Flags(flags) => {
-            if draft.flags.is_some() || !draft.has_no_entry() {
-                return Err(bad_header(at));
+            Item::Flags(flags) => {
+                if self.flags.is_some() || !self.has_no_entry() {
+                    return Err(bad_header(at));
+                }
+                self.flags = Some(flags);
             }
-            Ok(RecordDraft {
-                flags: Some(flags),
-                ..draft
-            })
+            Item::Entry(dflt, entry) => self.add_entry(dflt, entry)?,
         }
-        Item::Entry(dflt, entry) => with_entry(draft, dflt, entry),
+        Ok(())
     }
-}
 
-/// The record with one more entry.
-fn with_entry(draft: RecordDraft, dflt: bool, entry: Entry) -> Result<RecordDraft, TextFault>
-    ensures ok { IfOk result (λ new. new ≡ with_entry dflt entry draft) }
-    ensures err { IfErr result (λ fault. fault.kind ≡ NoMemory) }
-{
-    let mut new = draft;
-    if dflt {
-        new.dacl.push(entry.key, entry.perm)?;
-    } else {
-        new.access.push(entry.key, entry.perm)?;
+    /// Adds an entry after the others of its list.
+    fn add_entry(&mut self, dflt: bool, entry: Entry) -> Result<(), AllocError>
+        ensures { OnOk result (self.new ≡ with_entry dflt entry self.old) }
+    {
+        if dflt {
+            self.dacl.push(entry.key, entry.perm)
+        } else {
+            self.access.push(entry.key, entry.perm)
+        }
     }
-    Ok(new)
 }
 
 /// Adds the content of a line to the open record, if there is one.
 pub(crate) fn add(
-    draft: Option<RecordDraft>,
+    draft: &mut Option<RecordDraft>,
     at: usize,
     item: Option<Item>,
-) -> Result<Option<RecordDraft>, TextFault>
-    ensures { GivesAt at (λ draft. draft) result (add item draft) }
+) -> Result<(), TextFault>
+    ensures { GivesAt at (λ _. draft.new) result (add item draft.old) }
 {
     let Some(item) = item else {
-        return Ok(draft);
+        return Ok(());
     };
     match draft {
         None => Err(TextFault {
             kind: FaultKind::MissingHeader,
             at,
         }),
-        Some(draft) => Ok(Some(with_item(draft, at, item)?)),
+        Some(draft) => draft.add_item(at, item),
     }
 }
 

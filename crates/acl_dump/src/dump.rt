@@ -73,26 +73,32 @@ fn read_stream<N: Names>(
     ensures { Gives (λ records. records.items) result (watched.stream (N.naming names.now) (is_some seen) dump_use [] None (lines_of bytes.now)) }
 {
     let mut records = Vec::new(alloc);
+    read_lines(alloc, bytes, dump_use, names, &mut records, &mut seen)?;
+    Ok(records)
+}
+
+/// Adds the records of a dump to others.
+fn read_lines<N: Names>(
+    alloc: Global,
+    bytes: &[u8],
+    dump_use: DumpUse,
+    names: &N,
+    records: &mut Vec<DumpRecord>,
+    seen: &mut Option<Seen>,
+) -> Result<(), TextFault>
+    requires { SeenPathsAre seen.old records.old.items }
+    ensures { Gives (λ _. records.new.items) result (watched.stream (N.naming names.now) (is_some seen.old) dump_use records.old.items None (lines_of bytes.now)) }
+{
     let mut draft = None;
     let mut rest = bytes;
     let mut at = 0;
     while !rest.is_empty() {
         at += 1;
         let (line, after) = first_piece(rest, b'\n');
-        draft = read_line(
-            alloc,
-            names,
-            dump_use,
-            &mut records,
-            &mut seen,
-            draft,
-            at,
-            line,
-        )?;
+        read_line(alloc, names, dump_use, records, seen, &mut draft, at, line)?;
         rest = after;
     }
-    close(alloc, dump_use, &mut records, &mut seen, draft)?;
-    Ok(records)
+    close(alloc, dump_use, records, seen, draft)
 }
 
 /// Reads a line: one that begins a record closes the record before it, and any other belongs to the
@@ -103,21 +109,41 @@ fn read_line<N: Names>(
     dump_use: DumpUse,
     records: &mut Vec<DumpRecord>,
     seen: &mut Option<Seen>,
-    draft: Option<RecordDraft>,
+    draft: &mut Option<RecordDraft>,
     at: usize,
     line: &[u8],
-) -> Result<Option<RecordDraft>, TextFault>
+) -> Result<(), TextFault>
     requires { SeenPathsAre seen.old records.old.items }
-    ensures stepped { Gives (λ new. (records.new.items, new)) result (stepped begins (watched.open_record (is_some seen.old)) (line_in (N.naming names.now)) (close dump_use) records.old.items draft (at, line.now)) }
+    ensures stepped { Gives (λ _. (records.new.items, draft.new)) result (stepped begins (watched.open_record (is_some seen.old)) (line_in (N.naming names.now)) (close dump_use) records.old.items draft.old (at, line.now)) }
     ensures seen_are { OnOk result (SeenPathsAre seen.new records.new.items) }
     ensures watched { is_some seen.new ≡ is_some seen.old }
 {
     let (kind, value) = content_of(line);
-    if matches!(kind, LineKind::File) {
-        close(alloc, dump_use, records, seen, draft)?;
-        Ok(Some(open_record(alloc, seen, at, value)?))
-    } else {
-        let item = item_of(alloc, names, at, kind, value)?;
-        add(draft, at, item)
+    match kind {
+        LineKind::File => begin_record(alloc, dump_use, records, seen, draft, at, value),
+        _ => {
+            let item = item_of(alloc, names, at, kind, value)?;
+            add(draft, at, item)
+        }
     }
+}
+
+/// Closes the open record, if there is one, and opens the one that a `file:` line of this value begins.
+fn begin_record(
+    alloc: Global,
+    dump_use: DumpUse,
+    records: &mut Vec<DumpRecord>,
+    seen: &mut Option<Seen>,
+    draft: &mut Option<RecordDraft>,
+    at: usize,
+    value: &[u8],
+) -> Result<(), TextFault>
+    requires { SeenPathsAre seen.old records.old.items }
+    ensures begun { Gives (λ _. (records.new.items, draft.new)) result (watched.begun (is_some seen.old) dump_use records.old.items draft.old at value.now) }
+    ensures seen_are { OnOk result (SeenPathsAre seen.new records.new.items) }
+    ensures watched { is_some seen.new ≡ is_some seen.old }
+{
+    close(alloc, dump_use, records, seen, draft.take())?;
+    *draft = Some(open_record(alloc, seen, at, value)?);
+    Ok(())
 }

@@ -1,13 +1,16 @@
 //! Writing the headers of a record, and records (getfacl(1)).
 
-ghost use Rattle.std.specs.Prelude.{◌≡◌};
+ghost use Rattle.std.specs.Prelude.{◌≡◌, ◌++◌, ◌∷◌, [], option_copied};
+ghost use Rattle.acl_syntax.specs.Writing.{id_text};
+ghost use Rattle.acl_syntax.specs.declared.fault.Which.TheVariants.{Access};
+ghost use Rattle.acl_dump.specs.declared.effective.Effective.TheVariants.{WhereMasked};
 ghost use Rattle.acl_names.specs.Appends.{Appends, AppendsWhole};
-ghost use Rattle.acl_dump.specs.Writing.{mark, marks, flags_text, file_text, owner_text, group_text, header_text, record_text};
+ghost use Rattle.acl_dump.specs.Writing.{mark, marks, flags_text, file_text, owner_text, group_text, header_text, list_text, default_text, record_text};
 
 use crate::effective::Effective;
 use crate::record::DumpRecord;
 use crate::writing::{append_default, append_list};
-use acl_entry::Id;
+use acl_entry::{Acl, Id};
 use acl_names::{Path, append_path};
 use acl_syntax::{Names, Which, append_id};
 use std::alloc::AllocError;
@@ -65,18 +68,28 @@ fn push_file(text: &mut Vec<u8>, path: &Path, slash: bool) -> Result<(), AllocEr
     Ok(())
 }
 
+/// Adds the line of an id: what is in front, then its name, or its number where it has no name.
+fn push_id_line(
+    text: &mut Vec<u8>,
+    front: &[u8],
+    id: Id,
+    name: Option<&[u8]>,
+) -> Result<(), AllocError>
+    ensures { Appends result text.old text.new (front.now ++ (id_text id (option_copied name.entry) ++ 10 ∷ [])) }
+{
+    text.extend_from_slice(front)?;
+    append_id(text, id, name)?;
+    text.push(b'\n')?;
+    Ok(())
+}
+
 /// Adds the `# owner:` line, if there is an owner.
 fn push_owner<N: Names>(text: &mut Vec<u8>, owner: &Option<Id>, names: &N) -> Result<(), AllocError>
     ensures { Appends result text.old text.new (owner_text (N.naming names.now).user_name owner.now) }
 {
     match owner {
         None => Ok(()),
-        Some(id) => {
-            text.extend_from_slice(b"# owner: ")?;
-            append_id(text, *id, names.user_name(*id))?;
-            text.push(b'\n')?;
-            Ok(())
-        }
+        Some(id) => push_id_line(text, b"# owner: ", *id, names.user_name(*id)),
     }
 }
 
@@ -86,12 +99,7 @@ fn push_group<N: Names>(text: &mut Vec<u8>, group: &Option<Id>, names: &N) -> Re
 {
     match group {
         None => Ok(()),
-        Some(id) => {
-            text.extend_from_slice(b"# group: ")?;
-            append_id(text, *id, names.group_name(*id))?;
-            text.push(b'\n')?;
-            Ok(())
-        }
+        Some(id) => push_id_line(text, b"# group: ", *id, names.group_name(*id)),
     }
 }
 
@@ -147,6 +155,17 @@ fn push_record<N: Names>(
         flags: dump_record.flags,
     };
     append_header(text, &header, names)?;
+    push_lists(text, dump_record, names)
+}
+
+/// Adds the lists of a record, and an empty line. A part of it is left where memory runs out.
+fn push_lists<N: Names>(
+    text: &mut Vec<u8>,
+    dump_record: &DumpRecord,
+    names: &N,
+) -> Result<(), AllocError>
+    ensures { Appends result text.old text.new (list_text (N.naming names.now) WhereMasked Access dump_record.now.access ++ (default_text (N.naming names.now) WhereMasked dump_record.now.dacl ++ 10 ∷ [])) }
+{
     append_list(
         text,
         &dump_record.access,
@@ -154,7 +173,14 @@ fn push_record<N: Names>(
         Effective::WhereMasked,
         names,
     )?;
-    append_default(text, &dump_record.dacl, Effective::WhereMasked, names)?;
+    end_record(text, &dump_record.dacl, names)
+}
+
+/// Ends a record: its default list, if there is one, and an empty line.
+fn end_record<N: Names>(text: &mut Vec<u8>, dacl: &Option<Acl>, names: &N) -> Result<(), AllocError>
+    ensures { Appends result text.old text.new (default_text (N.naming names.now) WhereMasked dacl.now ++ 10 ∷ []) }
+{
+    append_default(text, dacl, Effective::WhereMasked, names)?;
     text.push(b'\n')?;
     Ok(())
 }

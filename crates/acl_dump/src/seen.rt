@@ -72,7 +72,20 @@ fn components_of(alloc: Global, path: &Path) -> Result<Vec<Vec<u8>>, AllocError>
     let mut components = Vec::new(alloc);
     let mut rest = path.components();
     while let Some(component) = rest.next() {
-        components.push(Vec::from_slice(alloc, component)?)?;
+        push_copy(alloc, &mut components, component)?;
     }
     Ok(components)
+}
+
+/// Adds a copy of a component. Fails only if memory runs out.
+fn push_copy(
+    alloc: Global,
+    components: &mut Vec<Vec<u8>>,
+    component: &[u8],
+) -> Result<(), AllocError>
+    ensures { OnOk result (map (λ v. v.items) components.new.items ≡ map (λ v. v.items) components.old.items ++ component.now ∷ []) }
+{
+    let copy = Vec::from_slice(alloc, component)?;
+    components.push(copy)?;
+    Ok(())
 }

@@ -1,10 +1,11 @@
 //! Writing the records of a dump (getfacl(1)).
 
-ghost use Rattle.std.specs.Prelude.{◌≡◌};
+ghost use Rattle.std.specs.Prelude.{◌≡◌, ◌++◌, ◌∷◌, [], codes};
+ghost use Rattle.acl_entry.specs.Perms as perms;
 ghost use Rattle.std.specs.List.{flat_map};
 ghost use Rattle.acl_names.specs.Appends.{Appends, AppendsWhole};
 ghost use Rattle.acl_syntax.specs.declared.fault.Which.TheVariants.{Default};
-ghost use Rattle.acl_dump.specs.Writing.{is_shown, tab_count, effective_text, front, shown, entry_line, list_text, default_text};
+ghost use Rattle.acl_dump.specs.Writing.{is_shown, tab_count, tabs, effective_text, front, shown, entry_line, list_text, default_text};
 
 use crate::effective::Effective;
 use acl_entry::{Acl, Entry, Key, Perm};
@@ -48,9 +49,31 @@ fn push_comment(
     if !entry.key.is_class() || !is_shown(how, *mask, entry.perm) {
         return Ok(());
     }
+    push_effective(text, entry.perm.meet(*mask), bytes)
+}
+
+/// Adds the tabs after an entry of this many bytes, and its effective permissions.
+fn push_effective(text: &mut Vec<u8>, perm: Perm, bytes: usize) -> Result<(), AllocError>
+    ensures { Appends result text.old text.new (tabs bytes ++ (codes "#effective:" ++ perms.text perm)) }
+{
     text.extend_from_slice(&TABS[..tab_count(bytes)])?;
     text.extend_from_slice(b"#effective:")?;
-    text.extend_from_slice(&entry.perm.meet(*mask).text())?;
+    text.extend_from_slice(&perm.text())?;
+    Ok(())
+}
+
+/// Ends the line of an entry of this many bytes: its effective permissions, where they are shown, and a line feed.
+fn end_line(
+    text: &mut Vec<u8>,
+    how: Effective,
+    mask: &Option<Perm>,
+    entry: &Entry,
+    bytes: usize,
+) -> Result<(), AllocError>
+    ensures { Appends result text.old text.new (effective_text how mask.now entry.now bytes ++ 10 ∷ []) }
+{
+    push_comment(text, how, mask, entry, bytes)?;
+    text.push(b'\n')?;
     Ok(())
 }
 
@@ -96,9 +119,7 @@ pub fn append_line<N: Names>(
     let before = text.len();
     push_front_and_entry(text, which, entry, names)?;
     let bytes = text.len() - before;
-    push_comment(text, how, mask, entry, bytes)?;
-    text.push(b'\n')?;
-    Ok(())
+    end_line(text, how, mask, entry, bytes)
 }
 
 /// Adds the lines of a list.

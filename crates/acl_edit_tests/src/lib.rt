@@ -13,3 +13,5 @@ mod lists;
 mod made;
 #[cfg(test)]
 mod modes;
+#[cfg(test)]
+mod surface;

@@ -9,3 +9,5 @@ mod checks;
 mod lists;
 #[cfg(test)]
 mod made;
+#[cfg(test)]
+mod surface;

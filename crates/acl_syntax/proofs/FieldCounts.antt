@@ -1,5 +1,5 @@
 -- Lines and entries with too many fields.
-use Rattle.std.proofs.Common.{◌≡◌, ℕ, ◌<◌, List, [], ◌∷◌, length, None, refl, arith, true}
+use Rattle.std.proofs.Common.{◌≡◌, ℕ, ◌<◌, ◌≤◌, List, [], ◌∷◌, length, None, refl, arith, true}
 use Rattle.std.specs.Prelude.{◌==◌}
 use Rattle.std.proofs.lemmas.List.{length-map}
 use Rattle.std.proofs.lemmas.List.Splits.{length-slice_split}
@@ -18,6 +18,17 @@ eight_fields a b c d e f g (h ∷ hs) nonempty = refl
 pub five_fields : (a b c d : List ℕ) (more : List (List ℕ)) → 0 < length more → None ≡ group_row (a ∷ b ∷ c ∷ d ∷ more)
 five_fields a b c d [] nonempty = absurd (omega arith)
 five_fields a b c d (e ∷ es) nonempty = refl
+
+-- a row has seven fields
+pub few_fields : (row : List (List ℕ)) → length row ≤ 6 → None ≡ passwd_row row
+few_fields [] few = refl
+few_fields (a ∷ []) few = refl
+few_fields (a ∷ b ∷ []) few = refl
+few_fields (a ∷ b ∷ c ∷ []) few = refl
+few_fields (a ∷ b ∷ c ∷ d ∷ []) few = refl
+few_fields (a ∷ b ∷ c ∷ d ∷ e ∷ []) few = refl
+few_fields (a ∷ b ∷ c ∷ d ∷ e ∷ f ∷ []) few = refl
+few_fields (a ∷ b ∷ c ∷ d ∷ e ∷ f ∷ g ∷ more) few = absurd (omega arith)
 
 pub four_fields : (a b c : List ℕ) (more : List (List ℕ)) → 0 < length more → None ≡ row_of (a ∷ b ∷ c ∷ more)
 four_fields a b c [] nonempty = absurd (omega arith)

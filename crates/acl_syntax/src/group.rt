@@ -8,7 +8,7 @@ ghost use Rattle.acl_syntax.specs.Rows.{names_of, group_row, group_name, group_l
 
 use crate::fault::{FaultKind, TextFault};
 use crate::fields::read_id;
-use crate::rows::{GroupRow, MAX_ROWS, NameList, has_no_content};
+use crate::rows::{GroupRow, MAX_ROWS, NameList, cut_two, has_no_content};
 use acl_entry::Id;
 use acl_names::Name;
 use acl_names::cut::{cut, first_piece};
@@ -19,8 +19,7 @@ use std::collections::BTreeMap;
 fn fields(line: &[u8]) -> Option<(&[u8], Id, &[u8])>
     ensures { option_map (λ x. record { name = x.0.now; gid = x.1; names = names_of x.2.now }) result ≡ group_row (pieces 58 line.now) }
 {
-    let (name, rest) = cut(line, b':')?;
-    let (_password, rest) = cut(rest, b':')?;
+    let (name, _password, rest) = cut_two(line)?;
     let (gid, names) = cut(rest, b':')?;
     if let Some(_) = cut(names, b':') {
         return None;
@@ -61,9 +60,9 @@ fn add_row<'a>(
     ensures row { OnOk result (rows.new.items ≡ rows.old.items ++ record { name = name.entry.now; gid = gid; names = names_of field.now } ∷ []) }
     ensures seen_are { OnOk result (SeenNamesAre group_name seen.new rows.new.items) }
 {
+    seen.insert(name, ())?;
     let name_kept = Name::from_bytes(alloc, name)?;
     let names = names_of(alloc, field)?;
-    seen.insert(name, ())?;
     rows.push(GroupRow {
         name: name_kept,
         gid,

@@ -8,7 +8,7 @@ ghost use Rattle.acl_syntax.specs.Rows.{passwd_row, passwd_name, passwd_line, pa
 
 use crate::fault::{FaultKind, TextFault};
 use crate::fields::read_id;
-use crate::rows::{MAX_ROWS, PasswdRow, has_no_content};
+use crate::rows::{MAX_ROWS, PasswdRow, cut_two, has_no_content};
 use acl_entry::Id;
 use acl_names::Name;
 use acl_names::cut::{cut, first_piece};
@@ -19,12 +19,9 @@ use std::collections::BTreeMap;
 fn fields(line: &[u8]) -> Option<(&[u8], Id, Id)>
     ensures { option_map (λ x. record { name = x.0.now; uid = x.1; gid = x.2 }) result ≡ passwd_row (pieces 58 line.now) }
 {
-    let (name, rest) = cut(line, b':')?;
-    let (_password, rest) = cut(rest, b':')?;
-    let (uid, rest) = cut(rest, b':')?;
-    let (gid, rest) = cut(rest, b':')?;
-    let (_gecos, rest) = cut(rest, b':')?;
-    let (_home, shell) = cut(rest, b':')?;
+    let (name, _password, rest) = cut_two(line)?;
+    let (uid, gid, rest) = cut_two(rest)?;
+    let (_gecos, _home, shell) = cut_two(rest)?;
     if let Some(_) = cut(shell, b':') {
         return None;
     }
@@ -49,8 +46,8 @@ fn add_row<'a>(
     ensures row { OnOk result (rows.new.items ≡ rows.old.items ++ record { name = name.entry.now; uid = uid; gid = gid } ∷ []) }
     ensures seen_are { OnOk result (SeenNamesAre passwd_name seen.new rows.new.items) }
 {
-    let name_kept = Name::from_bytes(alloc, name)?;
     seen.insert(name, ())?;
+    let name_kept = Name::from_bytes(alloc, name)?;
     rows.push(PasswdRow {
         name: name_kept,
         uid,

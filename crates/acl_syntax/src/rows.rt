@@ -1,10 +1,12 @@
 //! The counted rows of passwd(5) and group(5), and their lines.
 
-ghost use Rattle.std.specs.Prelude.{◌≡◌, List, ℕ};
+ghost use Rattle.std.specs.Prelude.{◌≡◌, ◌≤◌, ◌∷◌, List, MatchOption, length, ℕ};
+ghost use Rattle.acl_names.specs.Pieces.{pieces};
 ghost use Rattle.acl_syntax.specs.Rows.{has_no_content};
 
 use acl_entry::Id;
 use acl_names::Name;
+use acl_names::cut::cut;
 use std::marker::Model;
 
 /// A counted row of passwd(5).
@@ -71,4 +73,14 @@ pub(crate) fn has_no_content(line: &[u8]) -> bool
         None => true,
         Some(first) => *first == b'#',
     }
+}
+
+/// The first two fields of a line, and what comes after them; `None` where it has no more than two.
+pub(crate) fn cut_two(line: &[u8]) -> Option<(&[u8], &[u8], &[u8])>
+    ensures { MatchOption result (length (pieces 58 line.now) ≤ 2)
+        (λ parts. pieces 58 line.now ≡ parts.0.now ∷ parts.1.now ∷ pieces 58 parts.2.now) }
+{
+    let (first, rest) = cut(line, b':')?;
+    let (second, after) = cut(rest, b':')?;
+    Some((first, second, after))
 }

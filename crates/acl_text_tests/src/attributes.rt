@@ -1,6 +1,6 @@
 //! Attributes: lists both ways, refused ones, one cut and changed at every byte, and the most entries.
 use crate::made::Who::{Mask, Other, Owner, OwningGroup, User};
-use crate::made::{Row, cuts_and_changes, id, list, push};
+use crate::made::{Row, cuts_and_changes, expect_same, id, list, push};
 use crate::slow_attr::{Numbers, read};
 use acl_entry::{Acl, Key};
 use acl_text::{FaultKind, TextFault, decode_attr, encode_attr};
@@ -42,7 +42,7 @@ fn lists_are_written(rt: HostRuntime) {
     for (rows, want) in &WRITTEN {
         let acl = list(&rt, rt.alloc(), rows);
         let bytes = encode_attr(rt.alloc(), &acl).expect(&rt, "memory");
-        assert!(rt; bytes.as_slice() == *want);
+        expect_same(&rt, &bytes, want);
     }
 }
 

@@ -1,5 +1,7 @@
 //! Dumps: read and written, faults, some cut and changed at every byte, and the most entries of a list.
-use crate::made::{cuts_and_changes, expect_fault, pieces, push};
+use crate::made::{
+    cuts_and_changes, expect_bytes, expect_fault, expect_same, pieces, push,
+};
 use crate::people::People;
 use crate::slow_dump::{Slow, read};
 use acl_entry::{Acl, Entry, Id, ListFault};
@@ -41,7 +43,7 @@ fn records_are_written(rt: HostRuntime) {
         for record in &load(&rt, rt.alloc(), bytes) {
             append(&rt, &mut text, record);
         }
-        assert!(rt; text.as_slice() == *want, "row {at}");
+        expect_bytes(&rt, at, &text, want);
     }
 }
 
@@ -75,7 +77,7 @@ fn access_text<N: Names>(
 fn permissions_without_the_mask(rt: HostRuntime) {
     let text = access_text(&rt, rt.alloc(), Effective::Never, &NoNames);
     let want = b"user::rwx\nuser:1000:rwx\ngroup::rwx\ngroup:60:r-x\nmask::r-x\nother::r-x\n";
-    assert!(rt; text.as_slice() == want.as_slice());
+    expect_same(&rt, &text, want);
 }
 
 #[test]
@@ -83,7 +85,7 @@ fn permissions_with_the_mask(rt: HostRuntime) {
     let text = access_text(&rt, rt.alloc(), Effective::Always, &People);
     let want =
         b"user::rwx\nuser:joe:rwx\t\t\t#effective:r-x\ngroup::rwx\t\t\t#effective:r-x\ngroup:cool:r-x\t\t\t#effective:r-x\nmask::r-x\nother::r-x\n";
-    assert!(rt; text.as_slice() == want.as_slice());
+    expect_same(&rt, &text, want);
 }
 
 /// The fault of a dump; none where it is read.
@@ -244,10 +246,7 @@ fn headers_are_written_as_they_were(rt: HostRuntime) {
     for (at, want) in HEADERS.iter().enumerate() {
         let mut bytes = Vec::from_slice(rt.alloc(), want).expect(&rt, "memory");
         push(&rt, &mut bytes, b"user::rwx\ngroup::r-x\nother::r-x\n");
-        assert!(rt;
-            headers_of(&rt, rt.alloc(), &bytes).as_slice() == *want,
-            "row {at}"
-        );
+        expect_bytes(&rt, at, &headers_of(&rt, rt.alloc(), &bytes), want);
     }
 }
 

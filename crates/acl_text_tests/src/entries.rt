@@ -1,7 +1,7 @@
 //! Entry texts.
 
 use crate::made::Who::{Group, Mask, Other, User};
-use crate::made::{Who, expect_fault, key, perm};
+use crate::made::{Who, expect_fault, expect_row, key, perm};
 use crate::people::People;
 use acl_text::{PermSpec, Sep, Spec, TextFault, Want, read_entries, read_perms};
 use std::alloc::Global;
@@ -152,6 +152,6 @@ fn permissions(rt: HostRuntime) {
             Some(perm) => Some(perm.number()),
             None => None,
         };
-        assert!(rt; found == *want, "row {at}");
+        expect_row(&rt, at, found == *want);
     }
 }

@@ -29,4 +29,6 @@ mod slow_dump;
 #[cfg(test)]
 mod slow_entries;
 #[cfg(test)]
+mod surface;
+#[cfg(test)]
 mod writing;

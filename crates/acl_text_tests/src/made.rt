@@ -104,3 +104,18 @@ pub fn cuts_and_changes(rt: &impl Abort, alloc: Global, text: &[u8]) -> Vec<Vec<
     }
     texts
 }
+
+/// The bytes are these.
+pub fn expect_same(rt: &impl Abort, found: &[u8], want: &[u8]) {
+    assert!(rt; found == want);
+}
+
+/// What a row of a table says is so.
+pub fn expect_row(rt: &impl Abort, at: usize, is_so: bool) {
+    assert!(rt; is_so, "row {at}");
+}
+
+/// A row of a table gives these bytes.
+pub fn expect_bytes(rt: &impl Abort, at: usize, found: &[u8], want: &[u8]) {
+    assert!(rt; found == want, "row {at}");
+}

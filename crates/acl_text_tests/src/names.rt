@@ -1,5 +1,6 @@
 //! Escapes, names and paths.
 
+use crate::made::{expect_bytes, expect_row, expect_same};
 use acl_text::{Path, is_user_name, read_name, read_path, write_name, write_path};
 use std::alloc::Global;
 use std::cmp::Ordering;
@@ -21,14 +22,18 @@ static ESCAPES: [(&[u8], &[u8]); 8] = [
 fn escapes_are_read(rt: HostRuntime) {
     for (at, (text, want)) in ESCAPES.iter().enumerate() {
         let name = read_name(rt.alloc(), text).expect(&rt, "memory");
-        assert!(rt; name.as_bytes() == *want, "row {at}");
+        expect_bytes(&rt, at, name.as_bytes(), want);
     }
 }
 
 #[test]
 fn escapes_are_written(rt: HostRuntime) {
     let text = write_name(rt.alloc(), b"al b\\:,#\t\r\nx").expect(&rt, "memory");
-    assert!(rt; text.as_slice() == b"al\\040b\\134\\072\\054\\043\\011\\015\\012x".as_slice());
+    expect_same(
+        &rt,
+        &text,
+        b"al\\040b\\134\\072\\054\\043\\011\\015\\012x",
+    );
 }
 
 #[test]
@@ -37,7 +42,7 @@ fn each_byte_is_read_as_it_was_written(rt: HostRuntime) {
         let name = [byte, b'0', byte];
         let text = write_name(rt.alloc(), &name).expect(&rt, "memory");
         let again = read_name(rt.alloc(), &text).expect(&rt, "memory");
-        assert!(rt; again.as_bytes() == name.as_slice(), "at {byte}");
+        expect_bytes(&rt, usize::from(byte), again.as_bytes(), &name);
     }
 }
 
@@ -50,15 +55,15 @@ fn path(rt: &impl Abort, alloc: Global, text: &[u8]) -> Path {
 /// The path is written like this.
 fn expect_text(rt: &impl Abort, alloc: Global, path: &Path, want: &[u8]) {
     let text = write_path(alloc, path).expect(rt, "memory");
-    assert!(rt; text.as_slice() == want);
+    expect_same(rt, &text, want);
 }
 
 #[test]
 fn paths(rt: HostRuntime) {
     let path = path(&rt, rt.alloc(), b"/a//./x\\012y\\ z/");
     let mut components = path.components();
-    assert!(rt; components.next().expect(&rt, "a") == b"a".as_slice());
-    assert!(rt; components.next().expect(&rt, "x") == b"x\ny\\ z".as_slice());
+    expect_same(&rt, components.next().expect(&rt, "a"), b"a");
+    expect_same(&rt, components.next().expect(&rt, "x"), b"x\ny\\ z");
     assert!(rt; components.is_empty());
     expect_text(&rt, rt.alloc(), &path, b"a/x\\012y\\134 z");
 }
@@ -79,7 +84,7 @@ static REFUSED: [&[u8]; 3] = [b"a/../b", b"..", b"a\\000"];
 #[test]
 fn refused_paths(rt: HostRuntime) {
     for (at, text) in REFUSED.iter().enumerate() {
-        assert!(rt; is_refused(&rt, rt.alloc(), text), "row {at}");
+        expect_row(&rt, at, is_refused(&rt, rt.alloc(), text));
     }
 }
 
@@ -131,8 +136,8 @@ fn expect_order(rt: &impl Abort, alloc: Global, first_in_parts: bool, second_in_
     for (at, (first, second)) in ORDERED.iter().enumerate() {
         let first = held(rt, alloc, first, first_in_parts);
         let second = held(rt, alloc, second, second_in_parts);
-        assert!(rt; first.order(&second).is_lt(), "row {at}");
-        assert!(rt; second.order(&first).is_gt(), "row {at}");
+        expect_row(rt, at, first.order(&second).is_lt());
+        expect_row(rt, at, second.order(&first).is_gt());
     }
 }
 
@@ -157,8 +162,8 @@ fn expect_below(rt: &impl Abort, alloc: Global, below_in_parts: bool, top_in_par
     for (at, (below, top, is_within, is_below)) in BELOW.iter().enumerate() {
         let below = held(rt, alloc, below, below_in_parts);
         let top = held(rt, alloc, top, top_in_parts);
-        assert!(rt; below.is_within(&top) == *is_within, "row {at}");
-        assert!(rt; below.is_below(&top) == *is_below, "row {at}");
+        expect_row(rt, at, below.is_within(&top) == *is_within);
+        expect_row(rt, at, below.is_below(&top) == *is_below);
     }
 }
 
@@ -217,6 +222,6 @@ static USER_NAMES: [(&[u8], bool); 7] = [
 #[test]
 fn names_of_new_users(rt: HostRuntime) {
     for (at, (name, want)) in USER_NAMES.iter().enumerate() {
-        assert!(rt; is_user_name(name) == *want, "row {at}");
+        expect_row(&rt, at, is_user_name(name) == *want);
     }
 }

@@ -1,7 +1,7 @@
 //! The rows of passwd(5) and group(5). What is read is printed: `name:uid:gid` or `name:gid:members` for a counted row,
 //! or `bad row` and the line.
 
-use crate::made::push;
+use crate::made::{expect_bytes, push};
 use acl_text::{FaultKind, GroupRow, PasswdRow, TextFault, read_group, read_passwd};
 use std::alloc::Global;
 use std::process::Abort;
@@ -111,10 +111,8 @@ static USERS: [(&[u8], &[u8]); 11] = [
 #[test]
 fn users(rt: HostRuntime) {
     for (at, (text, want)) in USERS.iter().enumerate() {
-        assert!(rt;
-            printed_users(&rt, rt.alloc(), text).as_slice() == *want,
-            "row {at}"
-        );
+        let printed = printed_users(&rt, rt.alloc(), text);
+        expect_bytes(&rt, at, &printed, want);
     }
 }
 
@@ -136,9 +134,7 @@ static GROUPS: [(&[u8], &[u8]); 9] = [
 #[test]
 fn groups(rt: HostRuntime) {
     for (at, (text, want)) in GROUPS.iter().enumerate() {
-        assert!(rt;
-            printed_groups(&rt, rt.alloc(), text).as_slice() == *want,
-            "row {at}"
-        );
+        let printed = printed_groups(&rt, rt.alloc(), text);
+        expect_bytes(&rt, at, &printed, want);
     }
 }

@@ -1,7 +1,7 @@
 //! A slow second reader of passwd(5) and group(5), written apart from the first, and the two compared on
 //! every cut and every changed byte of the worked texts, as they print what they read.
 
-use crate::made::{cuts_and_changes, pieces, push};
+use crate::made::{cuts_and_changes, expect_same, pieces, push};
 use crate::rows::{GROUP, PASSWD, bad_row, printed_groups, printed_users};
 use std::alloc::Global;
 use std::process::Abort;
@@ -113,7 +113,7 @@ fn read_again(rt: &impl Abort, alloc: Global, text: &[u8], count: usize) -> Vec<
 fn passwd(rt: HostRuntime) {
     for text in &cuts_and_changes(&rt, rt.alloc(), PASSWD) {
         let found = printed_users(&rt, rt.alloc(), text);
-        assert!(rt; found.as_slice() == read_again(&rt, rt.alloc(), text, 7).as_slice());
+        expect_same(&rt, &found, &read_again(&rt, rt.alloc(), text, 7));
     }
 }
 
@@ -121,6 +121,6 @@ fn passwd(rt: HostRuntime) {
 fn group(rt: HostRuntime) {
     for text in &cuts_and_changes(&rt, rt.alloc(), GROUP) {
         let found = printed_groups(&rt, rt.alloc(), text);
-        assert!(rt; found.as_slice() == read_again(&rt, rt.alloc(), text, 4).as_slice());
+        expect_same(&rt, &found, &read_again(&rt, rt.alloc(), text, 4));
     }
 }

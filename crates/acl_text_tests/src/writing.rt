@@ -1,7 +1,7 @@
 //! Written lists.
 
 use crate::made::Who::{Group, Mask, Other, Owner, OwningGroup, User};
-use crate::made::{Row, id, list, perm, push};
+use crate::made::{Row, expect_same, id, list, perm, push};
 use crate::people::People;
 use acl_entry::{Entry, Key};
 use acl_text::{Form, NoNames, append_entry, append_short, write_long, write_short};
@@ -20,8 +20,10 @@ static ENTRIES: [Row; 7] = [
 fn short_form(rt: HostRuntime) {
     let acl = list(&rt, rt.alloc(), &ENTRIES);
     let short = write_short(rt.alloc(), &acl, &People).expect(&rt, "memory");
-    assert!(rt;
-        short.as_slice() == b"u::rw-,u:joe:rwx,g::r--,g:7:--x,g:cool:-w-,m::rwx,o::---".as_slice()
+    expect_same(
+        &rt,
+        &short,
+        b"u::rw-,u:joe:rwx,g::r--,g:7:--x,g:cool:-w-,m::rwx,o::---",
     );
 }
 
@@ -29,9 +31,10 @@ fn short_form(rt: HostRuntime) {
 fn long_form(rt: HostRuntime) {
     let acl = list(&rt, rt.alloc(), &ENTRIES);
     let long = write_long(rt.alloc(), &acl, &People).expect(&rt, "memory");
-    assert!(rt;
-        long.as_slice()
-            == b"user::rw-\nuser:joe:rwx\ngroup::r--\ngroup:7:--x\ngroup:cool:-w-\nmask::rwx\nother::---\n".as_slice()
+    expect_same(
+        &rt,
+        &long,
+        b"user::rw-\nuser:joe:rwx\ngroup::r--\ngroup:7:--x\ngroup:cool:-w-\nmask::rwx\nother::---\n",
     );
 }
 
@@ -41,8 +44,10 @@ fn numbers_after_a_text(rt: HostRuntime) {
     let mut text = Vec::new(rt.alloc());
     push(&rt, &mut text, b"f [");
     append_short(&mut text, &acl, &NoNames).expect(&rt, "memory");
-    assert!(rt;
-        text.as_slice() == b"f [u::rw-,u:1000:rwx,g::r--,g:7:--x,g:60:-w-,m::rwx,o::---".as_slice()
+    expect_same(
+        &rt,
+        &text,
+        b"f [u::rw-,u:1000:rwx,g::r--,g:7:--x,g:60:-w-,m::rwx,o::---",
     );
 }
 
@@ -54,5 +59,5 @@ fn names_with_escapes(rt: HostRuntime) {
     };
     let mut text = Vec::new(rt.alloc());
     append_entry(&mut text, &entry, Form::Long, &People).expect(&rt, "memory");
-    assert!(rt; text.as_slice() == b"user:al\\040b:r--".as_slice());
+    expect_same(&rt, &text, b"user:al\\040b:r--");
 }

@@ -1,7 +1,7 @@
 //! chmod of one and of several files.
 use crate::rows::{Line, Row};
 
-pub static MODES: [Row; 7] = [
+pub const MODES: &[Row] = &[
     Row {
         line: Line::Chmod(0o4604, false, &[b"f"]),
         outcome: "done: 1 changed, 0 gone",

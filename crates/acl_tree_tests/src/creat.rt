@@ -2,7 +2,7 @@
 use crate::rows::{Line, Row};
 use acl_tree::{Kind, Table};
 
-pub static FAULTS: [Row; 4] = [
+pub const FAULTS: &[Row] = &[
     // Before what the path has.
     Row {
         line: Line::Creat(b"nosuch", Kind::Plain, 0o600, 0o22, b"f"),
@@ -26,7 +26,7 @@ pub static FAULTS: [Row; 4] = [
     },
 ];
 
-pub static ROOT: [Row; 4] = [
+pub const ROOT: &[Row] = &[
     // The root is its own parent.
     Row {
         line: Line::Creat(b"ann", Kind::Directory, 0o700, 0o22, b"."),
@@ -54,7 +54,7 @@ pub static ROOT: [Row; 4] = [
     },
 ];
 
-pub static OWNERS: [Row; 4] = [
+pub const OWNERS: &[Row] = &[
     Row {
         line: Line::Creat(b"lisa", Kind::Plain, 0o600, 0o22, b"x\\012y"),
         outcome: "done: 1 changed, 0 gone",
@@ -79,7 +79,7 @@ pub static OWNERS: [Row; 4] = [
     },
 ];
 
-pub static DEFAULTS: [Row; 3] = [
+pub const DEFAULTS: &[Row] = &[
     Row {
         line: Line::Setfacl(b"", b"d:u:joe:rwx", false, &[b"pub"]),
         outcome: "done: 0 changed, 0 gone",

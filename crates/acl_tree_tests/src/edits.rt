@@ -1,7 +1,7 @@
 //! setfacl(1) on one file and on several.
 use crate::rows::{Line, Row};
 
-pub static ENTRIES: [Row; 2] = [
+pub const ENTRIES: &[Row] = &[
     // No file is edited where one is refused.
     Row {
         line: Line::Setfacl(b"m:", b"u:joe:r", true, &[b"."]),
@@ -21,7 +21,7 @@ pub static ENTRIES: [Row; 2] = [
     },
 ];
 
-pub static DEFAULTS: [Row; 3] = [
+pub const DEFAULTS: &[Row] = &[
     Row {
         line: Line::Setfacl(b"", b"d:u:joe:rx", false, &[b"f"]),
         outcome: "edit of f: DefaultOnFile",

@@ -49,7 +49,7 @@ fn expect_state(rt: &impl Abort, alloc: Global, state: &State, want: &str) {
 fn files_come_in_path_order(rt: HostRuntime) {
     each_record_is_a_file();
     each_file_is_edited();
-    let state = after(&rt, rt.alloc(), &[&PEOPLE, &FOUR]);
+    let state = after(&rt, rt.alloc(), &[PEOPLE, FOUR]);
     state.tree().soundness_law();
     expect_state(&rt, rt.alloc(), &state, BEFORE);
     drop(state);
@@ -60,7 +60,7 @@ static REMOVAL: Line = Line::Rm(true, &[b"d"]);
 #[test]
 fn a_prepared_command_is_given_up(rt: HostRuntime) {
     let alloc = rt.alloc();
-    let state = after(&rt, alloc, &[&PEOPLE, &FOUR]);
+    let state = after(&rt, alloc, &[PEOPLE, FOUR]);
     expect_prepared(&rt, alloc, &state, &REMOVAL, PREPARED);
     expect_state(&rt, alloc, &state, BEFORE);
     drop(state);
@@ -105,7 +105,7 @@ static OPERANDS: [&[u8]; 3] = [b"f", b"d", b"d/e"];
 
 #[test]
 fn operands_mean_their_files_once(rt: HostRuntime) {
-    let state = after(&rt, rt.alloc(), &[&PEOPLE, &FOUR]);
+    let state = after(&rt, rt.alloc(), &[PEOPLE, FOUR]);
     let want = "d 1002 above\nd/e 1002\nf 1001\n";
     expect_found(&rt, rt.alloc(), state.tree(), &OPERANDS, want);
     drop(state);

@@ -28,6 +28,10 @@ mod rows;
 #[cfg(test)]
 mod shown;
 #[cfg(test)]
+mod small_tree;
+#[cfg(test)]
+mod surface;
+#[cfg(test)]
 mod tables;
 #[cfg(test)]
 mod texts;

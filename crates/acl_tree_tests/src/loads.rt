@@ -3,7 +3,7 @@ use crate::rows::{Line, Row};
 use crate::texts::{FOUR_FILES, GROUP, PASSWD};
 use acl_tree::Table;
 
-pub static FAULTS: [Row; 4] = [
+pub const FAULTS: &[Row] = &[
     Row {
         line: Line::Load(
             Table::Passwd,
@@ -34,7 +34,7 @@ pub static FAULTS: [Row; 4] = [
 ];
 
 /// Each text once.
-pub static AGAIN: [Row; 3] = [
+pub const AGAIN: &[Row] = &[
     Row {
         line: Line::Load(Table::Passwd, PASSWD),
         outcome: "already loaded",
@@ -53,7 +53,7 @@ pub static AGAIN: [Row; 3] = [
 ];
 
 /// People before files.
-pub static ORDER: [Row; 4] = [
+pub const ORDER: &[Row] = &[
     Row {
         line: Line::Load(Table::Passwd, PASSWD),
         outcome: "done: 0 changed, 0 gone, users loaded",

@@ -6,7 +6,7 @@ use acl_tree::{Command, Membership, State, Table};
 use std::alloc::Global;
 use std::process::Abort;
 
-pub static FAULTS: [Row; 12] = [
+pub const FAULTS: &[Row] = &[
     // The user before the group.
     Row {
         line: Line::Gpasswd(b"nosuch", b"none", Membership::Add),
@@ -74,7 +74,7 @@ pub static FAULTS: [Row; 12] = [
 ];
 
 /// Users is the primary group of joe.
-static JOINS: [Row; 3] = [
+const JOINS: &[Row] = &[
     Row {
         line: Line::Gpasswd(b"joe", b"users", Membership::Add),
         outcome: "done: 0 changed, 0 gone",
@@ -93,7 +93,7 @@ static JOINS: [Row; 3] = [
     },
 ];
 
-static LEAVES: [Row; 3] = [
+const LEAVES: &[Row] = &[
     Row {
         line: Line::Gpasswd(b"joe", b"adm", Membership::Remove),
         outcome: "done: 0 changed, 0 gone, user 1 moved: 70",
@@ -111,7 +111,7 @@ static LEAVES: [Row; 3] = [
     },
 ];
 
-static TWO_GROUPS: [Row; 2] = [
+const TWO_GROUPS: &[Row] = &[
     Row {
         line: Line::Gpasswd(b"joe", b"adm", Membership::Add),
         outcome: "done: 0 changed, 0 gone, user 1 moved: 70",
@@ -132,7 +132,7 @@ static TWO_GROUPS: [Row; 2] = [
     },
 ];
 
-static PRIMARY: [Row; 2] = [
+const PRIMARY: &[Row] = &[
     Row {
         line: Line::Usermod(b"joe", b"staff"),
         outcome: "done: 0 changed, 0 gone, user 1 moved: 50 100",
@@ -146,7 +146,7 @@ static PRIMARY: [Row; 2] = [
 ];
 
 /// A name twice in a row, and two rows of one group.
-static TWICE: [Row; 6] = [
+const TWICE: &[Row] = &[
     Row {
         line: Line::Load(
             Table::Group,
@@ -182,7 +182,7 @@ static TWICE: [Row; 6] = [
     },
 ];
 
-static COMES: [Row; 3] = [
+const COMES: &[Row] = &[
     Row {
         line: Line::Useradd(b"bob", 1003, b"staff"),
         outcome: "done: 0 changed, 0 gone, a user joined",
@@ -200,7 +200,7 @@ static COMES: [Row; 3] = [
     },
 ];
 
-static GOES: [Row; 4] = [
+const GOES: &[Row] = &[
     Row {
         line: Line::Setfacl(b"", b"u:joe:rw", false, &[b"f"]),
         outcome: "done: 1 changed, 0 gone",
@@ -229,7 +229,7 @@ static GOES: [Row; 4] = [
     },
 ];
 
-static COMES_AGAIN: [Row; 3] = [
+const COMES_AGAIN: &[Row] = &[
     Row {
         line: Line::Gpasswd(b"joe", b"adm", Membership::Add),
         outcome: "done: 0 changed, 0 gone, user 1 moved: 70",
@@ -248,13 +248,13 @@ static COMES_AGAIN: [Row; 3] = [
 ];
 
 /// The groups alone.
-static GROUPS: [Row; 1] = [Row {
+const GROUPS: &[Row] = &[Row {
     line: Line::Load(Table::Group, GROUP),
     outcome: "done: 0 changed, 0 gone, users loaded",
     files: &[],
 }];
 
-static FIRST_USER: [Row; 2] = [
+const FIRST_USER: &[Row] = &[
     Row {
         line: Line::Useradd(b"bob", 0, b"adm"),
         outcome: "done: 0 changed, 0 gone, a user joined",
@@ -298,7 +298,7 @@ static AS_A_MEMBER: [Granted; 2] = [
 
 #[test]
 fn a_member_is_granted_what_the_group_is(rt: HostRuntime) {
-    expect_grants(&rt, rt.alloc(), &[&PEOPLE, &FIVE, &JOINS], &AS_A_MEMBER);
+    expect_grants(&rt, rt.alloc(), &[PEOPLE, FIVE, JOINS], &AS_A_MEMBER);
 }
 
 static AS_NO_MEMBER: [Granted; 2] = [(b"joe", b"log", ""), (b"joe", b"pub", " --x r-- r-x")];
@@ -308,7 +308,7 @@ fn who_leaves_is_not(rt: HostRuntime) {
     expect_grants(
         &rt,
         rt.alloc(),
-        &[&PEOPLE, &FIVE, &JOINS, &LEAVES],
+        &[PEOPLE, FIVE, JOINS, LEAVES],
         &AS_NO_MEMBER,
     );
 }
@@ -320,7 +320,7 @@ fn each_group_grants_by_itself(rt: HostRuntime) {
     expect_grants(
         &rt,
         rt.alloc(),
-        &[&PEOPLE, &FIVE, &TWO_GROUPS],
+        &[PEOPLE, FIVE, TWO_GROUPS],
         &BY_TWO_GROUPS,
     );
 }
@@ -329,39 +329,39 @@ static BY_PRIMARY: [Granted; 1] = [(b"joe", b"f", " r--")];
 
 #[test]
 fn another_primary_group(rt: HostRuntime) {
-    expect_grants(&rt, rt.alloc(), &[&PEOPLE, &FIVE, &PRIMARY], &BY_PRIMARY);
+    expect_grants(&rt, rt.alloc(), &[PEOPLE, FIVE, PRIMARY], &BY_PRIMARY);
 }
 
 #[test]
 fn every_occurrence_is_removed(rt: HostRuntime) {
     let want = "pg-\nlisa: staff\njoe: users\nann: users\n";
-    expect_users(&rt, rt.alloc(), &[&PEOPLE[..1], &TWICE], want);
+    expect_users(&rt, rt.alloc(), &[&PEOPLE[..1], TWICE], want);
 }
 
 static TO_WHO_COMES: [Granted; 1] = [(b"bob", b"f", " r--")];
 
 #[test]
 fn a_user_comes(rt: HostRuntime) {
-    expect_grants(&rt, rt.alloc(), &[&PEOPLE, &FIVE, &COMES], &TO_WHO_COMES);
+    expect_grants(&rt, rt.alloc(), &[PEOPLE, FIVE, COMES], &TO_WHO_COMES);
 }
 
 static TO_THE_ID: [Granted; 1] = [(b"zoe", b"f", " -w- r-- rw-")];
 
 #[test]
 fn a_user_goes(rt: HostRuntime) {
-    expect_grants(&rt, rt.alloc(), &[&PEOPLE, &FIVE, &GOES], &TO_THE_ID);
+    expect_grants(&rt, rt.alloc(), &[PEOPLE, FIVE, GOES], &TO_THE_ID);
 }
 
 #[test]
 fn a_user_comes_again_without_groups(rt: HostRuntime) {
     let want = "pg-\nlisa: staff cool\nann: users\njoe: cool\n";
-    expect_users(&rt, rt.alloc(), &[&PEOPLE, &COMES_AGAIN], want);
+    expect_users(&rt, rt.alloc(), &[PEOPLE, COMES_AGAIN], want);
 }
 
 #[test]
 fn users_count_as_loaded(rt: HostRuntime) {
     let want = "pg-\nbob: adm\n";
-    expect_users(&rt, rt.alloc(), &[&GROUPS, &FIRST_USER], want);
+    expect_users(&rt, rt.alloc(), &[GROUPS, FIRST_USER], want);
 }
 
 /// The largest number of users.
@@ -407,7 +407,7 @@ fn is_one_too_many(rt: &impl Abort, alloc: Global, state: &mut State, line: &Lin
 #[test]
 fn at_most_so_many_users(rt: HostRuntime) {
     let alloc = rt.alloc();
-    let mut state = after(&rt, alloc, &[&GROUPS]);
+    let mut state = after(&rt, alloc, &[GROUPS]);
     let passwd = many_users(&rt, alloc);
     assert!(rt; are_loaded(&rt, alloc, &mut state, &passwd));
     assert!(rt; is_one_too_many(&rt, alloc, &mut state, &ONE_MORE));

@@ -1,7 +1,7 @@
 //! setfacl(1) --restore.
 use crate::rows::{Line, Row};
 
-pub static RESTORES: [Row; 4] = [
+pub const RESTORES: &[Row] = &[
     Row {
         line: Line::Restore(
             b"# file: f\n# owner: ann\n# group: users\n# flags: s--\nuser::rwx\ngroup::r-x\nother::---\n",

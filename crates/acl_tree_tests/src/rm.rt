@@ -1,7 +1,7 @@
 //! Files that are removed.
 use crate::rows::{Line, Row};
 
-pub static PLAIN: [Row; 5] = [
+pub const PLAIN: &[Row] = &[
     // The first operand that is refused, for either fault.
     Row {
         line: Line::Rm(false, &[b"pub", b"nosuch"]),
@@ -35,7 +35,7 @@ pub static PLAIN: [Row; 5] = [
     },
 ];
 
-pub static RECURSIVE: [Row; 4] = [
+pub const RECURSIVE: &[Row] = &[
     Row {
         line: Line::Rm(true, &[b"d", b"d/nosuch"]),
         outcome: "no such file d/nosuch",

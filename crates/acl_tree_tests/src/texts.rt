@@ -20,7 +20,7 @@ const FIVE_FILES: &[u8] =
 # file: pub/\n# owner: ann\n# group: users\nuser::rwx\ngroup::r-x\ngroup:adm:rwx\nmask::rwx\nother::r-x\n\n\
 # file: log\n# owner: lisa\n# group: adm\nuser::rw-\ngroup::r--\nother::---\n\n";
 
-pub static PEOPLE: [Row; 2] = [
+pub const PEOPLE: &[Row] = &[
     Row {
         line: Line::Load(Table::Passwd, PASSWD),
         outcome: "done: 0 changed, 0 gone, users loaded",
@@ -34,7 +34,7 @@ pub static PEOPLE: [Row; 2] = [
 ];
 
 /// A file of the root and one of a directory: the kinds are those that the dump shows.
-pub static FOUR: [Row; 1] = [Row {
+pub const FOUR: &[Row] = &[Row {
     line: Line::Load(Table::Dump, FOUR_FILES),
     outcome: "done: 4 changed, 0 gone",
     files: &[
@@ -46,7 +46,7 @@ pub static FOUR: [Row; 1] = [Row {
     ],
 }];
 
-pub static FIVE: [Row; 1] = [Row {
+pub const FIVE: &[Row] = &[Row {
     line: Line::Load(Table::Dump, FIVE_FILES),
     outcome: "done: 5 changed, 0 gone",
     files: &[(

@@ -52,7 +52,7 @@ static WITHIN: [(&[u8], &str); 2] = [(b"d", "d d/e "), (b"x", "")];
 
 #[test]
 fn recorded_files_around_a_path(rt: HostRuntime) {
-    let state = after(&rt, rt.alloc(), &[&PEOPLE, &FOUR]);
+    let state = after(&rt, rt.alloc(), &[PEOPLE, FOUR]);
     expect_all_above(&rt, rt.alloc(), state.tree(), &ABOVE);
     expect_all_within(&rt, rt.alloc(), state.tree(), &WITHIN);
     drop(state);

@@ -91,6 +91,18 @@ impl Model for MoreSteps {
 }
 
 impl MoreSteps {
+    /// No steps.
+    pub fn new(alloc: Global) -> MoreSteps
+        ensures { result ≡ [] }
+    {
+        MoreSteps {
+            first: Steps::new(alloc),
+            first_len: 0,
+            more: Vec::new(alloc),
+            met: BTreeMap::new(alloc),
+        }
+    }
+
     /// The steps that a walk starts with.
     pub fn of(alloc: Global, old: &Steps) -> Result<MoreSteps, AllocError>
         ensures { IfOk result (λ steps. steps ≡ old.now) }

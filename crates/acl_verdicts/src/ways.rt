@@ -67,12 +67,13 @@ fn steps_below(
     let mut rest = tops;
     while let Some((top, more)) = rest.split_first() {
         rest = more;
-        if is_covered(last, top.path()) {
+        let path = top.path();
+        if is_covered(last, path) {
             continue;
         }
-        let above = nearest_above(alloc, old, top.path())?;
-        add_steps(alloc, &mut puts, steps, above, &mut finder, top.path())?;
-        last = Some(top.path());
+        let above = nearest_above(alloc, old, path)?;
+        add_steps(alloc, &mut puts, steps, above, &mut finder, path)?;
+        last = Some(path);
     }
     Ok(puts)
 }
@@ -83,12 +84,19 @@ impl Ways {
         ensures steps { IfOk result (λ ways. AreSteps ways.steps ways.places numbers.now) }
         ensures rows { IfOk result (λ ways. (count : ℕ) → AreNumbers count numbers.now → HaveRows count ways.steps) }
     {
-        let mut steps = MoreSteps::of(alloc, &Steps::new(alloc))?;
+        let mut steps = MoreSteps::new(alloc);
         let places = all_steps(alloc, &mut steps, numbers)?;
-        Ok(Ways {
-            places,
-            steps: steps.all(alloc)?,
-        })
+        let ways = Ways::stepped(alloc, places, steps)?;
+        Ok(ways)
+    }
+
+    /// Files with their steps, after a walk that added to the steps. Fails only if memory runs out.
+    fn stepped(alloc: Global, places: PathMap<usize>, steps: MoreSteps) -> Result<Ways, AllocError>
+        ensures places { IfOk result (λ ways. ways.places ≡ places) }
+        ensures steps { IfOk result (λ ways. ways.steps ≡ steps) }
+    {
+        let steps = steps.all(alloc)?;
+        Ok(Ways { places, steps })
     }
 
     /// The step of a file, if it is there. Allocates nothing.
@@ -145,15 +153,12 @@ impl Ways {
         numbers.order_law();
         let mut steps = MoreSteps::of(alloc, &self.steps)?;
         let puts = steps_below(alloc, &mut steps, numbers, tops, &self.places)?;
-        let places = self.places.merged(alloc, &puts, gone)?;
-        let ways = Ways {
-            places,
-            steps: steps.all(alloc)?,
-        };
-        Ok(UpdatedWays {
-            ways,
-            walked: puts.len() as u64,
-        })
+        let walked = puts.len() as u64;
+        let merged = self.places.merged(alloc, &puts, gone);
+        drop(puts);
+        let places = merged?;
+        let ways = Ways::stepped(alloc, places, steps)?;
+        Ok(UpdatedWays { ways, walked })
     }
 }
 

@@ -13,6 +13,10 @@ mod changed;
 #[cfg(test)]
 mod costs;
 #[cfg(test)]
+mod followed;
+#[cfg(test)]
+mod judge;
+#[cfg(test)]
 mod lines;
 #[cfg(test)]
 mod listings;
@@ -23,6 +27,10 @@ mod requests;
 #[cfg(test)]
 mod rows;
 #[cfg(test)]
+mod small_tree;
+#[cfg(test)]
 mod subjects;
+#[cfg(test)]
+mod surface;
 #[cfg(test)]
 mod world;

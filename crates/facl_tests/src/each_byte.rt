@@ -21,6 +21,11 @@ fn failing_after(alloc: Global, taken: usize, takes_nothing: bool) -> Recovering
     }
 }
 
+/// What is said of a device that fails after so many bytes is so.
+fn expect_at(rt: &impl Abort, place: usize, is_so: bool) {
+    assert!(rt; is_so, "at {place}");
+}
+
 /// A run ends by a failed write, or, where nothing failed, with this status.
 fn ends(end_of_run: Result<Status, RunFault>, is_whole: bool, status: Status) -> bool {
     match end_of_run {
@@ -32,9 +37,9 @@ fn ends(end_of_run: Result<Status, RunFault>, is_whole: bool, status: Status) ->
 /// The writer has taken these bytes, and was not called after the call that failed.
 fn expect_taken(rt: &impl Abort, writer: RecoveringWriter, taken: &[u8], all: &[u8]) {
     let place = taken.len();
-    assert!(rt; writer.held.as_slice() == taken, "at {place}");
+    expect_at(rt, place, writer.held.as_slice() == taken);
     let calls = all.len().min(place.saturating_add(1));
-    assert!(rt; writer.calls == calls, "at {place}");
+    expect_at(rt, place, writer.calls == calls);
 }
 
 fn expect_out_fails(rt: &impl Abort, alloc: Global, taken: &[u8], takes_nothing: bool) {
@@ -48,8 +53,8 @@ fn expect_out_fails(rt: &impl Abort, alloc: Global, taken: &[u8], takes_nothing:
         &mut StdSink::new(&mut err),
     );
     let is_whole = taken.len() == LISTED.len();
-    assert!(rt; ends(end_of_run, is_whole, Status::Accepted));
-    assert!(rt; err.is_empty());
+    let is_right = ends(end_of_run, is_whole, Status::Accepted);
+    expect_at(rt, taken.len(), is_right && err.is_empty());
     expect_taken(rt, out, taken, LISTED);
 }
 
@@ -104,9 +109,9 @@ fn expect_err_fails(
         &mut StdSink::new(&mut err),
     );
     let is_whole = taken.len() == row.err.len();
-    assert!(rt; ends(end_of_run, is_whole, row.status));
     let printed = if is_whole { row.out } else { row.before };
-    assert!(rt; out.as_slice() == printed);
+    let is_right = ends(end_of_run, is_whole, row.status);
+    expect_at(rt, taken.len(), is_right && out.as_slice() == printed);
     expect_taken(rt, err, taken, row.err);
 }
 
@@ -153,14 +158,11 @@ fn expect_reader_fails(rt: &impl Abort, alloc: Global, given: usize) {
         &mut StdSink::new(&mut out),
         &mut StdSink::new(&mut err),
     );
-    assert!(rt; matches!(end_of_run, Err(RunFault::Read)), "at {given}");
+    expect_at(rt, given, matches!(end_of_run, Err(RunFault::Read)));
     let (printed, reported) = written(given);
-    assert!(rt; out.len() == printed && OUT.starts_with(&out), "at {given}");
-    assert!(rt;
-        err.len() == reported && ERR.starts_with(&err),
-        "at {given}"
-    );
-    assert!(rt; reader.calls == given.saturating_add(1), "at {given}");
+    expect_at(rt, given, out.len() == printed && OUT.starts_with(&out));
+    expect_at(rt, given, err.len() == reported && ERR.starts_with(&err));
+    expect_at(rt, given, reader.calls == given.saturating_add(1));
 }
 
 #[test]

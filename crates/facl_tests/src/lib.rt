@@ -26,8 +26,6 @@ mod edits;
 #[cfg(test)]
 mod entry_texts;
 #[cfg(test)]
-mod failing;
-#[cfg(test)]
 mod file_costs;
 #[cfg(test)]
 mod judged_rows;

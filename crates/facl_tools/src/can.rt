@@ -31,10 +31,11 @@ pub struct CanLine<'a> {
 pub(crate) fn read(words: &Words) -> Option<CanLine<'_>>
     ensures { result ≡ read words.now }
 {
-    let file = words.file(&ROW, "file")?;
+    let row = &ROW;
+    let file = words.file(row, "file")?;
     Some(CanLine {
-        reach: words.has(&ROW, "reach"),
-        user: words.operand(&ROW, "user"),
+        reach: words.has(row, "reach"),
+        user: words.operand(row, "user"),
         file,
     })
 }

@@ -62,12 +62,13 @@ pub struct ChaclLine<'a> {
 fn tasks_given(words: &Words) -> usize
     ensures { result ≡ tasks_given words.now }
 {
-    usize::from(words.has(&ROW, "b"))
-        + usize::from(words.has(&ROW, "d"))
-        + usize::from(words.has(&ROW, "R"))
-        + usize::from(words.has(&ROW, "D"))
-        + usize::from(words.has(&ROW, "B"))
-        + usize::from(words.has(&ROW, "l"))
+    let row = &ROW;
+    usize::from(words.has(row, "b"))
+        + usize::from(words.has(row, "d"))
+        + usize::from(words.has(row, "R"))
+        + usize::from(words.has(row, "D"))
+        + usize::from(words.has(row, "B"))
+        + usize::from(words.has(row, "l"))
 }
 
 /// A task on these files.
@@ -118,17 +119,18 @@ fn read_both(words: &[Word]) -> Option<(Task<'_>, LineFiles<'_>)>
 fn task_of<'a>(words: &Words, operands: &'a [Word]) -> Option<(Task<'a>, LineFiles<'a>)>
     ensures { result ≡ task_of words.now operands.now }
 {
-    if words.has(&ROW, "b") {
+    let row = &ROW;
+    if words.has(row, "b") {
         read_both(operands)
-    } else if words.has(&ROW, "d") {
+    } else if words.has(row, "d") {
         read_default(operands)
-    } else if words.has(&ROW, "R") {
+    } else if words.has(row, "R") {
         on_files(Task::RemoveAccess, operands)
-    } else if words.has(&ROW, "D") {
+    } else if words.has(row, "D") {
         on_files(Task::RemoveDefault, operands)
-    } else if words.has(&ROW, "B") {
+    } else if words.has(row, "B") {
         on_files(Task::RemoveBoth, operands)
-    } else if words.has(&ROW, "l") {
+    } else if words.has(row, "l") {
         on_files(Task::List, operands)
     } else {
         read_access(operands)
@@ -139,12 +141,13 @@ fn task_of<'a>(words: &Words, operands: &'a [Word]) -> Option<(Task<'a>, LineFil
 pub(crate) fn read(words: &Words) -> Option<ChaclLine<'_>>
     ensures { result ≡ read words.now }
 {
+    let row = &ROW;
     if tasks_given(words) <= 1 {
-        let operands = words.operands_from(&ROW, "word");
+        let operands = words.operands_from(row, "word");
         let (task, files) = task_of(words, operands)?;
         Some(ChaclLine {
             task,
-            recursive: words.has(&ROW, "r"),
+            recursive: words.has(row, "r"),
             files,
         })
     } else {

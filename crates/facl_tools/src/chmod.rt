@@ -33,10 +33,11 @@ pub struct ChmodLine<'a> {
 pub(crate) fn read(words: &Words) -> Option<ChmodLine<'_>>
     ensures { result ≡ read words.now }
 {
-    let mode = mode_of(words.operand(&ROW, "mode").as_bytes())?;
-    let files = words.files(&ROW, "file")?;
+    let row = &ROW;
+    let mode = mode_of(words.operand(row, "mode").as_bytes())?;
+    let files = words.files(row, "file")?;
     Some(ChmodLine {
-        recursive: words.has(&ROW, "R"),
+        recursive: words.has(row, "R"),
         mode,
         files,
     })

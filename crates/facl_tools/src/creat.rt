@@ -59,12 +59,13 @@ fn kind_of(is_directory: bool) -> Kind
 pub(crate) fn read(words: &Words) -> Option<CreatLine<'_>>
     ensures { result ≡ read words.now }
 {
-    let user = words.value(&ROW, "user")?;
+    let row = &ROW;
+    let user = words.value(row, "user")?;
     let mode = mode_given(words, "mode")?;
     let umask = mode_given(words, "umask")?;
-    let file = words.file(&ROW, "file")?;
+    let file = words.file(row, "file")?;
     Some(CreatLine {
-        kind: kind_of(words.has(&ROW, "d")),
+        kind: kind_of(words.has(row, "d")),
         user,
         mode,
         umask,

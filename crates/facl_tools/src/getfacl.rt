@@ -51,20 +51,21 @@ fn effective_for(always: bool, never: bool) -> Option<Effective>
 pub(crate) fn read(words: &Words) -> Option<GetfaclLine<'_>>
     ensures { result ≡ read words.now }
 {
+    let row = &ROW;
     let effective = effective_for(
-        words.has(&ROW, "all-effective"),
-        words.has(&ROW, "no-effective"),
+        words.has(row, "all-effective"),
+        words.has(row, "no-effective"),
     )?;
-    let files = words.files(&ROW, "file")?;
+    let files = words.files(row, "file")?;
     Some(GetfaclLine {
         options: Options {
-            access_only: words.has(&ROW, "access"),
-            omit_header: words.has(&ROW, "omit-header"),
+            access_only: words.has(row, "access"),
+            omit_header: words.has(row, "omit-header"),
             effective,
-            skip_base: words.has(&ROW, "skip-base"),
-            numeric: words.has(&ROW, "numeric"),
+            skip_base: words.has(row, "skip-base"),
+            numeric: words.has(row, "numeric"),
         },
-        recursive: words.has(&ROW, "recursive"),
+        recursive: words.has(row, "recursive"),
         files,
     })
 }

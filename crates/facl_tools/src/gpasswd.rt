@@ -54,10 +54,11 @@ fn line_of<'a>(
 pub(crate) fn read(words: &Words) -> Option<GpasswdLine<'_>>
     ensures { result ≡ read words.now }
 {
+    let row = &ROW;
     line_of(
-        words.value(&ROW, "a"),
-        words.value(&ROW, "d"),
-        words.operand(&ROW, "group"),
+        words.value(row, "a"),
+        words.value(row, "d"),
+        words.operand(row, "group"),
     )
 }
 

@@ -32,10 +32,11 @@ pub struct MayLine<'a> {
 pub(crate) fn read(words: &Words) -> Option<MayLine<'_>>
     ensures { result ≡ read words.now }
 {
-    let request = read_perms(words.operand(&ROW, "perms").as_bytes())?;
+    let row = &ROW;
+    let request = read_perms(words.operand(row, "perms").as_bytes())?;
     Some(MayLine {
-        reach: words.has(&ROW, "reach"),
-        user: words.operand(&ROW, "user"),
+        reach: words.has(row, "reach"),
+        user: words.operand(row, "user"),
         request,
     })
 }

@@ -30,9 +30,10 @@ pub struct RmLine<'a> {
 pub(crate) fn read(words: &Words) -> Option<RmLine<'_>>
     ensures { result ≡ read words.now }
 {
-    let files = words.files(&ROW, "file")?;
+    let row = &ROW;
+    let files = words.files(row, "file")?;
     Some(RmLine {
-        recursive: words.has(&ROW, "r"),
+        recursive: words.has(row, "r"),
         files,
     })
 }

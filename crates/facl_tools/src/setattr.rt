@@ -85,8 +85,9 @@ fn attribute_of(word: &[u8]) -> Option<Attribute<'_>>
 pub(crate) fn read(words: &Words) -> Option<SetattrLine<'_>>
     ensures { result ≡ read words.now }
 {
-    let attribute = attribute_of(words.operand(&ROW, "attribute").as_bytes())?;
-    let files = words.files(&ROW, "file")?;
+    let row = &ROW;
+    let attribute = attribute_of(words.operand(row, "attribute").as_bytes())?;
+    let files = words.files(row, "file")?;
     Some(SetattrLine { attribute, files })
 }
 

@@ -179,51 +179,56 @@ fn entries_from<'a>(word: Option<LineWord<'a>>, in_text: bool) -> Option<EntrySo
 fn changes_entries(words: &Words) -> bool
     ensures { result ≡ changes_entries words.now }
 {
-    words.has(&ROW, "remove-all")
-        || words.has(&ROW, "remove-default")
-        || words.gives(&ROW, "modify")
-        || words.gives(&ROW, "modify-file")
-        || words.gives(&ROW, "remove")
-        || words.gives(&ROW, "remove-file")
+    let row = &ROW;
+    words.has(row, "remove-all")
+        || words.has(row, "remove-default")
+        || words.gives(row, "modify")
+        || words.gives(row, "modify-file")
+        || words.gives(row, "remove")
+        || words.gives(row, "remove-file")
 }
 
 /// Whether whole lists are replaced.
 fn replaces_lists(words: &Words) -> bool
     ensures { result ≡ replaces_lists words.now }
 {
-    words.gives(&ROW, "set") || words.gives(&ROW, "set-file")
+    let row = &ROW;
+    words.gives(row, "set") || words.gives(row, "set-file")
 }
 
 /// Whether one thing is given in two ways.
 fn contradicts_itself(words: &Words) -> bool
     ensures { result ≡ contradicts_itself words.now }
 {
-    (words.gives(&ROW, "modify") && words.gives(&ROW, "modify-file"))
-        || (words.gives(&ROW, "remove") && words.gives(&ROW, "remove-file"))
-        || (words.gives(&ROW, "set") && words.gives(&ROW, "set-file"))
-        || (words.has(&ROW, "no-mask") && words.has(&ROW, "mask"))
+    let row = &ROW;
+    (words.gives(row, "modify") && words.gives(row, "modify-file"))
+        || (words.gives(row, "remove") && words.gives(row, "remove-file"))
+        || (words.gives(row, "set") && words.gives(row, "set-file"))
+        || (words.has(row, "no-mask") && words.has(row, "mask"))
 }
 
 /// Whether a flag determines how lists are changed.
 fn has_edit_flag(words: &Words) -> bool
     ensures { result ≡ has_edit_flag words.now }
 {
-    words.has(&ROW, "no-mask")
-        || words.has(&ROW, "mask")
-        || words.has(&ROW, "default")
-        || words.has(&ROW, "recursive")
+    let row = &ROW;
+    words.has(row, "no-mask")
+        || words.has(row, "mask")
+        || words.has(row, "default")
+        || words.has(row, "recursive")
 }
 
 /// The flags that say how lists are changed.
 fn flags_of(words: &Words) -> ChangeFlags
     ensures { result ≡ flags_of words.now }
 {
+    let row = &ROW;
     ChangeFlags {
-        strip: words.has(&ROW, "remove-all"),
-        drop_default: words.has(&ROW, "remove-default"),
-        as_default: words.has(&ROW, "default"),
-        no_mask: words.has(&ROW, "no-mask"),
-        remask: words.has(&ROW, "mask"),
+        strip: words.has(row, "remove-all"),
+        drop_default: words.has(row, "remove-default"),
+        as_default: words.has(row, "default"),
+        no_mask: words.has(row, "no-mask"),
+        remask: words.has(row, "mask"),
     }
 }
 
@@ -231,19 +236,20 @@ fn flags_of(words: &Words) -> ChangeFlags
 fn change_of<'a>(words: &'a Words, files: LineFiles<'a>) -> ChangeLine<'a>
     ensures { result ≡ change_of words.now files.entry }
 {
+    let row = &ROW;
     ChangeLine {
         flags: flags_of(words),
-        recursive: words.has(&ROW, "recursive"),
-        test: words.has(&ROW, "test"),
+        recursive: words.has(row, "recursive"),
+        test: words.has(row, "test"),
         removed: entries_from(
-            words.value(&ROW, "remove"),
-            words.gives(&ROW, "remove-file"),
+            words.value(row, "remove"),
+            words.gives(row, "remove-file"),
         ),
         modified: entries_from(
-            words.value(&ROW, "modify"),
-            words.gives(&ROW, "modify-file"),
+            words.value(row, "modify"),
+            words.gives(row, "modify-file"),
         ),
-        set: entries_from(words.value(&ROW, "set"), words.gives(&ROW, "set-file")),
+        set: entries_from(words.value(row, "set"), words.gives(row, "set-file")),
         files,
     }
 }
@@ -252,15 +258,16 @@ fn change_of<'a>(words: &'a Words, files: LineFiles<'a>) -> ChangeLine<'a>
 fn read_restore(words: &Words) -> Option<SetfaclLine<'_>>
     ensures { result ≡ read_restore words.now }
 {
+    let row = &ROW;
     if changes_entries(words)
         || replaces_lists(words)
         || has_edit_flag(words)
-        || !words.operands_from(&ROW, "file").is_empty()
+        || !words.operands_from(row, "file").is_empty()
     {
         None
     } else {
         Some(SetfaclLine::Restore {
-            test: words.has(&ROW, "test"),
+            test: words.has(row, "test"),
         })
     }
 }

@@ -30,9 +30,10 @@ pub struct UsermodLine<'a> {
 pub(crate) fn read(words: &Words) -> Option<UsermodLine<'_>>
     ensures { result ≡ read words.now }
 {
-    let group = words.value(&ROW, "g")?;
+    let row = &ROW;
+    let group = words.value(row, "g")?;
     Some(UsermodLine {
-        user: words.operand(&ROW, "user"),
+        user: words.operand(row, "user"),
         group,
     })
 }

@@ -32,10 +32,11 @@ pub struct WhoLine<'a> {
 pub(crate) fn read(words: &Words) -> Option<WhoLine<'_>>
     ensures { result ≡ read words.now }
 {
-    let request = read_perms(words.operand(&ROW, "perms").as_bytes())?;
-    let file = words.file(&ROW, "file")?;
+    let row = &ROW;
+    let request = read_perms(words.operand(row, "perms").as_bytes())?;
+    let file = words.file(row, "file")?;
     Some(WhoLine {
-        reach: words.has(&ROW, "reach"),
+        reach: words.has(row, "reach"),
         request,
         file,
     })

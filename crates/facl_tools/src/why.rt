@@ -32,10 +32,11 @@ pub struct WhyLine<'a> {
 pub(crate) fn read(words: &Words) -> Option<WhyLine<'_>>
     ensures { result ≡ read words.now }
 {
-    let files = words.files(&ROW, "file")?;
+    let row = &ROW;
+    let files = words.files(row, "file")?;
     Some(WhyLine {
-        reach: words.has(&ROW, "reach"),
-        user: words.operand(&ROW, "user"),
+        reach: words.has(row, "reach"),
+        user: words.operand(row, "user"),
         files,
     })
 }

@@ -8,7 +8,7 @@ ghost use Rattle.facl_words.specs.Commands.{app_for, is_on, flags_in, operands_i
 ghost use Rattle.facl_words.specs.Refusals.{IsRefusal};
 ghost use Rattle.facl_words.specs.Rules.{fits_text, is_named, texts_given};
 ghost use Rattle.facl_words.specs.TextWords.{is_text_word as is_text_spelling};
-ghost use Rattle.facl_words.specs.Words.{words_by, words_read};
+ghost use Rattle.facl_words.specs.Words.{words_by, words_in, words_read};
 ghost use Rattle.facl_words.specs.Forms.{file_of, files_of, is_dash as names_input};
 
 use crate::commands::matches_for;
@@ -114,6 +114,24 @@ fn operands_of(
     Ok(Operands::new(items))
 }
 
+/// The words that `clap` found. Fails only if memory runs out.
+fn words_found(
+    alloc: Global,
+    line: &LineRows,
+    matches: &ArgMatches<'_>,
+) -> Result<Words, AllocError>
+    ensures { IfOk result (λ w. w ≡ words_in (line_of line.now) (rows_of (found_of matches.now))) }
+{
+    let flags = flags_of(alloc, line, matches)?;
+    let values = values_of(alloc, line, matches)?;
+    let operands = operands_of(alloc, line, matches)?;
+    Ok(Words {
+        flags,
+        values,
+        operands,
+    })
+}
+
 /// The words as clap reads them.
 fn words_by_clap(alloc: Global, line: &LineRows, words: &[String]) -> Result<Words, WordsFault>
     requires { is_simple_and_free (app_for (line_of line.now)) ≡ true }
@@ -122,11 +140,9 @@ fn words_by_clap(alloc: Global, line: &LineRows, words: &[String]) -> Result<Wor
         (IsRefusal (words_read (line_of line.now) (map string_bytes words.now))) }
 {
     let matches = matches_for(alloc, line, words)?;
-    Ok(Words {
-        flags: flags_of(alloc, line, &matches)?,
-        values: values_of(alloc, line, &matches)?,
-        operands: operands_of(alloc, line, &matches)?,
-    })
+    let found = words_found(alloc, line, &matches);
+    drop(matches);
+    Ok(found?)
 }
 
 /// How many of the options that read a text were given.

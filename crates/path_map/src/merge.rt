@@ -1,9 +1,10 @@
 //! A map with some entries put and others removed: only the branches and chunks that contain them are copied. New
 //! entries are cut into chunks, and chunks into branches.
 
-ghost use Rattle.std.specs.Prelude.{◌≡◌, ◌++◌, ◌<◌, length, map, IfOk, OnOk, ◌≤◌};
+ghost use Rattle.std.specs.Prelude.{◌≡◌, ◌++◌, ◌<◌, length, map, IfOk, MatchOption, OnOk, ◌≤◌};
 ghost use Rattle.std.specs.List.{flat_map};
 ghost use Rattle.path_map.specs.Entries.{IsInOrder};
+ghost use Rattle.path_map.specs.Inner.{IsNextPut};
 ghost use Rattle.path_map.specs.Merged.{put_all, without_all, merged};
 
 use crate::branch::{Branch, MAX_CHUNKS};
@@ -23,6 +24,34 @@ fn share_all<T: Drop>(new: &mut Vec<Rc<T>>, values: &[Rc<T>]) -> Result<(), Allo
     Ok(())
 }
 
+/// What comes next where others are put among entries: an entry, and what is left of the entries and of the others.
+/// `None` where nothing more is put.
+fn next_put<'a, V>(
+    entries: &'a [Rc<MapEntry<V>>],
+    puts: &'a [Rc<MapEntry<V>>],
+) -> Option<
+    (
+        &'a Rc<MapEntry<V>>,
+        &'a [Rc<MapEntry<V>>],
+        &'a [Rc<MapEntry<V>>],
+    ),
+>
+    requires entries { IsInOrder (map (λ r. r.value) entries.now) }
+    requires puts { IsInOrder (map (λ r. r.value) puts.now) }
+    ensures { MatchOption result (length puts.now ≡ 0)
+        (λ next. IsNextPut (λ r. r.value) entries.now puts.now next.0.now next.1.now next.2.now) }
+{
+    let (put, later) = puts.split_first()?;
+    let Some((entry, after)) = entries.split_first() else {
+        return Some((put, entries, later));
+    };
+    match put.path().order(entry.path()) {
+        Ordering::Less => Some((put, entries, later)),
+        Ordering::Equal => Some((put, after, later)),
+        Ordering::Greater => Some((entry, after, puts)),
+    }
+}
+
 /// The entries with others put among them.
 fn put_in<V: Drop>(
     alloc: Global,
@@ -36,28 +65,10 @@ fn put_in<V: Drop>(
     let mut new = Vec::with_capacity(alloc, entries.len())?;
     let mut old = entries;
     let mut more = puts;
-    while let Some((put, later)) = more.split_first() {
-        match old.split_first() {
-            None => {
-                new.push(put.clone()?)?;
-                more = later;
-            }
-            Some((entry, after)) => match put.path().order(entry.path()) {
-                Ordering::Less => {
-                    new.push(put.clone()?)?;
-                    more = later;
-                }
-                Ordering::Equal => {
-                    new.push(put.clone()?)?;
-                    more = later;
-                    old = after;
-                }
-                Ordering::Greater => {
-                    new.push(entry.clone()?)?;
-                    old = after;
-                }
-            },
-        }
+    while let Some((next, after, later)) = next_put(old, more) {
+        new.push(next.clone()?)?;
+        old = after;
+        more = later;
     }
     share_all(&mut new, old)?;
     Ok(new)

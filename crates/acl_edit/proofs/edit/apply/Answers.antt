@@ -1,4 +1,4 @@
-use Rattle.std.proofs.Common.{rules, ◌≡◌, Err}
+use Rattle.std.proofs.Common.{rules, ◌≡◌, Err, arith}
 use Rattle.acl_edit.specs.Edits as edits
 use Rattle.acl_edit.specs.declared.edit.EditFault.TheVariants.{DefaultOnFile}
 use Rattle.acl_edit.proofs.Refused.{misplaces}
@@ -25,3 +25,6 @@ unfolding edits.restore
 returns-clause-misplaced c = λ h.
     let refused : edits.edit c.args.node.now c.args.edit.now c.args.in_recursion ≡ Err DefaultOnFile = misplaces c.args.node.now c.args.edit.now c.args.in_recursion h in
     search rules
+
+pub returns-clause-sound : goal.returns-clause-sound
+returns-clause-sound c = grind arith

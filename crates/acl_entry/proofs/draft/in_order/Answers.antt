@@ -1,4 +1,5 @@
 use Rattle.std.proofs.Common.{◌≡◌, Some, option_map, take, cond, sym, ap, subst, ◌∙◌, arith}
+use Rattle.std.proofs.lemmas.Grind.{common_steps}
 use mathlib.Core.Bool.{false≢true}
 use Rattle.std.specs.List.{insert}
 use Rattle.std.specs.FinMap as maps
@@ -57,3 +58,12 @@ returns-in_err-insert-in-Err-clause-inline c short =
     let held = length_permutation (take c.loop-i.i es) c.loop-i.sorted.items inv.permutation in
     let taken = length-take c.loop-i.i es in
     absurd (false≢true (c.in_err-insert-in-Err.ensures.succeeds (omega (arith, inv.room, c.loop-i-test.true))))
+
+pub returns-clause-once : goal.returns-clause-once
+returns-clause-once c = grind (arith, common_steps)
+
+pub returns-clause-permutation : goal.returns-clause-permutation
+returns-clause-permutation c = grind (arith, common_steps)
+
+pub returns-clause-same : goal.returns-clause-same
+returns-clause-same c = grind (arith, common_steps)

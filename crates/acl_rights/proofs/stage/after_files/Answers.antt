@@ -1,4 +1,5 @@
-use Rattle.std.proofs.Common.{map, length, ap, sym, subst, ◌∙◌, arith}
+use Rattle.std.proofs.Common.{◌≤◌, ◌+◌, ◌*◌, map, length, ap, sym, subst, ◌∙◌, arith}
+use Rattle.std.proofs.lemmas.List.{length-map}
 use Rattle.path_map.specs.Entries.{IsInOrder}
 use Rattle.acl_tree.specs.Files.{Recorded}
 use Rattle.acl_tree.specs.acl_people.KnownPeople.{KnownPeople, persons}
@@ -56,6 +57,38 @@ reached_on-requires g c =
     after_first V c.args.grants.now t c.requires.goes c.order_law.ensures order c.requires.moved
     (map (λ r. r.value) c.changed.result.now) (map (λ r. r.value) c.gone-gone.result.now) c.changed.ensures c.gone-gone.ensures c.all_subjects-users.result.now (c.all_subjects-users.ensures ∙ ap persons c.people.ensures)
     c.in_ok-new.new.rows (map (λ e. e.value) c.in_ok-new.new.puts.items) c.in_ok-new.ensures.rows c.in_ok-updated.updated.ways.steps c.in_ok-updated.ensures.kept
+
+pub returns-in_err-new-clause-at_most : goal.returns-in_err-new-clause-at_most
+returns-in_err-new-clause-at_most g c =
+    let t = c.args.staged.now in
+    let changed = sym (length-map c.changed.result.now (λ r. r.value)) ∙ ap length c.changed.ensures in
+    let users = ap length (c.all_subjects-users.ensures ∙ ap persons c.people.ensures) ∙ length-map t.state.people.users _ in
+    let asked = subst (λ n. g.J.Judge.asked_of c.with_files.new.judge ≤ g.J.Judge.asked_of c.args.judge.now + n) (λ i. changed i * users i) c.with_files.ensures.at_most in
+    omega (arith, asked)
+
+pub returns-in_err-updated-clause-at_most : goal.returns-in_err-updated-clause-at_most
+returns-in_err-updated-clause-at_most g c =
+    let t = c.args.staged.now in
+    let changed = sym (length-map c.changed.result.now (λ r. r.value)) ∙ ap length c.changed.ensures in
+    let users = ap length (c.all_subjects-users.ensures ∙ ap persons c.people.ensures) ∙ length-map t.state.people.users _ in
+    let asked = subst (λ n. g.J.Judge.asked_of c.with_files.new.judge ≤ g.J.Judge.asked_of c.args.judge.now + n) (λ i. changed i * users i) c.with_files.ensures.at_most in
+    omega (arith, asked)
+
+pub returns-in_err-reached_on-clause-at_most : goal.returns-in_err-reached_on-clause-at_most
+returns-in_err-reached_on-clause-at_most g c =
+    let t = c.args.staged.now in
+    let changed = sym (length-map c.changed.result.now (λ r. r.value)) ∙ ap length c.changed.ensures in
+    let users = ap length (c.all_subjects-users.ensures ∙ ap persons c.people.ensures) ∙ length-map t.state.people.users _ in
+    let asked = subst (λ n. g.J.Judge.asked_of c.with_files.new.judge ≤ g.J.Judge.asked_of c.args.judge.now + n) (λ i. changed i * users i) c.with_files.ensures.at_most in
+    omega (arith, asked)
+
+pub returns-clause-at_most : goal.returns-clause-at_most
+returns-clause-at_most g c =
+    let t = c.args.staged.now in
+    let changed = sym (length-map c.changed.result.now (λ r. r.value)) ∙ ap length c.changed.ensures in
+    let users = ap length (c.all_subjects-users.ensures ∙ ap persons c.people.ensures) ∙ length-map t.state.people.users _ in
+    let asked = subst (λ n. g.J.Judge.asked_of c.with_files.new.judge ≤ g.J.Judge.asked_of c.args.judge.now + n) (λ i. changed i * users i) c.with_files.ensures.at_most in
+    omega (arith, asked)
 
 pub overflow_mul-result : goal.overflow_mul-result
 overflow_mul-result g c =

@@ -25,6 +25,30 @@ returns-clause-rows g c =
     ap (λ (r : LabelRows). rows_in r.cells r.numbers) c.in_ok-reached.ensures.rows
     ∙ joined_rows V c.args.grants.now t c.requires.goes c.order_law.ensures order c.requires.moved c.joined_user-user.result.now last c.in_ok-rows.rows c.in_ok-rows.ensures.rows (subst IsInOrder (sym c.in_ok-rows.ensures.rows.numbers) c.order_law.ensures)
 
+pub returns-in_err-rows-clause-at_most : goal.returns-in_err-rows-clause-at_most
+returns-in_err-rows-clause-at_most g c =
+    let V = g.J.Judge.verdict_of in
+    let t = c.args.staged.now in
+    let order = subst (λ (r : Recorded). IsInOrder r.files) c.tree.ensures c.soundness_law.ensures.order in
+    let long = joined_long V c.args.grants.now t c.requires.goes c.order_law.ensures order c.requires.moved in
+    omega (arith, long, joined_cost t c.requires.moved, c.with_user.ensures.at_most)
+
+pub returns-in_err-ways-clause-at_most : goal.returns-in_err-ways-clause-at_most
+returns-in_err-ways-clause-at_most g c =
+    let V = g.J.Judge.verdict_of in
+    let t = c.args.staged.now in
+    let order = subst (λ (r : Recorded). IsInOrder r.files) c.tree.ensures c.soundness_law.ensures.order in
+    let long = joined_long V c.args.grants.now t c.requires.goes c.order_law.ensures order c.requires.moved in
+    omega (arith, long, joined_cost t c.requires.moved, c.with_user.ensures.at_most)
+
+pub returns-in_err-reached-clause-at_most : goal.returns-in_err-reached-clause-at_most
+returns-in_err-reached-clause-at_most g c =
+    let V = g.J.Judge.verdict_of in
+    let t = c.args.staged.now in
+    let order = subst (λ (r : Recorded). IsInOrder r.files) c.tree.ensures c.soundness_law.ensures.order in
+    let long = joined_long V c.args.grants.now t c.requires.goes c.order_law.ensures order c.requires.moved in
+    omega (arith, long, joined_cost t c.requires.moved, c.with_user.ensures.at_most)
+
 pub returns-clause-at_most : goal.returns-clause-at_most
 returns-clause-at_most g c =
     let V = g.J.Judge.verdict_of in

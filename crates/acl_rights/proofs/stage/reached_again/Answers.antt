@@ -1,5 +1,4 @@
-use Rattle.std.proofs.Common.{List, get_or, sym, ap, ◌∙◌}
-use Rattle.std.proofs.Common.{Bool, false}
+use Rattle.std.proofs.Common.{Bool, false, List, get_or, sym, ap, ◌∙◌}
 use Rattle.acl_verdicts.specs.declared.steps.Step.{Step}
 use Rattle.acl_verdicts.specs.declared.ways.Ways.{Ways}
 use Rattle.acl_verdicts.specs.Ways.{reaches_of}

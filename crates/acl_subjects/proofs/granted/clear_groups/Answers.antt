@@ -1,4 +1,5 @@
 use Rattle.std.proofs.Common.{◌≡◌, length, arith, sym, ◌∙◌}
+use Rattle.std.proofs.lemmas.Grind.{common_steps}
 use Rattle.acl_subjects.proofs.ByEntries.{cleared_more, cleared_same}
 use Rattle.acl_subjects.proofs.granted.clear_groups.Goals.{in-Some, in_default}
 use Rattle.acl_subjects.proofs.granted.clear_groups.Goals as goal
@@ -21,3 +22,6 @@ loop-entry-preserved c = λ f was.
           ∙ cleared_same users c.args.label.now.group es i e c.loop-entry-test.true c.entry-item.is f c.loop-entry.row
           (sym c.group_of.ensures ∙ w.in_default.is) (c.loop-entry.invariant f was)
     ]
+
+pub returns : goal.returns
+returns c = grind (arith, common_steps)

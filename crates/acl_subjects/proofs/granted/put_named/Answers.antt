@@ -1,4 +1,5 @@
 use Rattle.std.proofs.Common.{◌≡◌, ◌+◌, ◌-◌, ◌<◌, length, map, arith, ◌∙◌}
+use Rattle.std.proofs.lemmas.Grind.{common_steps}
 use Rattle.acl_subjects.proofs.ByEntries.{named_more, named_same, named_all}
 use Rattle.acl_subjects.proofs.granted.put_named.Goals as goal
 
@@ -29,3 +30,6 @@ returns c = λ f was.
     let none : c.loop-i.i ≡ 0 = omega arith in
     c.loop-i.invariant f was
     ∙ (λ j. map (λ u. named_all label c.args.mask.now c.entries-entries.result.now c.loop-i.i c.requires.mask c.entries-entries.ensures.all none f u j) c.args.users.now)
+
+pub loop-i-init : goal.loop-i-init
+loop-i-init c = grind (arith, common_steps)

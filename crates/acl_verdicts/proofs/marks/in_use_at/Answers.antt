@@ -1,4 +1,5 @@
 use Rattle.std.proofs.Common.{◌≡◌, ◌<◌, ℕ, true, false, take, get_or, Some, ap, ◌∙◌, arith}
+use Rattle.std.proofs.lemmas.Grind.{common_steps}
 use Rattle.std.specs.FinMap.{find}
 use Rattle.acl_files.specs.acl_names.Paths.{path_cmp}
 use Rattle.acl_files.specs.Files.{PathOf}
@@ -20,3 +21,9 @@ loop-path-preserved c =
           (λ n is lt. c.mark_file.ensures.here n (ap (λ (ns : Numbers). find path_cmp c.deref.result.now ns) c.loop-path.invariant.finder ∙ ap (λ (p : PathOf). find path_cmp p c.args.numbers.now) same ∙ is) (omega (arith, lt, long)));
       few = let one = c.mark_file.ensures.few in let few = c.loop-path.invariant.few in omega (arith, one, few);
     }
+
+pub loop-path-init : goal.loop-path-init
+loop-path-init c = grind (arith, common_steps)
+
+pub returns-clause-used : goal.returns-clause-used
+returns-clause-used c = grind (arith, common_steps)

@@ -1,7 +1,10 @@
-use Rattle.std.proofs.Common.{◌≡◌, ◌||◌, ◌+◌, ◌++◌, ℕ, Bool, true, false, Some, List, [], ◌∷◌, get_or, refl, ap, sym, subst, ◌∙◌}
+use Rattle.std.proofs.Common.{◌≡◌, ◌||◌, ◌+◌, ◌++◌, ℕ, ◌<◌, Bool, true, false, Some, None, List, [], ◌∷◌, get_or, length, drop, refl, ap, sym, subst, ◌∙◌, arith}
 use Rattle.std.specs.Prelude.{IfSome}
 use Rattle.std.specs.Option.{option_copied, option_map_or}
-use Rattle.acl_verdicts.specs.Ways.{reach_on}
+use Rattle.std.proofs.Math.ListN.{drop_of_length-le}
+use Rattle.std.proofs.lemmas.Option.{slice_get-get_or}
+use Rattle.std.proofs.lemmas.Result.{IfOk-weaker}
+use Rattle.acl_verdicts.specs.Ways.{reach_on, reaches_from}
 use Rattle.acl_verdicts.proofs.Alike.{step_alike, alike_more, AreAlike}
 use Rattle.acl_verdicts.proofs.Reaching.{reaches_step}
 use Rattle.acl_verdicts.proofs.reaches.updated_reaches.Goals as goal
@@ -29,3 +32,17 @@ loop-number-preserved c =
       subst (λ (ns : List (List ℕ)). AreAlike c.args.old.now ns c.push.new.self.items (c.loop-number.number + 1)) (sym c.in_ok-push-2.ensures.items)
           (subst (λ (ms : List Bool). AreAlike c.args.old.now (c.loop-number.new.items ++ c.in_ok-reach.reach ∷ []) ms (c.loop-number.number + 1)) (sym c.in_ok-push.ensures.items) alike),
     )
+
+pub unreachable-requires : goal.unreachable-requires
+unreachable-requires c =
+    let within : c.loop-number.number < length c.args.steps.now = omega (arith, c.len-number-end.ensures) in
+    let there = slice_get-get_or c.args.steps.now c.loop-number.number (record { row = 0; above = None }) within in
+    let none = sym c.get.ensures ∙ ap option_copied c.in_default.is in
+    cc
+
+pub returns : goal.returns
+returns c =
+    let new = c.loop-number.new.items in
+    let none : drop c.loop-number.number c.args.steps.now ≡ [] = drop_of_length-le c.args.steps.now (omega (arith, c.loop-number-test.false, c.len-number-end.ensures)) in
+    let all = ap (reaches_from c.args.cells.now new) (sym none) ∙ c.loop-number.invariant.0 in
+    IfOk-weaker c.pushed-2.result _ _ (λ longer is. is (λ x y same. same) ∙ ap (λ l. l ++ new) c.new.ensures ∙ all) c.pushed-2.ensures

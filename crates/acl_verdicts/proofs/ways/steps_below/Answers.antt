@@ -32,7 +32,7 @@ loop-top-preserved-then-is_covered c =
     let ns = c.args.numbers.now in
     let tops : Numbers = map (λ e. e.value) c.args.tops.now in
     let last = option_map (λ p. p.now) c.loop-top.last in
-    let same = c.path.ensures ∙ ap (λ (e : PathOf × ℕ). e.0) c.deref.ensures in
+    let same = c.path-path.ensures ∙ ap (λ (e : PathOf × ℕ). e.0) c.deref.ensures in
     let w = c.loop-top.invariant.walked in
     record {
       finder = c.loop-top.invariant.finder;
@@ -61,14 +61,12 @@ add_steps-requires-clause-above c =
     let w = c.loop-top.invariant.walked in
     let is = ap (map (λ e. e.value)) c.in-Some.ensures.cases.0 in
     let above : Numbers = map (λ e. e.value) c.in_ok-above.above.items in
-    let same = c.path.ensures ∙ ap (λ (e : PathOf × ℕ). e.0) c.deref.ensures in
-    let first = c.path-in-Some.ensures ∙ ap (λ (e : PathOf × ℕ). e.0) c.deref-in-Some.ensures in
-    let second = c.path-in-Some-2.ensures ∙ ap (λ (e : PathOf × ℕ). e.0) c.deref-in-Some-2.ensures in
+    let same = c.path-path.ensures ∙ ap (λ (e : PathOf × ℕ). e.0) c.deref.ensures in
     let out : covers last t.0 ≡ false = ap (covers last) (sym same) ∙ sym c.is_covered.ensures ∙ c.if-is_covered.false in
-    let near : IsNearest t.0 c.args.old.now above = found_is_nearest t.0 c.args.old.now above (c.in_ok-above.ensures ∙ ap (λ (p : PathOf). nearest_above p c.args.old.now) first) in
+    let near : IsNearest t.0 c.args.old.now above = found_is_nearest t.0 c.args.old.now above (c.in_ok-above.ensures ∙ ap (λ (p : PathOf). nearest_above p c.args.old.now) same) in
     let begun = c.requires.above t.0 (top_there tops c.requires.order (ways ns) order t rest more w.0 last is w.1.0) (top_outermost tops c.requires.order (ways ns) order t rest more w.0 last is w.1.0 out) above near in
     let now : IsAbove t.0 ns c.loop-top.steps above = record { below = begun.below; leads = leads_kept _ _ _ _ c.loop-top.invariant.kept begun.leads } in
-    subst (λ (ms : Numbers). IsAbove c.path-in-Some-2.result.now ms c.loop-top.steps above) (sym c.loop-top.invariant.finder) (subst (λ p. IsAbove p ns c.loop-top.steps above) (sym second) now)
+    subst (λ (ms : Numbers). IsAbove c.path-path.result.now ms c.loop-top.steps above) (sym c.loop-top.invariant.finder) (subst (λ p. IsAbove p ns c.loop-top.steps above) (sym same) now)
 
 pub loop-top-preserved : goal.loop-top-preserved
 loop-top-preserved c =
@@ -81,15 +79,13 @@ loop-top-preserved c =
     let more : Numbers = map (λ e. e.value) c.in-Some.more.now in
     let w = c.loop-top.invariant.walked in
     let is = ap (map (λ e. e.value)) c.in-Some.ensures.cases.0 in
-    let same = c.path.ensures ∙ ap (λ (e : PathOf × ℕ). e.0) c.deref.ensures in
-    let second = c.path-in-Some-2.ensures ∙ ap (λ (e : PathOf × ℕ). e.0) c.deref-in-Some-2.ensures in
-    let third = c.path-in-Some-3.ensures ∙ ap (λ (e : PathOf × ℕ). e.0) c.deref-in-Some-3.ensures in
+    let same = c.path-path.ensures ∙ ap (λ (e : PathOf × ℕ). e.0) c.deref.ensures in
     let out : covers last t.0 ≡ false = ap (covers last) (sym same) ∙ sym c.is_covered.ensures ∙ c.if-is_covered.false in
     let walked : AreWalked tops (ways ns) more (w.0 ++ within t.0 (ways ns)) (Some t.0) = tops_walk tops c.requires.order (ways ns) order t rest more w.0 last is w.1.0 (w.0 ++ within t.0 (ways ns)) out refl in
     let finder = c.loop-top.invariant.finder in
     record {
       finder = c.add_steps.ensures.same ∙ finder;
-      walked = (w.0 ++ within t.0 (ways ns), (subst (λ (p : PathOf). AreWalked tops (ways ns) more (w.0 ++ within t.0 (ways ns)) (Some p)) (sym third) walked, c.in_ok-add_steps.ensures.steps w.0 w.1.1 ∙ ap (λ (ms : Numbers). known (w.0 ++ within c.path-in-Some-2.result.now (ways ms))) finder ∙ ap (λ (p : PathOf). known (w.0 ++ within p (ways ns))) second));
+      walked = (w.0 ++ within t.0 (ways ns), (subst (λ (p : PathOf). AreWalked tops (ways ns) more (w.0 ++ within t.0 (ways ns)) (Some p)) (sym same) walked, c.in_ok-add_steps.ensures.steps w.0 w.1.1 ∙ ap (λ (ms : Numbers). known (w.0 ++ within c.path-path.result.now (ways ms))) finder ∙ ap (λ (p : PathOf). known (w.0 ++ within p (ways ns))) same));
       kept = longer_on _ _ _ c.loop-top.invariant.kept c.in_ok-add_steps.ensures.kept;
       back = c.in_ok-add_steps.ensures.back;
       rows = λ count h k. c.in_ok-add_steps.ensures.rows count (c.loop-top.invariant.rows count h k) (subst (AreNumbers count) (sym finder) k);

@@ -1,4 +1,5 @@
 use Rattle.std.proofs.Common.{◌≡◌, false, ℕ, ◌||◌, ◌&&◌, arith, Bool, nat_eq, ap, ◌∙◌}
+use Rattle.std.proofs.lemmas.Grind.{common_steps}
 use Rattle.std.proofs.lemmas.Bool.{ne_eqb}
 use Rattle.std.proofs.lemmas.List.{take_rest}
 use Rattle.std.proofs.KnownBytes.{Appends-trans}
@@ -17,3 +18,6 @@ loop-done-preserved g c =
       written = rw (take-add c.loop-done.done c.in-Ok.taken c.args.bytes.now) (Appends-trans _ _ _ _ _ c.loop-done.invariant.written took);
       works = still_works _ _ c.in-Ok.taken _ c.in-Ok.ensures.failed c.loop-done.invariant.works c.in-Ok.taken-test.1;
     }
+
+pub returns-clause-whole : goal.returns-clause-whole
+returns-clause-whole g c = grind (arith, common_steps)

@@ -1,4 +1,5 @@
 use Rattle.std.proofs.Common.{◌+◌, ◌||◌, sym, ◌∙◌, ap, subst, List, ℕ, refl, drop, take, get_or, [], ◌∷◌, ◌++◌, arith}
+use Rattle.std.proofs.lemmas.Grind.{common_steps}
 use Rattle.std.proofs.lemmas.List.{drop_more, drop_all}
 use Rattle.facl_words.specs.TextWords.{words_ask, word_asks}
 use Rattle.facl_script.proofs.WordLemmas.{byte_seen, IsSeen, begins}
@@ -67,3 +68,9 @@ returns-else-takes c =
     let h = rw (drop_all c.loop-b.b-index line c.loop-b-test.false, c.in-Within.is) at inv.seen in
     let asks = c.asks.ensures ∙ ap (word_asks c.loop-b.is_first) (c.as_slice-else-takes.ensures ∙ inv.beginning) ∙ asks_by_beginning c.loop-b.is_first inv.word ∙ ap (λ f. word_asks f inv.word) inv.first in
     rw (words_ask_within line inv.done inv.word h, sym inv.takes, c.if-takes.false) asks
+
+pub returns-in-Between : goal.returns-in-Between
+returns-in-Between c = grind (arith, common_steps)
+
+pub returns-in-Quoted : goal.returns-in-Quoted
+returns-in-Quoted c = grind (arith, common_steps)

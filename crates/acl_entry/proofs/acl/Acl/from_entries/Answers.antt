@@ -1,4 +1,5 @@
 use Rattle.std.proofs.Common.{◌≡◌, None, Some, option_map, sym, ap, ◌∙◌, arith}
+use Rattle.std.proofs.lemmas.Grind.{common_steps}
 use Rattle.std.proofs.lemmas.List.Sorted.{IsPermutation-map}
 use Rattle.acl_entry.specs.declared.entry.Key.TheVariants.{Mask}
 use Rattle.acl_entry.specs.declared.entry.Entry.{Entry}
@@ -51,3 +52,9 @@ returns-clause-no_fault c =
     let moved = IsPermutation-map (λ (e : Entry). e.key) es c.in_ok-sorted.sorted.items sorted.permutation in
     let base : missing_base (keys es) ≡ None = missing_base-moved _ _ moved ∙ ap (λ l. missing_base (keys l)) (sym c.deref.ensures) ∙ sym c.in_default.ensures in
     fault_once es (omega arith) sorted.once ∙ ap (λ b. or_else (option_map MissingBase b) (option_map MissingMask (unmasked (keys es)))) base ∙ ap (option_map MissingMask) (sym c.in_default-unmasked.ensures)
+
+pub returns-then-entries-gt-MAX_ENTRIES-clause-reported : goal.returns-then-entries-gt-MAX_ENTRIES-clause-reported
+returns-then-entries-gt-MAX_ENTRIES-clause-reported c = grind (arith, common_steps)
+
+pub returns-in_err-sorted-clause-reported : goal.returns-in_err-sorted-clause-reported
+returns-in_err-sorted-clause-reported c = grind (arith, common_steps)

@@ -1,4 +1,5 @@
 use Rattle.std.proofs.Common.{ap, sym, ◌∙◌, arith}
+use Rattle.std.proofs.lemmas.Grind.{common_steps}
 use Rattle.std.specs.Option.{option_copied}
 use Rattle.acl_verdicts.specs.Labels.{rows_by, updated_row}
 use Rattle.acl_verdicts.proofs.RowLists.{rows_step, rows_done, mark_step}
@@ -25,3 +26,9 @@ pub returns-clause-rows : goal.returns-clause-rows
 returns-clause-rows g c =
     let le = c.loop-number-test.false in
     rows_done (updated_row g.J.Judge.verdict_of c.args.at c.args.user.now c.args.self.now.labels c.args.marks.now) c.loop-number.rows.items (rows_by (updated_row g.J.Judge.verdict_of c.args.at c.args.user.now c.args.self.now.labels c.args.marks.now) 0 c.args.self.now.cells) c.args.self.now.cells c.loop-number.number (omega (arith, le, c.len.ensures)) c.loop-number.invariant.rows
+
+pub returns-in_err-row-clause-at_most : goal.returns-in_err-row-clause-at_most
+returns-in_err-row-clause-at_most g c = grind (arith, common_steps)
+
+pub returns-in_err-push-clause-at_most : goal.returns-in_err-push-clause-at_most
+returns-in_err-push-clause-at_most g c = grind (arith, common_steps)

@@ -15,8 +15,8 @@ steps_below-requires-clause-above g c =
     subst (λ (ss : List Step). AreAbove tops ns ss ways.places) (sym c.in_ok-steps.ensures)
     (steps_above ns tops (map (λ e. e.value) c.args.gone.now) c.args.old.now c.requires.change c.order_law-2.ensures c.requires.tops c.order_law.ensures c.requires.apart ways.steps ways.places c.requires.steps)
 
-pub merged-requires-clause-puts : goal.merged-requires-clause-puts
-merged-requires-clause-puts g c =
+pub merged-merged-requires-clause-puts : goal.merged-merged-requires-clause-puts
+merged-merged-requires-clause-puts g c =
     let tops : Numbers = map (λ e. e.value) c.args.tops.now in
     let ns = c.args.numbers.now in
     let value = ap (map (λ e. e.value)) c.deref.ensures.value in
@@ -32,17 +32,17 @@ returns-clause-steps g c =
     let puts : Numbers = map (λ e. e.value) c.in_ok-puts.puts.items in
     let new = c.steps_below.new.steps in
     let long = subst (λ (ss : List Step). IsLonger ss new) c.in_ok-steps.ensures c.in_ok-puts.ensures.kept in
-    let place = c.in_ok-places.ensures ∙ ap (λ (l : Numbers). merged l gone ways.places) (ap (map (λ e. e.value)) c.deref.ensures.value) in
+    let place = c.in_ok-ways.ensures.places ∙ c.in_ok-places.ensures ∙ ap (λ (l : Numbers). merged l gone ways.places) (ap (map (λ e. e.value)) c.deref.ensures.value) in
     let put = steps_again ns tops gone c.args.old.now c.requires.change c.order_law-2.ensures c.requires.tops c.order_law.ensures c.requires.apart ways.steps new ways.places puts c.requires.steps long c.in_ok-puts.ensures.back c.in_ok-puts.ensures.puts in
-    subst (λ (ss : List Step). AreSteps ss c.in_ok-places.places ns) (sym c.in_ok-all.ensures) (subst (λ (p : Numbers). AreSteps new p ns) (sym place) put)
+    subst (λ (ss : List Step). AreSteps ss c.in_ok-ways.ways.places ns) (sym c.in_ok-ways.ensures.steps) (subst (λ (p : Numbers). AreSteps new p ns) (sym place) put)
 
 pub returns-clause-rows : goal.returns-clause-rows
 returns-clause-rows g c =
-    λ count h k. subst (HaveRows count) (sym c.in_ok-all.ensures) (c.in_ok-puts.ensures.rows count (subst (HaveRows count) (sym c.in_ok-steps.ensures) h) k)
+    λ count h k. subst (HaveRows count) (sym c.in_ok-ways.ensures.steps) (c.in_ok-puts.ensures.rows count (subst (HaveRows count) (sym c.in_ok-steps.ensures) h) k)
 
 pub returns-clause-walked : goal.returns-clause-walked
 returns-clause-walked g c =
     let tops : Numbers = map (λ e. e.value) c.args.tops.now in
     let puts : Numbers = map (λ e. e.value) c.in_ok-puts.puts.items in
-    c.len.ensures ∙ sym c.deref.ensures.len ∙ ap length c.deref.ensures.value ∙ sym (length-map c.in_ok-puts.puts.items (λ e. e.value))
+    c.len-walked.ensures ∙ sym c.deref.ensures.len ∙ ap length c.deref.ensures.value ∙ sym (length-map c.in_ok-puts.puts.items (λ e. e.value))
     ∙ puts_count c.args.numbers.now tops (map (λ e. e.value) c.args.gone.now) c.args.old.now c.requires.change c.order_law-2.ensures c.requires.tops c.order_law.ensures c.requires.apart c.steps_below.new.steps puts c.in_ok-puts.ensures.puts

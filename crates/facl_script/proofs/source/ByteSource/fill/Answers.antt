@@ -1,4 +1,5 @@
 use Rattle.std.proofs.Common.{◌≡◌, ◌-◌, ℕ, List, [], take, drop, Option, None, Some, refl, arith, length-take}
+use Rattle.std.proofs.lemmas.Grind.{common_steps}
 use Rattle.std.specs.Io.KnownBytes.{Consumes, prepend_known}
 use Rattle.facl_script.proofs.source.ByteSource.fill.Goals as goal
 
@@ -22,3 +23,6 @@ returns-else-n-eq0-clause-err g c =
       refl,
       omega (arith, s.within),
     )
+
+pub returns-then-self-clause-end : goal.returns-then-self-clause-end
+returns-then-self-clause-end g c = grind (arith, common_steps)

@@ -1,4 +1,5 @@
 use Rattle.std.proofs.Common.{◌≡◌, ◌+◌, ℕ, Bool, true, false, List, [], ◌∷◌, ◌++◌, length, length-append, refl, sym, ap, ◌∙◌, subst, append_assoc, arith, add_assoc, Some}
+use Rattle.std.proofs.lemmas.Grind.{common_steps}
 use Rattle.std.proofs.lemmas.Result.{err_from_is_err_and}
 use Rattle.std.proofs.KnownBytes.{Consumes-trans}
 use Rattle.std.specs.Io.KnownBytes.{Consumes}
@@ -130,3 +131,6 @@ returns-clause-ok g c =
       },
       record { number = refl; line_is = same; text_is = text.holds; full = refl; lost = λ e. (t, refl, takes) },
     )
+
+pub invariant_of-self-then-not-takes : goal.invariant_of-self-then-not-takes
+invariant_of-self-then-not-takes g c = grind (arith, common_steps)

@@ -2,11 +2,10 @@
 
 ghost use Rattle.std.specs.Prelude.{◌≡◌, ◌*◌, length};
 ghost use Rattle.acl_rights.specs.Tables.{IsWhole};
-ghost use Rattle.surface_tests.specs.Verdicts.{owner_alone};
+ghost use Rattle.facl_listings_tests.specs.Verdicts.{owner_alone};
 
 use crate::judge::OwnerAlone;
-use acl_rights::{Index, Judge, Rows};
-use acl_tree::{Command, People, Staged, Tree};
+use acl_rights::{Command, Index, Judge, People, Rows, Staged, Tree};
 use std::alloc::Global;
 
 /// What a command costs the index: verdicts asked for, labels fetched, and verdicts along paths that are new or other

@@ -1,12 +1,9 @@
-//! acl_tree: people, the tree, and commands.
-use crate::nobody::Nobody;
-use crate::setup::{accept, load, path};
-use acl_edit::{Edit, EditFault, Kind, Node};
-use acl_entry::{Id, NoMemory, Subject};
-use acl_text::{DumpRecord, DumpUse, Name, Names, Path, read_dump, read_name};
+//! The public surface as a user sees it, with its types written out: people, the tree, and commands.
+use crate::small_tree::{accept, load, path};
 use acl_tree::{
-    Command, DumpRecords, FilesFinder, Membership, NewFile, NewUser, Paths, People, Staged, Tree,
-    TreeFault, UserName,
+    Command, DumpRecord, DumpRecords, DumpUse, Edit, EditFault, FilesFinder, Id, Kind, Membership,
+    Name, Names, NewFile, NewUser, NoMemory, NoNames, Node, Path, Paths, People, Staged, Subject,
+    Tree, TreeFault, UserName, read_dump, read_name,
 };
 use std::alloc::Global;
 use std::process::Abort;
@@ -165,7 +162,7 @@ fn rm(rt: &impl Abort, alloc: Global) -> Command<'static> {
 
 /// The records of a text.
 fn records(rt: &impl Abort, alloc: Global, text: &[u8]) -> DumpRecords {
-    let records: Vec<DumpRecord> = read_dump(alloc, text, DumpUse::Restore, &Nobody).expect(
+    let records: Vec<DumpRecord> = read_dump(alloc, text, DumpUse::Restore, &NoNames).expect(
         rt, "records",
     );
     DumpRecords::new(records)

@@ -1,4 +1,4 @@
-//! acl_entry: permission sets, lists, and the check.
+//! The public surface as a user sees it, with its types written out: permission sets, lists, and the check.
 use acl_entry::{
     Acl, Entry, Id, Key, Label, ListFault, NoMemory, Perm, Requests, Subject, granted,
 };

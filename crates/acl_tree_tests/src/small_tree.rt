@@ -1,6 +1,5 @@
 //! A small tree, as texts and loaded.
-use acl_text::{Path, read_path};
-use acl_tree::{Command, People, Staged, Table, Tree, TreeFault};
+use acl_tree::{Command, Path, People, Staged, Table, Tree, TreeFault, read_path};
 use std::alloc::Global;
 use std::process::Abort;
 

@@ -1,10 +1,9 @@
 //! A judge of the user's own.
 
 ghost use Rattle.std.specs.Prelude.{◌≡◌};
-ghost use Rattle.surface_tests.specs.Verdicts.{owner_alone, owner_alone_local};
+ghost use Rattle.facl_listings_tests.specs.Verdicts.{owner_alone, owner_alone_local};
 
-use acl_entry::{Label, Requests, Subject};
-use acl_rights::Judge;
+use acl_rights::{Judge, Label, Requests, Subject};
 
 /// Grants the owner all requests, and nobody else any.
 #[derive(Drop)]

@@ -1,11 +1,12 @@
-//! acl_rights: the index, under a judge of the user's own.
+//! The public surface of acl_rights as a user sees it, with its types written out: the index, under a judge of the
+//! user's own.
 use crate::followed::{Followed, follow};
 use crate::judge::OwnerAlone;
-use crate::setup::{load, path};
-use acl_entry::{Acl, Id, Label, NoMemory, Perm, Requests, Subject};
-use acl_rights::{FileRow, FileRows, Index, Judge, Posix};
-use acl_text::{Path, read_name};
-use acl_tree::{Command, Membership};
+use crate::small_tree::{load, path};
+use acl_rights::{
+    Acl, Command, FileRow, FileRows, Id, Index, Judge, Label, Membership, NoMemory, Path, Perm,
+    Posix, Requests, Subject, read_name,
+};
 use std::alloc::Global;
 use std::process::Abort;
 

@@ -1,8 +1,8 @@
-//! acl_text: entry texts, names and paths, rows, dumps, and attribute bytes.
-use crate::nobody::Nobody;
+//! The public surface as a user sees it, with its types written out: entry texts, names and paths, rows, dumps, and
+//! attribute bytes.
 use acl_entry::{Acl, Key, NoMemory};
 use acl_text::{
-    DumpRecord, DumpUse, FaultKind, GroupRow, Name, PasswdRow, Path, PermSpec, Sep, Spec,
+    DumpRecord, DumpUse, FaultKind, GroupRow, Name, NoNames, PasswdRow, Path, PermSpec, Sep, Spec,
     TextFault, Want, Which, decode_attr, encode_attr, read_dump, read_entries, read_group,
     read_name, read_passwd, read_path, write_long, write_name, write_path, write_short,
 };
@@ -16,7 +16,7 @@ fn entry(rt: &impl Abort, alloc: Global, text: &[u8]) -> Spec {
         text,
         Sep::Comma,
         Want::WithPerms,
-        &Nobody,
+        &NoNames,
     );
     let mut specs: Vec<Spec> = read.expect(rt, "entries");
     specs.pop().expect(rt, "an entry")
@@ -37,16 +37,16 @@ fn an_entry(rt: HostRuntime) {
 
 #[test]
 fn other_entries(rt: HostRuntime) {
-    let lines = read_entries(rt.alloc(), b"u:5\n", Sep::Line, Want::WithoutPerms, &Nobody);
+    let lines = read_entries(rt.alloc(), b"u:5\n", Sep::Line, Want::WithoutPerms, &NoNames);
     assert!(rt; lines.is_ok());
-    let plain = read_entries(rt.alloc(), b"d:u::r", Sep::Comma, Want::Plain, &Nobody);
+    let plain = read_entries(rt.alloc(), b"d:u::r", Sep::Comma, Want::Plain, &NoNames);
     assert!(rt; plain.is_err());
 }
 
 #[test]
 fn lists(rt: HostRuntime) {
     let acl: Acl = Acl::minimal(rt.alloc(), 0o640).expect(&rt, "memory");
-    let long: Result<Vec<u8>, NoMemory> = write_long(rt.alloc(), &acl, &Nobody);
+    let long: Result<Vec<u8>, NoMemory> = write_long(rt.alloc(), &acl, &NoNames);
     assert!(rt;
         long.expect(&rt, "memory").as_slice() == b"user::rw-\ngroup::r--\nother::---\n".as_slice()
     );
@@ -55,7 +55,7 @@ fn lists(rt: HostRuntime) {
 #[test]
 fn short_lists(rt: HostRuntime) {
     let acl: Acl = Acl::minimal(rt.alloc(), 0o640).expect(&rt, "memory");
-    let short: Result<Vec<u8>, NoMemory> = write_short(rt.alloc(), &acl, &Nobody);
+    let short: Result<Vec<u8>, NoMemory> = write_short(rt.alloc(), &acl, &NoNames);
     assert!(rt; short.expect(&rt, "memory").as_slice() == b"u::rw-,g::r--,o::---".as_slice());
 }
 
@@ -141,7 +141,7 @@ fn a_dump(rt: HostRuntime) {
         rt.alloc(),
         RECORD,
         DumpUse::Restore,
-        &Nobody,
+        &NoNames,
     );
     let records: Vec<DumpRecord> = restored.expect(&rt, "records");
     let DumpRecord {
@@ -160,7 +160,7 @@ fn a_dump(rt: HostRuntime) {
 
 #[test]
 fn a_fault_of_a_dump(rt: HostRuntime) {
-    let loaded = read_dump(rt.alloc(), RECORD, DumpUse::Load, &Nobody);
+    let loaded = read_dump(rt.alloc(), RECORD, DumpUse::Load, &NoNames);
     let TextFault { kind, at } = loaded.err().expect(&rt, "a fault");
     assert!(rt; number(kind) == 9 && at == 1);
 }

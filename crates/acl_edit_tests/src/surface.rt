@@ -1,10 +1,9 @@
-//! acl_edit: one file, its edits, modes and new files.
-use crate::nobody::Nobody;
+//! The public surface as a user sees it, with its types written out: one file, its edits, modes and new files.
 use acl_edit::{
     Change, ChangeEntries, ChangeFlags, Edit, EditFault, Kind, Node, Specs, apply, chmod, create,
 };
 use acl_entry::{Acl, Id, Label};
-use acl_text::{Sep, Spec, Want, Which, read_entries};
+use acl_syntax::{NoNames, Sep, Spec, Want, Which, read_entries};
 use std::alloc::Global;
 use std::process::Abort;
 
@@ -24,7 +23,7 @@ fn file(rt: &impl Abort, alloc: Global, kind: Kind, mode: u16) -> Node {
 
 /// The entries of a text.
 fn specs(rt: &impl Abort, alloc: Global, text: &[u8]) -> Specs {
-    let list: Vec<Spec> = read_entries(alloc, text, Sep::Comma, Want::WithPerms, &Nobody).expect(
+    let list: Vec<Spec> = read_entries(alloc, text, Sep::Comma, Want::WithPerms, &NoNames).expect(
         rt, "entries",
     );
     Specs { list }

@@ -1,0 +1,12 @@
+use Rattle.std.proofs.Common.{arith}
+use Rattle.std.proofs.lemmas.Grind.{common_steps}
+use Rattle.acl_entry.proofs.label.Label.mentions_one_of.Goals as goal
+
+pub returns-then-contains-2 : goal.returns-then-contains-2
+returns-then-contains-2 c = grind (arith, common_steps)
+
+pub loop-entry-preserved : goal.loop-entry-preserved
+loop-entry-preserved c = grind (arith, common_steps)
+
+pub returns : goal.returns
+returns c = grind (arith, common_steps)
