@@ -1,7 +1,5 @@
 //! Dumps: read and written, faults, some cut and changed at every byte, and the most entries of a list.
-use crate::made::{
-    cuts_and_changes, expect_bytes, expect_fault, expect_same, pieces, push,
-};
+use crate::made::{cuts_and_changes, expect_bytes, expect_fault, expect_same, pieces, push};
 use crate::people::People;
 use crate::slow_dump::{Slow, read};
 use acl_entry::{Acl, Entry, Id, ListFault};

@@ -29,11 +29,7 @@ fn escapes_are_read(rt: HostRuntime) {
 #[test]
 fn escapes_are_written(rt: HostRuntime) {
     let text = write_name(rt.alloc(), b"al b\\:,#\t\r\nx").expect(&rt, "memory");
-    expect_same(
-        &rt,
-        &text,
-        b"al\\040b\\134\\072\\054\\043\\011\\015\\012x",
-    );
+    expect_same(&rt, &text, b"al\\040b\\134\\072\\054\\043\\011\\015\\012x");
 }
 
 #[test]

@@ -37,7 +37,13 @@ fn an_entry(rt: HostRuntime) {
 
 #[test]
 fn other_entries(rt: HostRuntime) {
-    let lines = read_entries(rt.alloc(), b"u:5\n", Sep::Line, Want::WithoutPerms, &NoNames);
+    let lines = read_entries(
+        rt.alloc(),
+        b"u:5\n",
+        Sep::Line,
+        Want::WithoutPerms,
+        &NoNames,
+    );
     assert!(rt; lines.is_ok());
     let plain = read_entries(rt.alloc(), b"d:u::r", Sep::Comma, Want::Plain, &NoNames);
     assert!(rt; plain.is_err());

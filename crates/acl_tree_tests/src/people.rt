@@ -317,12 +317,7 @@ static BY_TWO_GROUPS: [Granted; 1] = [(b"joe", b"f", " -w- r--")];
 
 #[test]
 fn each_group_grants_by_itself(rt: HostRuntime) {
-    expect_grants(
-        &rt,
-        rt.alloc(),
-        &[PEOPLE, FIVE, TWO_GROUPS],
-        &BY_TWO_GROUPS,
-    );
+    expect_grants(&rt, rt.alloc(), &[PEOPLE, FIVE, TWO_GROUPS], &BY_TWO_GROUPS);
 }
 
 static BY_PRIMARY: [Granted; 1] = [(b"joe", b"f", " r--")];

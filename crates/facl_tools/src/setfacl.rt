@@ -241,14 +241,8 @@ fn change_of<'a>(words: &'a Words, files: LineFiles<'a>) -> ChangeLine<'a>
         flags: flags_of(words),
         recursive: words.has(row, "recursive"),
         test: words.has(row, "test"),
-        removed: entries_from(
-            words.value(row, "remove"),
-            words.gives(row, "remove-file"),
-        ),
-        modified: entries_from(
-            words.value(row, "modify"),
-            words.gives(row, "modify-file"),
-        ),
+        removed: entries_from(words.value(row, "remove"), words.gives(row, "remove-file")),
+        modified: entries_from(words.value(row, "modify"), words.gives(row, "modify-file")),
         set: entries_from(words.value(row, "set"), words.gives(row, "set-file")),
         files,
     }

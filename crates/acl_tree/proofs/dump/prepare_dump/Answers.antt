@@ -1,4 +1,5 @@
 use Rattle.std.proofs.Common.{true, arith, map, sym, ap, subst, ◌∙◌}
+use Rattle.std.proofs.lemmas.Grind.{common_steps}
 use Rattle.acl_files.specs.Files.{Files}
 use Rattle.acl_files.specs.Sound.{IsSoundTree}
 use Rattle.acl_tree.specs.Step.{State}
@@ -19,3 +20,6 @@ returns-clause-reports c = λ none.
     (ap (λ s. s.gone) c.of.ensures.all ∙ ap (λ l. map (λ r. r.value) l) c.new.ensures.items)
     (ap (λ s. s.user_change) c.of.ensures.all)
     (ap (λ s. s.state.people) c.of.ensures.all ∙ c.in_ok-share.ensures)
+
+pub returns-clause-made : goal.returns-clause-made
+returns-clause-made c = grind (arith, common_steps)

@@ -1,0 +1,12 @@
+use Rattle.std.proofs.Common.{arith}
+use Rattle.std.proofs.lemmas.Grind.{common_steps}
+use Rattle.acl_files.proofs.edit.edit_each.Goals as goal
+
+pub loop-rest-preserved : goal.loop-rest-preserved
+loop-rest-preserved g c = grind (arith, common_steps)
+
+pub returns-clause-made : goal.returns-clause-made
+returns-clause-made g c = grind (arith, common_steps)
+
+pub returns-clause-reported : goal.returns-clause-reported
+returns-clause-reported g c = grind (arith, common_steps)
