@@ -37,6 +37,63 @@ impl Model for VerdictTable {
     ghost invariant = { λ a. AreLists a.tree.files a.lists × AreGrants a.tree.files a.grants };
 }
 
+impl VerdictTable {
+    ghost use Rattle.acl_tree.specs.Changed.{changed_between, gone_between};
+    ghost use Rattle.acl_rights.specs.Groups.{AreLists};
+
+    /// The table of so many users and a tree, which it shares.
+    fn of(
+        users: usize,
+        tree: &Tree,
+        grants: Grants,
+        lists: GroupLists,
+    ) -> Result<VerdictTable, AllocError>
+        requires lists { AreLists tree.now.files lists }
+        requires grants { AreGrants tree.now.files grants }
+        ensures { IfOk result (λ table. table ≡ record { users = users; files = tree.now.files; rows = rows_at grants }) }
+    {
+        Ok(VerdictTable {
+            users,
+            tree: tree.share()?,
+            grants,
+            lists,
+        })
+    }
+
+    /// The table of so many users and a tree, for which the lists are made.
+    fn with_lists(
+        alloc: Global,
+        users: usize,
+        tree: &Tree,
+        grants: Grants,
+    ) -> Result<VerdictTable, AllocError>
+        requires { AreGrants tree.now.files grants }
+        ensures { IfOk result (λ table. table ≡ record { users = users; files = tree.now.files; rows = rows_at grants }) }
+    {
+        let lists = GroupLists::of_tree(alloc, tree)?;
+        VerdictTable::of(users, tree, grants, lists)
+    }
+
+    /// The table after a line, by what is granted after it.
+    fn after(
+        &self,
+        alloc: Global,
+        staged: &Staged,
+        grants: Grants,
+    ) -> Result<VerdictTable, AllocError>
+        requires changed { staged.now.changed ≡ changed_between self.now.files staged.now.state.tree.files }
+        requires gone { staged.now.gone ≡ gone_between self.now.files staged.now.state.tree.files }
+        requires grants { AreGrants staged.now.state.tree.files grants }
+        ensures { IfOk result (λ table. table ≡ record { users = length staged.now.state.people.users; files = staged.now.state.tree.files; rows = rows_at grants }) }
+    {
+        let tree = staged.tree();
+        let lists = self
+            .lists
+            .staged(alloc, &self.tree, tree, staged.changed(), staged.gone())?;
+        VerdictTable::of(staged.people().users(), tree, grants, lists)
+    }
+}
+
 /// The whole table of verdicts of a state: what each user may do with each file, with and without search along
 /// the file's path, and for each group the files that mention it.
 #[derive(Drop)]
@@ -138,13 +195,7 @@ impl<J: Judge> Index<J> {
         ensures at_most { J.asked_of judge.new ≤ J.asked_of judge.old + length tree.now.files * length people.now.users }
     {
         let grants = all_granted(alloc, judge, tree, people)?;
-        let lists = GroupLists::of_tree(alloc, tree)?;
-        let table = VerdictTable {
-            users: people.users(),
-            tree: tree.share()?,
-            grants,
-            lists,
-        };
+        let table = VerdictTable::with_lists(alloc, people.users(), tree, grants)?;
         Ok(Index {
             table,
             judge: PhantomData,
@@ -168,26 +219,13 @@ impl<J: Judge> Index<J> {
         staged.tree().soundness_law();
         let now = &self.table;
         now.grants.rows.numbers.order_law();
-        let lists = now.lists.staged(
-            alloc,
-            &now.tree,
-            staged.tree(),
-            staged.changed(),
-            staged.gone(),
-        )?;
-        let tree = staged.tree().share()?;
         let new = after_line(alloc, judge, &now.grants, &now.tree, &now.lists, staged)?;
         let After {
             grants,
             looked,
             refreshed,
         } = new;
-        let table = VerdictTable {
-            users: staged.people().users(),
-            tree,
-            grants,
-            lists,
-        };
+        let table = now.after(alloc, staged, grants)?;
         Ok(Rows {
             table,
             looked,

@@ -42,8 +42,13 @@ impl<J: Judge> IndexedState<J> {
         ensures asked { OnOk result (J.asked_of judge.new ≡ J.asked_of judge.old + length state.tree.files * length state.people.users) }
         ensures at_most { J.asked_of judge.new ≤ J.asked_of judge.old + length state.tree.files * length state.people.users }
     {
-        let index = Index::build(alloc, judge, state.tree(), state.people())?;
-        Ok(IndexedState { state, index })
+        match Index::build(alloc, judge, state.tree(), state.people()) {
+            Ok(index) => Ok(IndexedState { state, index }),
+            Err(refused) => {
+                drop(state);
+                Err(refused)
+            }
+        }
     }
 
     /// The prepared state after a line, with its index. The judge is asked for verdicts that the line can have changed,

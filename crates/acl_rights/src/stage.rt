@@ -89,6 +89,19 @@ fn reached_on(
     })
 }
 
+/// What is reached by rows that are all new. Files keep their steps.
+fn reached_anew(alloc: Global, grants: &Grants, rows: LabelRows) -> Result<Grants, AllocError>
+    ensures rows { IfOk result (λ new. new.rows ≡ rows) }
+    ensures ways { IfOk result (λ new. new.ways ≡ grants.now.ways) }
+    ensures reaches { IfOk result (λ new. new.reaches ≡ reaches_of rows.cells grants.now.ways.steps) }
+{
+    let ways = grants.ways.share()?;
+    let none = Numbered::new(alloc);
+    let new = Grants::reached(alloc, rows, ways, &none, grants.max_numbers);
+    drop(none);
+    new
+}
+
 /// What is granted after a line by which files change and no user does: labels that no file had are asked for, and files
 /// that changed, and what is below them, are walked.
 fn after_files<J: Judge>(
@@ -197,12 +210,13 @@ fn reached_again(alloc: Global, grants: &Grants, updated: UpdatedRows) -> Result
     ensures reaches { IfOk result (λ new. new.reaches ≡ reaches_of updated.rows.cells grants.now.ways.steps) }
 {
     let UpdatedRows { rows, marks } = updated;
-    let ways = grants.ways.share()?;
-    let reaches = updated_reaches(alloc, &rows.cells, ways.steps(), &grants.reaches, &marks)?;
+    let steps = grants.ways.steps();
+    let reaches = updated_reaches(alloc, &rows.cells, steps, &grants.reaches, &marks);
+    drop(marks);
     Ok(Grants {
         rows,
-        ways,
-        reaches,
+        reaches: reaches?,
+        ways: grants.ways.share()?,
         max_numbers: grants.max_numbers,
     })
 }
@@ -279,12 +293,12 @@ fn after_join<J: Judge>(
     grants.rows.numbers.order_law();
     let user = joined_user::<J>(grants, staged);
     let rows = grants.rows.with_user(alloc, judge, user)?;
-    let ways = grants.ways.share()?;
-    let none = Numbered::new(alloc);
+    let refreshed = rows.numbers.len() as u64;
+    let new = reached_anew(alloc, grants, rows)?;
     Ok(After {
-        refreshed: rows.numbers.len() as u64,
-        grants: Grants::reached(alloc, rows, ways, &none, grants.max_numbers)?,
+        grants: new,
         looked: 0,
+        refreshed,
     })
 }
 
@@ -305,10 +319,9 @@ fn after_leave<J: Judge>(
     staged.tree().soundness_law();
     grants.rows.numbers.order_law();
     let rows = grants.rows.without_user(alloc, at)?;
-    let ways = grants.ways.share()?;
-    let none = Numbered::new(alloc);
+    let new = reached_anew(alloc, grants, rows)?;
     Ok(After {
-        grants: Grants::reached(alloc, rows, ways, &none, grants.max_numbers)?,
+        grants: new,
         looked: 0,
         refreshed: 0,
     })

@@ -1,4 +1,4 @@
-use Rattle.std.proofs.Common.{sym, ap, subst, ◌∙◌, arith}
+use Rattle.std.proofs.Common.{refl, sym, ap, subst, ◌∙◌, arith}
 use Rattle.path_map.specs.Entries.{IsInOrder}
 use Rattle.acl_tree.specs.Files.{Recorded}
 use Rattle.acl_verdicts.specs.Ways.{rows_in}
@@ -13,7 +13,7 @@ returns-clause-grants g c =
     let t = c.args.staged.now in
     let order = subst (λ (r : Recorded). IsInOrder r.files) c.tree.ensures c.soundness_law.ensures.order in
     let last = joined_last V c.args.grants.now t c.requires.goes c.order_law.ensures order c.requires.moved c.joined_user-user.result.now c.joined_user-user.ensures in
-    grants_kept c.in_ok-rows.rows c.in_ok-ways.ways c.args.grants.now c.in_ok-reached.field-0 c.in_ok-reached.ensures.rows c.in_ok-reached.ensures.ways c.in_ok-reached.ensures.reaches c.in_ok-ways.ensures
+    grants_kept c.in_ok-rows.rows c.args.grants.now.ways c.args.grants.now c.in_ok-new.new c.in_ok-new.ensures.rows c.in_ok-new.ensures.ways c.in_ok-new.ensures.reaches refl
     c.requires.goes.goes.state.tree.files t.state.tree.files c.requires.goes.kept (joined_labelled V c.args.grants.now t c.requires.goes c.order_law.ensures order c.requires.moved c.joined_user-user.result.now last c.in_ok-rows.rows c.in_ok-rows.ensures.rows) c.in_ok-rows.ensures.rows.numbers c.in_ok-rows.ensures.rows.labels
 
 pub returns-clause-rows : goal.returns-clause-rows
@@ -22,7 +22,7 @@ returns-clause-rows g c =
     let t = c.args.staged.now in
     let order = subst (λ (r : Recorded). IsInOrder r.files) c.tree.ensures c.soundness_law.ensures.order in
     let last = joined_last V c.args.grants.now t c.requires.goes c.order_law.ensures order c.requires.moved c.joined_user-user.result.now c.joined_user-user.ensures in
-    ap (λ (r : LabelRows). rows_in r.cells r.numbers) c.in_ok-reached.ensures.rows
+    ap (λ (r : LabelRows). rows_in r.cells r.numbers) c.in_ok-new.ensures.rows
     ∙ joined_rows V c.args.grants.now t c.requires.goes c.order_law.ensures order c.requires.moved c.joined_user-user.result.now last c.in_ok-rows.rows c.in_ok-rows.ensures.rows (subst IsInOrder (sym c.in_ok-rows.ensures.rows.numbers) c.order_law.ensures)
 
 pub returns-in_err-rows-clause-at_most : goal.returns-in_err-rows-clause-at_most
@@ -33,16 +33,8 @@ returns-in_err-rows-clause-at_most g c =
     let long = joined_long V c.args.grants.now t c.requires.goes c.order_law.ensures order c.requires.moved in
     omega (arith, long, joined_cost t c.requires.moved, c.with_user.ensures.at_most)
 
-pub returns-in_err-ways-clause-at_most : goal.returns-in_err-ways-clause-at_most
-returns-in_err-ways-clause-at_most g c =
-    let V = g.J.Judge.verdict_of in
-    let t = c.args.staged.now in
-    let order = subst (λ (r : Recorded). IsInOrder r.files) c.tree.ensures c.soundness_law.ensures.order in
-    let long = joined_long V c.args.grants.now t c.requires.goes c.order_law.ensures order c.requires.moved in
-    omega (arith, long, joined_cost t c.requires.moved, c.with_user.ensures.at_most)
-
-pub returns-in_err-reached-clause-at_most : goal.returns-in_err-reached-clause-at_most
-returns-in_err-reached-clause-at_most g c =
+pub returns-in_err-new-clause-at_most : goal.returns-in_err-new-clause-at_most
+returns-in_err-new-clause-at_most g c =
     let V = g.J.Judge.verdict_of in
     let t = c.args.staged.now in
     let order = subst (λ (r : Recorded). IsInOrder r.files) c.tree.ensures c.soundness_law.ensures.order in
@@ -63,4 +55,12 @@ returns-clause-refreshed g c =
     let t = c.args.staged.now in
     let order = subst (λ (r : Recorded). IsInOrder r.files) c.tree.ensures c.soundness_law.ensures.order in
     let last = joined_last V c.args.grants.now t c.requires.goes c.order_law.ensures order c.requires.moved c.joined_user-user.result.now c.joined_user-user.ensures in
-    joined_refreshed V c.args.grants.now t c.requires.goes c.order_law.ensures order c.requires.moved c.joined_user-user.result.now last c.in_ok-rows.rows c.in_ok-rows.ensures.rows c.len.result c.len.ensures
+    joined_refreshed V c.args.grants.now t c.requires.goes c.order_law.ensures order c.requires.moved c.joined_user-user.result.now last c.in_ok-rows.rows c.in_ok-rows.ensures.rows c.len-refreshed.result c.len-refreshed.ensures
+
+pub with_user-requires : goal.with_user-requires
+with_user-requires g c =
+    let V = g.J.Judge.verdict_of in
+    let t = c.args.staged.now in
+    let order = subst (λ (r : Recorded). IsInOrder r.files) c.tree.ensures c.soundness_law.ensures.order in
+    let long = joined_long V c.args.grants.now t c.requires.goes c.order_law.ensures order c.requires.moved in
+    omega (arith, long, joined_cost t c.requires.moved, c.requires.room)

@@ -1,4 +1,4 @@
-use Rattle.std.proofs.Common.{sym, ap, subst, ◌∙◌}
+use Rattle.std.proofs.Common.{refl, sym, ap, subst, ◌∙◌}
 use Rattle.path_map.specs.Entries.{IsInOrder}
 use Rattle.acl_tree.specs.Files.{Recorded}
 use Rattle.acl_verdicts.specs.Ways.{rows_in}
@@ -11,7 +11,7 @@ returns-clause-grants g c =
     let V = g.J.Judge.verdict_of in
     let t = c.args.staged.now in
     let order = subst (λ (r : Recorded). IsInOrder r.files) c.tree.ensures c.soundness_law.ensures.order in
-    grants_kept c.in_ok-rows.rows c.in_ok-ways.ways c.args.grants.now c.in_ok-reached.field-0 c.in_ok-reached.ensures.rows c.in_ok-reached.ensures.ways c.in_ok-reached.ensures.reaches c.in_ok-ways.ensures
+    grants_kept c.in_ok-rows.rows c.args.grants.now.ways c.args.grants.now c.in_ok-new.new c.in_ok-new.ensures.rows c.in_ok-new.ensures.ways c.in_ok-new.ensures.reaches refl
     c.requires.goes.goes.state.tree.files t.state.tree.files c.requires.goes.kept (left_labelled V c.args.grants.now t c.requires.goes c.order_law.ensures order c.args.at c.requires.moved c.in_ok-rows.rows c.in_ok-rows.ensures) c.in_ok-rows.ensures.numbers c.in_ok-rows.ensures.labels
 
 pub returns-clause-rows : goal.returns-clause-rows
@@ -19,7 +19,7 @@ returns-clause-rows g c =
     let V = g.J.Judge.verdict_of in
     let t = c.args.staged.now in
     let order = subst (λ (r : Recorded). IsInOrder r.files) c.tree.ensures c.soundness_law.ensures.order in
-    ap (λ (r : LabelRows). rows_in r.cells r.numbers) c.in_ok-reached.ensures.rows
+    ap (λ (r : LabelRows). rows_in r.cells r.numbers) c.in_ok-new.ensures.rows
     ∙ left_rows V c.args.grants.now t c.requires.goes c.order_law.ensures order c.args.at c.requires.moved c.in_ok-rows.rows c.in_ok-rows.ensures (subst IsInOrder (sym c.in_ok-rows.ensures.numbers) c.order_law.ensures)
 
 pub returns-clause-refreshed : goal.returns-clause-refreshed

@@ -1,14 +1,13 @@
 use Rattle.std.proofs.Common.{Bool, false, List, get_or, sym, ap, ◌∙◌}
 use Rattle.acl_verdicts.specs.declared.steps.Step.{Step}
-use Rattle.acl_verdicts.specs.declared.ways.Ways.{Ways}
 use Rattle.acl_verdicts.specs.Ways.{reaches_of}
 use Rattle.acl_rights.proofs.stage.reached_again.Goals as goal
 
-pub updated_reaches-requires : goal.updated_reaches-requires
-updated_reaches-requires c =
+pub updated_reaches-reaches-requires : goal.updated_reaches-reaches-requires
+updated_reaches-reaches-requires c =
     let old = c.args.grants.now in
     record {
       before = old.rows.cells;
-      reached = c.requires.reached ∙ ap (λ (ss : List Step). reaches_of old.rows.cells ss) (sym (c.steps.ensures ∙ ap (λ (w : Ways). w.steps) c.in_ok-ways.ensures));
+      reached = c.requires.reached ∙ ap (λ (ss : List Step). reaches_of old.rows.cells ss) (sym c.steps-steps.ensures);
       same = λ n unmarked. c.requires.same n (ap (λ (ms : List Bool). get_or ms n false) (sym c.deref.ensures.value) ∙ unmarked);
     }

@@ -37,6 +37,13 @@ returns-in_err-new-clause-bounded g c =
     let goes : GoesFrom V c.args.self.now.rows t = record { state = c.requires.goes.state; rows_are = c.requires.goes.whole.rows; reports = c.requires.goes.reports } in
     omega (arith, most_le V c.args.self.now.rows t goes (subst (λ (r : Recorded). IsInOrder r.files) c.tree.ensures c.soundness_law.ensures.order), c.after_line.ensures.at_most)
 
+pub returns-in_err-table-clause-bounded : goal.returns-in_err-table-clause-bounded
+returns-in_err-table-clause-bounded g c =
+    let V = g.J.Judge.verdict_of in
+    let t = c.args.staged.now in
+    let goes : GoesFrom V c.args.self.now.rows t = record { state = c.requires.goes.state; rows_are = c.requires.goes.whole.rows; reports = c.requires.goes.reports } in
+    omega (arith, most_le V c.args.self.now.rows t goes (subst (λ (r : Recorded). IsInOrder r.files) c.tree.ensures c.soundness_law.ensures.order), c.after_line.ensures.at_most)
+
 pub returns-clause-bounded : goal.returns-clause-bounded
 returns-clause-bounded g c =
     let V = g.J.Judge.verdict_of in
@@ -53,5 +60,8 @@ returns-clause-refreshed_least g c =
     let rows = ap (λ (x : VerdictTable). x.rows) (c.now.view_is ∙ c.self.view_is) in
     let order : IsInOrder old = subst IsInOrder rows (in_order-values (λ (e : PathOf × ℕ). get_or c.now.inside.grants.rows.cells e.1 []) c.now.inside.grants.rows.numbers c.order_law.ensures) in
     let most = line_most V g.met.J.Judge.local old t goes order (subst (λ (r : Recorded). IsInOrder r.files) c.tree.ensures c.soundness_law.ensures.order) in
-    subst (λ (rs : Rows). unlike t.user_change old rs ≤ c.in_ok-new.new.refreshed) (sym c.in_ok-new.ensures.rows)
+    subst (λ (rs : Rows). unlike t.user_change old rs ≤ c.in_ok-new.new.refreshed) (sym (ap (λ (x : VerdictTable). x.rows) c.in_ok-table.ensures ∙ c.in_ok-new.ensures.rows))
     (subst (λ n. unlike t.user_change old (rows_of V (persons t.state.people) t.state.tree.files) ≤ n) (sym c.in_ok-new.ensures.refreshed) most)
+
+pub returns-in_err-table-clause-at_most : goal.returns-in_err-table-clause-at_most
+returns-in_err-table-clause-at_most g c = c.after_line.ensures.at_most
