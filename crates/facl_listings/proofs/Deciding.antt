@@ -20,7 +20,8 @@ use Rattle.acl_rights.specs.acl_entry.declared.label.Label.{Label}
 use Rattle.acl_rights.proofs.of_acl_entry.Faults.{is_among-keys}
 use Rattle.acl_rights.proofs.of_acl_entry.KeyLaws.{exact_keys}
 use Rattle.acl_rights.proofs.of_acl_entry.Maps.{get-map_of, map_of-entries, true_T}
-use Rattle.facl_listings.specs.Why.{perms_listed, some_decides}
+use Rattle.facl_listings.specs.Inner.{sole_key, is_chosen}
+use Rattle.facl_listings.specs.Why.{perms_listed, some_decides, decides}
 
 -- ---- the entry of a key
 
@@ -150,3 +151,17 @@ module _ (u : Person) (f : Label) (q : Perms) where
       by false (Some s) is matched = sym (only (User u.uid) f.acl grants ∙ ap (λ x. option_map_or (λ s. contains (masked f.acl s) q) x false) is)
       by false None is true = in_groups (entries f.acl)
       by false None is false = alone (maps.get f.acl Other) (other_there f.acl valid) ∙ sym (only Other f.acl grants)
+
+-- ---- the entries that are printed
+
+-- an entry decides exactly if it is that of the sole key, or for one of the user's groups where there is none
+pub chosen_decides : (u : Person) (f : Label) (e : Entry) → is_chosen u f.group (sole_key u f) e ≡ decides u f e
+chosen_decides u f e = by (eqb u.uid f.owner) (is_some (maps.get f.acl (User u.uid))) (list_any (is_for u f.group) (entries f.acl))
+  where
+    by : (owns is_named is_grouped : Bool)
+        → option_map_or (λ k. same_key k e.key) (cond owns (Some Owner) (cond is_named (Some (User u.uid)) (cond is_grouped None (Some Other)))) (is_for u f.group e)
+        ≡ cond owns (same_key Owner e.key) (cond is_named (same_key (User u.uid) e.key) (cond is_grouped (is_for u f.group e) (same_key Other e.key)))
+    by true is_named is_grouped = refl
+    by false true is_grouped = refl
+    by false false true = refl
+    by false false false = refl

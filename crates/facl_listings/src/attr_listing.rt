@@ -1,6 +1,6 @@
 //! The listing of `attr`: lists as extended attributes.
 
-ghost use Rattle.std.specs.Prelude.{◌≡◌, ◌++◌, IfOk, OnOk, string_bytes};
+ghost use Rattle.std.specs.Prelude.{◌≡◌, ◌++◌, ◌∷◌, [], IfOk, OnOk, codes, string_bytes};
 ghost use Rattle.hex.specs.Hex.{encode_lower};
 ghost use Rattle.acl_attr.specs.Attr.{attr_bytes};
 ghost use Rattle.acl_rights.specs.acl_dump.Writing.{file_text};
@@ -20,16 +20,23 @@ fn digits(alloc: Global, acl: &Acl) -> Result<String, AllocError>
     hex::encode(alloc, bytes.as_slice())
 }
 
+/// Adds the line of an attribute whose value has these digits.
+fn push_attr(text: &mut Vec<u8>, name: &[u8], digits: &[u8]) -> Result<(), AllocError>
+    ensures { OnOk result (text.new.items ≡ text.old.items ++ (name.now ++ (codes "=0x" ++ (digits.now ++ 10 ∷ [])))) }
+{
+    text.extend_from_slice(name)?;
+    text.extend_from_slice(b"=0x")?;
+    text.extend_from_slice(digits)?;
+    text.push(b'\n')?;
+    Ok(())
+}
+
 /// Adds the line of one attribute.
 fn push_line(alloc: Global, text: &mut Vec<u8>, name: &[u8], acl: &Acl) -> Result<(), AllocError>
     ensures { OnOk result (text.new.items ≡ text.old.items ++ attr_line name.now acl.now) }
 {
     let digits = digits(alloc, acl)?;
-    text.extend_from_slice(name)?;
-    text.extend_from_slice(b"=0x")?;
-    text.extend_from_slice(digits.as_bytes())?;
-    text.push(b'\n')?;
-    Ok(())
+    push_attr(text, name, digits.as_bytes())
 }
 
 /// Adds the line of the default list, if there is one.

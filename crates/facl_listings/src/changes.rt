@@ -26,10 +26,8 @@ fn push_file(
 ) -> Result<(), AllocError>
     ensures { OnOk result (text.new.items ≡ text.old.items ++ lines_between users.now (shown_row file.now).0 before.now after.now) }
 {
-    let found = file.found()?;
-    let path = shown(alloc, &found)?;
-    push_rows(alloc, text, users, &path, before, after)?;
-    Ok(())
+    let path = shown(alloc, file)?;
+    push_rows(alloc, text, users, &path, before, after)
 }
 
 /// Adds the lines of a file that went.
@@ -130,11 +128,10 @@ fn push_next(
     ensures after { after.new ≡ left_after order after.old }
 {
     match order {
-        Ordering::Less => push_gone(alloc, text, users, before)?,
-        Ordering::Equal => push_kept(alloc, text, users, keep_places, before, after)?,
-        Ordering::Greater => push_new(alloc, text, users, after)?,
+        Ordering::Less => push_gone(alloc, text, users, before),
+        Ordering::Equal => push_kept(alloc, text, users, keep_places, before, after),
+        Ordering::Greater => push_new(alloc, text, users, after),
     }
-    Ok(())
 }
 
 /// Adds the lines of the files of two walks, in one pass over both.
@@ -263,6 +260,22 @@ fn push_change(
     Ok(())
 }
 
+/// Adds a line of the requests that are granted after and were not before, if there are any.
+fn push_gained(
+    alloc: Global,
+    text: &mut Vec<u8>,
+    path: &[u8],
+    user: &[u8],
+    word: &[u8],
+    before: Requests,
+    after: Requests,
+) -> Result<(), AllocError>
+    ensures { OnOk result (text.new.items ≡ text.old.items ++ change_line path.now user.now word.now (requests_gained before after)) }
+{
+    let gained = requests_gained(alloc, before, after)?;
+    push_change(text, path, user, word, &gained)
+}
+
 /// Adds what a user gains on a file, and what the user loses there.
 fn push_user(
     alloc: Global,
@@ -274,11 +287,8 @@ fn push_user(
 ) -> Result<(), AllocError>
     ensures { OnOk result (text.new.items ≡ text.old.items ++ change_lines path.now user.now before after) }
 {
-    let gained = requests_gained(alloc, before, after)?;
-    push_change(text, path, user, b"gains", &gained)?;
-    let lost = requests_gained(alloc, after, before)?;
-    push_change(text, path, user, b"loses", &lost)?;
-    Ok(())
+    push_gained(alloc, text, path, user, b"gains", before, after)?;
+    push_gained(alloc, text, path, user, b"loses", after, before)
 }
 
 /// What a row grants the user at a place, if there is one.

@@ -1,6 +1,8 @@
 //! The listings of getfacl(1), by its options.
 
-ghost use Rattle.std.specs.Prelude.{◌≡◌};
+ghost use Rattle.std.specs.Prelude.{◌≡◌, ◌++◌, ◌∷◌, []};
+ghost use Rattle.acl_rights.specs.acl_syntax.declared.fault.Which.TheVariants.{Access};
+ghost use Rattle.acl_rights.specs.acl_dump.Writing.{list_text};
 ghost use Rattle.acl_rights.specs.acl_names.Appends.{Appends, AppendsWhole};
 ghost use Rattle.facl_listings.specs.Listings.{has_base_alone, is_listed, has_slash, path_shown, flags_shown, headers, default_entries, file_text, files_text, listing};
 
@@ -32,6 +34,14 @@ pub(crate) fn has_slash(file: &Found) -> bool
         || file.node().dacl.is_some()
         || file.has_below();
     file.node().kind == Kind::Directory && !is_shown
+}
+
+/// Adds a line feed.
+pub(crate) fn end_line(text: &mut Vec<u8>) -> Result<(), AllocError>
+    ensures { AppendsWhole result text.old text.new (10 ∷ []) }
+{
+    text.push(b'\n')?;
+    Ok(())
 }
 
 /// Adds the path of a file, with the final `/` of a directory that nothing else shows as one. Fails only if memory
@@ -98,6 +108,34 @@ fn push_default<N: Names>(
     }
 }
 
+/// Adds the lines of the default list, and an empty line.
+fn push_last<N: Names>(
+    text: &mut Vec<u8>,
+    names: &N,
+    options: &Options,
+    node: &Node,
+) -> Result<(), AllocError>
+    ensures { Appends result text.old text.new (default_entries (N.naming names.now) options.now node.now ++ 10 ∷ []) }
+{
+    push_default(text, names, options, node)?;
+    end_line(text)
+}
+
+/// Adds the lines of both lists, and an empty line.
+fn push_lists<N: Names>(
+    text: &mut Vec<u8>,
+    names: &N,
+    options: &Options,
+    node: &Node,
+) -> Result<(), AllocError>
+    ensures { Appends result text.old text.new (list_text (N.naming names.now) options.now.effective Access node.now.label.acl
+        ++ (default_entries (N.naming names.now) options.now node.now ++ 10 ∷ [])) }
+{
+    let acl = &node.label.acl;
+    append_list(text, acl, Which::Access, options.effective, names)?;
+    push_last(text, names, options, node)
+}
+
 /// Adds the record of a file.
 fn push_file<N: Names>(
     text: &mut Vec<u8>,
@@ -108,17 +146,7 @@ fn push_file<N: Names>(
     ensures { Appends result text.old text.new (file_text (N.naming names.now) options.now file.now) }
 {
     push_headers(text, names, options, file)?;
-    let node = file.node();
-    append_list(
-        text,
-        &node.label.acl,
-        Which::Access,
-        options.effective,
-        names,
-    )?;
-    push_default(text, names, options, node)?;
-    text.push(b'\n')?;
-    Ok(())
+    push_lists(text, names, options, file.node())
 }
 
 /// Adds the records of the files that are listed.

@@ -2,12 +2,13 @@
 
 ghost use Rattle.std.specs.Prelude.{◌≡◌, ◌++◌, map, IfOk, OnOk, option_map};
 ghost use Rattle.std.specs.List.{flat_map};
-ghost use Rattle.acl_rights.specs.acl_tree.Found.{found_in};
+ghost use Rattle.acl_rights.specs.acl_files.Inner.{next_file_below};
+ghost use Rattle.acl_rights.specs.acl_tree.Found.{found_file, found_in};
 ghost use Rattle.facl_listings.specs.Answers.{file_line, may_text};
 ghost use Rattle.facl_listings.specs.Inner.{is_first, in_step};
 
 use crate::listing::push_path_shown;
-use acl_rights::{Found, Judge, Path, Perm, Tree, Verdicts};
+use acl_rights::{FilesIter, Found, Judge, Path, Perm, Record, Tree, Verdicts};
 use std::alloc::{AllocError, Global};
 use std::cmp::Ordering;
 use std::rc::Rc;
@@ -31,6 +32,19 @@ fn push_file(text: &mut Vec<u8>, file: &Found) -> Result<(), AllocError>
     Ok(())
 }
 
+/// Adds the line of a file, by those that come after it.
+fn push_before(
+    text: &mut Vec<u8>,
+    file: &Rc<Record>,
+    rest: &FilesIter<'_>,
+) -> Result<(), AllocError>
+    ensures { OnOk result (text.new.items ≡ text.old.items
+        ++ file_line (found_file (next_file_below file.now.value.0 rest.now) file.now.value)) }
+{
+    let found = Found::before(file, rest)?;
+    push_file(text, &found)
+}
+
 /// Adds the files of some paths, in one walk over both.
 fn push_files(text: &mut Vec<u8>, tree: &Tree, paths: &[Rc<Path>]) -> Result<(), AllocError>
     ensures { OnOk result (text.new.items ≡ text.old.items ++ flat_map file_line (in_step
@@ -41,8 +55,7 @@ fn push_files(text: &mut Vec<u8>, tree: &Tree, paths: &[Rc<Path>]) -> Result<(),
     let mut files = tree.iter();
     while let Some(file) = files.next() {
         if is_first(rest, file.path()) {
-            let found = Found::before(file, &files)?;
-            push_file(text, &found)?;
+            push_before(text, file, &files)?;
             rest = &rest[1..];
         }
     }

@@ -3,6 +3,7 @@
 ghost use Rattle.acl_rights.specs.acl_names.Appends.{Appends, AppendsWhole};
 ghost use Rattle.facl_listings.specs.Requests.{request_text, requests_granted, requests_text, requests_line};
 
+use crate::listing::end_line;
 use acl_rights::{Perm, Requests};
 use std::alloc::AllocError;
 
@@ -44,8 +45,7 @@ fn push_line(text: &mut Vec<u8>, granted: Requests) -> Result<(), AllocError>
     ensures { Appends result text.old text.new (requests_line granted) }
 {
     push_requests(text, granted)?;
-    text.push(b'\n')?;
-    Ok(())
+    end_line(text)
 }
 
 /// Adds the line of the requests that are granted: each of them other than none, by its permissions, in

@@ -60,13 +60,21 @@ fn push_row(
     Ok(())
 }
 
-/// The path of a file as it is printed.
-pub(crate) fn shown(alloc: Global, file: &Found) -> Result<Vec<u8>, AllocError>
+/// The path of a found file as it is printed.
+fn path_shown(alloc: Global, file: &Found) -> Result<Vec<u8>, AllocError>
     ensures { IfOk result (λ path. path.items ≡ path_shown file.now) }
 {
     let mut path = Vec::new(alloc);
     push_path_shown(&mut path, file)?;
     Ok(path)
+}
+
+/// The path of a file as it is printed.
+pub(crate) fn shown(alloc: Global, file: &FileWithRow<'_>) -> Result<Vec<u8>, AllocError>
+    ensures { IfOk result (λ path. path.items ≡ (shown_row file.now).0) }
+{
+    let found = file.found()?;
+    path_shown(alloc, &found)
 }
 
 /// Adds the lines of a file.
@@ -78,10 +86,8 @@ fn push_file(
 ) -> Result<(), AllocError>
     ensures { OnOk result (text.new.items ≡ text.old.items ++ row_lines (shown_row file.now).0 (map (λ n. n.items) names.now) (shown_row file.now).1) }
 {
-    let found = file.found()?;
-    let path = shown(alloc, &found)?;
-    push_row(text, names, file.requests, &path)?;
-    Ok(())
+    let path = shown(alloc, file)?;
+    push_row(text, names, file.requests, &path)
 }
 
 /// Adds the lines of the files of a walk.

@@ -5,7 +5,7 @@ ghost use Rattle.std.specs.List.{flat_map};
 ghost use Rattle.acl_rights.specs.acl_names.Appends.{Appends, AppendsWhole};
 ghost use Rattle.facl_listings.specs.TestListing.{default_entry, default_entries, lists_text, file_line, test_listing};
 
-use crate::listing::push_path_shown;
+use crate::listing::{end_line, push_path_shown};
 use acl_rights::{Acl, Entry, Form, Found, Names, Node, append_entry, append_short};
 use std::alloc::AllocError;
 
@@ -18,8 +18,7 @@ fn push_default_entry<N: Names>(
     ensures { Appends result text.old text.new (default_entry (N.naming names.now) entry.now) }
 {
     text.extend_from_slice(b",d:")?;
-    append_entry(text, entry, Form::Short, names)?;
-    Ok(())
+    append_entry(text, entry, Form::Short, names)
 }
 
 /// Adds entries of the default list, a comma before each.
@@ -55,8 +54,15 @@ fn push_lists<N: Names>(text: &mut Vec<u8>, names: &N, node: &Node) -> Result<()
     ensures { Appends result text.old text.new (lists_text (N.naming names.now) node.now) }
 {
     append_short(text, &node.label.acl, names)?;
-    push_default(text, names, &node.dacl)?;
-    Ok(())
+    push_default(text, names, &node.dacl)
+}
+
+/// Adds a file's lists and a line feed.
+fn push_lists_line<N: Names>(text: &mut Vec<u8>, names: &N, node: &Node) -> Result<(), AllocError>
+    ensures { Appends result text.old text.new (lists_text (N.naming names.now) node.now ++ 10 ∷ []) }
+{
+    push_lists(text, names, node)?;
+    end_line(text)
 }
 
 /// Adds what comes after a path.
@@ -64,9 +70,7 @@ fn push_lists_of<N: Names>(text: &mut Vec<u8>, names: &N, node: &Node) -> Result
     ensures { Appends result text.old text.new (codes ": " ++ (lists_text (N.naming names.now) node.now ++ 10 ∷ [])) }
 {
     text.extend_from_slice(b": ")?;
-    push_lists(text, names, node)?;
-    text.push(b'\n')?;
-    Ok(())
+    push_lists_line(text, names, node)
 }
 
 /// Adds the line of a file.
@@ -74,8 +78,7 @@ fn push_file<N: Names>(text: &mut Vec<u8>, names: &N, file: &Found) -> Result<()
     ensures { Appends result text.old text.new (file_line (N.naming names.now) file.now) }
 {
     push_path_shown(text, file)?;
-    push_lists_of(text, names, file.node())?;
-    Ok(())
+    push_lists_of(text, names, file.node())
 }
 
 /// Adds the lines of files.

@@ -1,5 +1,6 @@
-use Rattle.std.proofs.Common.{◌<◌, ◌++◌, ◌∷◌, [], append_assoc, length, take, map, filter, not, sym, ap, ◌∙◌, arith}
+use Rattle.std.proofs.Common.{◌<◌, ◌≤◌, ◌++◌, ◌∷◌, [], append_assoc, length, take, map, filter, not, sym, ap, ◌∙◌, arith}
 use Rattle.std.specs.Prelude.{if◌then◌else◌}
+use Rattle.std.proofs.lemmas.List.{take_all}
 use Rattle.acl_rights.specs.acl_people.KnownPeople.{users_of}
 use Rattle.acl_rights.specs.acl_people.NameTables.{has_name}
 use Rattle.facl_listings.specs.Inner.{placed_of, placed_in}
@@ -27,3 +28,12 @@ loop-user-preserved c =
           let lt : user < length loaded.users = omega (arith, c.loop-user-test.true, c.users-user-end.ensures) in
           absurd (is_there loaded.users user (sym w.in_default.ensures) lt)
     ]
+
+pub returns : goal.returns
+returns c =
+    let loaded = c.args.loaded.now in
+    let now = c.args.now.now in
+    let user = c.loop-user.user in
+    let past : length loaded.users ≤ user = omega (arith, c.loop-user-test.false, c.users-user-end.ensures) in
+    c.loop-user.invariant
+    ∙ ap (λ rows. map placed_of c.args.users.now.items ++ map (λ row. placed_in loaded now row.name) (filter (λ row. not (has_name row.name (users_of now))) rows)) (take_all user loaded.users past)

@@ -1,4 +1,4 @@
-use Rattle.std.proofs.Common.{◌+◌, ◌++◌, ◌∷◌, [], ℕ, List, append-nil, get_or, take, lit<, sym, ap, ◌∙◌, arith}
+use Rattle.std.proofs.Common.{◌+◌, ◌++◌, ◌∷◌, [], ℕ, List, append-nil, get_or, length, take, lit<, sym, ap, ◌∙◌, arith}
 use Rattle.std.proofs.lemmas.Grind.{common_steps}
 use Rattle.std.specs.Prelude.{codes}
 use Rattle.std.proofs.lemmas.List.{take_all}
@@ -17,6 +17,14 @@ pub returns-in_err-push_request : goal.returns-in_err-push_request
 returns-in_err-push_request c =
     let shown_text = spaced (among c.args.granted (take c.loop-number.number-index numbers)) in
     let begins = still_begins c.args.text.now.items shown_text c.loop-number.text.items c.push_request.new.text.items c.loop-number.invariant.text c.in_err-push_request.ensures in
+    grind (arith, common_steps, begins)
+
+pub returns-in_err-extend_from_slice : goal.returns-in_err-extend_from_slice
+returns-in_err-extend_from_slice c =
+    let shown_text = spaced (among c.args.granted (take c.loop-number.number-index numbers)) in
+    let text = c.loop-number.text.items in
+    let same = ap (take (length text)) c.in_err-extend_from_slice.ensures.items ∙ take_all (length text) text (omega arith) in
+    let begins = still_begins c.args.text.now.items shown_text text c.extend_from_slice.new.self.items c.loop-number.invariant.text same in
     grind (arith, common_steps, begins)
 
 pub loop-number-preserved : goal.loop-number-preserved
