@@ -76,10 +76,7 @@ fn why_of(
 {
     let name = name_meant(alloc, word)?;
     match subject_named(state.people(), &name) {
-        Some(subject) => {
-            let out = why_at(alloc, state, along, paths, subject)?;
-            Ok(out)
-        }
+        Some(subject) => why_at(alloc, state, along, paths, subject),
         None => Err(LineFault::Tree(TreeFault::NoSuchUser { name })),
     }
 }
