@@ -24,8 +24,8 @@ abbrev pub open_record : Bool → List DumpRecord → Numbered → Result (Optio
 open_record watched records l = at_place l.0 (opened_draft watched records l.0 (content_of l.1).1) (λ draft. Ok (Some draft))
 
 -- the open record is closed, and the next one is opened by the value of its `file:` line
-abbrev pub begun : Bool → DumpUse → List DumpRecord → Option RecordDraft → ℕ → List ℕ → Result (List DumpRecord × Option RecordDraft) TextFault
-begun watched dump_use records draft at value =
+abbrev pub next_opened : Bool → DumpUse → List DumpRecord → Option RecordDraft → ℕ → List ℕ → Result (List DumpRecord × Option RecordDraft) TextFault
+next_opened watched dump_use records draft at value =
     close dump_use records draft >>= (λ more. at_place at (opened_draft watched more at value) (λ new. Ok (Some new)) >>= (λ new. Ok (more, new)))
 
 abbrev pub stream : Naming → Bool → DumpUse → List DumpRecord → Option RecordDraft → List Numbered → Result (List DumpRecord) TextFault

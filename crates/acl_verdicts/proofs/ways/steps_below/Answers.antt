@@ -64,8 +64,8 @@ add_steps-requires-clause-above c =
     let same = c.path-path.ensures ∙ ap (λ (e : PathOf × ℕ). e.0) c.deref.ensures in
     let out : covers last t.0 ≡ false = ap (covers last) (sym same) ∙ sym c.is_covered.ensures ∙ c.if-is_covered.false in
     let near : IsNearest t.0 c.args.old.now above = found_is_nearest t.0 c.args.old.now above (c.in_ok-above.ensures ∙ ap (λ (p : PathOf). nearest_above p c.args.old.now) same) in
-    let begun = c.requires.above t.0 (top_there tops c.requires.order (ways ns) order t rest more w.0 last is w.1.0) (top_outermost tops c.requires.order (ways ns) order t rest more w.0 last is w.1.0 out) above near in
-    let now : IsAbove t.0 ns c.loop-top.steps above = record { below = begun.below; leads = leads_kept _ _ _ _ c.loop-top.invariant.kept begun.leads } in
+    let before = c.requires.above t.0 (top_there tops c.requires.order (ways ns) order t rest more w.0 last is w.1.0) (top_outermost tops c.requires.order (ways ns) order t rest more w.0 last is w.1.0 out) above near in
+    let now : IsAbove t.0 ns c.loop-top.steps above = record { below = before.below; leads = leads_kept _ _ _ _ c.loop-top.invariant.kept before.leads } in
     subst (λ (ms : Numbers). IsAbove c.path-path.result.now ms c.loop-top.steps above) (sym c.loop-top.invariant.finder) (subst (λ p. IsAbove p ns c.loop-top.steps above) (sym same) now)
 
 pub loop-top-preserved : goal.loop-top-preserved
