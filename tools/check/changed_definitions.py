@@ -39,17 +39,16 @@ TESTS = {
     "acl_attr": ["acl_text_tests"],
     "acl_dump": ["acl_text_tests"],
     "acl_edit": ["acl_edit_tests"],
-    "acl_subjects": ["acl_tree_tests", "facl_listings_tests"],
+    "acl_subjects": ["acl_tree_tests", "acl_rights_tests"],
     "acl_people": ["acl_tree_tests"],
     "acl_files": ["acl_tree_tests"],
     "acl_tree": ["acl_tree_tests"],
-    "acl_verdicts": ["facl_listings_tests"],
-    "acl_rights": ["facl_listings_tests"],
+    "acl_verdicts": ["acl_rights_tests"],
+    "acl_rights": ["acl_rights_tests"],
     "facl_script": ["facl_script_tests"],
-    "facl_words": ["facl_tools_tests"],
-    "facl_messages": ["facl_tools_tests"],
-    "facl_tools": ["facl_tools_tests"],
-    "facl_listings": ["facl_listings_tests"],
+    "facl_words": ["facl_words_tests"],
+    "facl_output": ["facl_words_tests", "acl_rights_tests"],
+    "facl": ["facl_words_tests", "acl_rights_tests"],
 }
 WHOLE_SCRIPTS = ["facl_tests"]
 

@@ -43,7 +43,7 @@ PROVED, LEFT = "What is proved", "What an error leaves as it was"
 PATH = re.compile(r"(?<![\w/.-])((?:tools|commands|docs|demo|crates|\.ci)/[\w./-]*[\w/])")
 NAME = re.compile(r"(?:[A-Za-z]\w*::)*[A-Za-z]\w*")
 PLACEHOLDER = re.compile(r"X_\w+|\w+_")
-IN_CRATE = re.compile(r"(?<![\w/])((?:\w+/)?(?:src|specs|proofs)/\w+\.(?:rt|antt))\b")
+IN_CRATE = re.compile(r"(?<![\w/])((?:\w+/)?(?:src|specs|proofs)/(?:\w+/)*\w+\.(?:rt|antt))\b")
 SCRIPT = re.compile(r"(?<![\w/.])(?:\w+/)*\w+\.(?:py|sh|c)\b")
 NUMBER = re.compile(r"\d[\d,]*\d|\d")
 Fault = Tuple[int, str]
@@ -58,9 +58,9 @@ def documents_of(top: str) -> List[str]:
 def words_of(top: str) -> Set[str]:
     """All words of the sources, definitions, scripts and commands, with the names of files."""
     words: Set[str] = set()
-    patterns = ("crates/*/src/*.rt", "crates/*/specs/*.antt", "tools/*.*", "tools/*/*.*", "commands/facl*",
+    patterns = ("crates/*/src/**/*.rt", "crates/*/specs/*.antt", "tools/*.*", "tools/*/*.*", "commands/facl*",
                 "commands/facl_commands/*.py")
-    for path in (path for pattern in patterns for path in glob.glob(os.path.join(top, pattern))):
+    for path in (path for pattern in patterns for path in glob.glob(os.path.join(top, pattern), recursive=True)):
         if os.path.isfile(path):
             words |= set(re.findall(r"\w+", text_of(path)))
     named = glob.glob(os.path.join(top, "crates", "*")) + glob.glob(os.path.join(top, "crates", "*", "must-fail", "*.edit"))
@@ -186,7 +186,8 @@ def limit_faults(library: Library, text: str) -> Iterator[Fault]:
 
 def example_faults(top: str, text: str) -> Iterator[Fault]:
     """Lines of examples that are in no source and no definition."""
-    paths = (path for pattern in ("src/*.rt", "specs/*.antt") for path in glob.glob(os.path.join(top, "crates", "*", pattern)))
+    patterns = ("crates/*/src/**/*.rt", "crates/*/specs/*.antt")
+    paths = (path for pattern in patterns for path in glob.glob(os.path.join(top, pattern), recursive=True))
     there = {line.strip() for path in paths for line in text_of(path).split("\n")}
     examples = (line for line in all_lines_of(text) if line.is_code and line.text.strip())
     yield from ((line.number, "is in no source") for line in examples if line.text.strip() not in there)
@@ -248,7 +249,8 @@ def link_faults(top: str, document: str, line: Line) -> Iterator[str]:
 @functools.lru_cache(maxsize=None)
 def files_of_crates(top: str) -> FrozenSet[str]:
     """The sources, definitions and proofs of all crates, by their paths in crates/, and also without the crate."""
-    found = (path for ending in ("rt", "antt") for path in glob.glob(os.path.join(top, "crates", "*", "*", "*." + ending)))
+    patterns = (f"{folder}/**/*.{ending}" for folder, ending in (("src", "rt"), ("specs", "antt"), ("proofs", "antt")))
+    found = (path for pattern in patterns for path in glob.glob(os.path.join(top, "crates", "*", pattern), recursive=True))
     names = [os.path.relpath(path, os.path.join(top, "crates")) for path in found]
     return frozenset(names) | {name.split(os.sep, 1)[1] for name in names}
 

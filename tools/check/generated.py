@@ -59,7 +59,7 @@ def head_of(text: str) -> str:
 
 def heads(top: str, folder: str) -> Iterator[Tuple[str, str]]:
     """The files of a crate's folder, by their paths in crates/, each with its head."""
-    for path in sorted(glob.glob(os.path.join(top, "crates", folder, "*.*t*"))):
+    for path in sorted(glob.glob(os.path.join(top, "crates", folder, "**", "*.*t*"), recursive=True)):
         if os.path.basename(path) not in UNNAMED:
             yield os.path.relpath(path, os.path.join(top, "crates")), head_of(text_of(path))
 

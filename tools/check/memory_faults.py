@@ -39,7 +39,7 @@ EXCEPTIONS: Dict[Tuple[str, str], str] = {
     ("crates/facl/src/line.rt", "text_of_unit"): "TextFound::Lost: the room for the line's text was refused",
     ("crates/facl_cli/src/args.rt", "words_fault"): KIND,
     ("crates/facl_cli/src/files.rt", "From<io::Error> for Unread"): KIND,
-    ("crates/facl_tools/src/setattr.rt", "bytes_of"): KIND,
+    ("crates/facl/src/tools/setattr.rt", "bytes_of"): KIND,
     ("crates/facl_words/src/fault.rt", "From<Error> for WordsFault"): KIND,
 }
 

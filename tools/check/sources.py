@@ -268,8 +268,8 @@ def is_of_tests(crate: str) -> bool:
 
 def sources_of(top: str, crate: str) -> Dict[str, Source]:
     """The sources of a crate by their names in it, such as `src/lib.rt`."""
-    paths = sorted(glob.glob(os.path.join(top, "crates", crate, "src", "*.rt")))
-    names = [os.path.join("src", os.path.basename(path)) for path in paths]
+    paths = sorted(glob.glob(os.path.join(top, "crates", crate, "src", "**", "*.rt"), recursive=True))
+    names = [os.path.relpath(path, os.path.join(top, "crates", crate)) for path in paths]
     return {name: read_source(os.path.join("crates", crate, name), text_of(path)) for name, path in zip(names, paths)}
 
 

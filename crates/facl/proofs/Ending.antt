@@ -1,18 +1,18 @@
 -- How a run ends that stops in its script.
 use Rattle.std.proofs.Common.{◌≡◌, ℕ, Result, Ok, inr, subst}
 use Rattle.std.specs.Prelude.{IfSome}
-use Rattle.facl_tools.specs.acl_tree.Step.{State}
-use Rattle.facl_tools.specs.facl_script.Run.{StopsWith}
-use Rattle.facl_tools.specs.facl_script.Streams.{moment}
-use Rattle.facl_tools.specs.facl_script.declared.fault.ScriptFault.{ScriptFault}
-use Rattle.facl_tools.specs.facl_script.declared.fault.ScriptFault.TheVariants.{Read, Write, TooLong, NoMemory}
-use Rattle.facl_tools.specs.facl_words.TextWords.{line_asks}
-use Rattle.facl_tools.specs.facl_messages.Faults.{run_fault_of_script}
-use Rattle.facl_tools.specs.facl_messages.declared.fault.RunFault.{RunFault}
-use Rattle.facl_tools.specs.Tools.{Verdict}
-use Rattle.facl_tools.specs.acl_rights.Costs.{all_pairs}
-use Rattle.facl_tools.specs.acl_rights.declared.indexed_states.States.{States}
-use Rattle.facl_tools.specs.acl_rights.States.{from_start}
+use Rattle.acl_rights.specs.acl_tree.Step.{State}
+use Rattle.facl_output.specs.facl_script.Run.{StopsWith}
+use Rattle.facl_output.specs.facl_script.Streams.{moment}
+use Rattle.facl_output.specs.facl_script.declared.fault.ScriptFault.{ScriptFault}
+use Rattle.facl_output.specs.facl_script.declared.fault.ScriptFault.TheVariants.{Read, Write, TooLong, NoMemory}
+use Rattle.facl_output.specs.facl_words.TextWords.{line_asks}
+use Rattle.facl_output.specs.Faults.{run_fault_of_script}
+use Rattle.facl_output.specs.declared.fault.RunFault.{RunFault}
+use Rattle.facl.specs.Tools.{Verdict}
+use Rattle.acl_rights.specs.Costs.{all_pairs}
+use Rattle.acl_rights.specs.declared.indexed_states.States.{States}
+use Rattle.acl_rights.specs.States.{from_start}
 use Rattle.facl.specs.Units.{answered}
 use Rattle.facl.specs.Runs.{Devices, EndsBy}
 

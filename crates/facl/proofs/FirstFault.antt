@@ -2,26 +2,26 @@
 use Rattle.std.proofs.Common.{◌≡◌, ◌≤◌, ◌+◌, ◌-◌, ℕ, Bool, true, false, List, [], ◌∷◌, Option, Some, None, Result, Ok, Err, if◌then◌else◌, refl, sym, ap, subst, ◌∙◌, true≢false, arith}
 use Rattle.std.specs.Prelude.{◌==◌, IsErr}
 use Rattle.std.specs.Str.{is_utf8}
-use Rattle.facl_tools.proofs.FirstFaults.{first_fault_refuses}
-use Rattle.facl_tools.proofs.Firsts.{accepted, refused_at}
-use Rattle.facl_tools.proofs.Outcomes.{ok_is_not_err, ok_or_err, ok_eq, err_eq}
-use Rattle.facl_tools.proofs.Parts as parts
-use Rattle.facl_tools.specs.facl_messages.declared.fault.LineFault.{LineFault}
-use Rattle.facl_tools.specs.facl_messages.declared.fault.LineFault.TheVariants as faults
-use Rattle.facl_tools.specs.facl_script.Units.{ScriptUnit, UnitText, none, whole, too_long, unended}
-use Rattle.facl_tools.specs.facl_script.Words.{words_of, words_or_open, has_no_words}
-use Rattle.facl_tools.specs.facl_script.declared.words.SplitFault.TheVariants as splits
-use Rattle.facl_tools.specs.facl_words.Forms.{Text}
-use Rattle.facl_tools.specs.FirstFaults as requests
-use Rattle.facl_tools.specs.FirstFaults.{Part, in_first_text, in_second_text, in_third_text, in_two_texts, in_operand, in_user, in_file, in_command}
-use Rattle.facl_tools.specs.Firsts.{IsNotAfter, IsFirst, IsRefusedForFirst}
-use Rattle.facl_tools.specs.Replies.{Reply, after, or_fault}
-use Rattle.facl_tools.specs.Tools as tools
-use Rattle.facl_tools.specs.Tools.{Verdict, tool_named, tool_line}
-use Rattle.facl_tools.specs.declared.tools.Tool.{Tool}
-use Rattle.facl_tools.specs.declared.tools.ToolLine.{ToolLine}
+use Rattle.facl.proofs.FirstFaults.{first_fault_refuses}
+use Rattle.facl.proofs.Firsts.{accepted, refused_at}
+use Rattle.facl.proofs.Outcomes.{ok_is_not_err, ok_or_err, ok_eq, err_eq}
+use Rattle.facl.proofs.Parts as parts
+use Rattle.facl_output.specs.declared.fault.LineFault.{LineFault}
+use Rattle.facl_output.specs.declared.fault.LineFault.TheVariants as faults
+use Rattle.facl_output.specs.facl_script.Units.{ScriptUnit, UnitText, none, whole, too_long, unended}
+use Rattle.facl_output.specs.facl_script.Words.{words_of, words_or_open, has_no_words}
+use Rattle.facl_output.specs.facl_script.declared.words.SplitFault.TheVariants as splits
+use Rattle.facl_output.specs.facl_words.Forms.{Text}
+use Rattle.facl.specs.FirstFaults as requests
+use Rattle.facl.specs.FirstFaults.{Part, in_first_text, in_second_text, in_third_text, in_two_texts, in_operand, in_user, in_file, in_command}
+use Rattle.facl.specs.Firsts.{IsNotAfter, IsFirst, IsRefusedForFirst}
+use Rattle.facl.specs.Replies.{Reply, after, or_fault}
+use Rattle.facl.specs.Tools as tools
+use Rattle.facl.specs.Tools.{Verdict, tool_named, tool_line}
+use Rattle.facl.specs.declared.tools.Tool.{Tool}
+use Rattle.facl.specs.declared.tools.ToolLine.{ToolLine}
 use Rattle.facl.specs.FirstFault.{LinePart, in_length, in_bytes, in_quotes, in_tool, in_text_end, in_text_lines, in_words, in_request, rank, place, HasWords, IsOfTool, line_read, IsRequestAtFault, IsAtFault, outcome, name_in, IsAnsweredByFirst}
-use Rattle.facl_tools.specs.acl_rights.declared.indexed_states.States.{States}
+use Rattle.acl_rights.specs.declared.indexed_states.States.{States}
 use Rattle.facl.specs.Units.{is_silent, answered, answer_of, answer_of_words, reply, split, text_or_fault, tool_reply, words_of_line}
 use Rattle.facl.proofs.HasWords.{has_a_word}
 use Rattle.facl.proofs.ToolLines.{tool_line_is}

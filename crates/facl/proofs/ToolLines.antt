@@ -1,13 +1,13 @@
 -- What a tool does with its words: what they ask for, or usage.
 use Rattle.std.proofs.Common.{◌≡◌, ℕ, List, Option, Some, None, option_and_then, refl}
-use Rattle.facl_tools.specs.acl_tree.Step.{State}
-use Rattle.facl_tools.specs.facl_messages.declared.fault.LineFault.TheVariants.{Usage}
-use Rattle.facl_tools.specs.facl_words.Forms.{Text}
-use Rattle.facl_tools.specs.facl_words.Words.{words_by}
-use Rattle.facl_tools.specs.facl_words.declared.words.Words.{Words}
-use Rattle.facl_tools.specs.Replies.{after, or_fault}
-use Rattle.facl_tools.specs.Tools.{Verdict, row_of, read_line, words_of, line_or_fault, answered, tool_line}
-use Rattle.facl_tools.specs.declared.tools.Tool.{Tool}
+use Rattle.acl_rights.specs.acl_tree.Step.{State}
+use Rattle.facl_output.specs.declared.fault.LineFault.TheVariants.{Usage}
+use Rattle.facl_output.specs.facl_words.Forms.{Text}
+use Rattle.facl_output.specs.facl_words.Words.{words_by}
+use Rattle.facl_output.specs.facl_words.declared.words.Words.{Words}
+use Rattle.facl.specs.Replies.{after, or_fault}
+use Rattle.facl.specs.Tools.{Verdict, row_of, read_line, words_of, line_or_fault, answered, tool_line}
+use Rattle.facl.specs.declared.tools.Tool.{Tool}
 use Rattle.facl.specs.FirstFault.{line_read}
 
 pub tool_line_is : (verdict : Verdict) (loaded s : State) (tool : Tool) (words : List Text) (text : List ℕ)

@@ -1,7 +1,7 @@
 -- That the count of verdicts has room for each line.
 use Rattle.std.specs.Prelude.{ℕ, ◌+◌, ◌*◌, ◌<◌, ◌≤◌}
-use Rattle.facl_tools.specs.facl_script.Limits.{script_limit}
-use Rattle.facl_tools.specs.acl_rights.Costs.{most_pairs}
+use Rattle.facl_output.specs.facl_script.Limits.{script_limit}
+use Rattle.acl_rights.specs.Costs.{most_pairs}
 
 -- the count leaves room for the line with this number and those after it
 pub record IsReady (asked number : ℕ) : Type 0 where

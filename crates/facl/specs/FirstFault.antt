@@ -1,20 +1,20 @@
 -- Why a line of a script is refused: which parts of it are at fault, each by itself, and their order.
 use Rattle.std.specs.Prelude.{◌≡◌, ◌+◌, ℕ, false, List, [], ◌∷◌, Option, Some, None, option_and_then, Result, Ok, Err}
 use Rattle.std.specs.Str.{is_utf8}
-use Rattle.facl_tools.specs.acl_tree.Step.{State}
-use Rattle.facl_tools.specs.facl_messages.declared.fault.LineFault.{LineFault}
-use Rattle.facl_tools.specs.facl_messages.declared.fault.LineFault.TheVariants as faults
-use Rattle.facl_tools.specs.facl_script.Units.{ScriptUnit, too_long, unended}
-use Rattle.facl_tools.specs.facl_script.Words.{words_of}
-use Rattle.facl_tools.specs.facl_words.Forms.{Text}
-use Rattle.facl_tools.specs.facl_words.Words.{words_by}
-use Rattle.facl_tools.specs.FirstFaults as requests
-use Rattle.facl_tools.specs.Firsts.{IsRefusedForFirst}
-use Rattle.facl_tools.specs.Replies.{Reply, after}
-use Rattle.facl_tools.specs.Tools.{Verdict, row_of, read_line, tool_named}
-use Rattle.facl_tools.specs.declared.tools.Tool.{Tool}
-use Rattle.facl_tools.specs.declared.tools.ToolLine.{ToolLine}
-use Rattle.facl_tools.specs.acl_rights.declared.indexed_states.States.{States}
+use Rattle.acl_rights.specs.acl_tree.Step.{State}
+use Rattle.facl_output.specs.declared.fault.LineFault.{LineFault}
+use Rattle.facl_output.specs.declared.fault.LineFault.TheVariants as faults
+use Rattle.facl_output.specs.facl_script.Units.{ScriptUnit, too_long, unended}
+use Rattle.facl_output.specs.facl_script.Words.{words_of}
+use Rattle.facl_output.specs.facl_words.Forms.{Text}
+use Rattle.facl_output.specs.facl_words.Words.{words_by}
+use Rattle.facl.specs.FirstFaults as requests
+use Rattle.facl.specs.Firsts.{IsRefusedForFirst}
+use Rattle.facl.specs.Replies.{Reply, after}
+use Rattle.facl.specs.Tools.{Verdict, row_of, read_line, tool_named}
+use Rattle.facl.specs.declared.tools.Tool.{Tool}
+use Rattle.facl.specs.declared.tools.ToolLine.{ToolLine}
+use Rattle.acl_rights.specs.declared.indexed_states.States.{States}
 use Rattle.facl.specs.Units.{answered, answer_of, reply, text_or_fault, tool_word, words_of_line}
 
 -- ---- the parts of a line, and their order

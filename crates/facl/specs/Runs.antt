@@ -1,22 +1,22 @@
 -- What a run writes.
 use Rattle.std.specs.Prelude.{◌≡◌, ◌+◌, ◌≤◌, ℕ, Bool, true, false, List, Option, Result, Ok, Err, ◌⊎◌, length, IfSome}
-use Rattle.facl_tools.specs.acl_tree.Step.{State}
-use Rattle.facl_tools.specs.facl_script.Limits.{script_limit}
-use Rattle.facl_tools.specs.facl_script.Play.{session}
-use Rattle.facl_tools.specs.facl_script.Run.{StopsWith}
-use Rattle.facl_tools.specs.facl_script.Streams.{Streams, streams, moment}
-use Rattle.facl_tools.specs.facl_script.Write.{Writes}
-use Rattle.facl_tools.specs.facl_script.declared.fault.ScriptFault.{ScriptFault}
-use Rattle.facl_tools.specs.facl_script.declared.fault.ScriptFault.TheVariants as scripts
-use Rattle.facl_tools.specs.facl_words.TextWords.{line_asks}
-use Rattle.facl_tools.specs.facl_messages.declared.fault.RunFault.{RunFault}
-use Rattle.facl_tools.specs.facl_messages.declared.fault.RunFault.TheVariants.{Read, Write, Setup, ScriptTooLong, NoMemory}
+use Rattle.acl_rights.specs.acl_tree.Step.{State}
+use Rattle.facl_output.specs.facl_script.Limits.{script_limit}
+use Rattle.facl_output.specs.facl_script.Play.{session}
+use Rattle.facl_output.specs.facl_script.Run.{StopsWith}
+use Rattle.facl_output.specs.facl_script.Streams.{Streams, streams, moment}
+use Rattle.facl_output.specs.facl_script.Write.{Writes}
+use Rattle.facl_output.specs.facl_script.declared.fault.ScriptFault.{ScriptFault}
+use Rattle.facl_output.specs.facl_script.declared.fault.ScriptFault.TheVariants as scripts
+use Rattle.facl_output.specs.facl_words.TextWords.{line_asks}
+use Rattle.facl_output.specs.declared.fault.RunFault.{RunFault}
+use Rattle.facl_output.specs.declared.fault.RunFault.TheVariants.{Read, Write, Setup, ScriptTooLong, NoMemory}
 use Rattle.facl.specs.declared.status.Status.{Status}
 use Rattle.facl.specs.declared.status.Status.TheVariants.{Accepted, Refused}
-use Rattle.facl_tools.specs.Tools.{Verdict}
-use Rattle.facl_tools.specs.acl_rights.Costs.{all_pairs}
-use Rattle.facl_tools.specs.acl_rights.declared.indexed_states.States.{States}
-use Rattle.facl_tools.specs.acl_rights.States.{from_start}
+use Rattle.facl.specs.Tools.{Verdict}
+use Rattle.acl_rights.specs.Costs.{all_pairs}
+use Rattle.acl_rights.specs.declared.indexed_states.States.{States}
+use Rattle.acl_rights.specs.States.{from_start}
 use Rattle.facl.specs.Units.{answered}
 
 -- what the reader has left, and what the two writers hold, where it is known

@@ -1,10 +1,10 @@
 -- What a contract sees of a session: its states, and the output and the message of the last line.
 use Rattle.std.specs.Prelude.{◌≡◌, ℕ, Bool, false, if◌then◌else◌, List, []}
-use Rattle.facl_tools.specs.facl_script.Play.{Answer}
-use Rattle.facl_tools.specs.facl_script.Run.{IsAnswer}
+use Rattle.facl_output.specs.facl_script.Play.{Answer}
+use Rattle.facl_output.specs.facl_script.Run.{IsAnswer}
 use Rattle.facl.specs.declared.session.FaclSession.{FaclSession}
-use Rattle.facl_tools.specs.acl_rights.declared.indexed_states.States.{States}
-use Rattle.facl_tools.specs.acl_rights.States.{states_in}
+use Rattle.acl_rights.specs.declared.indexed_states.States.{States}
+use Rattle.acl_rights.specs.States.{states_in}
 use Rattle.facl.specs.Units.{unless_out_of_memory}
 
 abbrev pub states_of : {J : Type 0} → FaclSession J → States

@@ -1,13 +1,13 @@
 -- The state before the first line of a script.
 use Rattle.std.specs.Prelude.{ℕ, List, Option, None, Some, option_map, Result, Ok, Err}
-use Rattle.facl_tools.specs.acl_tree.declared.command.Table.{Table}
-use Rattle.facl_tools.specs.acl_tree.declared.command.Table.TheVariants.{Passwd, Group, Dump}
-use Rattle.facl_tools.specs.acl_files.declared.fault.TreeFault.{TreeFault}
-use Rattle.facl_tools.specs.acl_tree.Step.{State, nothing, load}
-use Rattle.facl_tools.specs.facl_messages.declared.fault.RunFault.{RunFault}
-use Rattle.facl_tools.specs.facl_messages.declared.fault.RunFault.TheVariants as runs
+use Rattle.acl_rights.specs.acl_tree.declared.command.Table.{Table}
+use Rattle.acl_rights.specs.acl_tree.declared.command.Table.TheVariants.{Passwd, Group, Dump}
+use Rattle.acl_rights.specs.acl_files.declared.fault.TreeFault.{TreeFault}
+use Rattle.acl_rights.specs.acl_tree.Step.{State, nothing, load}
+use Rattle.facl_output.specs.declared.fault.RunFault.{RunFault}
+use Rattle.facl_output.specs.declared.fault.RunFault.TheVariants as runs
 use Rattle.facl.specs.declared.setup.Setup.{Setup}
-use Rattle.facl_tools.specs.Replies.{after}
+use Rattle.facl.specs.Replies.{after}
 
 abbrev pub set_up : Table → Result State TreeFault → Result State RunFault
 set_up which (Ok s) = Ok s

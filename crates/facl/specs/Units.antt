@@ -1,22 +1,22 @@
 -- What a unit of a script does: a line, with its text if it takes one.
 use Rattle.std.specs.Prelude.{ℕ, Bool, true, false, if◌then◌else◌, List, [], ◌∷◌, Option, None, Some, Result, Ok, Err}
 use Rattle.std.specs.Option.{option_map_or}
-use Rattle.facl_tools.specs.facl_script.Play.{Answer, quiet}
-use Rattle.facl_tools.specs.facl_script.Units.{ScriptUnit, UnitText, none, whole, too_long, unended}
-use Rattle.facl_tools.specs.facl_script.Words.{has_no_words, line_words}
-use Rattle.facl_tools.specs.facl_script.declared.words.SplitFault.{SplitFault}
-use Rattle.facl_tools.specs.facl_words.Args.{files_for}
-use Rattle.facl_tools.specs.facl_words.Forms.{Text}
-use Rattle.facl_tools.specs.facl_messages.Faults.{line_fault_of_split}
-use Rattle.facl_tools.specs.facl_messages.Messages.{message, warning}
-use Rattle.facl_tools.specs.facl_messages.declared.fault.LineFault.{LineFault}
-use Rattle.facl_tools.specs.facl_messages.declared.fault.LineFault.TheVariants.{LineTooLong, UnknownTool, UnendedText, TextLineTooLong, Usage, NoMemory}
-use Rattle.facl_tools.specs.Replies.{Reply, after, or_fault, printed}
-use Rattle.facl_tools.specs.Tools.{Verdict, loads, tool_line, tool_named}
-use Rattle.facl_tools.specs.declared.tools.Tool.{Tool}
-use Rattle.facl_tools.specs.acl_rights.declared.indexed_states.States.{States}
-use Rattle.facl_tools.specs.acl_rights.Costs.{most_between}
-use Rattle.facl_tools.specs.acl_rights.States.{states_after}
+use Rattle.facl_output.specs.facl_script.Play.{Answer, quiet}
+use Rattle.facl_output.specs.facl_script.Units.{ScriptUnit, UnitText, none, whole, too_long, unended}
+use Rattle.facl_output.specs.facl_script.Words.{has_no_words, line_words}
+use Rattle.facl_output.specs.facl_script.declared.words.SplitFault.{SplitFault}
+use Rattle.facl_output.specs.facl_words.Args.{files_for}
+use Rattle.facl_output.specs.facl_words.Forms.{Text}
+use Rattle.facl_output.specs.Faults.{line_fault_of_split}
+use Rattle.facl_output.specs.Messages.{message, warning}
+use Rattle.facl_output.specs.declared.fault.LineFault.{LineFault}
+use Rattle.facl_output.specs.declared.fault.LineFault.TheVariants.{LineTooLong, UnknownTool, UnendedText, TextLineTooLong, Usage, NoMemory}
+use Rattle.facl.specs.Replies.{Reply, after, or_fault, printed}
+use Rattle.facl.specs.Tools.{Verdict, loads, tool_line, tool_named}
+use Rattle.facl.specs.declared.tools.Tool.{Tool}
+use Rattle.acl_rights.specs.declared.indexed_states.States.{States}
+use Rattle.acl_rights.specs.Costs.{most_between}
+use Rattle.acl_rights.specs.States.{states_after}
 
 -- whether the tool of this name loads a text
 abbrev pub loads_by_name : Text → Bool

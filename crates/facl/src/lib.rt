@@ -3,23 +3,49 @@
 //!
 //! [`run`] loads three texts, answers a script line by line, and writes what each line prints. Its contract is the
 //! whole: what is written are the bytes of a session made from scratch.
+//!
+//! Each tool has one file below `tools`: the row of its options, its reader from the words of a line to a value of its
+//! own type (`None`: usage), and what it does at a state. `tool_line` reads a line's words and does it; its effect is
+//! what is printed, and the state that is to replace the present one. It changes nothing; the session puts the effect
+//! in place. [`read_words`] uses the same readers. Below `answers` is what the questions print: that of `can`, `who`,
+//! `may`, `index` and `changes` comes from the index of the state, without a new verdict; that of `why` from the lists
+//! alone.
 #![tactic(auto)]
 
+mod answers;
 mod laws;
 mod line;
 mod program;
 mod session;
 mod setup;
 mod status;
+mod tools;
 mod words;
 
-pub use facl_tools::{
-    Feed, Flags, Judge, Key, Label, LineFault, LineRows, LineWord, OperandRow, Operands, Perm,
-    Posix, Requests, RunFault, ScriptFault, Sink, Source, StdFeed, StdSink, Subject, SwitchRow,
-    Tool, Values, Word, Words, append_message, append_run_fault, read_words, rows_for, write_whole,
+pub use acl_rights::{
+    IndexedState, Judge, Key, Label, Perm, Posix, Requests, Staged, State, Subject, Verdicts,
+};
+pub use answers::changes::write_changes;
+pub use answers::index::write_index;
+pub use answers::laws::{
+    changes_print_all_that_differs, deciding_entries_are_the_check, deciding_entries_are_the_reach,
+};
+pub use answers::may::write_may;
+pub use answers::requests::append_requests;
+pub use answers::who::write_who;
+pub use answers::why::{files_asked, write_why};
+pub use facl_output::{
+    Feed, Flags, LineFault, LineRows, LineWord, OperandRow, Operands, RunFault, ScriptFault, Sink,
+    Source, StdFeed, StdSink, SwitchRow, Values, Word, Words, append_message, append_run_fault,
+    write_whole,
 };
 pub use laws::lines_are_refused_for_their_first_fault;
 pub use program::{run, run_judged};
 pub use setup::Setup;
 pub use status::Status;
+pub use tools::laws::tool_lines_are_refused_for_their_first_fault;
+pub use tools::round_trips::{
+    chacl_reads_what_it_lists, set_reads_what_test_prints, setattr_reads_what_attr_prints,
+};
+pub use tools::{Tool, read_words, rows_for};
 pub use words::read_args;

@@ -1,18 +1,19 @@
 //! A line of a script: its words, its tool, its text, and what they do.
 
 ghost use Rattle.std.specs.Prelude.{◌≡◌, ℕ, List, Option, Err, IfOk, map, string_bytes};
-ghost use Rattle.facl_tools.specs.facl_script.Units.{UnitText};
-ghost use Rattle.facl_tools.specs.facl_script.Held.{IsLineHeld, IsTextHeld};
-ghost use Rattle.facl_tools.specs.facl_script.declared.held.HeldLine.TheVariants.{TooLong};
-ghost use Rattle.facl_tools.specs.facl_messages.declared.fault.LineFault.TheVariants.{LineTooLong};
-ghost use Rattle.facl_tools.specs.acl_rights.States.{IsPrepared, loaded_state, states_in};
-ghost use Rattle.facl_tools.specs.Replies.{Gives, Replies};
-ghost use Rattle.facl_tools.specs.Tools.{tool_line};
+ghost use Rattle.facl_output.specs.facl_script.Units.{UnitText};
+ghost use Rattle.facl_output.specs.facl_script.Held.{IsLineHeld, IsTextHeld};
+ghost use Rattle.facl_output.specs.facl_script.declared.held.HeldLine.TheVariants.{TooLong};
+ghost use Rattle.facl_output.specs.declared.fault.LineFault.TheVariants.{LineTooLong};
+ghost use Rattle.acl_rights.specs.States.{IsPrepared, loaded_state, states_in};
+ghost use Rattle.facl.specs.Replies.{Gives, Replies};
+ghost use Rattle.facl.specs.Tools.{tool_line};
 ghost use Rattle.facl.specs.Units.{is_silent, words_of_line, text_or_fault, tool_reply};
 
-use facl_tools::{
-    Effect, HeldLine, HeldText, IndexedStates, Judge, LineFault, Tool, split_words, tool_line,
-};
+use crate::tools::effect::Effect;
+use crate::tools::{Tool, tool_line};
+use acl_rights::{IndexedStates, Judge};
+use facl_output::{HeldLine, HeldText, LineFault, split_words};
 use std::alloc::Global;
 
 /// Whether a line within the limit is blank or a comment.

@@ -1,12 +1,13 @@
 //! The texts that are loaded before a script.
 
 ghost use Rattle.std.specs.Prelude.{◌≡◌, ◌≢◌, Ok, Err, MatchResult, option_map};
-ghost use Rattle.facl_tools.specs.acl_tree.Step.{load};
-ghost use Rattle.facl_tools.specs.acl_files.declared.fault.TreeFault.TheVariants as trees;
-ghost use Rattle.facl_tools.specs.facl_messages.declared.fault.RunFault.TheVariants as runs;
+ghost use Rattle.acl_rights.specs.acl_tree.Step.{load};
+ghost use Rattle.acl_rights.specs.acl_files.declared.fault.TreeFault.TheVariants as trees;
+ghost use Rattle.facl_output.specs.declared.fault.RunFault.TheVariants as runs;
 ghost use Rattle.facl.specs.Setups.{set_up, with_text, initial_state};
 
-use facl_tools::{Command, RunFault, Staged, State, Table, TreeFault};
+use acl_rights::{Command, Staged, State, Table, TreeFault};
+use facl_output::RunFault;
 use std::alloc::Global;
 
 /// The texts that are loaded before the first line of a script, each if it is there, in this order.

@@ -1,10 +1,10 @@
 //! The words of the program, with the faults of a line.
 
 ghost use Rattle.std.specs.Prelude.{map, option_map, string_bytes};
-ghost use Rattle.facl_tools.specs.Replies.{Gives};
+ghost use Rattle.facl.specs.Replies.{Gives};
 ghost use Rattle.facl.specs.Units.{args_or_fault};
 
-use facl_tools::LineFault;
+use facl_output::{self, LineFault};
 use std::alloc::Global;
 
 /// The FILEs of `--passwd`, `--group` and `--dump`, in this order, from the words after the program's name; `None` for
@@ -17,5 +17,5 @@ use std::alloc::Global;
 pub fn read_args(alloc: Global, words: &[String]) -> Result<[Option<String>; 3], LineFault>
     ensures { Gives (map (option_map string_bytes)) result (args_or_fault (map string_bytes words.now)) }
 {
-    Ok(facl_tools::read_args(alloc, words)?)
+    Ok(facl_output::read_args(alloc, words)?)
 }

@@ -5,8 +5,8 @@ use Rattle.std.specs.declared.io.ErrorKind.{ErrorKind}
 use Rattle.std.specs.declared.io.ErrorKind.TheVariants.{OutOfMemory}
 use Rattle.facl.specs.Runs.{has_refused}
 use Rattle.facl.specs.declared.status.Status.{Status}
-use Rattle.facl.specs.facl_messages.Messages.{run_fault_text}
-use Rattle.facl.specs.facl_messages.declared.fault.RunFault.TheVariants.{Setup}
+use Rattle.facl.specs.facl_output.Messages.{run_fault_text}
+use Rattle.facl.specs.facl_output.declared.fault.RunFault.TheVariants.{Setup}
 use Rattle.facl.specs.facl_words.declared.fault.WordsFault.{WordsFault}
 use Rattle.facl.specs.facl_words.declared.fault.WordsFault.TheVariants as words
 use Rattle.facl_cli.specs.declared.fault.ProgramFault.{ProgramFault}

@@ -2,7 +2,7 @@
 
 ghost use Rattle.std.specs.Prelude.{◌≡◌, ◌≢◌, false, IfOk, IfErr, OnOk, Some, option_map, string_bytes, vec_items, if◌then◌else◌};
 ghost use Rattle.std.specs.IoError.{error_kind};
-ghost use Rattle.facl_cli.specs.declared.files.Unread.TheVariants as unread;
+ghost use Rattle.facl_cli.specs.declared.files.Unread.{Unread};
 ghost use Rattle.facl_cli.specs.Words.{names_of};
 ghost use Rattle.facl_cli.specs.Lines.{ran_out_of_memory};
 ghost use Rattle.facl_cli.specs.FileStores.{HasNoText, IsText};
@@ -31,7 +31,7 @@ enum Unread {
 }
 
 impl From<AllocError> for Unread {
-    ghost from_gives = { λ _ why. why ≡ unread.NoMemory };
+    ghost from_gives = { λ _ why. why ≡ Unread.NoMemory };
 
     fn from(_: AllocError) -> Unread {
         Unread::NoMemory
@@ -40,7 +40,7 @@ impl From<AllocError> for Unread {
 
 /// The system's error where it ran out of memory is `NoMemory`, and every other one is `NoText`.
 impl From<io::Error> for Unread {
-    ghost from_gives = { λ error why. why ≡ (if ran_out_of_memory (error_kind error) then unread.NoMemory else unread.NoText) };
+    ghost from_gives = { λ error why. why ≡ (if ran_out_of_memory (error_kind error) then Unread.NoMemory else Unread.NoText) };
 
     fn from(error: io::Error) -> Unread {
         match error.kind() {
@@ -72,18 +72,18 @@ impl Texts {
 }
 
 /// All bytes that the open file has left. Past the limit one byte is read.
-fn read_within<S: FileStore>(alloc: Global, file_store: &mut S) -> Result<Vec<u8>, Unread>
-    requires { S.has_failed file_store.old ≡ false }
-    ensures ok { IfOk result (λ text. IsText file_limit (S.left file_store.old) text.items) }
-    ensures works { OnOk result (S.has_failed file_store.new ≡ false) }
-    ensures err { IfErr result (λ why. why ≢ Unread.NoMemory → HasNoText file_limit (S.left file_store.old)) }
-    ensures same { S.bytes_of file_store.new ≡ S.bytes_of file_store.old }
+fn read_within<S: FileStore>(alloc: Global, store: &mut S) -> Result<Vec<u8>, Unread>
+    requires { S.has_failed store.old ≡ false }
+    ensures ok { IfOk result (λ text. IsText file_limit (S.left store.old) text.items) }
+    ensures works { OnOk result (S.has_failed store.new ≡ false) }
+    ensures err { IfErr result (λ why. why ≢ Unread.NoMemory → HasNoText file_limit (S.left store.old)) }
+    ensures same { S.bytes_of store.new ≡ S.bytes_of store.old }
 {
     let mut text = Vec::new(alloc);
     let mut chunk = [0; CHUNK];
     loop {
         let room = CHUNK.min(FILE_LIMIT + 1 - text.len());
-        let count = file_store.read(&mut chunk[..room])?;
+        let count = store.read(&mut chunk[..room])?;
         if count == 0 {
             return Ok(text);
         }
@@ -95,30 +95,30 @@ fn read_within<S: FileStore>(alloc: Global, file_store: &mut S) -> Result<Vec<u8
 }
 
 /// All bytes of a file.
-fn read_file<S: FileStore>(alloc: Global, file_store: &mut S, file: &str) -> Result<Vec<u8>, Unread>
-    requires { S.has_failed file_store.old ≡ false }
-    ensures ok { IfOk result (λ text. IsText file_limit (S.bytes_of file_store.old file.now) text.items) }
-    ensures works { OnOk result (S.has_failed file_store.new ≡ false) }
-    ensures err { IfErr result (λ why. why ≢ Unread.NoMemory → HasNoText file_limit (S.bytes_of file_store.old file.now)) }
-    ensures same { S.bytes_of file_store.new ≡ S.bytes_of file_store.old }
+fn read_file<S: FileStore>(alloc: Global, store: &mut S, file: &str) -> Result<Vec<u8>, Unread>
+    requires { S.has_failed store.old ≡ false }
+    ensures ok { IfOk result (λ text. IsText file_limit (S.bytes_of store.old file.now) text.items) }
+    ensures works { OnOk result (S.has_failed store.new ≡ false) }
+    ensures err { IfErr result (λ why. why ≢ Unread.NoMemory → HasNoText file_limit (S.bytes_of store.old file.now)) }
+    ensures same { S.bytes_of store.new ≡ S.bytes_of store.old }
 {
-    file_store.open(file)?;
-    read_within(alloc, file_store)
+    store.open(file)?;
+    read_within(alloc, store)
 }
 
 /// The text of a file. Where there is none, the fault names the file, unless memory ran out.
 fn read_text<S: FileStore>(
     alloc: Global,
-    file_store: &mut S,
+    store: &mut S,
     file: String,
 ) -> Result<Vec<u8>, ProgramFault>
-    requires { S.has_failed file_store.old ≡ false }
-    ensures ok { IfOk result (λ text. IsText file_limit (S.bytes_of file_store.old (string_bytes file)) text.items) }
-    ensures works { OnOk result (S.has_failed file_store.new ≡ false) }
-    ensures err { IfErr result (λ fault. IsUnread (S.bytes_of file_store.old) fault (Some (string_bytes file))) }
-    ensures same { S.bytes_of file_store.new ≡ S.bytes_of file_store.old }
+    requires { S.has_failed store.old ≡ false }
+    ensures ok { IfOk result (λ text. IsText file_limit (S.bytes_of store.old (string_bytes file)) text.items) }
+    ensures works { OnOk result (S.has_failed store.new ≡ false) }
+    ensures err { IfErr result (λ fault. IsUnread (S.bytes_of store.old) fault (Some (string_bytes file))) }
+    ensures same { S.bytes_of store.new ≡ S.bytes_of store.old }
 {
-    match read_file(alloc, file_store, &file) {
+    match read_file(alloc, store, &file) {
         Ok(text) => Ok(text),
         Err(Unread::NoText) => Err(ProgramFault::CannotRead { file }),
         Err(Unread::NoMemory) => Err(ProgramFault::NoMemory),
@@ -128,18 +128,18 @@ fn read_text<S: FileStore>(
 /// The text of a file, if one is given.
 fn read_given<S: FileStore>(
     alloc: Global,
-    file_store: &mut S,
+    store: &mut S,
     file: Option<String>,
 ) -> Result<Option<Vec<u8>>, ProgramFault>
-    requires { S.has_failed file_store.old ≡ false }
+    requires { S.has_failed store.old ≡ false }
     ensures ok { IfOk result (λ text.
-        IsTextOf (S.bytes_of file_store.old) (option_map string_bytes file) (option_map vec_items text)) }
-    ensures works { OnOk result (S.has_failed file_store.new ≡ false) }
-    ensures err { IfErr result (λ fault. IsUnread (S.bytes_of file_store.old) fault (option_map string_bytes file)) }
-    ensures same { S.bytes_of file_store.new ≡ S.bytes_of file_store.old }
+        IsTextOf (S.bytes_of store.old) (option_map string_bytes file) (option_map vec_items text)) }
+    ensures works { OnOk result (S.has_failed store.new ≡ false) }
+    ensures err { IfErr result (λ fault. IsUnread (S.bytes_of store.old) fault (option_map string_bytes file)) }
+    ensures same { S.bytes_of store.new ≡ S.bytes_of store.old }
 {
     match file {
-        Some(file) => Ok(Some(read_text(alloc, file_store, file)?)),
+        Some(file) => Ok(Some(read_text(alloc, store, file)?)),
         None => Ok(None),
     }
 }
@@ -148,16 +148,16 @@ fn read_given<S: FileStore>(
 /// of the first file that has no text.
 pub(crate) fn read_texts<S: FileStore>(
     alloc: Global,
-    file_store: &mut S,
+    store: &mut S,
     files: Files,
 ) -> Result<Texts, ProgramFault>
-    requires { S.has_failed file_store.old ≡ false }
-    ensures ok { IfOk result (λ texts. AreTextsOf (S.bytes_of file_store.old) (names_of files) (texts_of texts)) }
-    ensures err { IfErr result (λ fault. IsFirstUnread (S.bytes_of file_store.old) fault (names_of files)) }
+    requires { S.has_failed store.old ≡ false }
+    ensures ok { IfOk result (λ texts. AreTextsOf (S.bytes_of store.old) (names_of files) (texts_of texts)) }
+    ensures err { IfErr result (λ fault. IsFirstUnread (S.bytes_of store.old) fault (names_of files)) }
 {
-    let passwd = read_given(alloc, file_store, files.passwd)?;
-    let group = read_given(alloc, file_store, files.group)?;
-    let dump = read_given(alloc, file_store, files.dump)?;
+    let passwd = read_given(alloc, store, files.passwd)?;
+    let group = read_given(alloc, store, files.group)?;
+    let dump = read_given(alloc, store, files.dump)?;
     Ok(Texts {
         passwd,
         group,

@@ -6,7 +6,7 @@ ghost use Rattle.std.specs.Process.{exit_status};
 ghost use Rattle.facl_cli.specs.Lines.{IsReported, status_of};
 ghost use Rattle.facl_cli.specs.Program.{FailsBy, Ran};
 ghost use Rattle.facl.specs.Runs.{devices};
-ghost use Rattle.facl.specs.facl_messages.declared.fault.RunFault.TheVariants as runs;
+ghost use Rattle.facl.specs.facl_output.declared.fault.RunFault.TheVariants as runs;
 ghost use Rattle.facl.specs.facl_script.Streams.{streams};
 
 use crate::args::files_named;
@@ -25,21 +25,21 @@ const FAULT_STATUS: u8 = 2;
 pub(crate) fn answer_words<S: FileStore, R: Feed, O: Sink, E: Sink>(
     alloc: Global,
     words: &[String],
-    file_store: &mut S,
+    store: &mut S,
     reader: &mut R,
     out: &mut O,
     err: &mut E,
 ) -> Result<Status, ProgramFault>
-    requires file_store { S.has_failed file_store.old ≡ false }
+    requires store { S.has_failed store.old ≡ false }
     requires reader { R.has_failed reader.old ≡ false }
     requires out { O.has_failed out.old ≡ false }
     requires err { E.has_failed err.old ≡ false }
 
     ensures ok { IfOk result (λ status. IfSome (R.remaining reader.old) (λ script.
-        Ran (S.bytes_of file_store.old) (map string_bytes words.now) script status
+        Ran (S.bytes_of store.old) (map string_bytes words.now) script status
         (streams (O.contents out.old) (E.contents err.old)) (streams (O.contents out.new) (E.contents err.new)))) }
     ensures fault { IfErr result (λ fault.
-        FailsBy fault (S.bytes_of file_store.old) (map string_bytes words.now)
+        FailsBy fault (S.bytes_of store.old) (map string_bytes words.now)
         (devices (R.remaining reader.old) (O.contents out.old) (E.contents err.old))
         (devices (R.remaining reader.new) (O.contents out.new) (E.contents err.new))) }
 
@@ -54,7 +54,7 @@ pub(crate) fn answer_words<S: FileStore, R: Feed, O: Sink, E: Sink>(
         → (O.has_failed out.new ≡ true) ⊎ (E.has_failed err.new ≡ true) }
 {
     let files = files_named(alloc, words)?;
-    let texts = read_texts(alloc, file_store, files)?;
+    let texts = read_texts(alloc, store, files)?;
     let status = run(alloc, &texts.setup(), reader, out, err)?;
     Ok(status)
 }

@@ -1,6 +1,6 @@
 use Rattle.std.proofs.Common.{rules, ◌∙◌, ℕ, sym, ap, subst}
 use Rattle.std.proofs.lemmas.Result.{err_from_is_err_and}
-use Rattle.facl_tools.specs.facl_messages.Faults.{run_fault_of_script}
+use Rattle.facl_output.specs.Faults.{run_fault_of_script}
 use Rattle.facl.specs.Runs.{EndsBy, devices}
 use Rattle.facl.specs.Sessions.{states_of}
 use Rattle.facl.specs.Setups.{initial_state}

@@ -6,9 +6,9 @@ use Rattle.facl_cli.proofs.files.read_within.Given as goal
 abbrev pub invariant-loop-text : goal.invariant-loop-text
 invariant-loop-text g l = record {
   within : vec_len l.text ≤ file_limit;
-  lost : Loses (g.S.FileStore.left l.fn.file_store) (g.S.FileStore.left l.file_store) l.text.items;
-  works : g.S.FileStore.has_failed l.file_store ≡ false;
-  same : g.S.FileStore.bytes_of l.file_store ≡ g.S.FileStore.bytes_of l.fn.file_store;
+  lost : Loses (g.S.FileStore.left l.fn.store) (g.S.FileStore.left l.store) l.text.items;
+  works : g.S.FileStore.has_failed l.store ≡ false;
+  same : g.S.FileStore.bytes_of l.store ≡ g.S.FileStore.bytes_of l.fn.store;
 }
 
 abbrev pub decreases-loop-text : goal.decreases-loop-text

@@ -1,7 +1,7 @@
 use Rattle.std.proofs.Common.{◌≡◌, ◌∙◌, None, true, map, string_bytes, subst, sym}
-use Rattle.facl_tools.specs.Replies.{after, or_fault}
-use Rattle.facl_tools.specs.Tools.{tool_named}
-use Rattle.facl_tools.specs.facl_messages.declared.fault.LineFault.TheVariants.{UnknownTool}
+use Rattle.facl.specs.Replies.{after, or_fault}
+use Rattle.facl.specs.Tools.{tool_named}
+use Rattle.facl_output.specs.declared.fault.LineFault.TheVariants.{UnknownTool}
 use Rattle.facl.specs.Sessions.{states_of, Answers}
 use Rattle.facl.specs.Units.{answer_of, refused, tool_reply}
 use Rattle.facl.proofs.session.FaclSession.answer_named.Goals as goal

@@ -1,0 +1,161 @@
+//! What the tools answer on one state, line after line.
+
+use crate::asked::{Question, Row, expect_rows};
+use crate::lines::Line;
+use acl_rights::Table;
+
+const PASSWD: &[u8] = b"lisa:x:1001:50:Lisa:/home/lisa:/bin/sh\n\
+joe:x:1000:100:Joe:/home/joe:/bin/sh\nann:x:1002:100:Ann:/home/ann:/bin/sh\n";
+
+const GROUP: &[u8] = b"staff:x:50:\nusers:x:100:\ncool:x:60:lisa\nadm:x:70:\n";
+
+const FILES: &[u8] =
+    b"# file: .\n# owner: lisa\n# group: staff\nuser::rwx\ngroup::r-x\nother::r-x\n\n\
+# file: f\n# owner: lisa\n# group: staff\nuser::rw-\ngroup::r--\nother::---\n\n\
+# file: run\n# owner: lisa\n# group: staff\nuser::rwx\ngroup::r-x\nother::r-x\n\n\
+# file: pub/\n# owner: ann\n# group: users\nuser::rwx\ngroup::r-x\ngroup:adm:rwx\nmask::rwx\nother::r-x\n\n\
+# file: log\n# owner: lisa\n# group: adm\nuser::rw-\ngroup::r--\nother::---\n\n";
+
+static SETUP: [Line; 3] = [
+    Line::Load(Table::Passwd, PASSWD),
+    Line::Load(Table::Group, GROUP),
+    Line::Load(Table::Dump, FILES),
+];
+
+const INDEX: &[u8] = b"ff lisa .\n33 joe .\n33 ann .\n\
+55 lisa f\n01 joe f\n01 ann f\n\
+55 lisa log\n01 joe log\n01 ann log\n\
+33 lisa pub/\n33 joe pub/\nff ann pub/\n\
+ff lisa run\n33 joe run\n33 ann run\n";
+
+const READ: u8 = 4;
+
+const WRITE: u8 = 2;
+
+const READ_AND_SEARCH: u8 = 5;
+
+static ALONE: [Row; 6] = [
+    Row {
+        lines: &[],
+        question: Question::Index,
+        along: false,
+        answer: Some(INDEX),
+    },
+    Row {
+        lines: &[],
+        question: Question::Who(WRITE, b"pub"),
+        along: false,
+        answer: Some(b"ann\n"),
+    },
+    Row {
+        lines: &[],
+        question: Question::May(b"joe", READ_AND_SEARCH),
+        along: false,
+        answer: Some(b".\npub/\nrun\n"),
+    },
+    Row {
+        lines: &[],
+        question: Question::Who(0, b"f"),
+        along: false,
+        answer: Some(b"lisa\njoe\nann\n"),
+    },
+    Row {
+        lines: &[],
+        question: Question::Who(READ, b"gone"),
+        along: false,
+        answer: None,
+    },
+    Row {
+        lines: &[],
+        question: Question::May(b"bob", READ),
+        along: false,
+        answer: None,
+    },
+];
+
+static ALONG: [Row; 6] = [
+    Row {
+        lines: &[],
+        question: Question::May(b"joe", READ_AND_SEARCH),
+        along: true,
+        answer: Some(b".\npub/\nrun\n"),
+    },
+    Row {
+        lines: &[Line::Chmod(0o754, b".")],
+        question: Question::Can(b"joe", b"pub"),
+        along: true,
+        answer: Some(b"\x00"),
+    },
+    Row {
+        lines: &[Line::Chmod(0o754, b".")],
+        question: Question::Can(b"joe", b"pub"),
+        along: false,
+        answer: Some(b"\x33"),
+    },
+    Row {
+        lines: &[Line::Chmod(0o754, b".")],
+        question: Question::Who(READ, b"run"),
+        along: true,
+        answer: Some(b"lisa\n"),
+    },
+    Row {
+        lines: &[Line::Chmod(0o754, b".")],
+        question: Question::May(b"ann", WRITE),
+        along: true,
+        answer: Some(b""),
+    },
+    Row {
+        lines: &[Line::Chmod(0o754, b".")],
+        question: Question::May(b"joe", READ),
+        along: true,
+        answer: Some(b".\n"),
+    },
+];
+
+static NAMES: [Row; 1] = [Row {
+    lines: &[Line::Useradd(b"al #1", 7, b"staff")],
+    question: Question::Who(READ, b"f"),
+    along: false,
+    answer: Some(b"lisa\nal\\040\\0431\n"),
+}];
+
+static WHY: [Row; 3] = [
+    Row {
+        lines: &[],
+        question: Question::Why(b"ann", b"pub"),
+        along: false,
+        answer: Some(b"# file: pub/\nuser::rwx\n\n"),
+    },
+    Row {
+        lines: &[Line::Chmod(0o705, b"pub")],
+        question: Question::Why(b"joe", b"pub"),
+        along: true,
+        answer: Some(b"# file: .\nother::r-x\n\n# file: pub/\ngroup::r-x\t\t\t#effective:---\n\n"),
+    },
+    Row {
+        lines: &[Line::Chmod(0o705, b"pub")],
+        question: Question::Why(b"joe", b"gone"),
+        along: true,
+        answer: None,
+    },
+];
+
+#[test]
+fn answers_are_of_the_lists_alone(rt: HostRuntime) {
+    expect_rows(&rt, rt.alloc(), &SETUP, &ALONE);
+}
+
+#[test]
+fn answers_are_of_the_way_too(rt: HostRuntime) {
+    expect_rows(&rt, rt.alloc(), &SETUP, &ALONG);
+}
+
+#[test]
+fn names_are_of_the_rows(rt: HostRuntime) {
+    expect_rows(&rt, rt.alloc(), &SETUP, &NAMES);
+}
+
+#[test]
+fn entries_that_decide(rt: HostRuntime) {
+    expect_rows(&rt, rt.alloc(), &SETUP, &WHY);
+}

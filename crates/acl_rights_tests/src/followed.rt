@@ -1,0 +1,81 @@
+//! An index that follows a command.
+
+ghost use Rattle.std.specs.Prelude.{◌≡◌, ◌*◌, length};
+ghost use Rattle.acl_rights.specs.Tables.{IsWhole};
+ghost use Rattle.acl_rights_tests.specs.Verdicts.{owner_alone};
+
+use crate::judge::OwnerAlone;
+use acl_rights::{Command, Index, Judge, People, Rows, Staged, Tree};
+use std::alloc::Global;
+
+/// What a command costs the index: verdicts asked for, labels fetched, and verdicts along paths that are new or other
+/// ones.
+#[derive(Drop)]
+pub struct Costs {
+    pub asked: u64,
+    pub looked: u64,
+    pub refreshed: u64,
+}
+
+/// An index after a command, and what the command cost.
+#[derive(Drop)]
+pub struct Followed {
+    pub index: Index<OwnerAlone>,
+    pub costs: Costs,
+}
+
+/// Builds the index of a state, and follows one command with both; `None` where the command is refused.
+pub fn follow(
+    alloc: Global,
+    tree: &mut Tree,
+    people: &mut People,
+    command: &Command<'_>,
+) -> Option<Followed> {
+    tree.soundness_law();
+    people.soundness_law();
+    let mut judge = OwnerAlone::new();
+    let mut index: Index<OwnerAlone> = Index::build(alloc, &mut judge, tree, people).ok()?;
+    match go_on(alloc, &mut judge, &mut index, tree, people, command) {
+        Some(costs) => Some(Followed { index, costs }),
+        None => {
+            drop(index);
+            None
+        }
+    }
+}
+
+/// Follows one command with a state and its index, whose judge was asked about every user and every file.
+fn go_on(
+    alloc: Global,
+    judge: &mut OwnerAlone,
+    index: &mut Index<OwnerAlone>,
+    tree: &mut Tree,
+    people: &mut People,
+    command: &Command<'_>,
+) -> Option<Costs>
+    requires whole { IsWhole owner_alone (record { tree = tree.old; people = people.old }) index.old }
+    requires asked { judge.old.asked ≡ length tree.old.files * length people.old.users }
+{
+    let before: u64 = judge.asked();
+    tree.soundness_law();
+    people.soundness_law();
+    let staged: Staged = tree.prepare(alloc, people, command).ok()?;
+    staged.tree().soundness_law();
+    staged.people().soundness_law();
+    let rows: Rows = match index.stage(alloc, judge, &staged) {
+        Ok(rows) => rows,
+        Err(_) => {
+            staged.give_up();
+            return None;
+        }
+    };
+    let looked: u64 = rows.looked();
+    let refreshed: u64 = rows.refreshed();
+    tree.commit(people, staged);
+    index.commit(rows);
+    Some(Costs {
+        asked: judge.asked().checked_sub(before)?,
+        looked,
+        refreshed,
+    })
+}

@@ -1,0 +1,42 @@
+//! A judge of the user's own.
+
+ghost use Rattle.std.specs.Prelude.{◌≡◌};
+ghost use Rattle.acl_rights_tests.specs.Verdicts.{owner_alone, owner_alone_local};
+
+use acl_rights::{Judge, Label, Requests, Subject};
+
+/// Grants the owner all requests, and nobody else any.
+#[derive(Drop)]
+pub struct OwnerAlone {
+    asked: u64,
+}
+
+impl OwnerAlone {
+    /// No verdict was asked for yet.
+    pub fn new() -> OwnerAlone
+        ensures { result.asked ≡ 0 }
+    {
+        OwnerAlone { asked: 0 }
+    }
+}
+
+impl Judge for OwnerAlone {
+    ghost verdict_of = { owner_alone };
+
+    ghost asked_of = { λ judge. judge.asked };
+
+    fn verdict(&mut self, subject: &Subject, label: &Label) -> Requests {
+        self.asked += 1;
+        if subject.uid() == label.owner {
+            Requests(0xff)
+        } else {
+            Requests(0)
+        }
+    }
+
+    fn asked(&self) -> u64 {
+        self.asked
+    }
+
+    ghost local = { owner_alone_local };
+}

@@ -1,0 +1,36 @@
+//! What lines ask for, fetch and refresh in the index, and verdicts after them; worked answers of `can`, `who`, `may`,
+//! `why`, `index` and `changes`, and worked listings.
+//!
+//! They are in a crate of their own, since a crate with tests is proved twice.
+#![tactic(auto)]
+
+#[cfg(test)]
+mod answers;
+#[cfg(test)]
+mod asked;
+#[cfg(test)]
+mod changed;
+#[cfg(test)]
+mod costs;
+#[cfg(test)]
+mod followed;
+#[cfg(test)]
+mod judge;
+#[cfg(test)]
+mod lines;
+#[cfg(test)]
+mod listings;
+#[cfg(test)]
+mod made;
+#[cfg(test)]
+mod requests;
+#[cfg(test)]
+mod rows;
+#[cfg(test)]
+mod small_tree;
+#[cfg(test)]
+mod subjects;
+#[cfg(test)]
+mod surface;
+#[cfg(test)]
+mod world;

@@ -1,0 +1,219 @@
+-- Listings and questions are refused for their first part at fault.
+use Rattle.std.proofs.Common.{◌≡◌, ◌≤◌, ℕ, List, [], ◌∷◌, slice_get, Option, Some, None, option_map, option_and_then, Result, Ok, Err, refl, sym, subst, arith}
+use Rattle.std.specs.FinMap.{find}
+use Rattle.facl.specs.Requests.{requests_line}
+use Rattle.acl_rights.specs.acl_edit.declared.node.Node.{Node}
+use Rattle.acl_rights.specs.acl_entry.Person.{Person}
+use Rattle.acl_rights.specs.acl_files.declared.fault.TreeFault.TheVariants.{NoSuchFile, NoSuchUser}
+use Rattle.acl_rights.specs.acl_names.Paths.{path_cmp}
+use Rattle.acl_rights.specs.acl_people.KnownPeople.{KnownPeople, users_of}
+use Rattle.acl_rights.specs.acl_people.NameTables.{place_of_word}
+use Rattle.acl_rights.specs.acl_syntax.declared.rows.PasswdRow.{PasswdRow}
+use Rattle.acl_rights.specs.acl_tree.Files.{PathOf, Files}
+use Rattle.acl_rights.specs.acl_tree.Operands.{first_missing}
+use Rattle.acl_rights.specs.acl_tree.Step.{State}
+use Rattle.facl_output.specs.declared.fault.LineFault.{LineFault}
+use Rattle.facl_output.specs.declared.fault.LineFault.TheVariants.{Tree}
+use Rattle.facl_output.specs.facl_words.Forms.{Text}
+use Rattle.facl.specs.FirstFaults.{Part, in_operand, in_user, in_file, rank, place, OfListing, OfUser, OfUserAndFiles, IsUnrecorded}
+use Rattle.facl.specs.Operands.{path_at, paths_from, name_meant, user_or_fault, recorded_or_fault}
+use Rattle.facl.specs.Replies.{Reply, after, or_fault, printed, printed_or_fault}
+use Rattle.facl.specs.Why.{person_named}
+use Rattle.facl.proofs.Firsts.{accepted}
+use Rattle.facl.proofs.NoPaths.{Reads, reads_files, reads_file}
+use Rattle.facl.proofs.Outcomes.{ok_or_err, some_or_none, was_there, after_both}
+use Rattle.facl.proofs.Parts.{Refused, named, is_named, refused_in, refused_file, step, operands}
+use Rattle.facl.proofs.Unrecorded.{first_unrecorded, all_recorded, one_missing, one_recorded, has_row, ReadsUser, reads_place, reads_person}
+
+-- ---- files that are looked at
+
+module _ (t : Files) (words : List Text) (use_of : List PathOf → Reply) where
+  abbrev OfThese : Part → LineFault → Type 0
+  OfThese = OfListing t words
+
+  listing_from : (q : Part) (g : LineFault) → OfListing t words q g → 4 ≤ rank q
+  listing_from (in_operand n) g h = omega arith
+  listing_from (in_file n) g h = omega arith
+  listing_from q g h = absurd h
+
+  listing_next : (ps : List PathOf) → paths_from 1 words ≡ Ok ps → (q : Part) (g : LineFault) → OfListing t words q g → 6 ≤ rank q
+  listing_next ps are (in_operand n) g h = let reads = reads_files words in absurd (reads.good ps are n h.1)
+  listing_next ps are (in_file n) g h = omega arith
+  listing_next ps are q g h = absurd h
+
+  all_are_there : (ps : List PathOf) → paths_from 1 words ≡ Ok ps → first_missing ps t ≡ None → (q : Part) (g : LineFault) → OfListing t words q g → ⊥
+  all_are_there ps are found (in_operand n) g h = let reads = reads_files words in reads.good ps are n h.1
+  all_are_there ps are found (in_file n) g h = all_recorded t 1 words ps are found n g h
+  all_are_there ps are found q g h = h
+
+  pub listing_refused : Refused (OfListing t words) (after (paths_from 1 words) (λ ps. recorded_or_fault (first_missing ps t) (use_of ps)))
+  listing_refused =
+      operands OfThese words (paths_from 1 words) (λ ps. recorded_or_fault (first_missing ps t) (use_of ps)) (reads_files words) (λ n g h. h) (λ n g h. h) listing_from
+      (λ ps are. by ps are (first_missing ps t) refl)
+    where
+      by : (ps : List PathOf) → paths_from 1 words ≡ Ok ps → (o : Option PathOf) → first_missing ps t ≡ o → Refused OfThese (recorded_or_fault o (use_of ps))
+      by ps are None found = accepted rank place named is_named OfThese (Ok (use_of ps)) (use_of ps) refl (all_are_there ps are found)
+      by ps are (Some p) missing =
+          refused_file OfThese t words (Err (Tree (NoSuchFile p))) (Tree (NoSuchFile p)) refl (first_unrecorded t 1 words ps p are missing) (λ n g h. h) (λ n g h. h) (listing_next ps are)
+
+-- ---- one file that is looked at
+
+module _ (t : Files) (word : Text) (look : PathOf → Node → List ℕ) (s : State) where
+  abbrev OfOne : Part → LineFault → Type 0
+  OfOne = OfListing t (word ∷ [])
+
+  one_from : (q : Part) (g : LineFault) → OfListing t (word ∷ []) q g → 4 ≤ rank q
+  one_from (in_operand n) g h = omega arith
+  one_from (in_file n) g h = omega arith
+  one_from q g h = absurd h
+
+  one_next : (path : PathOf) → path_at 1 word ≡ Ok path → (q : Part) (g : LineFault) → OfListing t (word ∷ []) q g → 6 ≤ rank q
+  one_next path is (in_operand n) g h = let reads = reads_file word in absurd (reads.good path is n h.1)
+  one_next path is (in_file n) g h = omega arith
+  one_next path is q g h = absurd h
+
+  it_is_there : (path : PathOf) → path_at 1 word ≡ Ok path → (node : Node) → find path_cmp path t ≡ Some node → (q : Part) (g : LineFault) → OfListing t (word ∷ []) q g → ⊥
+  it_is_there path is node found (in_operand n) g h = let reads = reads_file word in reads.good path is n h.1
+  it_is_there path is node found (in_file n) g h = one_recorded t word path node is found n g h
+  it_is_there path is node found q g h = h
+
+  abbrev looked_at : PathOf → Option Node → Result Reply LineFault
+  looked_at path o = printed_or_fault s (or_fault (Tree (NoSuchFile path)) (option_map (look path) o))
+
+  pub one_file_refused : Refused (OfListing t (word ∷ [])) (after (path_at 1 word) (λ path. printed_or_fault s (or_fault (Tree (NoSuchFile path)) (option_map (look path) (find path_cmp path t)))))
+  one_file_refused =
+      operands OfOne (word ∷ []) (path_at 1 word) (λ path. looked_at path (find path_cmp path t)) (reads_file word) (λ n g h. h) (λ n g h. h) one_from
+      (λ path is. by path is (find path_cmp path t) refl)
+    where
+      by : (path : PathOf) → path_at 1 word ≡ Ok path → (o : Option Node) → find path_cmp path t ≡ o → Refused OfOne (looked_at path o)
+      by path is None missing =
+          refused_file OfOne t (word ∷ []) (Err (Tree (NoSuchFile path))) (Tree (NoSuchFile path)) refl (one_missing t word path is missing) (λ n g h. h) (λ n g h. h) (one_next path is)
+      by path is (Some node) found = accepted rank place named is_named OfOne (Ok (printed s (look path node))) (printed s (look path node)) refl (it_is_there path is node found)
+
+-- ---- a question about a user
+
+module _ (known : KnownPeople) (word : Text) (look : PasswdRow → List ℕ) (s : State) where
+  abbrev OfAsked : Part → LineFault → Type 0
+  OfAsked = OfUser known word
+
+  user_from : (q : Part) (g : LineFault) → OfUser known word q g → 5 ≤ rank q
+  user_from in_user g h = omega arith
+  user_from q g h = absurd h
+
+  user_is_there : (i : ℕ) → place_of_word (name_meant word) (users_of known) ≡ Some i → (q : Part) (g : LineFault) → OfUser known word q g → ⊥
+  user_is_there i is in_user g h = some_or_none (place_of_word (name_meant word) (users_of known)) i is h.1
+  user_is_there i is q g h = h
+
+  abbrev asked : Option ℕ → Result Reply LineFault
+  asked o = printed_or_fault s (or_fault (Tree (NoSuchUser (name_meant word))) (option_and_then (λ i. option_map look (slice_get known.users i)) o))
+
+  pub user_refused : Refused (OfUser known word) (asked (place_of_word (name_meant word) (users_of known)))
+  user_refused = by (place_of_word (name_meant word) (users_of known)) refl
+    where
+      by_row : (i : ℕ) → place_of_word (name_meant word) (users_of known) ≡ Some i → (o : Option PasswdRow) → slice_get known.users i ≡ o
+          → Refused OfAsked (printed_or_fault s (or_fault (Tree (NoSuchUser (name_meant word))) (option_map look o)))
+      by_row i is None none = absurd (has_row known (name_meant word) i is none)
+      by_row i is (Some row) found = accepted rank place named is_named OfAsked (Ok (printed s (look row))) (printed s (look row)) refl (user_is_there i is)
+
+      by : (o : Option ℕ) → place_of_word (name_meant word) (users_of known) ≡ o → Refused OfAsked (asked o)
+      by None missing =
+          refused_in OfAsked (Err (Tree (NoSuchUser (name_meant word)))) in_user (Tree (NoSuchUser (name_meant word))) refl refl (refl, missing) (λ g h. sym h.0) user_from
+      by (Some i) is = by_row i is (slice_get known.users i) refl
+
+-- ---- a question about a user and files
+
+module _ (s : State) (word : Text) (files : List Text) where
+  abbrev OfThem : Part → LineFault → Type 0
+  OfThem = OfUserAndFiles s word files
+
+  both_from : (q : Part) (g : LineFault) → OfUserAndFiles s word files q g → 4 ≤ rank q
+  both_from (in_operand n) g h = omega arith
+  both_from in_user g h = omega arith
+  both_from (in_file n) g h = omega arith
+  both_from q g h = absurd h
+
+  module _ {A B : Type 0} (paths : Result A LineFault) (reads : Reads files paths) (user : Result B LineFault) (reads_user : ReadsUser s.people word user) where
+    user_next : (a : A) → paths ≡ Ok a → (q : Part) (g : LineFault) → OfUserAndFiles s word files q g → 5 ≤ rank q
+    user_next a is (in_operand n) g h = absurd (reads.good a is n h.1)
+    user_next a is in_user g h = omega arith
+    user_next a is (in_file n) g h = omega arith
+    user_next a is q g h = absurd h
+
+    files_next : (a : A) → paths ≡ Ok a → (b : B) → user ≡ Ok b → (q : Part) (g : LineFault) → OfUserAndFiles s word files q g → 6 ≤ rank q
+    files_next a is b also (in_operand n) g h = absurd (reads.good a is n h.1)
+    files_next a is b also in_user g h = absurd (ok_or_err user b g also (reads_user.bad g h))
+    files_next a is b also (in_file n) g h = omega arith
+    files_next a is b also q g h = absurd h
+
+    both_are_there : (a : A) → paths ≡ Ok a → (b : B) → user ≡ Ok b → ((n : ℕ) (g : LineFault) → IsUnrecorded s.tree.files files n g → ⊥)
+        → (q : Part) (g : LineFault) → OfUserAndFiles s word files q g → ⊥
+    both_are_there a is b also recorded (in_operand n) g h = reads.good a is n h.1
+    both_are_there a is b also recorded in_user g h = ok_or_err user b g also (reads_user.bad g h)
+    both_are_there a is b also recorded (in_file n) g h = recorded n g h
+    both_are_there a is b also recorded q g h = h
+
+    -- the operands are read, then the user, and then the files are looked at
+    both_refused : (look : A → B → Result Text LineFault) → ((a : A) → paths ≡ Ok a → (b : B) → user ≡ Ok b → Refused OfThem (printed_or_fault s (look a b)))
+        → Refused OfThem (printed_or_fault s (after paths (λ a. after user (look a))))
+    both_refused look rest =
+        subst (Refused OfThem) (after_both paths user look (λ out. Ok (printed s out)))
+        (operands OfThem files paths (λ a. after user (λ b. printed_or_fault s (look a b))) reads (λ n g h. h) (λ n g h. h) both_from
+        (λ a is. step OfThem in_user user (λ b. printed_or_fault s (look a b)) refl reads_user.bad reads_user.only (user_next a is) (rest a is)))
+
+-- one file, by the row of the user
+
+module _ (s : State) (word file : Text) (look : PathOf → Node → PasswdRow → ℕ) where
+  abbrev OfIt : Part → LineFault → Type 0
+  OfIt = OfUserAndFiles s word (file ∷ [])
+
+  abbrev place_read : Result ℕ LineFault
+  place_read = user_or_fault s.people (name_meant word)
+
+  abbrev shown : PathOf → Option Node → Option PasswdRow → Result Text LineFault
+  shown path o row = after (or_fault (Tree (NoSuchFile path)) (option_and_then (λ n. option_map (look path n) row) o)) (λ granted. Ok (requests_line granted))
+
+  abbrev shown_at : PathOf → ℕ → Result Text LineFault
+  shown_at path i = shown path (find path_cmp path s.tree.files) (slice_get s.people.users i)
+
+  by_node : (path : PathOf) → path_at 1 file ≡ Ok path → (i : ℕ) → user_or_fault s.people (name_meant word) ≡ Ok i
+      → (o : Option Node) → find path_cmp path s.tree.files ≡ o → (row : Option PasswdRow) → slice_get s.people.users i ≡ row → Refused OfIt (printed_or_fault s (shown path o row))
+  by_node path is i also None missing row are =
+      refused_file OfIt s.tree.files (file ∷ []) (Err (Tree (NoSuchFile path))) (Tree (NoSuchFile path)) refl (one_missing s.tree.files file path is missing) (λ n g h. h) (λ n g h. h)
+      (files_next s word (file ∷ []) (path_at 1 file) (reads_file file) place_read (reads_place s.people word) path is i also)
+  by_node path is i also (Some node) found None none =
+      absurd (has_row s.people (name_meant word) i (was_there (Tree (NoSuchUser (name_meant word))) (place_of_word (name_meant word) (users_of s.people)) i also) none)
+  by_node path is i also (Some node) found (Some row) are =
+      accepted rank place named is_named OfIt (Ok (printed s (requests_line (look path node row)))) (printed s (requests_line (look path node row))) refl
+      (both_are_there s word (file ∷ []) (path_at 1 file) (reads_file file) place_read (reads_place s.people word) path is i also (one_recorded s.tree.files file path node is found))
+
+  pub user_and_file_refused : Refused (OfUserAndFiles s word (file ∷ [])) (printed_or_fault s (after (path_at 1 file) (λ path. after (user_or_fault s.people (name_meant word)) (shown_at path))))
+  user_and_file_refused =
+      both_refused s word (file ∷ []) (path_at 1 file) (reads_file file) place_read (reads_place s.people word) shown_at
+      (λ path is i also. by_node path is i also (find path_cmp path s.tree.files) refl (slice_get s.people.users i) refl)
+
+-- files, by the user as the check sees one
+
+module _ (s : State) (word : Text) (files : List Text) (look : List PathOf → Person → Text) where
+  abbrev OfAll : Part → LineFault → Type 0
+  OfAll = OfUserAndFiles s word files
+
+  abbrev person_read : Result Person LineFault
+  person_read = or_fault (Tree (NoSuchUser (name_meant word))) (person_named s.people (name_meant word))
+
+  abbrev looked_at_all : List PathOf → Person → Result Text LineFault
+  looked_at_all ps u = recorded_or_fault (first_missing ps s.tree.files) (look ps u)
+
+  by_missing : (ps : List PathOf) → paths_from 1 files ≡ Ok ps → (u : Person) → or_fault (Tree (NoSuchUser (name_meant word))) (person_named s.people (name_meant word)) ≡ Ok u
+      → (o : Option PathOf) → first_missing ps s.tree.files ≡ o → Refused OfAll (printed_or_fault s (recorded_or_fault o (look ps u)))
+  by_missing ps are u also None found =
+      accepted rank place named is_named OfAll (Ok (printed s (look ps u))) (printed s (look ps u)) refl
+      (both_are_there s word files (paths_from 1 files) (reads_files files) person_read (reads_person s.people word) ps are u also (all_recorded s.tree.files 1 files ps are found))
+  by_missing ps are u also (Some p) missing =
+      refused_file OfAll s.tree.files files (Err (Tree (NoSuchFile p))) (Tree (NoSuchFile p)) refl (first_unrecorded s.tree.files 1 files ps p are missing) (λ n g h. h) (λ n g h. h)
+      (files_next s word files (paths_from 1 files) (reads_files files) person_read (reads_person s.people word) ps are u also)
+
+  pub user_and_files_refused : Refused (OfUserAndFiles s word files)
+      (printed_or_fault s (after (paths_from 1 files) (λ ps. after (or_fault (Tree (NoSuchUser (name_meant word))) (person_named s.people (name_meant word))) (looked_at_all ps))))
+  user_and_files_refused =
+      both_refused s word files (paths_from 1 files) (reads_files files) person_read (reads_person s.people word) looked_at_all
+      (λ ps are u also. by_missing ps are u also (first_missing ps s.tree.files) refl)

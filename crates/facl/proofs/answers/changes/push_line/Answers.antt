@@ -1,0 +1,29 @@
+use Rattle.std.proofs.Common.{◌≡◌, ◌++◌, ◌∷◌, [], ℕ, List, ap, ◌∙◌}
+use Rattle.std.specs.List.{flat_map}
+use Rattle.acl_rights.specs.acl_entry.Perms.{text}
+use Rattle.facl.specs.ChangesText.{after_comma}
+use Rattle.facl_output.proofs.Parts.{two_parts}
+use Rattle.facl.proofs.answers.changes.push_line.Goals as goal
+
+-- the parts of a line of `changes`
+module _ (user word request more path a b c d e f g h k l : List ℕ) where
+  line_of_parts : b ≡ a ++ user → c ≡ b ++ 32 ∷ [] → d ≡ c ++ word → e ≡ d ++ 32 ∷ [] → f ≡ e ++ request → g ≡ f ++ more → h ≡ g ++ 32 ∷ [] → k ≡ h ++ path → l ≡ k ++ 10 ∷ []
+      → l ≡ a ++ (user ++ 32 ∷ (word ++ 32 ∷ (request ++ (more ++ 32 ∷ (path ++ 10 ∷ [])))))
+  line_of_parts one two three four five six seven eight nine =
+      let last : l ≡ h ++ (path ++ 10 ∷ []) = two_parts h path (10 ∷ []) k l eight nine in
+      let after_more : l ≡ g ++ 32 ∷ (path ++ 10 ∷ []) = two_parts g (32 ∷ []) (path ++ 10 ∷ []) h l seven last in
+      let from_more : l ≡ f ++ (more ++ 32 ∷ (path ++ 10 ∷ [])) = two_parts f more (32 ∷ (path ++ 10 ∷ [])) g l six after_more in
+      let requests : l ≡ e ++ (request ++ (more ++ 32 ∷ (path ++ 10 ∷ []))) = two_parts e request (more ++ 32 ∷ (path ++ 10 ∷ [])) f l five from_more in
+      let after_word : l ≡ d ++ 32 ∷ (request ++ (more ++ 32 ∷ (path ++ 10 ∷ []))) = two_parts d (32 ∷ []) (request ++ (more ++ 32 ∷ (path ++ 10 ∷ []))) e l four requests in
+      let from_word : l ≡ c ++ (word ++ 32 ∷ (request ++ (more ++ 32 ∷ (path ++ 10 ∷ [])))) = two_parts c word (32 ∷ (request ++ (more ++ 32 ∷ (path ++ 10 ∷ [])))) d l three after_word in
+      let after_user : l ≡ b ++ 32 ∷ (word ++ 32 ∷ (request ++ (more ++ 32 ∷ (path ++ 10 ∷ [])))) = two_parts b (32 ∷ []) (word ++ 32 ∷ (request ++ (more ++ 32 ∷ (path ++ 10 ∷ [])))) c l two from_word in
+      two_parts a user (32 ∷ (word ++ 32 ∷ (request ++ (more ++ 32 ∷ (path ++ 10 ∷ []))))) b l one after_user
+
+pub returns : goal.returns
+returns c =
+    line_of_parts c.args.user.now c.args.word.now (text c.args.request) (flat_map after_comma c.args.more.now) c.args.path.now
+    c.args.text.now.items c.extend_from_slice.new.self.items c.push.new.self.items c.extend_from_slice-2.new.self.items c.push-2.new.self.items
+    c.extend_from_slice-3.new.self.items c.push_more.new.text.items c.push-3.new.self.items c.extend_from_slice-4.new.self.items c.push-4.new.self.items
+    c.in_ok-extend_from_slice.ensures.items c.in_ok-push.ensures.items c.in_ok-extend_from_slice-2.ensures.items c.in_ok-push-2.ensures.items
+    (c.in_ok-extend_from_slice-3.ensures.items ∙ ap (λ request. c.push-2.new.self.items ++ request) c.text.ensures)
+    c.in_ok-push_more.ensures c.in_ok-push-3.ensures.items c.in_ok-extend_from_slice-4.ensures.items c.in_ok-push-4.ensures.items

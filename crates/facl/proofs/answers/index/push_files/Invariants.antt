@@ -1,0 +1,9 @@
+use Rattle.std.proofs.Common.{◌≡◌, ◌++◌, length, map}
+use Rattle.facl.specs.Inner.{lines_of_walk}
+use Rattle.facl.proofs.answers.index.push_files.Given as goal
+
+abbrev pub invariant-loop-file : goal.invariant-loop-file
+invariant-loop-file l = l.text.items ++ lines_of_walk (map (λ n. n.items) l.names) l.rest ≡ l.initial.text.items ++ lines_of_walk (map (λ n. n.items) l.names) l.fn.files
+
+abbrev pub decreases-loop-file : goal.decreases-loop-file
+decreases-loop-file l = length l.rest

@@ -1,0 +1,23 @@
+use Rattle.std.proofs.Common.{map, refl, sym, ap, ◌∙◌}
+use Rattle.acl_rights.specs.acl_files.Inner.{next_file_below}
+use Rattle.acl_rights.specs.acl_tree.Found.{found_file}
+use Rattle.facl.specs.Inner.{is_first}
+use Rattle.facl.proofs.FileLines.{rest_is, map_drop, step_taken, step_left, step_ends}
+use Rattle.facl.proofs.answers.may.push_files.Goals as goal
+
+pub loop-file-preserved-then-is_first : goal.loop-file-preserved-then-is_first
+loop-file-preserved-then-is_first c =
+    let left = map (λ p. p.value) c.loop-file.rest.now in
+    let first = ap (λ p. is_first p left) (sym (c.path.ensures ∙ ap (λ e. e.0) c.deref.ensures)) ∙ sym c.is_first.ensures ∙ c.if-is_first.true in
+    step_taken c.args.tree.now.files c.loop-file.files c.next.new.self (map (λ p. p.value) c.args.paths.now) left c.args.text.now.items c.loop-file.text.items c.in-Some.file.now.value
+    c.soundness_law.ensures.order c.in-Some.ensures.steps c.loop-file.invariant _ _ (found_file (next_file_below c.in-Some.file.now.value.0 c.next.new.self) c.in-Some.file.now.value) first (ap (map (λ p. p.value)) (rest_is c.loop-file.rest.now) ∙ map_drop (λ p. p.value) c.loop-file.rest.now) refl c.in_ok-push_before.ensures
+
+pub loop-file-preserved : goal.loop-file-preserved
+loop-file-preserved c =
+    let left = map (λ p. p.value) c.loop-file.rest.now in
+    let other = ap (λ p. is_first p left) (sym (c.path.ensures ∙ ap (λ e. e.0) c.deref.ensures)) ∙ sym c.is_first.ensures ∙ c.if-is_first.false in
+    step_left c.args.tree.now.files c.loop-file.files c.next.new.self (map (λ p. p.value) c.args.paths.now) left c.args.text.now.items c.loop-file.text.items c.in-Some.file.now.value
+    c.soundness_law.ensures.order c.in-Some.ensures.steps c.loop-file.invariant other
+
+pub returns : goal.returns
+returns c = step_ends c.args.tree.now.files c.loop-file.files (map (λ p. p.value) c.args.paths.now) (map (λ p. p.value) c.loop-file.rest.now) c.args.text.now.items c.loop-file.text.items c.in_default.ensures.steps.0 c.loop-file.invariant

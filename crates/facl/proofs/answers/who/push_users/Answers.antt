@@ -1,0 +1,13 @@
+use Rattle.std.proofs.Common.{get_or, refl}
+use Rattle.facl.specs.Inner.{line_at}
+use Rattle.facl_output.proofs.Loops.{item_added, all_added}
+use Rattle.facl.proofs.answers.who.push_users.Goals as goal
+
+pub loop-user-preserved : goal.loop-user-preserved
+loop-user-preserved c =
+    let i = c.loop-user.user-index in
+    item_added (line_at c.args.people.now) c.args.users.now c.args.text.now.items i (get_or c.args.users.now i 0) 0 c.loop-user.text.items c.push_user.new.text.items c.loop-user-test.true refl
+    c.loop-user.invariant c.in_ok-push_user.ensures
+
+pub returns : goal.returns
+returns c = all_added (line_at c.args.people.now) c.args.users.now c.args.text.now.items c.loop-user.user-index c.loop-user.text.items c.loop-user-test.false c.loop-user.invariant

@@ -1,0 +1,11 @@
+use Rattle.std.proofs.Common.{sym, subst}
+use Rattle.facl.specs.Replies.{Replies}
+use Rattle.facl.specs.Tools.{answered}
+use Rattle.facl.proofs.tools.answer.Goals as goal
+
+pub returns-in-Useradd : goal.returns-in-Useradd
+unfolding answered
+returns-in-Useradd g c =
+    let state = c.state-state.result.now in
+    subst (λ s. Replies s c.answer-in-Useradd.result (answered g.J.Judge.verdict_of c.args.loaded.now s c.args.line c.args.text.now)) c.state-state.ensures
+    (subst (λ l. Replies state c.answer-in-Useradd.result (answered g.J.Judge.verdict_of c.args.loaded.now state l c.args.text.now)) (sym c.in-Useradd.is) c.answer-in-Useradd.ensures)

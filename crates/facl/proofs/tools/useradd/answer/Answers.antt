@@ -1,0 +1,10 @@
+use Rattle.std.proofs.Common.{subst}
+use Rattle.acl_rights.specs.acl_tree.declared.command.Command.TheVariants.{Useradd}
+use Rattle.acl_rights.specs.acl_tree.declared.command.NewUser.{NewUser}
+use Rattle.facl.specs.Replies.{Replies, done}
+use Rattle.facl.proofs.tools.useradd.answer.Goals as goal
+
+pub returns : goal.returns
+returns c =
+    let s = c.args.state.now in
+    subst (λ (new : NewUser). Replies s c.effect_of.result (done s (Useradd new))) c.in_ok-new.ensures c.effect_of.ensures

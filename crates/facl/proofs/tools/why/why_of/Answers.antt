@@ -1,0 +1,26 @@
+use Rattle.std.proofs.Common.{◌≡◌, ◌∙◌, Some, ap, sym, subst, arith}
+use Rattle.std.proofs.lemmas.Grind.{common_steps}
+use Rattle.std.specs.Option.{option_copied}
+use Rattle.acl_rights.specs.acl_files.declared.fault.TreeFault.TheVariants.{NoSuchUser}
+use Rattle.facl_output.specs.declared.fault.LineFault.TheVariants.{Tree}
+use Rattle.facl.specs.Operands.{name_meant}
+use Rattle.facl.specs.Replies.{Gives, after, or_fault}
+use Rattle.facl.specs.Why.{person_named, why_at}
+use Rattle.facl.proofs.tools.why.why_of.Goals as goal
+
+pub returns-in_err-name : goal.returns-in_err-name
+returns-in_err-name c = grind (arith, common_steps)
+
+pub returns-in-Some : goal.returns-in-Some
+returns-in-Some c =
+    let s = c.args.state.now in
+    let word = name_meant c.args.word.now in
+    let named : Some c.in-Some.subject.now ≡ person_named s.people word =
+    sym (ap option_copied c.in-Some.is) ∙ c.subject_named.ensures
+    ∙ ap (λ known. person_named known c.in_ok-name.name) c.people.ensures
+    ∙ ap (person_named s.people) c.in_ok-name.ensures in
+    subst (λ user. Gives (λ out. out.items) c.why_at.result (after (or_fault (Tree (NoSuchUser word)) user) (why_at s c.args.along c.args.paths)))
+    named c.why_at.ensures
+
+pub returns-in-None : goal.returns-in-None
+returns-in-None c = grind (arith, common_steps)

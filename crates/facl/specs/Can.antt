@@ -1,0 +1,40 @@
+-- can: what a user may do with a file. The state stays as it is.
+use Rattle.std.specs.Prelude.{ℕ, [], ◌∷◌, Bool, codes, Option, Some, Result, Ok}
+use Rattle.acl_rights.specs.Verdicts.{can_requests}
+use Rattle.facl.specs.Requests.{requests_line}
+use Rattle.acl_rights.specs.acl_files.declared.fault.TreeFault.TheVariants.{NoSuchFile}
+use Rattle.acl_rights.specs.acl_tree.Files.{PathOf}
+use Rattle.acl_rights.specs.acl_tree.Step.{State}
+use Rattle.acl_rights.specs.acl_verdicts.Rows.{Verdict}
+use Rattle.facl_output.specs.facl_words.Forms.{Text, file_of}
+use Rattle.facl_output.specs.facl_words.Lines.{Line, by_name, one}
+use Rattle.facl_output.specs.facl_words.Naming.{has, operand}
+use Rattle.facl_output.specs.facl_words.declared.words.Words.{Words}
+use Rattle.facl_output.specs.declared.fault.LineFault.{LineFault}
+use Rattle.facl_output.specs.declared.fault.LineFault.TheVariants.{Tree}
+use Rattle.facl.specs.Operands.{path_at, name_meant, user_or_fault}
+use Rattle.facl.specs.Readers.{and_then}
+use Rattle.facl.specs.Replies.{Reply, after, or_fault, printed_or_fault}
+use Rattle.facl.specs.declared.tools.can.CanLine.{CanLine}
+
+abbrev pub row : Line
+row = record { flags = by_name (codes "reach") ∷ []; options = []; operands = one (codes "user") ∷ one (codes "file") ∷ [] }
+
+-- the line that words give, unless they are usage
+abbrev pub read : Words → Option CanLine
+read w =
+    and_then (file_of (operand row w (codes "file")))
+    (λ file. Some (record { reach = has row w (codes "reach"); user = operand row w (codes "user"); file = file }))
+
+-- what the user at a place may do with the file of a path, with `along` only where the user can search the path
+abbrev pub requests_at : Verdict → Bool → State → PathOf → ℕ → Result Text LineFault
+requests_at verdict along s path user =
+    after (or_fault (Tree (NoSuchFile path)) (can_requests verdict along s user path)) (λ granted. Ok (requests_line granted))
+
+-- what the user that a word means may do with the file of a path
+abbrev pub can_of : Verdict → Bool → State → Text → PathOf → Result Text LineFault
+can_of verdict along s word path = after (user_or_fault s.people (name_meant word)) (requests_at verdict along s path)
+
+-- what the user may do with the file is printed
+abbrev pub answered : Verdict → State → CanLine → Result Reply LineFault
+answered verdict s line = printed_or_fault s (after (path_at 1 line.file) (can_of verdict line.reach s line.user))

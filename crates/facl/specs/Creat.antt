@@ -1,0 +1,51 @@
+-- creat: a new file, with what it inherits from its directory.
+use Rattle.std.specs.Prelude.{ℕ, [], ◌∷◌, Bool, codes, if◌then◌else◌, Option, Some, Result, Ok}
+use Rattle.acl_rights.specs.acl_edit.declared.node.Kind.{Kind}
+use Rattle.acl_rights.specs.acl_edit.declared.node.Kind.TheVariants.{Plain, Directory}
+use Rattle.acl_rights.specs.acl_tree.declared.command.Command.TheVariants as commands
+use Rattle.acl_rights.specs.acl_tree.declared.command.NewFile.{NewFile}
+use Rattle.acl_rights.specs.acl_tree.Step.{State}
+use Rattle.facl_output.specs.facl_words.Forms.{Text, file_of}
+use Rattle.facl_output.specs.facl_words.Lines.{Line, by_letter, by_name, by_name_or, one}
+use Rattle.facl_output.specs.facl_words.Naming.{has, operand, value}
+use Rattle.facl_output.specs.facl_words.declared.words.Words.{Words}
+use Rattle.facl_output.specs.declared.fault.LineFault.{LineFault}
+use Rattle.facl.specs.Modes.{permission_mode_of}
+use Rattle.facl.specs.Operands.{path_at, name_meant}
+use Rattle.facl.specs.Readers.{and_then}
+use Rattle.facl.specs.Replies.{Reply, after, done}
+use Rattle.facl.specs.declared.tools.creat.CreatLine.{CreatLine}
+
+abbrev pub row : Line
+row = record {
+  flags = by_letter (codes "d") ∷ [];
+  options = by_name (codes "user")
+      ∷ by_name (codes "mode")
+      ∷ by_name_or (codes "umask") (codes "022") ∷ [];
+  operands = one (codes "file") ∷ [];
+}
+
+-- the mode of an option
+abbrev pub mode_given : Words → Text → Option ℕ
+mode_given w name = and_then (value row w name) permission_mode_of
+
+abbrev pub kind_of : Bool → Kind
+kind_of is_directory = if is_directory then Directory else Plain
+
+-- the line that words give, unless they are usage
+abbrev pub read : Words → Option CreatLine
+read w =
+    and_then (value row w (codes "user"))
+    (λ user. and_then (mode_given w (codes "mode"))
+    (λ mode. and_then (mode_given w (codes "umask"))
+    (λ umask. and_then (file_of (operand row w (codes "file")))
+    (λ file. Some (record { kind = kind_of (has row w (codes "d")); user = user; mode = mode; umask = umask; file = file })))))
+
+abbrev pub new_file : CreatLine → Result NewFile LineFault
+new_file line =
+    after (path_at 1 line.file)
+    (λ path. Ok (record { path = path; kind = line.kind; user = name_meant line.user; mode = line.mode; umask = line.umask }))
+
+-- the file is made
+abbrev pub answered : State → CreatLine → Result Reply LineFault
+answered s line = after (new_file line) (λ new. done s (commands.Creat new))

@@ -1,0 +1,31 @@
+-- gpasswd(1): a user is added to a group, or removed from it.
+use Rattle.std.specs.Prelude.{[], ◌∷◌, codes, Option, None, Some, Result}
+use Rattle.acl_rights.specs.acl_tree.declared.command.Command.TheVariants as commands
+use Rattle.acl_rights.specs.acl_tree.declared.command.Membership.TheVariants.{Add, Remove}
+use Rattle.acl_rights.specs.acl_tree.Step.{State}
+use Rattle.facl_output.specs.facl_words.Forms.{Text}
+use Rattle.facl_output.specs.facl_words.Lines.{Line, by_letter, one}
+use Rattle.facl_output.specs.facl_words.Naming.{operand, value}
+use Rattle.facl_output.specs.facl_words.declared.words.Words.{Words}
+use Rattle.facl_output.specs.declared.fault.LineFault.{LineFault}
+use Rattle.facl.specs.Operands.{name_meant}
+use Rattle.facl.specs.Replies.{Reply, done}
+use Rattle.facl.specs.declared.tools.gpasswd.GpasswdLine.{GpasswdLine}
+
+abbrev pub row : Line
+row = record { flags = []; options = by_letter (codes "a") ∷ by_letter (codes "d") ∷ []; operands = one (codes "group") ∷ [] }
+
+-- the line of a user who is added, or of one who is removed: one of the two is given
+abbrev pub line_of : Option Text → Option Text → Text → Option GpasswdLine
+line_of (Some user) None group = Some (record { change = Add; user = user; group = group })
+line_of None (Some user) group = Some (record { change = Remove; user = user; group = group })
+line_of (Some user) (Some other) group = None
+line_of None None group = None
+
+-- the line that words give, unless they are usage
+abbrev pub read : Words → Option GpasswdLine
+read w = line_of (value row w (codes "a")) (value row w (codes "d")) (operand row w (codes "group"))
+
+-- the user is added to the group, or removed from it
+abbrev pub answered : State → GpasswdLine → Result Reply LineFault
+answered s line = done s (commands.Gpasswd (name_meant line.user) (name_meant line.group) line.change)

@@ -1,0 +1,71 @@
+-- What is answered to a line: a reply, or the line's first fault.
+use Rattle.std.specs.Option.{option_map_or}
+use Rattle.std.specs.Prelude.{◌≡◌, ◌≢◌, ℕ, Bool, false, List, [], Option, None, Some, Result, Ok, Err, MatchResult}
+use Rattle.acl_rights.specs.acl_syntax.InTurn.{GivesUnless}
+use Rattle.acl_rights.specs.acl_tree.Step.{State, step}
+use Rattle.acl_rights.specs.acl_tree.Reports.{users_move}
+use Rattle.acl_rights.specs.acl_tree.declared.command.Command.{Command}
+use Rattle.acl_rights.specs.acl_files.declared.fault.TreeFault.{TreeFault}
+use Rattle.acl_rights.specs.acl_tree.declared.user_change.UserChange.{UserChange}
+use Rattle.acl_rights.specs.acl_tree.declared.user_change.UserChange.TheVariants.{Unchanged}
+use Rattle.acl_rights.specs.States.{IsPrepared}
+use Rattle.facl_output.specs.declared.fault.LineFault.{LineFault}
+use Rattle.facl_output.specs.declared.fault.LineFault.TheVariants.{NoMemory}
+use Rattle.facl_output.specs.Faults.{line_fault_of_tree}
+use Rattle.facl.specs.declared.tools.effect.Effect.{Effect}
+
+-- what an accepted line leaves: the state, how it moved the users, what is printed, and whether it warns of default
+-- entries that were dropped
+pub record Reply : Type 0 where
+  pub state : State
+  pub user_change : UserChange
+  pub out : List ℕ
+  pub warns : Bool
+
+-- what comes next, where nothing was wrong so far
+abbrev pub after : {A B E : Type 0} → Result A E → (A → Result B E) → Result B E
+after (Ok a) next = next a
+after (Err fault) next = Err fault
+
+-- what is there, or this fault
+abbrev pub or_fault : {A E : Type 0} → E → Option A → Result A E
+or_fault fault None = Err fault
+or_fault fault (Some a) = Ok a
+
+-- the reply to a line that makes this of the state, and moves the users so; it prints nothing
+abbrev pub replied : UserChange → Result State TreeFault → Result Reply LineFault
+replied moved (Ok s) = Ok (record { state = s; user_change = moved; out = []; warns = false })
+replied moved (Err fault) = Err (line_fault_of_tree fault)
+
+-- a command is done
+abbrev pub done : State → Command → Result Reply LineFault
+done s command = replied (users_move s command) (step s command)
+
+-- the state stays, and this is printed
+abbrev pub printed : State → List ℕ → Reply
+printed s out = record { state = s; user_change = Unchanged; out = out; warns = false }
+
+-- the state stays, and this is printed
+abbrev pub printed_or_fault : State → Result (List ℕ) LineFault → Result Reply LineFault
+printed_or_fault s text = after text (λ out. Ok (printed s out))
+
+-- ---- what is done to answer a line
+
+-- the reply of a line that does this at a state
+abbrev pub reply_of : State → Effect → Reply
+reply_of s effect = record {
+  state = option_map_or (λ staged. staged.state) effect.staged s;
+  user_change = option_map_or (λ staged. staged.user_change) effect.staged Unchanged;
+  out = effect.out.items;
+  warns = effect.warns;
+}
+
+-- A call gives what is to be given, or returns exactly the fault, unless memory ran out.
+abbrev pub Gives : {A B : Type 0} → (A → B) → Result A LineFault → Result B LineFault → Type 0
+Gives view result is = GivesUnless NoMemory view result is
+
+-- A call gives the effect of a line whose reply at a state is this, with its state prepared; or returns exactly the
+-- fault, unless memory ran out.
+abbrev pub Replies : State → Result Effect LineFault → Result Reply LineFault → Type 0
+Replies s result is =
+    MatchResult result (λ effect. (is ≡ Ok (reply_of s effect)) × IsPrepared s effect.staged) (λ fault. fault ≢ NoMemory → is ≡ Err fault)

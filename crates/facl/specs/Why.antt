@@ -1,0 +1,50 @@
+-- why: the entries that decide on a user. The state stays as it is.
+use Rattle.std.specs.Prelude.{List, [], ◌∷◌, Bool, codes, Option, Some, option_and_then, Result}
+use Rattle.facl.specs.WhyText.{files_asked, why_text}
+use Rattle.acl_rights.specs.acl_entry.Person.{Person}
+use Rattle.acl_rights.specs.acl_files.declared.fault.TreeFault.TheVariants.{NoSuchUser}
+use Rattle.acl_rights.specs.acl_people.KnownPeople.{KnownPeople, users_of, subject, naming_of}
+use Rattle.acl_rights.specs.acl_people.NameTables.{place_of_word}
+use Rattle.acl_rights.specs.acl_tree.Files.{PathOf}
+use Rattle.acl_rights.specs.acl_tree.Found.{FoundFile}
+use Rattle.acl_rights.specs.acl_tree.Operands.{first_missing}
+use Rattle.acl_rights.specs.acl_tree.Step.{State}
+use Rattle.facl_output.specs.facl_words.Forms.{Text, files_of}
+use Rattle.facl_output.specs.facl_words.Lines.{Line, by_name, one, some}
+use Rattle.facl_output.specs.facl_words.Naming.{has, operand, operands_from}
+use Rattle.facl_output.specs.facl_words.declared.words.Words.{Words}
+use Rattle.facl_output.specs.declared.fault.LineFault.{LineFault}
+use Rattle.facl_output.specs.declared.fault.LineFault.TheVariants.{Tree}
+use Rattle.facl.specs.Operands.{paths_from, name_meant, recorded_or_fault}
+use Rattle.facl.specs.Readers.{and_then}
+use Rattle.facl.specs.Replies.{Reply, after, or_fault, printed_or_fault}
+use Rattle.facl.specs.declared.tools.why.WhyLine.{WhyLine}
+
+abbrev pub row : Line
+row = record { flags = by_name (codes "reach") ∷ []; options = []; operands = one (codes "user") ∷ some (codes "file") ∷ [] }
+
+-- the line that words give, unless they are usage
+abbrev pub read : Words → Option WhyLine
+read w =
+    and_then (files_of (operands_from row w (codes "file")))
+    (λ files. Some (record { reach = has row w (codes "reach"); user = operand row w (codes "user"); files = files }))
+
+-- the user of a name, as the check sees one, if there is one
+abbrev pub person_named : KnownPeople → Text → Option Person
+person_named known name = option_and_then (subject known) (place_of_word name (users_of known))
+
+-- the entries that decide on a user are printed with the names that these people have
+abbrev pub named_why : KnownPeople → Person → List FoundFile → Text
+named_why known u files = why_text (naming_of known) u files
+
+-- what decides on a user on the files of these paths, with `along` on the directories above them too
+abbrev pub why_at : State → Bool → List PathOf → Person → Result Text LineFault
+why_at s along paths u = recorded_or_fault (first_missing paths s.tree.files) (named_why s.people u (files_asked along paths s.tree.files))
+
+-- what decides on the user that a word means
+abbrev pub why_of : State → Bool → Text → List PathOf → Result Text LineFault
+why_of s along word paths = after (or_fault (Tree (NoSuchUser (name_meant word))) (person_named s.people (name_meant word))) (why_at s along paths)
+
+-- it is printed
+abbrev pub answered : State → WhyLine → Result Reply LineFault
+answered s line = printed_or_fault s (after (paths_from 1 line.files) (why_of s line.reach line.user))

@@ -1,0 +1,327 @@
+//! What `changes` prints: what each user may do with each file, beside what the user might do before; and its lines.
+
+ghost use Rattle.std.specs.Prelude.{◌≡◌, ◌++◌, ◌&&◌, true, drop, IfOk, OnOk, ◌∷◌, not};
+ghost use Rattle.std.specs.List.{list_all, flat_map};
+ghost use Rattle.acl_rights.specs.acl_files.path_map.Entries.{first, IsInOrder};
+ghost use Rattle.facl.specs.ChangesText.{changes_text, requests_gained, after_comma, change_line, change_lines};
+ghost use Rattle.facl.specs.Inner.{keeps_place, shown_row, lines_between, lines_of_both, next_order, gone_lines, new_lines, kept_lines, next_lines, left_before, left_after, cell_at};
+ghost use Rattle.acl_rights.specs.acl_entry.Check.{has};
+
+use crate::answers::index::shown;
+use crate::answers::placed_users::{PlacedUser, keep_places, users_of_both};
+use crate::answers::requests::NUMBERS;
+use crate::answers::row_walk::{FileWithRow, Walk};
+use acl_rights::{IndexedState, Judge, Perm, Requests, Verdicts, same_row};
+use std::alloc::{AllocError, Global};
+use std::cmp::Ordering;
+
+/// Adds the lines of a file, with its path as it is printed.
+fn push_file(
+    alloc: Global,
+    text: &mut Vec<u8>,
+    users: &[PlacedUser],
+    file: &FileWithRow<'_>,
+    before: &[Requests],
+    after: &[Requests],
+) -> Result<(), AllocError>
+    ensures { OnOk result (text.new.items ≡ text.old.items ++ lines_between users.now (shown_row file.now).0 before.now after.now) }
+{
+    let path = shown(alloc, file)?;
+    push_rows(alloc, text, users, &path, before, after)
+}
+
+/// Adds the lines of a file that went.
+#[tactic(auto, using(crate::proofs::NextFile::gone_none, crate::proofs::NextFile::gone_some))]
+fn push_gone(
+    alloc: Global,
+    text: &mut Vec<u8>,
+    users: &[PlacedUser],
+    before: &mut Walk<'_>,
+) -> Result<(), AllocError>
+    ensures lines { OnOk result (text.new.items ≡ text.old.items ++ gone_lines users.now (first before.old)) }
+    ensures rest { before.new ≡ drop 1 before.old }
+{
+    let Some(file) = before.next() else {
+        return Ok(());
+    };
+    push_file(alloc, text, users, &file, file.requests, &[])?;
+    Ok(())
+}
+
+/// Adds the lines of a file that came.
+#[tactic(auto, using(crate::proofs::NextFile::new_none, crate::proofs::NextFile::new_some))]
+fn push_new(
+    alloc: Global,
+    text: &mut Vec<u8>,
+    users: &[PlacedUser],
+    after: &mut Walk<'_>,
+) -> Result<(), AllocError>
+    ensures lines { OnOk result (text.new.items ≡ text.old.items ++ new_lines users.now (first after.old)) }
+    ensures rest { after.new ≡ drop 1 after.old }
+{
+    let Some(file) = after.next() else {
+        return Ok(());
+    };
+    push_file(alloc, text, users, &file, &[], file.requests)?;
+    Ok(())
+}
+
+/// Adds the lines of a file that is in both states. There are none where its row and the users are the same.
+#[tactic(auto, using(crate::proofs::NextFile::kept_without_old, crate::proofs::NextFile::kept_without_new, crate::proofs::NextFile::kept_some))]
+fn push_kept(
+    alloc: Global,
+    text: &mut Vec<u8>,
+    users: &[PlacedUser],
+    keep_places: bool,
+    before: &mut Walk<'_>,
+    after: &mut Walk<'_>,
+) -> Result<(), AllocError>
+    requires same { keep_places ≡ true → list_all keeps_place users.now ≡ true }
+    ensures lines { OnOk result (text.new.items ≡ text.old.items ++ kept_lines users.now (first before.old) (first after.old)) }
+    ensures before { before.new ≡ drop 1 before.old }
+    ensures after { after.new ≡ drop 1 after.old }
+{
+    let old = before.next();
+    let new = after.next();
+    let Some(old) = old else {
+        return Ok(());
+    };
+    let Some(new) = new else {
+        return Ok(());
+    };
+    if keep_places && same_row(old.requests, new.requests) {
+        return Ok(());
+    }
+    push_file(alloc, text, users, &new, old.requests, new.requests)?;
+    Ok(())
+}
+
+/// How the next path of one walk is to that of another one; before it where the other walk is over. None where both are.
+fn next_order(before: &Walk<'_>, after: &Walk<'_>) -> Option<Ordering>
+    ensures { result ≡ next_order before.now after.now }
+{
+    match before.path() {
+        Some(old) => match after.path() {
+            Some(new) => Some(old.order(new)),
+            None => Some(Ordering::Less),
+        },
+        None => match after.path() {
+            Some(_) => Some(Ordering::Greater),
+            None => None,
+        },
+    }
+}
+
+/// Adds the lines of the next path of both walks.
+fn push_next(
+    alloc: Global,
+    text: &mut Vec<u8>,
+    users: &[PlacedUser],
+    keep_places: bool,
+    order: Ordering,
+    before: &mut Walk<'_>,
+    after: &mut Walk<'_>,
+) -> Result<(), AllocError>
+    requires same { keep_places ≡ true → list_all keeps_place users.now ≡ true }
+    ensures lines { OnOk result (text.new.items ≡ text.old.items ++ next_lines users.now order before.old after.old) }
+    ensures before { before.new ≡ left_before order before.old }
+    ensures after { after.new ≡ left_after order after.old }
+{
+    match order {
+        Ordering::Less => push_gone(alloc, text, users, before),
+        Ordering::Equal => push_kept(alloc, text, users, keep_places, before, after),
+        Ordering::Greater => push_new(alloc, text, users, after),
+    }
+}
+
+/// Adds the lines of the files of two walks, in one pass over both.
+fn push_both(
+    alloc: Global,
+    text: &mut Vec<u8>,
+    users: &[PlacedUser],
+    before: Walk<'_>,
+    after: Walk<'_>,
+) -> Result<(), AllocError>
+    requires before { IsInOrder before }
+    requires after { IsInOrder after }
+    ensures { OnOk result (text.new.items ≡ text.old.items ++ lines_of_both users.now before.entry after.entry) }
+{
+    let keep_places = keep_places(users);
+    let mut rest_before = before;
+    let mut rest_after = after;
+    while let Some(order) = next_order(&rest_before, &rest_after) {
+        push_next(
+            alloc,
+            text,
+            users,
+            keep_places,
+            order,
+            &mut rest_before,
+            &mut rest_after,
+        )?;
+    }
+    Ok(())
+}
+
+/// What `changes` prints: for each file of either state in path order, and each user of either state, a line of the
+/// requests that the user gains on it, and one of those that the user loses; with those verdicts that are asked of the
+/// present state, on the files alone or along their paths. It is one walk over both states' files. Fails only if memory
+/// runs out.
+pub fn write_changes<J: Judge>(
+    alloc: Global,
+    loaded: &IndexedState<J>,
+    verdicts: &Verdicts<'_, J>,
+) -> Result<Vec<u8>, AllocError>
+    ensures { IfOk result (λ text. text.items ≡ changes_text J.verdict_of verdicts.now.along loaded.now verdicts.now.state.now) }
+{
+    let people = verdicts.state.state().people();
+    let users = users_of_both(alloc, loaded.state().people(), people)?;
+    let verdicts_before = loaded.verdicts(verdicts.along);
+    let before = Walk::of_verdicts(&verdicts_before);
+    let after = Walk::of_verdicts(verdicts);
+    let mut text = Vec::new(alloc);
+    push_both(alloc, &mut text, &users, before, after)?;
+    Ok(text)
+}
+
+/// Whether a request is granted after, and was not before.
+fn is_gained(before: Requests, after: Requests, request: Perm) -> bool
+    ensures { result ≡ (has after request && not (has before request)) }
+{
+    after.has(request) && !before.has(request)
+}
+
+/// The requests that are granted after and were not before, in rising number. Fails only if memory runs out.
+fn requests_gained(
+    alloc: Global,
+    before: Requests,
+    after: Requests,
+) -> Result<Vec<Perm>, AllocError>
+    ensures { IfOk result (λ requests. requests.items ≡ requests_gained before after) }
+{
+    let mut requests = Vec::new(alloc);
+    for number in &NUMBERS {
+        if let Some(request) = Perm::from_number(*number) {
+            if is_gained(before, after, request) {
+                requests.push(request)?;
+            }
+        }
+    }
+    Ok(requests)
+}
+
+/// Adds the requests after the first one, each after a comma.
+fn push_more(text: &mut Vec<u8>, requests: &[Perm]) -> Result<(), AllocError>
+    ensures { OnOk result (text.new.items ≡ text.old.items ++ flat_map after_comma requests.now) }
+{
+    for request in requests {
+        text.push(b',')?;
+        text.extend_from_slice(&request.text())?;
+    }
+    Ok(())
+}
+
+/// Adds a line of a request and others that a user gains or loses on a file.
+fn push_line(
+    text: &mut Vec<u8>,
+    path: &[u8],
+    user: &[u8],
+    word: &[u8],
+    request: Perm,
+    more: &[Perm],
+) -> Result<(), AllocError>
+    ensures { OnOk result (text.new.items ≡ text.old.items ++ change_line path.now user.now word.now (request ∷ more.now)) }
+{
+    text.extend_from_slice(user)?;
+    text.push(b' ')?;
+    text.extend_from_slice(word)?;
+    text.push(b' ')?;
+    text.extend_from_slice(&request.text())?;
+    push_more(text, more)?;
+    text.push(b' ')?;
+    text.extend_from_slice(path)?;
+    text.push(b'\n')?;
+    Ok(())
+}
+
+/// Adds a line of the requests that a user gains or loses on a file, if there are any.
+fn push_change(
+    text: &mut Vec<u8>,
+    path: &[u8],
+    user: &[u8],
+    word: &[u8],
+    requests: &[Perm],
+) -> Result<(), AllocError>
+    ensures { OnOk result (text.new.items ≡ text.old.items ++ change_line path.now user.now word.now requests.now) }
+{
+    if let Some((request, more)) = requests.split_first() {
+        push_line(text, path, user, word, *request, more)?;
+    }
+    Ok(())
+}
+
+/// Adds a line of the requests that are granted after and were not before, if there are any.
+fn push_gained(
+    alloc: Global,
+    text: &mut Vec<u8>,
+    path: &[u8],
+    user: &[u8],
+    word: &[u8],
+    before: Requests,
+    after: Requests,
+) -> Result<(), AllocError>
+    ensures { OnOk result (text.new.items ≡ text.old.items ++ change_line path.now user.now word.now (requests_gained before after)) }
+{
+    let gained = requests_gained(alloc, before, after)?;
+    push_change(text, path, user, word, &gained)
+}
+
+/// Adds what a user gains on a file, and what the user loses there.
+fn push_user(
+    alloc: Global,
+    text: &mut Vec<u8>,
+    path: &[u8],
+    user: &[u8],
+    before: Requests,
+    after: Requests,
+) -> Result<(), AllocError>
+    ensures { OnOk result (text.new.items ≡ text.old.items ++ change_lines path.now user.now before after) }
+{
+    push_gained(alloc, text, path, user, b"gains", before, after)?;
+    push_gained(alloc, text, path, user, b"loses", after, before)
+}
+
+/// What a row grants the user at a place, if there is one.
+fn cell_at(row: &[Requests], place: Option<usize>) -> Requests
+    ensures { result ≡ cell_at row.now place }
+{
+    let Some(at) = place else {
+        return Requests::none();
+    };
+    match row.get(at) {
+        Some(requests) => *requests,
+        None => Requests::none(),
+    }
+}
+
+/// Adds the lines of a file, by its rows before and after.
+#[tactic(auto, using(crate::proofs::Unchanged::no_change))]
+pub(crate) fn push_rows(
+    alloc: Global,
+    text: &mut Vec<u8>,
+    users: &[PlacedUser],
+    path: &[u8],
+    before: &[Requests],
+    after: &[Requests],
+) -> Result<(), AllocError>
+    ensures { OnOk result (text.new.items ≡ text.old.items ++ lines_between users.now path.now before.now after.now) }
+{
+    for user in users {
+        let had = cell_at(before, user.before);
+        let has = cell_at(after, user.after);
+        if had.bits() != has.bits() {
+            push_user(alloc, text, path, &user.name, had, has)?;
+        }
+    }
+    Ok(())
+}

@@ -1,0 +1,104 @@
+//! A walk over all files of a state, each with its row of verdicts.
+
+ghost use Rattle.std.specs.Prelude.{◌≡◌, IfOk, drop, option_map};
+ghost use Rattle.acl_rights.specs.acl_files.path_map.Entries.{first, IsInOrder};
+ghost use Rattle.acl_rights.specs.acl_tree.Found.{found_file};
+ghost use Rattle.facl.specs.Inner.{has_next_below, walk_of, shown_row};
+ghost use Rattle.acl_rights.specs.Verdicts.{rows_granted};
+
+use acl_rights::{FileRows, FilesIter, Found, Judge, Path, Record, Requests, Tree, Verdicts};
+use std::alloc::AllocError;
+use std::marker::Model;
+use std::rc::Rc;
+
+/// A file, the next one after it, and what each user may do with it.
+#[derive(Clone, Copy)]
+pub(crate) struct FileWithRow<'a> {
+    pub file: &'a Rc<Record>,
+    pub next: Option<&'a Rc<Record>>,
+    pub requests: &'a [Requests],
+}
+
+/// Whether a file, if there is one, is below a path.
+fn is_above(path: &Path, next: Option<&Rc<Record>>) -> bool
+    ensures { result ≡ has_next_below path.now (option_map (λ next. next.now.value) next.entry) }
+{
+    match next {
+        Some(next) => next.path().is_below(path),
+        None => false,
+    }
+}
+
+impl<'a> FileWithRow<'a> {
+    /// The file, with whether another one is below it. Fails only if memory runs out.
+    pub fn found(&self) -> Result<Found, AllocError>
+        ensures { IfOk result (λ found. found ≡ found_file (has_next_below self.now.file.now.value.0
+            (option_map (λ next. next.now.value) self.now.next)) self.now.file.now.value) }
+    {
+        let has_below = is_above(self.file.path(), self.next);
+        Ok(Found::new(self.file.clone()?, has_below))
+    }
+}
+
+/// The files that are still to come, in path order, each with its row.
+#[derive(Drop)]
+pub(crate) struct Walk<'a> {
+    files: FilesIter<'a>,
+    rows: FileRows<'a>,
+}
+
+impl<'a> Model for Walk<'a> {
+    ghost use Rattle.facl.specs.Inner.{Walked, walk_of};
+
+    ghost Value = { Walked };
+
+    ghost view = { λ w. walk_of w.files w.rows };
+}
+
+impl<'a> Walk<'a> {
+    /// All files of a tree, with their rows.
+    pub fn of(tree: &'a Tree, rows: FileRows<'a>) -> Walk<'a>
+        ensures { result ≡ walk_of tree.now.files rows.entry }
+    {
+        Walk {
+            files: tree.iter(),
+            rows,
+        }
+    }
+
+    /// The files of a state with their rows of verdicts.
+    pub fn of_verdicts<J: Judge>(verdicts: &Verdicts<'a, J>) -> Walk<'a>
+        ensures all { result ≡ walk_of verdicts.now.state.now.tree.files (rows_granted J.verdict_of verdicts.now.along verdicts.now.state.now) }
+        ensures order { IsInOrder result }
+        ensures tree { IsInOrder verdicts.now.state.now.tree.files }
+    {
+        let state = verdicts.state.state();
+        state.tree().soundness_law();
+        Walk::of(state.tree(), verdicts.rows())
+    }
+
+    /// The path of the next file.
+    pub fn path(&self) -> Option<&'a Path>
+        ensures { option_map (λ path. path.now) result ≡ option_map (λ file. file.0) (first self.now) }
+    {
+        let path = self.rows.path()?;
+        match self.files.peek() {
+            Some(_) => Some(path),
+            None => None,
+        }
+    }
+
+    /// The next file.
+    pub fn next(&mut self) -> Option<FileWithRow<'a>>
+        ensures first { option_map shown_row result ≡ option_map (λ file. file.1) (first self.old) }
+        ensures rest { self.new ≡ drop 1 self.old }
+    {
+        let row = self.rows.next()?;
+        let file = self.files.next()?;
+        Some(FileWithRow {
+            file,
+            next: self.files.peek(),
+            requests: row.requests,
+        })
+    }
+}

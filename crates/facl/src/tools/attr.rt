@@ -1,0 +1,48 @@
+//! The tool `attr`: the lists of a file as extended attributes.
+
+ghost use Rattle.std.specs.Prelude.{◌≡◌};
+ghost use Rattle.facl.specs.Attr.{answered, read};
+ghost use Rattle.facl.specs.Replies.{Replies};
+
+use crate::tools::effect::Effect;
+use crate::tools::operands::paths_of;
+use crate::tools::rows::one;
+use acl_rights::{Selection, State};
+use facl_output::{LineFault, LineFiles, LineRows, OperandRow, Words, write_attributes};
+use std::alloc::Global;
+
+/// The words of the tool.
+pub(crate) static ROW: LineRows = LineRows {
+    flags: &[],
+    options: &[],
+    operands: &[one!("file")],
+};
+
+/// A line of `attr`.
+#[derive(Drop)]
+pub(crate) struct AttrLine<'a> {
+    /// The FILE.
+    pub files: LineFiles<'a>,
+}
+
+/// The line that words give. `None` where they are usage.
+pub(crate) fn read(words: &Words) -> Option<AttrLine<'_>>
+    ensures { result ≡ read words.now }
+{
+    let files = words.files(&ROW, "file")?;
+    Some(AttrLine { files })
+}
+
+/// Prints the attributes of a file.
+pub(crate) fn answer(alloc: Global, state: &State, line: AttrLine<'_>) -> Result<Effect, LineFault>
+    ensures { Replies state.now result (answered state.now line.entry) }
+{
+    let paths = paths_of(alloc, line.files.as_slice())?;
+    let selection = Selection {
+        operands: &paths,
+        recursive: false,
+    };
+    let files = state.tree().files(alloc, &selection)?;
+    let out = write_attributes(alloc, &files)?;
+    Ok(Effect::prints(out))
+}

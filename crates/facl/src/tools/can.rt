@@ -1,0 +1,88 @@
+//! The tool `can`: what a user may do with a file.
+
+ghost use Rattle.std.specs.Prelude.{◌≡◌};
+ghost use Rattle.facl.specs.Can.{answered, can_of, read, requests_at};
+ghost use Rattle.facl.specs.Replies.{Gives, Replies};
+
+use crate::answers::requests::append_requests;
+use crate::tools::effect::Effect;
+use crate::tools::operands::{path_at, user_at};
+use crate::tools::rows::{by_name, one};
+use acl_rights::{IndexedState, Judge, Path, TreeFault, Verdicts};
+use facl_output::{LineFault, LineRows, LineWord, OperandRow, SwitchRow, Words};
+use std::alloc::Global;
+
+/// The words of the tool.
+pub(crate) static ROW: LineRows = LineRows {
+    flags: &[by_name!("reach")],
+    options: &[],
+    operands: &[one!("user"), one!("file")],
+};
+
+/// A line of `can`.
+#[derive(Drop)]
+pub(crate) struct CanLine<'a> {
+    /// `--reach`: search on the directories above is required too.
+    pub reach: bool,
+    pub user: LineWord<'a>,
+    pub file: LineWord<'a>,
+}
+
+/// The line that words give. `None` where they are usage.
+pub(crate) fn read(words: &Words) -> Option<CanLine<'_>>
+    ensures { result ≡ read words.now }
+{
+    let row = &ROW;
+    let file = words.file(row, "file")?;
+    Some(CanLine {
+        reach: words.has(row, "reach"),
+        user: words.operand(row, "user"),
+        file,
+    })
+}
+
+/// The line of what the user at a place may do with the file of a path.
+fn requests_at<J: Judge>(
+    alloc: Global,
+    verdicts: &Verdicts<'_, J>,
+    path: Path,
+    user: usize,
+) -> Result<Vec<u8>, LineFault>
+    ensures { Gives (λ out. out.items) result
+        (requests_at J.verdict_of verdicts.now.along verdicts.now.state.now path user) }
+{
+    let Some(granted) = verdicts.get(user, &path) else {
+        return Err(LineFault::Tree(TreeFault::NoSuchFile { path }));
+    };
+    let mut out = Vec::new(alloc);
+    append_requests(&mut out, granted)?;
+    Ok(out)
+}
+
+/// The line of what the user that a word means may do with the file of a path.
+fn can_of<J: Judge>(
+    alloc: Global,
+    verdicts: &Verdicts<'_, J>,
+    word: &LineWord<'_>,
+    path: Path,
+) -> Result<Vec<u8>, LineFault>
+    ensures { Gives (λ out. out.items) result
+        (can_of J.verdict_of verdicts.now.along verdicts.now.state.now word.now path) }
+{
+    let user = user_at(alloc, verdicts.state.state().people(), word)?;
+    requests_at(alloc, verdicts, path, user)
+}
+
+/// What a user may do with a file; with `--reach` only where the user can search each recorded directory above it.
+pub(crate) fn answer<J: Judge>(
+    alloc: Global,
+    indexed: &IndexedState<J>,
+    line: CanLine<'_>,
+) -> Result<Effect, LineFault>
+    ensures { Replies indexed.now result (answered J.verdict_of indexed.now line.entry) }
+{
+    let path = path_at(alloc, 1, line.file.as_bytes())?;
+    let verdicts = indexed.verdicts(line.reach);
+    let out = can_of(alloc, &verdicts, &line.user, path)?;
+    Ok(Effect::prints(out))
+}

@@ -1,0 +1,261 @@
+//! The tool chacl(1).
+
+ghost use Rattle.std.specs.Prelude.{◌≡◌};
+ghost use Rattle.facl.specs.Chacl.{answered, list_files, on_files, put_access, put_both, put_default, read, read_access, read_both, read_default, task_of, tasks_given};
+ghost use Rattle.facl.specs.Replies.{Replies};
+
+use crate::tools::edits::{NamedFiles, edit_files};
+use crate::tools::effect::Effect;
+use crate::tools::lists::list_of_text;
+use crate::tools::operands::paths_of;
+use crate::tools::rows::{by_letter, some};
+use acl_rights::{Edit, Selection, State, Which};
+use facl_output::{
+    LineFault, LineFiles, LineRows, LineWord, OperandRow, Source, SwitchRow, Word, Words,
+    write_chacl_listing,
+};
+use std::alloc::Global;
+
+/// The words of the tool: lists, where the flags require them, and then files.
+pub(crate) static ROW: LineRows = LineRows {
+    flags: &[
+        by_letter!('b', "b"),
+        by_letter!('d', "d"),
+        by_letter!('R', "R"),
+        by_letter!('D', "D"),
+        by_letter!('B', "B"),
+        by_letter!('l', "l"),
+        by_letter!('r', "r"),
+    ],
+    options: &[],
+    operands: &[some!("word")],
+};
+
+/// What a line does with its files.
+#[derive(Drop)]
+pub(crate) enum Task<'a> {
+    /// Puts the access list that the word names.
+    PutAccess(LineWord<'a>),
+    /// `-d`: puts the default list that the word names.
+    PutDefault(LineWord<'a>),
+    /// `-b`: puts the access list and the default list that the words name.
+    PutBoth(LineWord<'a>, LineWord<'a>),
+    /// `-R`: leaves the access list with what the mode shows.
+    RemoveAccess,
+    /// `-D`: removes the default list.
+    RemoveDefault,
+    /// `-B`: both of these.
+    RemoveBoth,
+    /// `-l`: prints the lists.
+    List,
+}
+
+/// A line of chacl(1).
+#[derive(Drop)]
+pub(crate) struct ChaclLine<'a> {
+    pub task: Task<'a>,
+    /// `-r`: with all below.
+    pub recursive: bool,
+    pub files: LineFiles<'a>,
+}
+
+/// How many of the flags are given that select what is done.
+fn tasks_given(words: &Words) -> usize
+    ensures { result ≡ tasks_given words.now }
+{
+    let row = &ROW;
+    usize::from(words.has(row, "b"))
+        + usize::from(words.has(row, "d"))
+        + usize::from(words.has(row, "R"))
+        + usize::from(words.has(row, "D"))
+        + usize::from(words.has(row, "B"))
+        + usize::from(words.has(row, "l"))
+}
+
+/// A task on these files.
+fn on_files<'a>(task: Task<'a>, words: &'a [Word]) -> Option<(Task<'a>, LineFiles<'a>)>
+    ensures { result ≡ on_files task.entry words.now }
+{
+    let files = LineFiles::of(words)?;
+    Some((task, files))
+}
+
+/// An access list is put into the files after it.
+fn read_access(words: &[Word]) -> Option<(Task<'_>, LineFiles<'_>)>
+    ensures { result ≡ read_access words.now }
+{
+    let [access, files @ ..] = words else {
+        return None;
+    };
+    let task = Task::PutAccess(LineWord::new(access.as_bytes()));
+    on_files(task, files)
+}
+
+/// A default list is put.
+fn read_default(words: &[Word]) -> Option<(Task<'_>, LineFiles<'_>)>
+    ensures { result ≡ read_default words.now }
+{
+    let [default, files @ ..] = words else {
+        return None;
+    };
+    let task = Task::PutDefault(LineWord::new(default.as_bytes()));
+    on_files(task, files)
+}
+
+/// Both are put.
+fn read_both(words: &[Word]) -> Option<(Task<'_>, LineFiles<'_>)>
+    ensures { result ≡ read_both words.now }
+{
+    let [access, default, files @ ..] = words else {
+        return None;
+    };
+    let task = Task::PutBoth(
+        LineWord::new(access.as_bytes()),
+        LineWord::new(default.as_bytes()),
+    );
+    on_files(task, files)
+}
+
+/// The task of the flag that selects what is done.
+fn task_of<'a>(words: &Words, operands: &'a [Word]) -> Option<(Task<'a>, LineFiles<'a>)>
+    ensures { result ≡ task_of words.now operands.now }
+{
+    let row = &ROW;
+    if words.has(row, "b") {
+        read_both(operands)
+    } else if words.has(row, "d") {
+        read_default(operands)
+    } else if words.has(row, "R") {
+        on_files(Task::RemoveAccess, operands)
+    } else if words.has(row, "D") {
+        on_files(Task::RemoveDefault, operands)
+    } else if words.has(row, "B") {
+        on_files(Task::RemoveBoth, operands)
+    } else if words.has(row, "l") {
+        on_files(Task::List, operands)
+    } else {
+        read_access(operands)
+    }
+}
+
+/// The line that words give. `None` where they are usage: two tasks, or too few words.
+pub(crate) fn read(words: &Words) -> Option<ChaclLine<'_>>
+    ensures { result ≡ read words.now }
+{
+    let row = &ROW;
+    if tasks_given(words) <= 1 {
+        let operands = words.operands_from(row, "word");
+        let (task, files) = task_of(words, operands)?;
+        Some(ChaclLine {
+            task,
+            recursive: words.has(row, "r"),
+            files,
+        })
+    } else {
+        None
+    }
+}
+
+/// Puts an access list into the files.
+fn put_access(
+    alloc: Global,
+    state: &State,
+    files: &NamedFiles<'_>,
+    text: &[u8],
+) -> Result<Effect, LineFault>
+    ensures { Replies state.now result (put_access state.now files.now.recursive text.now files.now.words.now) }
+{
+    let people = state.people();
+    let access = list_of_text(alloc, people, Source::Entry, Which::Access, text)?;
+    let edit = Edit::Put {
+        access: Some(access),
+        dacl: None,
+    };
+    edit_files(alloc, state, files, edit)
+}
+
+/// Puts a default list into the files.
+fn put_default(
+    alloc: Global,
+    state: &State,
+    files: &NamedFiles<'_>,
+    text: &[u8],
+) -> Result<Effect, LineFault>
+    ensures { Replies state.now result (put_default state.now files.now.recursive text.now files.now.words.now) }
+{
+    let people = state.people();
+    let dacl = list_of_text(alloc, people, Source::DefaultEntry, Which::Default, text)?;
+    let edit = Edit::Put {
+        access: None,
+        dacl: Some(dacl),
+    };
+    edit_files(alloc, state, files, edit)
+}
+
+/// Puts an access list and a default list, read in this order.
+fn put_both(
+    alloc: Global,
+    state: &State,
+    files: &NamedFiles<'_>,
+    text: &[u8],
+    default_text: &[u8],
+) -> Result<Effect, LineFault>
+    ensures { Replies state.now result (put_both state.now files.now.recursive text.now default_text.now files.now.words.now) }
+{
+    let people = state.people();
+    let access = list_of_text(alloc, people, Source::Entry, Which::Access, text)?;
+    let dacl = list_of_text(
+        alloc,
+        people,
+        Source::DefaultEntry,
+        Which::Default,
+        default_text,
+    )?;
+    let edit = Edit::Put {
+        access: Some(access),
+        dacl: Some(dacl),
+    };
+    edit_files(alloc, state, files, edit)
+}
+
+/// Prints the lists of files.
+fn list_files(alloc: Global, state: &State, files: &NamedFiles<'_>) -> Result<Effect, LineFault>
+    ensures { Replies state.now result (list_files state.now files.now.recursive files.now.words.now) }
+{
+    let paths = paths_of(alloc, files.words)?;
+    let selection = Selection {
+        operands: &paths,
+        recursive: files.recursive,
+    };
+    let files = state.tree().files(alloc, &selection)?;
+    let out = write_chacl_listing(alloc, state.people(), &files)?;
+    Ok(Effect::prints(out))
+}
+
+/// Puts or removes lists of files, or prints them.
+pub(crate) fn answer(alloc: Global, state: &State, line: ChaclLine<'_>) -> Result<Effect, LineFault>
+    ensures { Replies state.now result (answered state.now line.entry) }
+{
+    let ChaclLine {
+        task,
+        recursive,
+        files,
+    } = line;
+    let files = NamedFiles {
+        words: files.as_slice(),
+        recursive,
+    };
+    let (access, dacl) = match task {
+        Task::PutAccess(text) => return put_access(alloc, state, &files, text.as_bytes()),
+        Task::PutDefault(text) => return put_default(alloc, state, &files, text.as_bytes()),
+        Task::PutBoth(access, default) => {
+            let (access, default) = (access.as_bytes(), default.as_bytes());
+            return put_both(alloc, state, &files, access, default);
+        }
+        Task::List => return list_files(alloc, state, &files),
+        Task::RemoveAccess => (true, false),
+        Task::RemoveDefault => (false, true),
+        Task::RemoveBoth => (true, true),
+    };
+    edit_files(alloc, state, &files, Edit::Flatten { access, dacl })
+}

@@ -1,0 +1,49 @@
+//! The tool `changes`: what the script has changed so far in who may do what.
+
+ghost use Rattle.std.specs.Prelude.{◌≡◌};
+ghost use Rattle.facl.specs.Changes.{answered, read};
+ghost use Rattle.facl.specs.Replies.{Replies};
+
+use crate::answers::changes::write_changes;
+use crate::tools::effect::Effect;
+use crate::tools::rows::by_name;
+use acl_rights::{IndexedState, Judge};
+use facl_output::{LineFault, LineRows, SwitchRow, Words};
+use std::alloc::Global;
+
+/// The words of the tool.
+pub(crate) static ROW: LineRows = LineRows {
+    flags: &[by_name!("reach")],
+    options: &[],
+    operands: &[],
+};
+
+/// A line of `changes`.
+#[derive(Drop)]
+pub(crate) struct ChangesLine {
+    /// `--reach`: search on the directories above is required too.
+    pub reach: bool,
+}
+
+/// The line that words give.
+pub(crate) fn read(words: &Words) -> ChangesLine
+    ensures { result ≡ read words.now }
+{
+    ChangesLine {
+        reach: words.has(&ROW, "reach"),
+    }
+}
+
+/// What users gained and lost since the texts were loaded; with `--reach` what they gained and lost along paths.
+pub(crate) fn answer<J: Judge>(
+    alloc: Global,
+    loaded: &IndexedState<J>,
+    indexed: &IndexedState<J>,
+    line: ChangesLine,
+) -> Result<Effect, LineFault>
+    ensures { Replies indexed.now result (answered J.verdict_of loaded.now indexed.now line) }
+{
+    let verdicts = indexed.verdicts(line.reach);
+    let out = write_changes(alloc, loaded, &verdicts)?;
+    Ok(Effect::prints(out))
+}

@@ -1,0 +1,57 @@
+//! The tool chmod(1), with an octal mode.
+
+ghost use Rattle.std.specs.Prelude.{◌≡◌};
+ghost use Rattle.facl.specs.Chmod.{answered, read};
+ghost use Rattle.facl.specs.Replies.{Replies};
+
+use crate::tools::effect::{Effect, effect_of};
+use crate::tools::mode::mode_of;
+use crate::tools::operands::paths_of;
+use crate::tools::rows::{by_letter, one, some};
+use acl_rights::{Command, State};
+use facl_output::{LineFault, LineFiles, LineRows, OperandRow, SwitchRow, Words};
+use std::alloc::Global;
+
+/// The words of the tool.
+pub(crate) static ROW: LineRows = LineRows {
+    flags: &[by_letter!('R', "R")],
+    options: &[],
+    operands: &[one!("mode"), some!("file")],
+};
+
+/// A line of chmod(1).
+#[derive(Drop)]
+pub(crate) struct ChmodLine<'a> {
+    /// `-R`: with all below.
+    pub recursive: bool,
+    /// One to four octal digits.
+    pub mode: u16,
+    pub files: LineFiles<'a>,
+}
+
+/// The line that words give. `None` where they are usage.
+pub(crate) fn read(words: &Words) -> Option<ChmodLine<'_>>
+    ensures { result ≡ read words.now }
+{
+    let row = &ROW;
+    let mode = mode_of(words.operand(row, "mode").as_bytes())?;
+    let files = words.files(row, "file")?;
+    Some(ChmodLine {
+        recursive: words.has(row, "R"),
+        mode,
+        files,
+    })
+}
+
+/// Puts a mode into files.
+pub(crate) fn answer(alloc: Global, state: &State, line: ChmodLine<'_>) -> Result<Effect, LineFault>
+    ensures { Replies state.now result (answered state.now line.entry) }
+{
+    let paths = paths_of(alloc, line.files.as_slice())?;
+    let command = Command::Chmod {
+        paths,
+        mode: line.mode,
+        recursive: line.recursive,
+    };
+    effect_of(alloc, state, command)
+}

@@ -1,0 +1,92 @@
+//! The tool getfacl(1).
+
+ghost use Rattle.std.specs.Prelude.{◌≡◌};
+ghost use Rattle.facl.specs.Getfacl.{answered, effective_for, read};
+ghost use Rattle.facl.specs.Replies.{Replies};
+
+use crate::tools::effect::Effect;
+use crate::tools::operands::paths_of;
+use crate::tools::rows::{both, some};
+use acl_rights::{Effective, Selection, State};
+use facl_output::{
+    LineFault, LineFiles, LineRows, OperandRow, Options, SwitchRow, Words, append_listing,
+};
+use std::alloc::Global;
+
+/// The words of the tool.
+pub(crate) static ROW: LineRows = LineRows {
+    flags: &[
+        both!('a', "access"),
+        both!('c', "omit-header"),
+        both!('e', "all-effective"),
+        both!('E', "no-effective"),
+        both!('s', "skip-base"),
+        both!('R', "recursive"),
+        both!('n', "numeric"),
+    ],
+    options: &[],
+    operands: &[some!("file")],
+};
+
+/// A line of getfacl(1).
+#[derive(Drop)]
+pub(crate) struct GetfaclLine<'a> {
+    pub options: Options,
+    /// `-R`: with all below.
+    pub recursive: bool,
+    pub files: LineFiles<'a>,
+}
+
+/// Where effective permissions are printed: `-e` and `-E` exclude each other.
+fn effective_for(always: bool, never: bool) -> Option<Effective>
+    ensures { result ≡ effective_for always never }
+{
+    match (always, never) {
+        (true, true) => None,
+        (true, false) => Some(Effective::Always),
+        (false, true) => Some(Effective::Never),
+        (false, false) => Some(Effective::WhereMasked),
+    }
+}
+
+/// The line that words give. `None` where they are usage.
+pub(crate) fn read(words: &Words) -> Option<GetfaclLine<'_>>
+    ensures { result ≡ read words.now }
+{
+    let row = &ROW;
+    let effective = effective_for(
+        words.has(row, "all-effective"),
+        words.has(row, "no-effective"),
+    )?;
+    let files = words.files(row, "file")?;
+    Some(GetfaclLine {
+        options: Options {
+            access_only: words.has(row, "access"),
+            omit_header: words.has(row, "omit-header"),
+            effective,
+            skip_base: words.has(row, "skip-base"),
+            numeric: words.has(row, "numeric"),
+        },
+        recursive: words.has(row, "recursive"),
+        files,
+    })
+}
+
+/// Lists files.
+pub(crate) fn answer(
+    alloc: Global,
+    state: &State,
+    line: GetfaclLine<'_>,
+) -> Result<Effect, LineFault>
+    ensures { Replies state.now result (answered state.now line.entry) }
+{
+    let paths = paths_of(alloc, line.files.as_slice())?;
+    let selection = Selection {
+        operands: &paths,
+        recursive: line.recursive,
+    };
+    let files = state.tree().files(alloc, &selection)?;
+    let mut out = Vec::new(alloc);
+    append_listing(&mut out, state.people(), &line.options, &files)?;
+    Ok(Effect::prints(out))
+}

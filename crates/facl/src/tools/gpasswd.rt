@@ -1,0 +1,81 @@
+//! The tool gpasswd(1): a user is added to a group, or removed from it.
+
+ghost use Rattle.std.specs.Prelude.{◌≡◌};
+ghost use Rattle.facl.specs.Gpasswd.{answered, line_of, read};
+ghost use Rattle.facl.specs.Replies.{Replies};
+
+use crate::tools::effect::{Effect, effect_of};
+use crate::tools::operands::name_meant;
+use crate::tools::rows::{by_letter, one};
+use acl_rights::{Command, Membership, State};
+use facl_output::{LineFault, LineRows, LineWord, OperandRow, SwitchRow, Words};
+use std::alloc::Global;
+
+/// The words of the tool.
+pub(crate) static ROW: LineRows = LineRows {
+    flags: &[],
+    options: &[by_letter!('a', "a"), by_letter!('d', "d")],
+    operands: &[one!("group")],
+};
+
+/// A line of gpasswd(1).
+#[derive(Drop)]
+pub(crate) struct GpasswdLine<'a> {
+    pub change: Membership,
+    /// The user who is added or removed.
+    pub user: LineWord<'a>,
+    pub group: LineWord<'a>,
+}
+
+/// The line of a user who is added, or of one who is removed: one of the two is given.
+fn line_of<'a>(
+    added: Option<LineWord<'a>>,
+    removed: Option<LineWord<'a>>,
+    group: LineWord<'a>,
+) -> Option<GpasswdLine<'a>>
+    ensures { result ≡ line_of added.entry removed.entry group.entry }
+{
+    match (added, removed) {
+        (Some(user), None) => Some(GpasswdLine {
+            change: Membership::Add,
+            user,
+            group,
+        }),
+        (None, Some(user)) => Some(GpasswdLine {
+            change: Membership::Remove,
+            user,
+            group,
+        }),
+        (Some(_), Some(_)) | (None, None) => None,
+    }
+}
+
+/// The line that words give. `None` where they are usage.
+pub(crate) fn read(words: &Words) -> Option<GpasswdLine<'_>>
+    ensures { result ≡ read words.now }
+{
+    let row = &ROW;
+    line_of(
+        words.value(row, "a"),
+        words.value(row, "d"),
+        words.operand(row, "group"),
+    )
+}
+
+/// Adds a user to a group, or removes one from it.
+pub(crate) fn answer(
+    alloc: Global,
+    state: &State,
+    line: GpasswdLine<'_>,
+) -> Result<Effect, LineFault>
+    ensures { Replies state.now result (answered state.now line.entry) }
+{
+    let user = name_meant(alloc, &line.user)?;
+    let group = name_meant(alloc, &line.group)?;
+    let command = Command::Gpasswd {
+        user,
+        group,
+        change: line.change,
+    };
+    effect_of(alloc, state, command)
+}

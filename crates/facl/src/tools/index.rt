@@ -1,0 +1,28 @@
+//! The tool `index`: what each user may do with each file.
+
+ghost use Rattle.facl.specs.Index.{answered};
+ghost use Rattle.facl.specs.Replies.{Replies};
+
+use crate::answers::index::write_index;
+use crate::tools::effect::Effect;
+use acl_rights::{IndexedState, Judge};
+use facl_output::{LineFault, LineRows};
+use std::alloc::Global;
+
+/// The tool takes no words.
+pub(crate) static ROW: LineRows = LineRows {
+    flags: &[],
+    options: &[],
+    operands: &[],
+};
+
+/// What each user may do with each file.
+pub(crate) fn answer<J: Judge>(
+    alloc: Global,
+    indexed: &IndexedState<J>,
+) -> Result<Effect, LineFault>
+    ensures { Replies indexed.now result (answered J.verdict_of indexed.now) }
+{
+    let out = write_index(alloc, indexed)?;
+    Ok(Effect::prints(out))
+}

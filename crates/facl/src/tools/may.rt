@@ -1,0 +1,90 @@
+//! The tool `may`: the files with which a user may do something.
+
+ghost use Rattle.std.specs.Prelude.{◌≡◌, IfOk, option_map};
+ghost use Rattle.facl.specs.May.{answered, may_of, may_text_of, read};
+ghost use Rattle.facl.specs.Replies.{Gives, Replies};
+
+use crate::answers::may::write_may;
+use crate::tools::effect::Effect;
+use crate::tools::operands::name_meant;
+use crate::tools::rows::{by_name, one};
+use acl_rights::{IndexedState, Judge, Name, Perm, TreeFault, Verdicts, read_perms};
+use facl_output::{LineFault, LineRows, LineWord, OperandRow, SwitchRow, Words};
+use std::alloc::{AllocError, Global};
+
+/// The words of the tool.
+pub(crate) static ROW: LineRows = LineRows {
+    flags: &[by_name!("reach")],
+    options: &[],
+    operands: &[one!("user"), one!("perms")],
+};
+
+/// A line of `may`.
+#[derive(Drop)]
+pub(crate) struct MayLine<'a> {
+    /// `--reach`: search on the directories above is required too.
+    pub reach: bool,
+    pub user: LineWord<'a>,
+    /// The permissions in question.
+    pub request: Perm,
+}
+
+/// The line that words give. `None` where they are usage.
+pub(crate) fn read(words: &Words) -> Option<MayLine<'_>>
+    ensures { result ≡ read words.now }
+{
+    let row = &ROW;
+    let request = read_perms(words.operand(row, "perms").as_bytes())?;
+    Some(MayLine {
+        reach: words.has(row, "reach"),
+        user: words.operand(row, "user"),
+        request,
+    })
+}
+
+/// The files on which a request is granted to the user of a name, if there is one.
+fn may_text_of<J: Judge>(
+    alloc: Global,
+    verdicts: &Verdicts<'_, J>,
+    request: Perm,
+    name: &Name,
+) -> Result<Option<Vec<u8>>, AllocError>
+    ensures { IfOk result (λ text. option_map (λ out. out.items) text
+        ≡ may_text_of J.verdict_of verdicts.now.along verdicts.now.state.now request name.now) }
+{
+    match verdicts.state.state().people().find_user(name.as_bytes()) {
+        Some(user) => write_may(alloc, verdicts, user, request),
+        None => Ok(None),
+    }
+}
+
+/// The files on which a request is granted to the user that a word means.
+fn may_of<J: Judge>(
+    alloc: Global,
+    verdicts: &Verdicts<'_, J>,
+    word: &LineWord<'_>,
+    request: Perm,
+) -> Result<Vec<u8>, LineFault>
+    ensures { Gives (λ out. out.items) result
+        (may_of J.verdict_of verdicts.now.along verdicts.now.state.now word.now request) }
+{
+    let name = name_meant(alloc, word)?;
+    match may_text_of(alloc, verdicts, request, &name)? {
+        Some(out) => Ok(out),
+        None => Err(LineFault::Tree(TreeFault::NoSuchUser { name })),
+    }
+}
+
+/// The files with which a user may do something; with `--reach` only those whose recorded directories above the user
+/// can search.
+pub(crate) fn answer<J: Judge>(
+    alloc: Global,
+    indexed: &IndexedState<J>,
+    line: MayLine<'_>,
+) -> Result<Effect, LineFault>
+    ensures { Replies indexed.now result (answered J.verdict_of indexed.now line.entry) }
+{
+    let verdicts = indexed.verdicts(line.reach);
+    let out = may_of(alloc, &verdicts, &line.user, line.request)?;
+    Ok(Effect::prints(out))
+}

@@ -1,0 +1,51 @@
+//! The tool rm(1).
+
+ghost use Rattle.std.specs.Prelude.{◌≡◌};
+ghost use Rattle.facl.specs.Replies.{Replies};
+ghost use Rattle.facl.specs.Rm.{answered, read};
+
+use crate::tools::effect::{Effect, effect_of};
+use crate::tools::operands::paths_of;
+use crate::tools::rows::{by_letter, some};
+use acl_rights::{Command, State};
+use facl_output::{LineFault, LineFiles, LineRows, OperandRow, SwitchRow, Words};
+use std::alloc::Global;
+
+/// The words of the tool.
+pub(crate) static ROW: LineRows = LineRows {
+    flags: &[by_letter!('r', "r")],
+    options: &[],
+    operands: &[some!("file")],
+};
+
+/// A line of rm(1).
+#[derive(Drop)]
+pub(crate) struct RmLine<'a> {
+    /// `-r`: with all below.
+    pub recursive: bool,
+    pub files: LineFiles<'a>,
+}
+
+/// The line that words give. `None` where they are usage.
+pub(crate) fn read(words: &Words) -> Option<RmLine<'_>>
+    ensures { result ≡ read words.now }
+{
+    let row = &ROW;
+    let files = words.files(row, "file")?;
+    Some(RmLine {
+        recursive: words.has(row, "r"),
+        files,
+    })
+}
+
+/// Removes files.
+pub(crate) fn answer(alloc: Global, state: &State, line: RmLine<'_>) -> Result<Effect, LineFault>
+    ensures { Replies state.now result (answered state.now line.entry) }
+{
+    let paths = paths_of(alloc, line.files.as_slice())?;
+    let command = Command::Rm {
+        paths,
+        recursive: line.recursive,
+    };
+    effect_of(alloc, state, command)
+}

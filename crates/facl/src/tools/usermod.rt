@@ -1,0 +1,52 @@
+//! The tool usermod(8): a user gets another primary group.
+
+ghost use Rattle.std.specs.Prelude.{◌≡◌};
+ghost use Rattle.facl.specs.Replies.{Replies};
+ghost use Rattle.facl.specs.Usermod.{answered, read};
+
+use crate::tools::effect::{Effect, effect_of};
+use crate::tools::operands::name_meant;
+use crate::tools::rows::{by_letter, one};
+use acl_rights::{Command, State};
+use facl_output::{LineFault, LineRows, LineWord, OperandRow, SwitchRow, Words};
+use std::alloc::Global;
+
+/// The words of the tool.
+pub(crate) static ROW: LineRows = LineRows {
+    flags: &[],
+    options: &[by_letter!('g', "g")],
+    operands: &[one!("user")],
+};
+
+/// A line of usermod(8).
+#[derive(Drop)]
+pub(crate) struct UsermodLine<'a> {
+    pub user: LineWord<'a>,
+    /// `-g`: the primary group.
+    pub group: LineWord<'a>,
+}
+
+/// The line that words give. `None` where they are usage.
+pub(crate) fn read(words: &Words) -> Option<UsermodLine<'_>>
+    ensures { result ≡ read words.now }
+{
+    let row = &ROW;
+    let group = words.value(row, "g")?;
+    Some(UsermodLine {
+        user: words.operand(row, "user"),
+        group,
+    })
+}
+
+/// Makes a group the primary group of a user.
+pub(crate) fn answer(
+    alloc: Global,
+    state: &State,
+    line: UsermodLine<'_>,
+) -> Result<Effect, LineFault>
+    ensures { Replies state.now result (answered state.now line.entry) }
+{
+    let user = name_meant(alloc, &line.user)?;
+    let group = name_meant(alloc, &line.group)?;
+    effect_of(alloc, state, Command::Usermod { user, group })
+}

@@ -1,0 +1,88 @@
+//! The tool `who`: the users who may do something with a file.
+
+ghost use Rattle.std.specs.Prelude.{◌≡◌};
+ghost use Rattle.facl.specs.Replies.{Gives, Replies};
+ghost use Rattle.facl.specs.Who.{answered, read, who_at, who_of};
+
+use crate::answers::who::write_who;
+use crate::tools::effect::Effect;
+use crate::tools::operands::path_at;
+use crate::tools::rows::{by_name, one};
+use acl_rights::{IndexedState, Judge, Path, Perm, TreeFault, Verdicts, read_perms};
+use facl_output::{LineFault, LineRows, LineWord, OperandRow, SwitchRow, Words};
+use std::alloc::Global;
+
+/// The words of the tool.
+pub(crate) static ROW: LineRows = LineRows {
+    flags: &[by_name!("reach")],
+    options: &[],
+    operands: &[one!("perms"), one!("file")],
+};
+
+/// A line of `who`.
+#[derive(Drop)]
+pub(crate) struct WhoLine<'a> {
+    /// `--reach`: search on the directories above is required too.
+    pub reach: bool,
+    /// The permissions in question.
+    pub request: Perm,
+    pub file: LineWord<'a>,
+}
+
+/// The line that words give. `None` where they are usage.
+pub(crate) fn read(words: &Words) -> Option<WhoLine<'_>>
+    ensures { result ≡ read words.now }
+{
+    let row = &ROW;
+    let request = read_perms(words.operand(row, "perms").as_bytes())?;
+    let file = words.file(row, "file")?;
+    Some(WhoLine {
+        reach: words.has(row, "reach"),
+        request,
+        file,
+    })
+}
+
+/// The users who are granted a request on the file of a path.
+fn who_at<J: Judge>(
+    alloc: Global,
+    verdicts: &Verdicts<'_, J>,
+    request: Perm,
+    path: Path,
+) -> Result<Vec<u8>, LineFault>
+    ensures { Gives (λ out. out.items) result
+        (who_at J.verdict_of verdicts.now.along verdicts.now.state.now request path) }
+{
+    match write_who(alloc, verdicts, &path, request)? {
+        Some(out) => Ok(out),
+        None => Err(LineFault::Tree(TreeFault::NoSuchFile { path })),
+    }
+}
+
+/// The users who are granted a request on the file that a word means.
+fn who_of<J: Judge>(
+    alloc: Global,
+    verdicts: &Verdicts<'_, J>,
+    word: &LineWord<'_>,
+    request: Perm,
+) -> Result<Vec<u8>, LineFault>
+    ensures { Gives (λ out. out.items) result
+        (who_of J.verdict_of verdicts.now.along verdicts.now.state.now word.now request) }
+{
+    let path = path_at(alloc, 1, word.as_bytes())?;
+    who_at(alloc, verdicts, request, path)
+}
+
+/// The users who may do something with a file; with `--reach` only those who can search each recorded directory above
+/// it.
+pub(crate) fn answer<J: Judge>(
+    alloc: Global,
+    indexed: &IndexedState<J>,
+    line: WhoLine<'_>,
+) -> Result<Effect, LineFault>
+    ensures { Replies indexed.now result (answered J.verdict_of indexed.now line.entry) }
+{
+    let verdicts = indexed.verdicts(line.reach);
+    let out = who_of(alloc, &verdicts, &line.file, line.request)?;
+    Ok(Effect::prints(out))
+}

@@ -1,0 +1,92 @@
+//! The tool `why`: the entries that decide on a user.
+
+ghost use Rattle.std.specs.Prelude.{◌≡◌};
+ghost use Rattle.std.specs.Option.{option_copied};
+ghost use Rattle.facl.specs.Replies.{Gives, Replies};
+ghost use Rattle.facl.specs.Why.{answered, person_named, read, why_at, why_of};
+
+use crate::answers::why::{files_asked, write_why};
+use crate::tools::effect::Effect;
+use crate::tools::operands::{name_meant, paths_of};
+use crate::tools::rows::{by_name, one, some};
+use acl_rights::{Name, Paths, People, State, Subject, TreeFault};
+use facl_output::{LineFault, LineFiles, LineRows, LineWord, OperandRow, SwitchRow, Words};
+use std::alloc::Global;
+
+/// The words of the tool.
+pub(crate) static ROW: LineRows = LineRows {
+    flags: &[by_name!("reach")],
+    options: &[],
+    operands: &[one!("user"), some!("file")],
+};
+
+/// A line of `why`.
+#[derive(Drop)]
+pub(crate) struct WhyLine<'a> {
+    /// `--reach`: the directories above are printed too.
+    pub reach: bool,
+    pub user: LineWord<'a>,
+    pub files: LineFiles<'a>,
+}
+
+/// The line that words give. `None` where they are usage.
+pub(crate) fn read(words: &Words) -> Option<WhyLine<'_>>
+    ensures { result ≡ read words.now }
+{
+    let row = &ROW;
+    let files = words.files(row, "file")?;
+    Some(WhyLine {
+        reach: words.has(row, "reach"),
+        user: words.operand(row, "user"),
+        files,
+    })
+}
+
+/// The user of a name, as the check sees one, if there is one.
+fn subject_named<'a>(people: &'a People, name: &Name) -> Option<&'a Subject>
+    ensures { option_copied result ≡ person_named people.now name.now }
+{
+    let user = people.find_user(name.as_bytes())?;
+    people.subject_at(user)
+}
+
+/// What decides on a user on the files of these paths.
+fn why_at(
+    alloc: Global,
+    state: &State,
+    along: bool,
+    paths: Paths,
+    subject: &Subject,
+) -> Result<Vec<u8>, LineFault>
+    ensures { Gives (λ out. out.items) result (why_at state.now along paths subject.now) }
+{
+    let files = files_asked(alloc, state.tree(), paths, along)?;
+    let out = write_why(alloc, state.people(), subject, &files)?;
+    Ok(out)
+}
+
+/// What decides on the user that a word means, on the files of these paths.
+fn why_of(
+    alloc: Global,
+    state: &State,
+    along: bool,
+    word: &LineWord<'_>,
+    paths: Paths,
+) -> Result<Vec<u8>, LineFault>
+    ensures { Gives (λ out. out.items) result (why_of state.now along word.now paths) }
+{
+    let name = name_meant(alloc, word)?;
+    match subject_named(state.people(), &name) {
+        Some(subject) => why_at(alloc, state, along, paths, subject),
+        None => Err(LineFault::Tree(TreeFault::NoSuchUser { name })),
+    }
+}
+
+/// The entries that decide on a user, on files; with `--reach` on the recorded directories above them too.
+pub(crate) fn answer(alloc: Global, state: &State, line: WhyLine<'_>) -> Result<Effect, LineFault>
+    ensures { Replies state.now result (answered state.now line.entry) }
+{
+    let paths = paths_of(alloc, line.files.as_slice())?;
+    let out = why_of(alloc, state, line.reach, &line.user, paths)?;
+    Ok(Effect::prints(out))
+}

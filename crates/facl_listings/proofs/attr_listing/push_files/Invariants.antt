@@ -1,6 +1,0 @@
-use Rattle.std.proofs.Common.{◌≡◌, ◌++◌, take}
-use Rattle.facl_listings.specs.AttrListings.{attr_listing}
-use Rattle.facl_listings.proofs.attr_listing.push_files.Given as goal
-
-abbrev pub invariant-loop-file : goal.invariant-loop-file
-invariant-loop-file l = l.text.items ≡ l.initial.text.items ++ attr_listing (take l.file-index l.files)

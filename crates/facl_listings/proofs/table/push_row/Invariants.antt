@@ -1,6 +1,0 @@
-use Rattle.std.proofs.Common.{◌≡◌, ◌++◌, drop, map}
-use Rattle.facl_listings.specs.Inner.{row_lines}
-use Rattle.facl_listings.proofs.table.push_row.Given as goal
-
-abbrev pub invariant-loop-name : goal.invariant-loop-name
-invariant-loop-name l = l.text.items ++ row_lines l.path (map (λ n. n.items) (drop l.name-index l.names)) l.rest ≡ l.initial.text.items ++ row_lines l.path (map (λ n. n.items) l.names) l.row

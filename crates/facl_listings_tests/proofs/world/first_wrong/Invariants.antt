@@ -1,6 +1,0 @@
-use Rattle.acl_rights.specs.acl_entry.Check.{rights}
-use Rattle.acl_rights.specs.Tables.{IsWhole}
-use Rattle.facl_listings_tests.proofs.world.first_wrong.Given as goal
-
-abbrev pub invariant-loop-at : goal.invariant-loop-at
-invariant-loop-at l = IsWhole rights l.world.state l.world.index

@@ -1,0 +1,37 @@
+-- The lists of a file, put into this file, leave it as it is.
+use Rattle.std.proofs.Common.{◌≡◌, Bool, Option, Some, None, Ok, refl, sym, ap, subst, ◌∙◌}
+use Rattle.acl_tree.specs.acl_syntax.InTurn.{◌>>=◌}
+use Rattle.acl_tree.specs.acl_edit.Edits.{allowed, edit, put}
+use Rattle.acl_tree.specs.acl_edit.Nodes.{IsSound, with_lists}
+use Rattle.acl_tree.specs.acl_edit.declared.edit.Edit.TheVariants.{Put}
+use Rattle.acl_tree.specs.acl_edit.declared.node.Kind.{Kind}
+use Rattle.acl_tree.specs.acl_edit.declared.node.Kind.TheVariants.{Plain, Directory}
+use Rattle.acl_tree.specs.acl_edit.declared.node.Node.{Node}
+use Rattle.acl_tree.specs.acl_entry.Lists.{KeyMap, or_else}
+
+own_list : (k : Kind) (o : Option KeyMap) (in_recursion : Bool) → (k ≡ Plain → o ≡ None) → allowed k in_recursion o ≡ Ok o
+own_list Plain o in_recursion h = subst (λ z. allowed Plain in_recursion z ≡ Ok z) (sym (h refl)) refl
+own_list Directory o in_recursion h = refl
+
+either : (o : Option KeyMap) → or_else o o ≡ o
+either None = refl
+either (Some d) = refl
+
+-- an access list alone
+pub access_put : (n : Node) (in_recursion : Bool) → edit n (Put (Some n.label.acl) None) in_recursion ≡ Ok n
+unfolding put
+access_put n in_recursion = ap (λ r. r >>= λ d. Ok (with_lists n n.label.acl (or_else d n.dacl))) (own_list n.kind None in_recursion (λ plain. refl))
+
+-- a default list alone
+pub default_put : (n : Node) → IsSound n → (dacl : KeyMap) → n.dacl ≡ Some dacl → (in_recursion : Bool) → edit n (Put None (Some dacl)) in_recursion ≡ Ok n
+unfolding put
+default_put n sound dacl is in_recursion =
+    ap (λ r. r >>= λ d. Ok (with_lists n n.label.acl (or_else d n.dacl))) (own_list n.kind (Some dacl) in_recursion (λ plain. sym is ∙ sound plain))
+    ∙ ap (λ d. Ok (with_lists n n.label.acl d)) (sym is)
+
+-- both lists
+pub both_put : (n : Node) → IsSound n → (in_recursion : Bool) → edit n (Put (Some n.label.acl) n.dacl) in_recursion ≡ Ok n
+unfolding put
+both_put n sound in_recursion =
+    ap (λ r. r >>= λ d. Ok (with_lists n n.label.acl (or_else d n.dacl))) (own_list n.kind n.dacl in_recursion sound)
+    ∙ ap (λ d. Ok (with_lists n n.label.acl d)) (either n.dacl)

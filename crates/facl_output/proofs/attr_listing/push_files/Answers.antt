@@ -1,0 +1,12 @@
+use Rattle.facl_output.specs.AttrListings.{attr_text}
+use Rattle.facl_output.proofs.Loops.{item_added, all_added}
+use Rattle.facl_output.proofs.attr_listing.push_files.Goals as goal
+
+pub loop-file-preserved : goal.loop-file-preserved
+loop-file-preserved c =
+    let file = c.file-item.result in
+    item_added attr_text c.args.files.now c.args.text.now.items c.loop-file.file-index file file c.loop-file.text.items c.push_file.new.text.items c.loop-file-test.true c.file-item.is
+    c.loop-file.invariant c.in_ok-push_file.ensures
+
+pub returns : goal.returns
+returns c = all_added attr_text c.args.files.now c.args.text.now.items c.loop-file.file-index c.loop-file.text.items c.loop-file-test.false c.loop-file.invariant

@@ -1,0 +1,23 @@
+use Rattle.std.proofs.Common.{◌≡◌, ◌++◌, ◌∷◌, [], codes, subst}
+use Rattle.acl_tree.specs.acl_edit.declared.node.Node.{Node}
+use Rattle.acl_tree.specs.acl_entry.Lists.{entries}
+use Rattle.acl_tree.specs.acl_syntax.Writing.{short}
+use Rattle.facl_output.specs.Listings.{path_shown}
+use Rattle.facl_output.specs.ChaclListings.{default_part}
+use Rattle.facl_output.proofs.Parts.{two_parts, three_parts}
+use Rattle.facl_output.proofs.chacl_listing.push_line.Goals as goal
+
+pub returns : goal.returns
+returns g c =
+    let naming = g.N.Names.naming c.args.names.now in
+    let start = c.args.text.now.items in
+    let path = path_shown c.args.file.now in
+    let pathed = c.push_path_shown.new.text.items in
+    let opened = c.extend_from_slice.new.self.items in
+    let new = c.extend_from_slice-2.new.self.items in
+    let lists = λ (n : Node). short naming (entries n.label.acl) ++ (default_part naming n.dacl ++ 93 ∷ 10 ∷ []) in
+    let n = c.node-node.result.now in
+    let of_lists = three_parts opened (short naming (entries n.label.acl)) (default_part naming n.dacl) (93 ∷ 10 ∷ []) c.append_short.new.text.items c.push_default.new.text.items new
+    c.in_ok-append_short.ensures c.in_ok-push_default.ensures c.in_ok-extend_from_slice-2.ensures.items in
+    let of_node = two_parts start path (codes " [" ++ lists n) pathed new c.in_ok-push_path_shown.ensures (two_parts pathed (codes " [") (lists n) opened new c.in_ok-extend_from_slice.ensures.items of_lists) in
+    subst (λ (n : Node). new ≡ start ++ (path ++ (codes " [" ++ lists n))) c.node-node.ensures of_node

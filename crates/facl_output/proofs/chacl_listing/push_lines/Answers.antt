@@ -1,0 +1,13 @@
+use Rattle.facl_output.specs.ChaclListings.{chacl_line}
+use Rattle.facl_output.proofs.Loops.{item_added, all_added}
+use Rattle.facl_output.proofs.chacl_listing.push_lines.Goals as goal
+
+pub loop-file-preserved : goal.loop-file-preserved
+loop-file-preserved g c =
+    let file = c.file-item.result in
+    item_added (chacl_line (g.N.Names.naming c.args.names.now)) c.args.files.now c.args.text.now.items c.loop-file.file-index file file c.loop-file.text.items c.push_line.new.text.items
+    c.loop-file-test.true c.file-item.is c.loop-file.invariant c.in_ok-push_line.ensures
+
+pub returns : goal.returns
+returns g c =
+    all_added (chacl_line (g.N.Names.naming c.args.names.now)) c.args.files.now c.args.text.now.items c.loop-file.file-index c.loop-file.text.items c.loop-file-test.false c.loop-file.invariant

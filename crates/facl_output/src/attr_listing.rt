@@ -1,0 +1,104 @@
+//! The listing of `attr`: lists as extended attributes.
+
+ghost use Rattle.std.specs.Prelude.{◌≡◌, ◌++◌, ◌∷◌, [], IfOk, OnOk, codes, string_bytes};
+ghost use Rattle.hex.specs.Hex.{encode_lower};
+ghost use Rattle.acl_attr.specs.Attr.{attr_bytes};
+ghost use Rattle.acl_tree.specs.acl_dump.Writing.{file_text};
+ghost use Rattle.facl_output.specs.Listings.{has_slash};
+ghost use Rattle.facl_output.specs.AttrListings.{attr_line, default_line, attr_lines, attr_text, attr_listing};
+
+use crate::listing::has_slash;
+use acl_attr::encode_attr;
+use acl_tree::{Acl, Found, Header, NoNames, Node, append_header};
+use std::alloc::{AllocError, Global};
+
+/// The bytes of a list as hex digits.
+fn digits(alloc: Global, acl: &Acl) -> Result<String, AllocError>
+    ensures { IfOk result (λ text. string_bytes text ≡ encode_lower (attr_bytes acl.now)) }
+{
+    let bytes = encode_attr(alloc, acl)?;
+    hex::encode(alloc, bytes.as_slice())
+}
+
+/// Adds the line of an attribute whose value has these digits.
+fn push_attr(text: &mut Vec<u8>, name: &[u8], digits: &[u8]) -> Result<(), AllocError>
+    ensures { OnOk result (text.new.items ≡ text.old.items ++ (name.now ++ (codes "=0x" ++ (digits.now ++ 10 ∷ [])))) }
+{
+    text.extend_from_slice(name)?;
+    text.extend_from_slice(b"=0x")?;
+    text.extend_from_slice(digits)?;
+    text.push(b'\n')?;
+    Ok(())
+}
+
+/// Adds the line of one attribute.
+fn push_line(alloc: Global, text: &mut Vec<u8>, name: &[u8], acl: &Acl) -> Result<(), AllocError>
+    ensures { OnOk result (text.new.items ≡ text.old.items ++ attr_line name.now acl.now) }
+{
+    let digits = digits(alloc, acl)?;
+    push_attr(text, name, digits.as_bytes())
+}
+
+/// Adds the line of the default list, if there is one.
+fn push_default(alloc: Global, text: &mut Vec<u8>, dacl: &Option<Acl>) -> Result<(), AllocError>
+    ensures { OnOk result (text.new.items ≡ text.old.items ++ default_line dacl.now) }
+{
+    match dacl {
+        Some(dacl) => push_line(alloc, text, b"system.posix_acl_default", dacl),
+        None => Ok(()),
+    }
+}
+
+/// Adds the lines of a file's attributes.
+fn push_attributes(alloc: Global, text: &mut Vec<u8>, node: &Node) -> Result<(), AllocError>
+    ensures { OnOk result (text.new.items ≡ text.old.items ++ attr_lines node.now) }
+{
+    push_line(alloc, text, b"system.posix_acl_access", &node.label.acl)?;
+    push_default(alloc, text, &node.dacl)?;
+    Ok(())
+}
+
+/// Adds the line of a file's path, as a listing of getfacl(1) without a header has it. Fails only if memory runs out.
+pub fn push_path(text: &mut Vec<u8>, file: &Found) -> Result<(), AllocError>
+    ensures { OnOk result (text.new.items ≡ text.old.items ++ file_text file.now.path (has_slash file.now)) }
+{
+    let header = Header {
+        path: file.path(),
+        slash: has_slash(file),
+        owner: None,
+        group: None,
+        flags: None,
+    };
+    append_header(text, &header, &NoNames)
+}
+
+/// Adds what `attr` prints of a file.
+fn push_file(alloc: Global, text: &mut Vec<u8>, file: &Found) -> Result<(), AllocError>
+    ensures { OnOk result (text.new.items ≡ text.old.items ++ attr_text file.now) }
+{
+    push_path(text, file)?;
+    push_attributes(alloc, text, file.node())?;
+    text.push(b'\n')?;
+    Ok(())
+}
+
+/// Adds what `attr` prints of files.
+fn push_files(alloc: Global, text: &mut Vec<u8>, files: &[Found]) -> Result<(), AllocError>
+    ensures { OnOk result (text.new.items ≡ text.old.items ++ attr_listing files.now) }
+{
+    for file in files {
+        push_file(alloc, text, file)?;
+    }
+    Ok(())
+}
+
+/// What `attr` prints of these files, in their order: for each a line of its path, its access list and, where it
+/// has one, its default list as extended attributes of acl(5) in hex digits, and an empty line. Fails only if
+/// memory runs out.
+pub fn write_attributes(alloc: Global, files: &[Found]) -> Result<Vec<u8>, AllocError>
+    ensures { IfOk result (λ text. text.items ≡ attr_listing files.now) }
+{
+    let mut text = Vec::new(alloc);
+    push_files(alloc, &mut text, files)?;
+    Ok(text)
+}

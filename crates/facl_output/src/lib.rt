@@ -1,0 +1,37 @@
+//! What is printed: of files the listings of getfacl(1), of setfacl(1) with `--test`, of chacl(1) and of extended
+//! attributes; why a script's line or a whole run is refused, and the exact bytes of its message.
+#![tactic(auto)]
+
+mod again;
+mod attr_listing;
+mod chacl_listing;
+mod fault;
+mod laws;
+mod listing;
+mod message;
+mod reserved_message;
+mod run_fault;
+mod test_listing;
+
+pub use acl_attr::decode_attr;
+pub use acl_tree::{
+    EditFault, FaultKind, Id, Key, ListFault, Name, Path, Table, TextFault, TreeFault, Which,
+    read_path,
+};
+pub use attr_listing::{push_path, write_attributes};
+pub use chacl_listing::write_chacl_listing;
+pub use facl_words::{
+    Feed, Flags, HeldLine, HeldText, HeldUnit, LineFiles, LineRows, LineWord, OperandRow, Operands,
+    ScriptFault, Session, Sink, StdFeed, StdSink, SwitchRow, Values, Word, Words, WordsFault,
+    asks_for_text, is_text_word, read_args, read_by, run_session, split_words, write_whole,
+};
+pub use fault::{LineFault, RunFault, Source};
+pub use laws::{
+    attributes_are_read_again, listing_is_loaded_again, listing_is_restored_as_it_is,
+    lists_are_read_again,
+};
+pub use listing::{Options, append_listing, end_line, push_path_shown};
+pub use message::{append_message, append_warning};
+pub use reserved_message::ReservedMessage;
+pub use run_fault::append_run_fault;
+pub use test_listing::append_test_listing;

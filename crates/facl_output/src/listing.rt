@@ -1,0 +1,222 @@
+//! The listings of getfacl(1), by its options.
+
+ghost use Rattle.std.specs.Prelude.{◌≡◌, ◌++◌, ◌∷◌, []};
+ghost use Rattle.acl_tree.specs.acl_syntax.declared.fault.Which.TheVariants.{Access};
+ghost use Rattle.acl_tree.specs.acl_dump.Writing.{list_text};
+ghost use Rattle.acl_tree.specs.acl_names.Appends.{Appends, AppendsWhole};
+ghost use Rattle.facl_output.specs.Listings.{has_base_alone, is_listed, has_slash, path_shown, flags_shown, headers, default_entries, file_text, files_text, listing};
+
+use acl_tree::{
+    Effective, Found, Header, Kind, Names, NoNames, Node, Which, append_header, append_list,
+    append_path,
+};
+use std::alloc::AllocError;
+
+/// Whether a file has base entries alone, and no default list.
+fn has_base_alone(node: &Node) -> bool
+    ensures { result ≡ has_base_alone node.now }
+{
+    node.label.acl.is_minimal() && node.dacl.is_none()
+}
+
+/// Whether a file is listed: an option leaves out files that have base entries alone.
+fn is_listed(options: &Options, file: &Found) -> bool
+    ensures { result ≡ is_listed options.now file.now }
+{
+    !(options.skip_base && has_base_alone(file.node()))
+}
+
+/// Whether a final `/` shows that the file is a directory, as nothing else does.
+pub(crate) fn has_slash(file: &Found) -> bool
+    ensures { result ≡ has_slash file.now }
+{
+    let is_shown = file.path().components().is_empty()
+        || file.node().dacl.is_some()
+        || file.has_below();
+    file.node().kind == Kind::Directory && !is_shown
+}
+
+/// Adds a line feed. Fails only if memory runs out; then nothing is added.
+pub fn end_line(text: &mut Vec<u8>) -> Result<(), AllocError>
+    ensures { AppendsWhole result text.old text.new (10 ∷ []) }
+{
+    text.push(b'\n')?;
+    Ok(())
+}
+
+/// Adds the path of a file, with the final `/` of a directory that nothing else shows as one. Fails only if memory
+/// runs out.
+pub fn push_path_shown(text: &mut Vec<u8>, file: &Found) -> Result<(), AllocError>
+    ensures { Appends result text.old text.new (path_shown file.now) }
+{
+    append_path(text, file.path())?;
+    if has_slash(file) {
+        text.push(b'/')?;
+    }
+    Ok(())
+}
+
+/// The flags, where one of them is set.
+fn flags_shown(flags: [bool; 3]) -> Option<[bool; 3]>
+    ensures { result ≡ flags_shown flags }
+{
+    let [setuid, setgid, sticky] = flags;
+    if setuid || setgid || sticky {
+        Some(flags)
+    } else {
+        None
+    }
+}
+
+/// Adds the header lines of a file, unless the options leave them out.
+fn push_headers<N: Names>(
+    text: &mut Vec<u8>,
+    names: &N,
+    options: &Options,
+    file: &Found,
+) -> Result<(), AllocError>
+    ensures { Appends result text.old text.new (headers (N.naming names.now) options.now file.now) }
+{
+    if options.omit_header {
+        return Ok(());
+    }
+    let node = file.node();
+    let header = Header {
+        path: file.path(),
+        slash: has_slash(file),
+        owner: Some(node.label.owner),
+        group: Some(node.label.group),
+        flags: flags_shown(node.flags),
+    };
+    append_header(text, &header, names)
+}
+
+/// Adds the lines of the default list, as the options have it.
+fn push_default<N: Names>(
+    text: &mut Vec<u8>,
+    names: &N,
+    options: &Options,
+    node: &Node,
+) -> Result<(), AllocError>
+    ensures { Appends result text.old text.new (default_entries (N.naming names.now) options.now node.now) }
+{
+    match &node.dacl {
+        Some(dacl) if !options.access_only => {
+            append_list(text, dacl, Which::Default, options.effective, names)
+        }
+        _ => Ok(()),
+    }
+}
+
+/// Adds the lines of the default list, and an empty line.
+fn push_last<N: Names>(
+    text: &mut Vec<u8>,
+    names: &N,
+    options: &Options,
+    node: &Node,
+) -> Result<(), AllocError>
+    ensures { Appends result text.old text.new (default_entries (N.naming names.now) options.now node.now ++ 10 ∷ []) }
+{
+    push_default(text, names, options, node)?;
+    end_line(text)
+}
+
+/// Adds the lines of both lists, and an empty line.
+fn push_lists<N: Names>(
+    text: &mut Vec<u8>,
+    names: &N,
+    options: &Options,
+    node: &Node,
+) -> Result<(), AllocError>
+    ensures { Appends result text.old text.new (list_text (N.naming names.now) options.now.effective Access node.now.label.acl
+        ++ (default_entries (N.naming names.now) options.now node.now ++ 10 ∷ [])) }
+{
+    let acl = &node.label.acl;
+    append_list(text, acl, Which::Access, options.effective, names)?;
+    push_last(text, names, options, node)
+}
+
+/// Adds the record of a file.
+fn push_file<N: Names>(
+    text: &mut Vec<u8>,
+    names: &N,
+    options: &Options,
+    file: &Found,
+) -> Result<(), AllocError>
+    ensures { Appends result text.old text.new (file_text (N.naming names.now) options.now file.now) }
+{
+    push_headers(text, names, options, file)?;
+    push_lists(text, names, options, file.node())
+}
+
+/// Adds the records of the files that are listed.
+fn push_files<N: Names>(
+    text: &mut Vec<u8>,
+    names: &N,
+    options: &Options,
+    files: &[Found],
+) -> Result<(), AllocError>
+    ensures { Appends result text.old text.new (files_text (N.naming names.now) options.now files.now) }
+{
+    for file in files {
+        if is_listed(options, file) {
+            push_file(text, names, options, file)?;
+        }
+    }
+    Ok(())
+}
+
+/// Adds the listing of files.
+fn push_listing<N: Names>(
+    text: &mut Vec<u8>,
+    names: &N,
+    options: &Options,
+    files: &[Found],
+) -> Result<(), AllocError>
+    ensures { Appends result text.old text.new (listing (N.naming names.now) options.now files.now) }
+{
+    if options.numeric {
+        push_files(text, &NoNames, options, files)
+    } else {
+        push_files(text, names, options, files)
+    }
+}
+
+/// Adds what getfacl(1) prints of these files, in their order: for each its header lines, its access
+/// entries, its default entries with `default:` in front, and an empty line. The path of a directory ends
+/// in `/` where nothing else shows that it is one.
+///
+/// # Errors
+///
+/// Fails only if memory runs out; then nothing is added.
+pub fn append_listing<N: Names>(
+    text: &mut Vec<u8>,
+    names: &N,
+    options: &Options,
+    files: &[Found],
+) -> Result<(), AllocError>
+    ensures { AppendsWhole result text.old text.new (listing (N.naming names.now) options.now files.now) }
+{
+    let before = text.len();
+    if let Err(refused) = push_listing(text, names, options, files) {
+        text.truncate(before);
+        return Err(refused);
+    }
+    Ok(())
+}
+
+/// What getfacl(1) prints of its files.
+#[derive(Clone, Copy, PartialEq, Eq)]
+pub struct Options {
+    /// No default entries (`-a`).
+    pub access_only: bool,
+    /// No header lines (`-c`).
+    pub omit_header: bool,
+    /// Where effective permissions are printed: where the mask takes something from an entry, at each entry of
+    /// the group class of a list with a mask (`-e`), or nowhere (`-E`).
+    pub effective: Effective,
+    /// Leaves out the files that have the three base entries alone and no default list (`-s`).
+    pub skip_base: bool,
+    /// Ids as numbers (`-n`).
+    pub numeric: bool,
+}

@@ -1,0 +1,114 @@
+//! What setfacl(1) prints with `--test`.
+
+ghost use Rattle.std.specs.Prelude.{◌++◌, ◌∷◌, [], codes};
+ghost use Rattle.std.specs.List.{flat_map};
+ghost use Rattle.acl_tree.specs.acl_names.Appends.{Appends, AppendsWhole};
+ghost use Rattle.facl_output.specs.TestListing.{default_entry, default_entries, lists_text, file_line, test_listing};
+
+use crate::listing::{end_line, push_path_shown};
+use acl_tree::{Acl, Entry, Form, Found, Names, Node, append_entry, append_short};
+use std::alloc::AllocError;
+
+/// Adds an entry of the default list, a comma before it.
+fn push_default_entry<N: Names>(
+    text: &mut Vec<u8>,
+    names: &N,
+    entry: &Entry,
+) -> Result<(), AllocError>
+    ensures { Appends result text.old text.new (default_entry (N.naming names.now) entry.now) }
+{
+    text.extend_from_slice(b",d:")?;
+    append_entry(text, entry, Form::Short, names)
+}
+
+/// Adds entries of the default list, a comma before each.
+fn push_default_entries<N: Names>(
+    text: &mut Vec<u8>,
+    names: &N,
+    entries: &[Entry],
+) -> Result<(), AllocError>
+    ensures { Appends result text.old text.new (flat_map (default_entry (N.naming names.now)) entries.now) }
+{
+    for entry in entries {
+        push_default_entry(text, names, entry)?;
+    }
+    Ok(())
+}
+
+/// Adds the default list, if there is one.
+fn push_default<N: Names>(
+    text: &mut Vec<u8>,
+    names: &N,
+    dacl: &Option<Acl>,
+) -> Result<(), AllocError>
+    ensures { Appends result text.old text.new (default_entries (N.naming names.now) dacl.now) }
+{
+    match dacl {
+        Some(dacl) => push_default_entries(text, names, dacl.entries()),
+        None => Ok(()),
+    }
+}
+
+/// Adds a file's lists.
+fn push_lists<N: Names>(text: &mut Vec<u8>, names: &N, node: &Node) -> Result<(), AllocError>
+    ensures { Appends result text.old text.new (lists_text (N.naming names.now) node.now) }
+{
+    append_short(text, &node.label.acl, names)?;
+    push_default(text, names, &node.dacl)
+}
+
+/// Adds a file's lists and a line feed.
+fn push_lists_line<N: Names>(text: &mut Vec<u8>, names: &N, node: &Node) -> Result<(), AllocError>
+    ensures { Appends result text.old text.new (lists_text (N.naming names.now) node.now ++ 10 ∷ []) }
+{
+    push_lists(text, names, node)?;
+    end_line(text)
+}
+
+/// Adds what comes after a path.
+fn push_lists_of<N: Names>(text: &mut Vec<u8>, names: &N, node: &Node) -> Result<(), AllocError>
+    ensures { Appends result text.old text.new (codes ": " ++ (lists_text (N.naming names.now) node.now ++ 10 ∷ [])) }
+{
+    text.extend_from_slice(b": ")?;
+    push_lists_line(text, names, node)
+}
+
+/// Adds the line of a file.
+fn push_file<N: Names>(text: &mut Vec<u8>, names: &N, file: &Found) -> Result<(), AllocError>
+    ensures { Appends result text.old text.new (file_line (N.naming names.now) file.now) }
+{
+    push_path_shown(text, file)?;
+    push_lists_of(text, names, file.node())
+}
+
+/// Adds the lines of files.
+fn push_files<N: Names>(text: &mut Vec<u8>, names: &N, files: &[Found]) -> Result<(), AllocError>
+    ensures { Appends result text.old text.new (test_listing (N.naming names.now) files.now) }
+{
+    for file in files {
+        push_file(text, names, file)?;
+    }
+    Ok(())
+}
+
+/// Adds what setfacl(1) prints with `--test` of these files, in their order: a line for each, with its path, its
+/// access list in the short form, and its default entries with `d:` before each. The path of a directory ends in
+/// `/` where nothing else shows that it is one.
+///
+/// # Errors
+///
+/// Fails only if memory runs out; then nothing is added.
+pub fn append_test_listing<N: Names>(
+    text: &mut Vec<u8>,
+    names: &N,
+    files: &[Found],
+) -> Result<(), AllocError>
+    ensures { AppendsWhole result text.old text.new (test_listing (N.naming names.now) files.now) }
+{
+    let before = text.len();
+    if let Err(refused) = push_files(text, names, files) {
+        text.truncate(before);
+        return Err(refused);
+    }
+    Ok(())
+}
