@@ -1,6 +1,6 @@
 //! Writing lists (acl(5), "ACL text forms"; getfacl(1)).
 
-ghost use Rattle.std.specs.Prelude.{◌≡◌, ◌++◌, ◌∷◌, [], IfOk, OnOk, Ok, true};
+ghost use Rattle.std.specs.Prelude.{◌≡◌, ◌++◌, ◌∷◌, [], IfOk, Ok, true};
 ghost use Rattle.std.specs.List.{flat_map};
 ghost use Rattle.std.specs.Option.{option_copied};
 ghost use Rattle.acl_names.specs.Appends.{Appends, AppendsWhole};
@@ -113,7 +113,7 @@ pub fn write_long<N: Names>(alloc: Global, acl: &Acl, names: &N) -> Result<Vec<u
 
 /// Adds entries, a line each.
 fn push_long<N: Names>(text: &mut Vec<u8>, entries: &[Entry], names: &N) -> Result<(), AllocError>
-    ensures { OnOk result (text.new.items ≡ text.old.items ++ long (N.naming names.now) entries.now) }
+    ensures { Appends result text.old text.new (long (N.naming names.now) entries.now) }
 {
     for entry in entries {
         append_entry(text, entry, Form::Long, names)?;

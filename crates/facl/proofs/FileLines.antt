@@ -25,6 +25,7 @@ use Rattle.acl_rights.specs.Tables.{Verdict}
 use Rattle.facl.specs.Answers.{all_files, file_line, may_text}
 use Rattle.acl_rights.specs.Verdicts.{granted, paths_granted}
 use Rattle.facl.specs.Inner.{is_first, in_step}
+use Rattle.facl_output.proofs.Parts.{begins_itself, begins_more}
 
 -- where no file is left
 pub no_file_left : (paths : List PathOf) → in_step paths [] ≡ []
@@ -59,12 +60,14 @@ pub record IsInStep (t : Files) (paths : List PathOf) (start : List ℕ) (rest :
   pub seen : Files
   pub whole : t ≡ seen ++ rest
   pub lines : text ++ flat_map file_line (in_step left (found_in t rest)) ≡ start ++ flat_map file_line (in_step paths (found_in t t))
+  pub begins : take (length start) text ≡ start
 
 pub step_begins : (t rest : Files) (paths : List PathOf) (start : List ℕ) → rest ≡ t → IsInStep t paths start rest paths start
 step_begins t rest paths start is = record {
   seen = [];
   whole = sym is;
   lines = ap (λ fs. start ++ flat_map file_line (in_step paths (found_in t fs))) is;
+  begins = begins_itself start;
 }
 
 module _ (t rest more : Files) (paths left : List PathOf) (start text : List ℕ) (e : PathOf × Node) (order : IsInOrder t) (is : rest ≡ e ∷ more) (at : IsInStep t paths start rest left text) where
@@ -90,6 +93,7 @@ module _ (t rest more : Files) (paths left : List PathOf) (start text : List ℕ
         ∙ ap (λ fs. text ++ flat_map file_line fs) (sym (taken (found_file (holds_below t e.0) e) (found_in t more) left first))
         ∙ ap (λ fs. text ++ flat_map file_line (in_step left (found_in t fs))) (sym is)
         ∙ at.lines;
+    begins = begins_more start text (file_line file) new_text at.begins pushed;
   }
 
   -- one file more, which is none of the paths
@@ -101,6 +105,7 @@ module _ (t rest more : Files) (paths left : List PathOf) (start text : List ℕ
         ap (λ fs. text ++ flat_map file_line fs) (sym (first_left (found_file (holds_below t e.0) e) (found_in t more) left other))
         ∙ ap (λ fs. text ++ flat_map file_line (in_step left (found_in t fs))) (sym is)
         ∙ at.lines;
+    begins = at.begins;
   }
 
 pub step_ends : (t rest : Files) (paths left : List PathOf) (start text : List ℕ) → rest ≡ [] → IsInStep t paths start rest left text → text ≡ start ++ flat_map file_line (in_step paths (found_in t t))

@@ -1,5 +1,5 @@
 -- Two walks side by side: the lines of the first path of both, and then those of what is left of both.
-use Rattle.std.proofs.Common.{◌≡◌, ℕ, ◌+◌, ◌<◌, arith, cond, List, [], ◌∷◌, ◌++◌, length, Some, None, Ordering, Less, Equal, Greater, append-nil, append_assoc, refl, sym, ap, subst, ◌∙◌}
+use Rattle.std.proofs.Common.{◌≡◌, ℕ, ◌+◌, ◌<◌, arith, cond, List, [], ◌∷◌, ◌++◌, length, Some, None, Ordering, Less, Equal, Greater, append-nil, append_assoc, refl, sym, ap, subst, ◌∙◌, take}
 use Rattle.std.specs.List.{flat_map}
 use Rattle.std.specs.Option.{option_map_or}
 use Rattle.std.specs.Ordering.{is_eq}
@@ -16,6 +16,7 @@ use Rattle.acl_rights.proofs.of_path_map.Merges.{later_after, put_at_end, put_be
 use Rattle.acl_rights.proofs.of_path_map.Places.{above, below}
 use Rattle.facl.specs.declared.answers.placed_users.PlacedUser.{PlacedUser}
 use Rattle.facl.specs.Inner.{Walked, lines_between, row_in, lines_of_both, next_order, next_lines, left_before, left_after}
+use Rattle.facl_output.proofs.Parts.{begins_itself, begins_more}
 
 -- ---- what is put after a path is after it
 
@@ -158,10 +159,11 @@ pub record AreSideBySide (users : List PlacedUser) (before after : Walked) (star
   pub before_order : IsInOrder rest_before
   pub after_order : IsInOrder rest_after
   pub lines : text ++ lines_of_both users rest_before rest_after ≡ start ++ lines_of_both users before after
+  pub begins : take (length start) text ≡ start
 
 module _ (users : List PlacedUser) (before after : Walked) (start : List ℕ) where
   pub side_begins : IsInOrder before → IsInOrder after → AreSideBySide users before after start before after start
-  side_begins ob oa = record { before_order = ob; after_order = oa; lines = refl }
+  side_begins ob oa = record { before_order = ob; after_order = oa; lines = refl; begins = begins_itself start }
 
   pub side_more : (rest_before rest_after left_b left_a : Walked) (text longer : List ℕ) (order : Ordering) → next_order rest_before rest_after ≡ Some order
       → longer ≡ text ++ next_lines users order rest_before rest_after → left_b ≡ left_before order rest_before → left_a ≡ left_after order rest_after
@@ -174,6 +176,7 @@ module _ (users : List PlacedUser) (before after : Walked) (start : List ℕ) wh
         ∙ append_assoc text (next_lines users order rest_before rest_after) (lines_of_both users (left_before order rest_before) (left_after order rest_after))
         ∙ ap (λ l. text ++ l) (sym (next_first users order rest_before rest_after at.before_order at.after_order is))
         ∙ at.lines;
+    begins = begins_more start text (next_lines users order rest_before rest_after) longer at.begins pushed;
   }
 
   pub side_ends : (rest_before rest_after : Walked) (text : List ℕ) → next_order rest_before rest_after ≡ None → AreSideBySide users before after start rest_before rest_after text

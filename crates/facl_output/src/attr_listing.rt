@@ -1,6 +1,7 @@
 //! The listing of `attr`: lists as extended attributes.
 
-ghost use Rattle.std.specs.Prelude.{◌≡◌, ◌++◌, ◌∷◌, [], IfOk, OnOk, codes, string_bytes};
+ghost use Rattle.std.specs.Prelude.{◌≡◌, ◌++◌, ◌∷◌, [], IfOk, codes, string_bytes};
+ghost use Rattle.acl_tree.specs.acl_names.Appends.{Appends};
 ghost use Rattle.hex.specs.Hex.{encode_lower};
 ghost use Rattle.acl_attr.specs.Attr.{attr_bytes};
 ghost use Rattle.acl_tree.specs.acl_dump.Writing.{file_text};
@@ -22,7 +23,7 @@ fn digits(alloc: Global, acl: &Acl) -> Result<String, AllocError>
 
 /// Adds the line of an attribute whose value has these digits.
 fn push_attr(text: &mut Vec<u8>, name: &[u8], digits: &[u8]) -> Result<(), AllocError>
-    ensures { OnOk result (text.new.items ≡ text.old.items ++ (name.now ++ (codes "=0x" ++ (digits.now ++ 10 ∷ [])))) }
+    ensures { Appends result text.old text.new (name.now ++ (codes "=0x" ++ (digits.now ++ 10 ∷ []))) }
 {
     text.extend_from_slice(name)?;
     text.extend_from_slice(b"=0x")?;
@@ -33,7 +34,7 @@ fn push_attr(text: &mut Vec<u8>, name: &[u8], digits: &[u8]) -> Result<(), Alloc
 
 /// Adds the line of one attribute.
 fn push_line(alloc: Global, text: &mut Vec<u8>, name: &[u8], acl: &Acl) -> Result<(), AllocError>
-    ensures { OnOk result (text.new.items ≡ text.old.items ++ attr_line name.now acl.now) }
+    ensures { Appends result text.old text.new (attr_line name.now acl.now) }
 {
     let digits = digits(alloc, acl)?;
     push_attr(text, name, digits.as_bytes())
@@ -41,7 +42,7 @@ fn push_line(alloc: Global, text: &mut Vec<u8>, name: &[u8], acl: &Acl) -> Resul
 
 /// Adds the line of the default list, if there is one.
 fn push_default(alloc: Global, text: &mut Vec<u8>, dacl: &Option<Acl>) -> Result<(), AllocError>
-    ensures { OnOk result (text.new.items ≡ text.old.items ++ default_line dacl.now) }
+    ensures { Appends result text.old text.new (default_line dacl.now) }
 {
     match dacl {
         Some(dacl) => push_line(alloc, text, b"system.posix_acl_default", dacl),
@@ -51,7 +52,7 @@ fn push_default(alloc: Global, text: &mut Vec<u8>, dacl: &Option<Acl>) -> Result
 
 /// Adds the lines of a file's attributes.
 fn push_attributes(alloc: Global, text: &mut Vec<u8>, node: &Node) -> Result<(), AllocError>
-    ensures { OnOk result (text.new.items ≡ text.old.items ++ attr_lines node.now) }
+    ensures { Appends result text.old text.new (attr_lines node.now) }
 {
     push_line(alloc, text, b"system.posix_acl_access", &node.label.acl)?;
     push_default(alloc, text, &node.dacl)?;
@@ -60,7 +61,7 @@ fn push_attributes(alloc: Global, text: &mut Vec<u8>, node: &Node) -> Result<(),
 
 /// Adds the line of a file's path, as a listing of getfacl(1) without a header has it. Fails only if memory runs out.
 pub fn push_path(text: &mut Vec<u8>, file: &Found) -> Result<(), AllocError>
-    ensures { OnOk result (text.new.items ≡ text.old.items ++ file_text file.now.path (has_slash file.now)) }
+    ensures { Appends result text.old text.new (file_text file.now.path (has_slash file.now)) }
 {
     let header = Header {
         path: file.path(),
@@ -74,7 +75,7 @@ pub fn push_path(text: &mut Vec<u8>, file: &Found) -> Result<(), AllocError>
 
 /// Adds what `attr` prints of a file.
 fn push_file(alloc: Global, text: &mut Vec<u8>, file: &Found) -> Result<(), AllocError>
-    ensures { OnOk result (text.new.items ≡ text.old.items ++ attr_text file.now) }
+    ensures { Appends result text.old text.new (attr_text file.now) }
 {
     push_path(text, file)?;
     push_attributes(alloc, text, file.node())?;
@@ -84,7 +85,7 @@ fn push_file(alloc: Global, text: &mut Vec<u8>, file: &Found) -> Result<(), Allo
 
 /// Adds what `attr` prints of files.
 fn push_files(alloc: Global, text: &mut Vec<u8>, files: &[Found]) -> Result<(), AllocError>
-    ensures { OnOk result (text.new.items ≡ text.old.items ++ attr_listing files.now) }
+    ensures { Appends result text.old text.new (attr_listing files.now) }
 {
     for file in files {
         push_file(alloc, text, file)?;

@@ -1,6 +1,7 @@
 //! The listing of chacl(1) `-l`.
 
-ghost use Rattle.std.specs.Prelude.{◌≡◌, ◌++◌, IfOk, OnOk};
+ghost use Rattle.std.specs.Prelude.{◌≡◌, IfOk};
+ghost use Rattle.acl_tree.specs.acl_names.Appends.{Appends};
 ghost use Rattle.facl_output.specs.ChaclListings.{default_part, chacl_line, chacl_listing};
 
 use crate::listing::push_path_shown;
@@ -13,7 +14,7 @@ fn push_default<N: Names>(
     names: &N,
     dacl: &Option<Acl>,
 ) -> Result<(), AllocError>
-    ensures { OnOk result (text.new.items ≡ text.old.items ++ default_part (N.naming names.now) dacl.now) }
+    ensures { Appends result text.old text.new (default_part (N.naming names.now) dacl.now) }
 {
     if let Some(dacl) = dacl {
         text.extend_from_slice(b"/")?;
@@ -24,7 +25,7 @@ fn push_default<N: Names>(
 
 /// Adds the line of a file.
 fn push_line<N: Names>(text: &mut Vec<u8>, names: &N, file: &Found) -> Result<(), AllocError>
-    ensures { OnOk result (text.new.items ≡ text.old.items ++ chacl_line (N.naming names.now) file.now) }
+    ensures { Appends result text.old text.new (chacl_line (N.naming names.now) file.now) }
 {
     push_path_shown(text, file)?;
     text.extend_from_slice(b" [")?;
@@ -37,7 +38,7 @@ fn push_line<N: Names>(text: &mut Vec<u8>, names: &N, file: &Found) -> Result<()
 
 /// Adds the lines of files.
 fn push_lines<N: Names>(text: &mut Vec<u8>, names: &N, files: &[Found]) -> Result<(), AllocError>
-    ensures { OnOk result (text.new.items ≡ text.old.items ++ chacl_listing (N.naming names.now) files.now) }
+    ensures { Appends result text.old text.new (chacl_listing (N.naming names.now) files.now) }
 {
     for file in files {
         push_line(text, names, file)?;

@@ -1,6 +1,7 @@
 //! What `changes` prints: what each user may do with each file, beside what the user might do before; and its lines.
 
-ghost use Rattle.std.specs.Prelude.{◌≡◌, ◌++◌, ◌&&◌, true, drop, IfOk, OnOk, ◌∷◌, not};
+ghost use Rattle.std.specs.Prelude.{◌≡◌, ◌&&◌, true, drop, IfOk, ◌∷◌, not};
+ghost use Rattle.acl_rights.specs.acl_names.Appends.{Appends};
 ghost use Rattle.std.specs.List.{list_all, flat_map};
 ghost use Rattle.acl_rights.specs.acl_files.path_map.Entries.{first, IsInOrder};
 ghost use Rattle.facl.specs.ChangesText.{changes_text, requests_gained, after_comma, change_line, change_lines};
@@ -24,7 +25,7 @@ fn push_file(
     before: &[Requests],
     after: &[Requests],
 ) -> Result<(), AllocError>
-    ensures { OnOk result (text.new.items ≡ text.old.items ++ lines_between users.now (shown_row file.now).0 before.now after.now) }
+    ensures { Appends result text.old text.new (lines_between users.now (shown_row file.now).0 before.now after.now) }
 {
     let path = shown(alloc, file)?;
     push_rows(alloc, text, users, &path, before, after)
@@ -38,7 +39,7 @@ fn push_gone(
     users: &[PlacedUser],
     before: &mut Walk<'_>,
 ) -> Result<(), AllocError>
-    ensures lines { OnOk result (text.new.items ≡ text.old.items ++ gone_lines users.now (first before.old)) }
+    ensures lines { Appends result text.old text.new (gone_lines users.now (first before.old)) }
     ensures rest { before.new ≡ drop 1 before.old }
 {
     let Some(file) = before.next() else {
@@ -56,7 +57,7 @@ fn push_new(
     users: &[PlacedUser],
     after: &mut Walk<'_>,
 ) -> Result<(), AllocError>
-    ensures lines { OnOk result (text.new.items ≡ text.old.items ++ new_lines users.now (first after.old)) }
+    ensures lines { Appends result text.old text.new (new_lines users.now (first after.old)) }
     ensures rest { after.new ≡ drop 1 after.old }
 {
     let Some(file) = after.next() else {
@@ -77,7 +78,7 @@ fn push_kept(
     after: &mut Walk<'_>,
 ) -> Result<(), AllocError>
     requires same { keep_places ≡ true → list_all keeps_place users.now ≡ true }
-    ensures lines { OnOk result (text.new.items ≡ text.old.items ++ kept_lines users.now (first before.old) (first after.old)) }
+    ensures lines { Appends result text.old text.new (kept_lines users.now (first before.old) (first after.old)) }
     ensures before { before.new ≡ drop 1 before.old }
     ensures after { after.new ≡ drop 1 after.old }
 {
@@ -123,7 +124,7 @@ fn push_next(
     after: &mut Walk<'_>,
 ) -> Result<(), AllocError>
     requires same { keep_places ≡ true → list_all keeps_place users.now ≡ true }
-    ensures lines { OnOk result (text.new.items ≡ text.old.items ++ next_lines users.now order before.old after.old) }
+    ensures lines { Appends result text.old text.new (next_lines users.now order before.old after.old) }
     ensures before { before.new ≡ left_before order before.old }
     ensures after { after.new ≡ left_after order after.old }
 {
@@ -144,7 +145,7 @@ fn push_both(
 ) -> Result<(), AllocError>
     requires before { IsInOrder before }
     requires after { IsInOrder after }
-    ensures { OnOk result (text.new.items ≡ text.old.items ++ lines_of_both users.now before.entry after.entry) }
+    ensures { Appends result text.old text.new (lines_of_both users.now before.entry after.entry) }
 {
     let keep_places = keep_places(users);
     let mut rest_before = before;
@@ -212,7 +213,7 @@ fn requests_gained(
 
 /// Adds the requests after the first one, each after a comma.
 fn push_more(text: &mut Vec<u8>, requests: &[Perm]) -> Result<(), AllocError>
-    ensures { OnOk result (text.new.items ≡ text.old.items ++ flat_map after_comma requests.now) }
+    ensures { Appends result text.old text.new (flat_map after_comma requests.now) }
 {
     for request in requests {
         text.push(b',')?;
@@ -230,7 +231,7 @@ fn push_line(
     request: Perm,
     more: &[Perm],
 ) -> Result<(), AllocError>
-    ensures { OnOk result (text.new.items ≡ text.old.items ++ change_line path.now user.now word.now (request ∷ more.now)) }
+    ensures { Appends result text.old text.new (change_line path.now user.now word.now (request ∷ more.now)) }
 {
     text.extend_from_slice(user)?;
     text.push(b' ')?;
@@ -252,7 +253,7 @@ fn push_change(
     word: &[u8],
     requests: &[Perm],
 ) -> Result<(), AllocError>
-    ensures { OnOk result (text.new.items ≡ text.old.items ++ change_line path.now user.now word.now requests.now) }
+    ensures { Appends result text.old text.new (change_line path.now user.now word.now requests.now) }
 {
     if let Some((request, more)) = requests.split_first() {
         push_line(text, path, user, word, *request, more)?;
@@ -270,7 +271,7 @@ fn push_gained(
     before: Requests,
     after: Requests,
 ) -> Result<(), AllocError>
-    ensures { OnOk result (text.new.items ≡ text.old.items ++ change_line path.now user.now word.now (requests_gained before after)) }
+    ensures { Appends result text.old text.new (change_line path.now user.now word.now (requests_gained before after)) }
 {
     let gained = requests_gained(alloc, before, after)?;
     push_change(text, path, user, word, &gained)
@@ -285,7 +286,7 @@ fn push_user(
     before: Requests,
     after: Requests,
 ) -> Result<(), AllocError>
-    ensures { OnOk result (text.new.items ≡ text.old.items ++ change_lines path.now user.now before after) }
+    ensures { Appends result text.old text.new (change_lines path.now user.now before after) }
 {
     push_gained(alloc, text, path, user, b"gains", before, after)?;
     push_gained(alloc, text, path, user, b"loses", after, before)
@@ -314,7 +315,7 @@ pub(crate) fn push_rows(
     before: &[Requests],
     after: &[Requests],
 ) -> Result<(), AllocError>
-    ensures { OnOk result (text.new.items ≡ text.old.items ++ lines_between users.now path.now before.now after.now) }
+    ensures { Appends result text.old text.new (lines_between users.now path.now before.now after.now) }
 {
     for user in users {
         let had = cell_at(before, user.before);

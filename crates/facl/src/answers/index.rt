@@ -1,6 +1,7 @@
 //! What `index` prints: what each user may do with each file.
 
-ghost use Rattle.std.specs.Prelude.{◌≡◌, ◌++◌, map, IfOk, OnOk};
+ghost use Rattle.std.specs.Prelude.{◌≡◌, map, IfOk};
+ghost use Rattle.acl_rights.specs.acl_names.Appends.{Appends};
 ghost use Rattle.acl_rights.specs.acl_names.Names.{escaped};
 ghost use Rattle.facl_output.specs.Listings.{path_shown};
 ghost use Rattle.facl.specs.Answers.{hex_digits, verdict_line, index_text};
@@ -15,7 +16,7 @@ const DIGITS: [u8; 16] = *b"0123456789abcdef";
 
 /// Adds a byte as two hex digits.
 fn push_hex(text: &mut Vec<u8>, byte: u8) -> Result<(), AllocError>
-    ensures { OnOk result (text.new.items ≡ text.old.items ++ hex_digits byte) }
+    ensures { Appends result text.old text.new (hex_digits byte) }
 {
     text.push(DIGITS[(byte / 16) as usize])?;
     text.push(DIGITS[(byte % 16) as usize])?;
@@ -29,7 +30,7 @@ fn push_line(
     name: &[u8],
     path: &[u8],
 ) -> Result<(), AllocError>
-    ensures { OnOk result (text.new.items ≡ text.old.items ++ verdict_line granted name.now path.now) }
+    ensures { Appends result text.old text.new (verdict_line granted name.now path.now) }
 {
     push_hex(text, granted.bits())?;
     text.push(b' ')?;
@@ -47,7 +48,7 @@ fn push_row(
     row: &[Requests],
     path: &[u8],
 ) -> Result<(), AllocError>
-    ensures { OnOk result (text.new.items ≡ text.old.items ++ row_lines path.now (map (λ n. n.items) names.now) row.now) }
+    ensures { Appends result text.old text.new (row_lines path.now (map (λ n. n.items) names.now) row.now) }
 {
     let mut rest = row;
     for name in names {
@@ -84,7 +85,7 @@ fn push_file(
     names: &[Vec<u8>],
     file: &FileWithRow<'_>,
 ) -> Result<(), AllocError>
-    ensures { OnOk result (text.new.items ≡ text.old.items ++ row_lines (shown_row file.now).0 (map (λ n. n.items) names.now) (shown_row file.now).1) }
+    ensures { Appends result text.old text.new (row_lines (shown_row file.now).0 (map (λ n. n.items) names.now) (shown_row file.now).1) }
 {
     let path = shown(alloc, file)?;
     push_row(text, names, file.requests, &path)
@@ -97,7 +98,7 @@ fn push_files(
     names: &[Vec<u8>],
     files: Walk<'_>,
 ) -> Result<(), AllocError>
-    ensures { OnOk result (text.new.items ≡ text.old.items ++ lines_of_walk (map (λ n. n.items) names.now) files.entry) }
+    ensures { Appends result text.old text.new (lines_of_walk (map (λ n. n.items) names.now) files.entry) }
 {
     let mut rest = files;
     while let Some(file) = rest.next() {

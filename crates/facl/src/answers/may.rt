@@ -1,6 +1,7 @@
 //! What `may` prints: the files on which a user is granted a request.
 
-ghost use Rattle.std.specs.Prelude.{◌≡◌, ◌++◌, map, IfOk, OnOk, option_map};
+ghost use Rattle.std.specs.Prelude.{◌≡◌, map, IfOk, option_map};
+ghost use Rattle.acl_rights.specs.acl_names.Appends.{Appends};
 ghost use Rattle.std.specs.List.{flat_map};
 ghost use Rattle.acl_rights.specs.acl_files.Inner.{next_file_below};
 ghost use Rattle.acl_rights.specs.acl_tree.Found.{found_file, found_in};
@@ -25,7 +26,7 @@ fn is_first(paths: &[Rc<Path>], path: &Path) -> bool
 
 /// Adds the line of a file.
 fn push_file(text: &mut Vec<u8>, file: &Found) -> Result<(), AllocError>
-    ensures { OnOk result (text.new.items ≡ text.old.items ++ file_line file.now) }
+    ensures { Appends result text.old text.new (file_line file.now) }
 {
     push_path_shown(text, file)?;
     text.push(b'\n')?;
@@ -38,8 +39,7 @@ fn push_before(
     file: &Rc<Record>,
     rest: &FilesIter<'_>,
 ) -> Result<(), AllocError>
-    ensures { OnOk result (text.new.items ≡ text.old.items
-        ++ file_line (found_file (next_file_below file.now.value.0 rest.now) file.now.value)) }
+    ensures { Appends result text.old text.new (file_line (found_file (next_file_below file.now.value.0 rest.now) file.now.value)) }
 {
     let found = Found::before(file, rest)?;
     push_file(text, &found)
@@ -47,8 +47,7 @@ fn push_before(
 
 /// Adds the files of some paths, in one walk over both.
 fn push_files(text: &mut Vec<u8>, tree: &Tree, paths: &[Rc<Path>]) -> Result<(), AllocError>
-    ensures { OnOk result (text.new.items ≡ text.old.items ++ flat_map file_line (in_step
-        (map (λ p. p.value) paths.now) (found_in tree.now.files tree.now.files))) }
+    ensures { Appends result text.old text.new (flat_map file_line (in_step (map (λ p. p.value) paths.now) (found_in tree.now.files tree.now.files))) }
 {
     tree.soundness_law();
     let mut rest = paths;

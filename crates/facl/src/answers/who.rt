@@ -1,6 +1,7 @@
 //! What `who` prints: the users who are granted a request on a file.
 
-ghost use Rattle.std.specs.Prelude.{◌≡◌, ◌++◌, IfOk, OnOk, option_map};
+ghost use Rattle.std.specs.Prelude.{◌≡◌, IfOk, option_map};
+ghost use Rattle.acl_rights.specs.acl_names.Appends.{Appends};
 ghost use Rattle.std.specs.List.{flat_map};
 ghost use Rattle.facl.specs.Answers.{who_text};
 ghost use Rattle.facl.specs.Inner.{line_at};
@@ -10,7 +11,7 @@ use std::alloc::{AllocError, Global};
 
 /// Adds the line of a user.
 fn push_user(text: &mut Vec<u8>, people: &People, user: usize) -> Result<(), AllocError>
-    ensures { OnOk result (text.new.items ≡ text.old.items ++ line_at people.now user) }
+    ensures { Appends result text.old text.new (line_at people.now user) }
 {
     if let Some(row) = people.user_row(user) {
         append_name(text, row.name.as_bytes())?;
@@ -21,7 +22,7 @@ fn push_user(text: &mut Vec<u8>, people: &People, user: usize) -> Result<(), All
 
 /// Adds the lines of users.
 fn push_users(text: &mut Vec<u8>, people: &People, users: &[usize]) -> Result<(), AllocError>
-    ensures { OnOk result (text.new.items ≡ text.old.items ++ flat_map (line_at people.now) users.now) }
+    ensures { Appends result text.old text.new (flat_map (line_at people.now) users.now) }
 {
     for user in users {
         push_user(text, people, *user)?;

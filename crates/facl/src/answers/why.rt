@@ -1,6 +1,7 @@
 //! What `why` prints: the entries that decide on a user.
 
 ghost use Rattle.std.specs.Prelude.{◌≡◌, ◌≢◌, ◌++◌, ◌∷◌, [], None, IfOk, IfErr, OnOk, false};
+ghost use Rattle.acl_rights.specs.acl_names.Appends.{Appends};
 ghost use Rattle.std.specs.List.{list_any};
 ghost use Rattle.acl_rights.specs.acl_entry.Check.{is_for};
 ghost use Rattle.acl_rights.specs.acl_entry.Lists.{entries};
@@ -64,7 +65,7 @@ fn push_deciding<N: Names>(
     subject: &Subject,
     label: &Label,
 ) -> Result<(), AllocError>
-    ensures { OnOk result (text.new.items ≡ text.old.items ++ deciding_text (N.naming names.now) subject.now label.now) }
+    ensures { Appends result text.old text.new (deciding_text (N.naming names.now) subject.now label.now) }
 {
     let sole = sole_key(subject, label);
     let mask = label.acl.get(Key::Mask);
@@ -90,7 +91,7 @@ fn push_record<N: Names>(
     subject: &Subject,
     file: &Found,
 ) -> Result<(), AllocError>
-    ensures { OnOk result (text.new.items ≡ text.old.items ++ why_record (N.naming names.now) subject.now file.now) }
+    ensures { Appends result text.old text.new (why_record (N.naming names.now) subject.now file.now) }
 {
     push_path(text, file)?;
     push_deciding(text, names, subject, &file.node().label)?;
@@ -105,7 +106,7 @@ fn push_records<N: Names>(
     subject: &Subject,
     files: &[Found],
 ) -> Result<(), AllocError>
-    ensures { OnOk result (text.new.items ≡ text.old.items ++ why_text (N.naming names.now) subject.now files.now) }
+    ensures { Appends result text.old text.new (why_text (N.naming names.now) subject.now files.now) }
 {
     for file in files {
         push_record(text, names, subject, file)?;

@@ -1,6 +1,15 @@
-use Rattle.facl_output.specs.AttrListings.{attr_text}
+use Rattle.std.proofs.Common.{arith, take}
+use Rattle.std.proofs.lemmas.Grind.{common_steps}
+use Rattle.acl_tree.proofs.of_acl_names.Appended.{still_begins}
+use Rattle.facl_output.specs.AttrListings.{attr_listing, attr_text}
 use Rattle.facl_output.proofs.Loops.{item_added, all_added}
 use Rattle.facl_output.proofs.attr_listing.push_files.Goals as goal
+
+pub returns-in_err-push_file : goal.returns-in_err-push_file
+returns-in_err-push_file c =
+    let shown = attr_listing (take c.loop-file.file-index c.args.files.now) in
+    let begins = still_begins c.args.text.now.items shown c.loop-file.text.items c.push_file.new.text.items c.loop-file.invariant c.in_err-push_file.ensures in
+    grind (arith, common_steps, begins)
 
 pub loop-file-preserved : goal.loop-file-preserved
 loop-file-preserved c =

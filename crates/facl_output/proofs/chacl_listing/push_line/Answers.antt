@@ -1,4 +1,6 @@
-use Rattle.std.proofs.Common.{◌≡◌, ◌++◌, ◌∷◌, [], codes, subst}
+use Rattle.std.proofs.Common.{arith, ◌≡◌, ◌++◌, ◌∷◌, [], codes, subst}
+use Rattle.std.proofs.lemmas.Grind.{common_steps}
+use Rattle.acl_tree.proofs.of_acl_names.Appended.{still_begins}
 use Rattle.acl_tree.specs.acl_edit.declared.node.Node.{Node}
 use Rattle.acl_tree.specs.acl_entry.Lists.{entries}
 use Rattle.acl_tree.specs.acl_syntax.Writing.{short}
@@ -6,6 +8,17 @@ use Rattle.facl_output.specs.Listings.{path_shown}
 use Rattle.facl_output.specs.ChaclListings.{default_part}
 use Rattle.facl_output.proofs.Parts.{two_parts, three_parts}
 use Rattle.facl_output.proofs.chacl_listing.push_line.Goals as goal
+
+pub returns-in_err-push_default : goal.returns-in_err-push_default
+returns-in_err-push_default g c =
+    let start = c.args.text.now.items in
+    let path = path_shown c.args.file.now in
+    let list = short (g.N.Names.naming c.args.names.now) (entries c.node-node.result.now.label.acl) in
+    let front = c.append_short.new.text.items in
+    let written : front ≡ start ++ (path ++ (codes " [" ++ list)) =
+    three_parts start path (codes " [") list c.push_path_shown.new.text.items c.extend_from_slice.new.self.items front c.in_ok-push_path_shown.ensures c.in_ok-extend_from_slice.ensures.items c.in_ok-append_short.ensures in
+    let begins = still_begins start (path ++ (codes " [" ++ list)) front c.push_default.new.text.items written c.in_err-push_default.ensures in
+    grind (arith, common_steps, begins)
 
 pub returns : goal.returns
 returns g c =

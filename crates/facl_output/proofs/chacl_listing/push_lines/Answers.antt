@@ -1,6 +1,15 @@
-use Rattle.facl_output.specs.ChaclListings.{chacl_line}
+use Rattle.std.proofs.Common.{arith, take}
+use Rattle.std.proofs.lemmas.Grind.{common_steps}
+use Rattle.acl_tree.proofs.of_acl_names.Appended.{still_begins}
+use Rattle.facl_output.specs.ChaclListings.{chacl_line, chacl_listing}
 use Rattle.facl_output.proofs.Loops.{item_added, all_added}
 use Rattle.facl_output.proofs.chacl_listing.push_lines.Goals as goal
+
+pub returns-in_err-push_line : goal.returns-in_err-push_line
+returns-in_err-push_line g c =
+    let shown = chacl_listing (g.N.Names.naming c.args.names.now) (take c.loop-file.file-index c.args.files.now) in
+    let begins = still_begins c.args.text.now.items shown c.loop-file.text.items c.push_line.new.text.items c.loop-file.invariant c.in_err-push_line.ensures in
+    grind (arith, common_steps, begins)
 
 pub loop-file-preserved : goal.loop-file-preserved
 loop-file-preserved g c =

@@ -1,7 +1,14 @@
-use Rattle.std.proofs.Common.{◌+◌, ◌<◌, length, sym, subst}
+use Rattle.std.proofs.Common.{◌+◌, ◌<◌, length, sym, subst, arith}
+use Rattle.facl_output.proofs.Parts.{begins_later}
+use Rattle.std.proofs.lemmas.Grind.{common_steps}
 use Rattle.facl.specs.Inner.{Walked, left_before}
 use Rattle.facl.proofs.SideBySide.{side_begins, side_more, side_ends, fewer_left}
 use Rattle.facl.proofs.answers.changes.push_both.Goals as goal
+
+pub returns-in_err-push_next : goal.returns-in_err-push_next
+returns-in_err-push_next c =
+    let begins = begins_later c.args.text.now.items c.loop-order.text.items c.push_next.new.text.items c.loop-order.invariant.begins c.in_err-push_next.ensures.lines in
+    grind (arith, common_steps, begins)
 
 pub loop-order-init : goal.loop-order-init
 loop-order-init c = side_begins c.args.users.now c.args.before c.args.after c.args.text.now.items c.requires.before c.requires.after

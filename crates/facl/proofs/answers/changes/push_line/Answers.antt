@@ -1,8 +1,9 @@
-use Rattle.std.proofs.Common.{◌≡◌, ◌++◌, ◌∷◌, [], ℕ, List, ap, ◌∙◌}
+use Rattle.std.proofs.Common.{arith, ◌≡◌, ◌++◌, ◌∷◌, [], ℕ, List, length, take, ap, ◌∙◌}
+use Rattle.std.proofs.lemmas.Grind.{common_steps}
 use Rattle.std.specs.List.{flat_map}
 use Rattle.acl_rights.specs.acl_entry.Perms.{text}
 use Rattle.facl.specs.ChangesText.{after_comma}
-use Rattle.facl_output.proofs.Parts.{two_parts}
+use Rattle.facl_output.proofs.Parts.{two_parts, begins_itself, begins_later, begins_more}
 use Rattle.facl.proofs.answers.changes.push_line.Goals as goal
 
 -- the parts of a line of `changes`
@@ -18,6 +19,58 @@ module _ (user word request more path a b c d e f g h k l : List ℕ) where
       let from_word : l ≡ c ++ (word ++ 32 ∷ (request ++ (more ++ 32 ∷ (path ++ 10 ∷ [])))) = two_parts c word (32 ∷ (request ++ (more ++ 32 ∷ (path ++ 10 ∷ [])))) d l three after_word in
       let after_user : l ≡ b ++ 32 ∷ (word ++ 32 ∷ (request ++ (more ++ 32 ∷ (path ++ 10 ∷ [])))) = two_parts b (32 ∷ []) (word ++ 32 ∷ (request ++ (more ++ 32 ∷ (path ++ 10 ∷ [])))) c l two from_word in
       two_parts a user (32 ∷ (word ++ 32 ∷ (request ++ (more ++ 32 ∷ (path ++ 10 ∷ []))))) b l one after_user
+
+-- after five parts the text still begins as it did
+module _ (u v w x y a b c d e f : List ℕ) where
+  after_five : b ≡ a ++ u → c ≡ b ++ v → d ≡ c ++ w → e ≡ d ++ x → f ≡ e ++ y → take (length a) f ≡ a
+  after_five one two three four five =
+      begins_more a e y f (begins_more a d x e (begins_more a c w d (begins_more a b v c (begins_more a a u b (begins_itself a) one) two) three) four) five
+
+pub returns-in_err-push_more : goal.returns-in_err-push_more
+returns-in_err-push_more c =
+    let start = c.args.text.now.items in
+    let requested = c.extend_from_slice-3.new.self.items in
+    let begins_before =
+    after_five c.args.user.now (32 ∷ []) c.args.word.now (32 ∷ []) c.text.result start c.extend_from_slice.new.self.items c.push.new.self.items c.extend_from_slice-2.new.self.items c.push-2.new.self.items requested
+    c.in_ok-extend_from_slice.ensures.items c.in_ok-push.ensures.items c.in_ok-extend_from_slice-2.ensures.items c.in_ok-push-2.ensures.items c.in_ok-extend_from_slice-3.ensures.items in
+    let begins = begins_later start requested c.push_more.new.text.items begins_before c.in_err-push_more.ensures in
+    grind (arith, common_steps, begins)
+
+pub returns-in_err-push-3 : goal.returns-in_err-push-3
+returns-in_err-push-3 c =
+    let start = c.args.text.now.items in
+    let requested = c.extend_from_slice-3.new.self.items in
+    let begins_before =
+    after_five c.args.user.now (32 ∷ []) c.args.word.now (32 ∷ []) c.text.result start c.extend_from_slice.new.self.items c.push.new.self.items c.extend_from_slice-2.new.self.items c.push-2.new.self.items requested
+    c.in_ok-extend_from_slice.ensures.items c.in_ok-push.ensures.items c.in_ok-extend_from_slice-2.ensures.items c.in_ok-push-2.ensures.items c.in_ok-extend_from_slice-3.ensures.items in
+    let more = flat_map after_comma c.args.more.now in
+    let with_more = begins_more start requested more c.push_more.new.text.items begins_before c.in_ok-push_more.ensures in
+    grind (arith, common_steps, with_more)
+
+pub returns-in_err-extend_from_slice-4 : goal.returns-in_err-extend_from_slice-4
+returns-in_err-extend_from_slice-4 c =
+    let start = c.args.text.now.items in
+    let requested = c.extend_from_slice-3.new.self.items in
+    let begins_before =
+    after_five c.args.user.now (32 ∷ []) c.args.word.now (32 ∷ []) c.text.result start c.extend_from_slice.new.self.items c.push.new.self.items c.extend_from_slice-2.new.self.items c.push-2.new.self.items requested
+    c.in_ok-extend_from_slice.ensures.items c.in_ok-push.ensures.items c.in_ok-extend_from_slice-2.ensures.items c.in_ok-push-2.ensures.items c.in_ok-extend_from_slice-3.ensures.items in
+    let more = flat_map after_comma c.args.more.now in
+    let with_more = begins_more start requested more c.push_more.new.text.items begins_before c.in_ok-push_more.ensures in
+    let spaced = begins_more start c.push_more.new.text.items (32 ∷ []) c.push-3.new.self.items with_more c.in_ok-push-3.ensures.items in
+    grind (arith, common_steps, spaced)
+
+pub returns-in_err-push-4 : goal.returns-in_err-push-4
+returns-in_err-push-4 c =
+    let start = c.args.text.now.items in
+    let requested = c.extend_from_slice-3.new.self.items in
+    let begins_before =
+    after_five c.args.user.now (32 ∷ []) c.args.word.now (32 ∷ []) c.text.result start c.extend_from_slice.new.self.items c.push.new.self.items c.extend_from_slice-2.new.self.items c.push-2.new.self.items requested
+    c.in_ok-extend_from_slice.ensures.items c.in_ok-push.ensures.items c.in_ok-extend_from_slice-2.ensures.items c.in_ok-push-2.ensures.items c.in_ok-extend_from_slice-3.ensures.items in
+    let more = flat_map after_comma c.args.more.now in
+    let with_more = begins_more start requested more c.push_more.new.text.items begins_before c.in_ok-push_more.ensures in
+    let spaced = begins_more start c.push_more.new.text.items (32 ∷ []) c.push-3.new.self.items with_more c.in_ok-push-3.ensures.items in
+    let with_path = begins_more start c.push-3.new.self.items c.args.path.now c.extend_from_slice-4.new.self.items spaced c.in_ok-extend_from_slice-4.ensures.items in
+    grind (arith, common_steps, with_path)
 
 pub returns : goal.returns
 returns c =

@@ -1,6 +1,8 @@
-use Rattle.std.proofs.Common.{◌≡◌, ◌++◌, ℕ, List, append-nil, sym, ap, ◌∙◌}
+use Rattle.std.proofs.Common.{◌≡◌, ◌++◌, ℕ, List, append-nil, sym, ap, ◌∙◌, arith, take}
+use Rattle.acl_rights.proofs.of_acl_names.Appended.{still_begins}
+use Rattle.std.proofs.lemmas.Grind.{common_steps}
 use Rattle.facl.specs.ChangesText.{change_lines}
-use Rattle.facl.specs.Inner.{cell_at}
+use Rattle.facl.specs.Inner.{cell_at, lines_between}
 use Rattle.facl.specs.declared.answers.placed_users.PlacedUser.{PlacedUser}
 use Rattle.facl_output.proofs.Loops.{item_added, all_added}
 use Rattle.facl.proofs.Unchanged.{no_change}
@@ -9,6 +11,12 @@ use Rattle.facl.proofs.answers.changes.push_rows.Goals.{then-bits+in_ok-push_use
 
 abbrev lines_for : (path before after : List ℕ) → PlacedUser → List ℕ
 lines_for path before after user = change_lines path user.name.items (cell_at before user.before) (cell_at after user.after)
+
+pub returns-in_err-push_user : goal.returns-in_err-push_user
+returns-in_err-push_user c =
+    let shown = lines_between (take c.loop-user.user-index c.args.users.now) c.args.path.now c.args.before.now c.args.after.now in
+    let begins = still_begins c.args.text.now.items shown c.loop-user.text.items c.push_user.new.text.items c.loop-user.invariant c.in_err-push_user.ensures in
+    grind (arith, common_steps, begins)
 
 pub loop-user-preserved : goal.loop-user-preserved
 loop-user-preserved c =

@@ -1,6 +1,6 @@
 use Rattle.std.proofs.Common.{codes}
 use Rattle.facl.specs.ChangesText.{change_line, requests_gained}
-use Rattle.facl_output.proofs.Parts.{added_both}
+use Rattle.acl_rights.proofs.of_acl_dump.Appending.{appends_both}
 use Rattle.facl.proofs.answers.changes.push_user.Goals as goal
 
 pub returns : goal.returns
@@ -8,5 +8,5 @@ returns c =
     let line = change_line c.args.path.now c.args.user.now in
     let before = c.args.before in
     let after = c.args.after in
-    added_both c.push_gained-2.result c.args.text.now.items (line (codes "gains") (requests_gained before after)) (line (codes "loses") (requests_gained after before)) c.push_gained.new.text.items c.push_gained-2.new.text.items
+    appends_both c.push_gained-2.result c.args.text.now c.push_gained.new.text c.push_gained-2.new.text (line (codes "gains") (requests_gained before after)) (line (codes "loses") (requests_gained after before))
     c.in_ok-push_gained.ensures c.push_gained-2.ensures

@@ -1,9 +1,16 @@
-use Rattle.std.proofs.Common.{map, refl, sym, ap, ◌∙◌}
+use Rattle.std.proofs.Common.{map, refl, sym, ap, ◌∙◌, arith}
+use Rattle.facl_output.proofs.Parts.{begins_later}
+use Rattle.std.proofs.lemmas.Grind.{common_steps}
 use Rattle.acl_rights.specs.acl_files.Inner.{next_file_below}
 use Rattle.acl_rights.specs.acl_tree.Found.{found_file}
 use Rattle.facl.specs.Inner.{is_first}
 use Rattle.facl.proofs.FileLines.{rest_is, map_drop, step_taken, step_left, step_ends}
 use Rattle.facl.proofs.answers.may.push_files.Goals as goal
+
+pub returns-in_err-push_before : goal.returns-in_err-push_before
+returns-in_err-push_before c =
+    let begins = begins_later c.args.text.now.items c.loop-file.text.items c.push_before.new.text.items c.loop-file.invariant.begins c.in_err-push_before.ensures in
+    grind (arith, common_steps, begins)
 
 pub loop-file-preserved-then-is_first : goal.loop-file-preserved-then-is_first
 loop-file-preserved-then-is_first c =

@@ -1,4 +1,6 @@
-use Rattle.std.proofs.Common.{◌++◌, filter, sym, ap, ◌∙◌}
+use Rattle.std.proofs.Common.{◌++◌, filter, sym, ap, ◌∙◌, arith, take}
+use Rattle.acl_rights.proofs.of_acl_names.Appended.{still_begins}
+use Rattle.std.proofs.lemmas.Grind.{common_steps}
 use Rattle.std.specs.List.{flat_map}
 use Rattle.std.specs.FinMap as maps
 use Rattle.acl_rights.specs.acl_entry.Lists.{entries}
@@ -11,6 +13,14 @@ use Rattle.facl.proofs.Deciding.{chosen_decides}
 use Rattle.facl_output.proofs.Loops.{passed_added, other_left, all_passed}
 use Rattle.facl.proofs.answers.why.push_deciding.Goals as goal
 use Rattle.facl.proofs.answers.why.push_deciding.Goals.{then-is_chosen+in_ok-append_line, else-is_chosen}
+
+pub returns-in_err-append_line : goal.returns-in_err-append_line
+returns-in_err-append_line g c =
+    let line = entry_line (g.N.Names.naming c.args.names.now) WhereMasked Access c.get-mask.result in
+    let chosen = is_chosen c.args.subject.now c.args.label.now.group c.sole_key-sole.result in
+    let shown = flat_map line (filter chosen (take c.loop-entry.entry-index c.entries-entry-items.result.now)) in
+    let begins = still_begins c.args.text.now.items shown c.loop-entry.text.items c.append_line.new.text.items c.loop-entry.invariant c.in_err-append_line.ensures in
+    grind (arith, common_steps, begins)
 
 pub loop-entry-preserved : goal.loop-entry-preserved
 loop-entry-preserved g c =
