@@ -1,7 +1,6 @@
 //! An open record: the `# file:` line and the lines after it so far.
 
-ghost use Rattle.std.specs.Prelude.{◌≡◌, ◌++◌, ◌∷◌, [], List, IfOk, IfErr, OnOk, is_some};
-ghost use Rattle.acl_syntax.specs.declared.fault.FaultKind.TheVariants.{NoMemory};
+ghost use Rattle.std.specs.Prelude.{◌≡◌, ◌++◌, ◌∷◌, [], List, OnOk, is_some};
 ghost use Rattle.acl_syntax.specs.InTurn.{GivesAt};
 ghost use Rattle.acl_dump.specs.Records.{has_no_entry, with_entry, with_item, add};
 ghost use Rattle.acl_dump.specs.Watched.{opened_draft};

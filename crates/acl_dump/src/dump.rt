@@ -139,7 +139,8 @@ fn begin_record(
     value: &[u8],
 ) -> Result<(), TextFault>
     requires { SeenPathsAre seen.old records.old.items }
-    ensures next_opened { Gives (λ _. (records.new.items, draft.new)) result (watched.next_opened (is_some seen.old) dump_use records.old.items draft.old at value.now) }
+    ensures next_opened { Gives (λ _. (records.new.items, draft.new)) result
+        (watched.next_opened (is_some seen.old) dump_use records.old.items draft.old at value.now) }
     ensures seen_are { OnOk result (SeenPathsAre seen.new records.new.items) }
     ensures watched { is_some seen.new ≡ is_some seen.old }
 {

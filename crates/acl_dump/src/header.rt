@@ -2,8 +2,6 @@
 
 ghost use Rattle.std.specs.Prelude.{◌≡◌, ◌++◌, ◌∷◌, [], option_copied};
 ghost use Rattle.acl_syntax.specs.Writing.{id_text};
-ghost use Rattle.acl_syntax.specs.declared.fault.Which.TheVariants.{Access};
-ghost use Rattle.acl_dump.specs.declared.effective.Effective.TheVariants.{WhereMasked};
 ghost use Rattle.acl_names.specs.Appends.{Appends, AppendsWhole};
 ghost use Rattle.acl_dump.specs.Writing.{mark, marks, flags_text, file_text, owner_text, group_text, header_text, list_text, default_text, record_text};
 
@@ -164,7 +162,8 @@ fn push_lists<N: Names>(
     dump_record: &DumpRecord,
     names: &N,
 ) -> Result<(), AllocError>
-    ensures { Appends result text.old text.new (list_text (N.naming names.now) WhereMasked Access dump_record.now.access ++ (default_text (N.naming names.now) WhereMasked dump_record.now.dacl ++ 10 ∷ [])) }
+    ensures { Appends result text.old text.new (list_text (N.naming names.now) Effective.WhereMasked Which.Access dump_record.now.access
+        ++ (default_text (N.naming names.now) Effective.WhereMasked dump_record.now.dacl ++ 10 ∷ [])) }
 {
     append_list(
         text,
@@ -178,7 +177,7 @@ fn push_lists<N: Names>(
 
 /// Ends a record: its default list, if there is one, and an empty line.
 fn end_record<N: Names>(text: &mut Vec<u8>, dacl: &Option<Acl>, names: &N) -> Result<(), AllocError>
-    ensures { Appends result text.old text.new (default_text (N.naming names.now) WhereMasked dacl.now ++ 10 ∷ []) }
+    ensures { Appends result text.old text.new (default_text (N.naming names.now) Effective.WhereMasked dacl.now ++ 10 ∷ []) }
 {
     append_default(text, dacl, Effective::WhereMasked, names)?;
     text.push(b'\n')?;

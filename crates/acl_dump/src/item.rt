@@ -2,7 +2,6 @@
 
 ghost use Rattle.std.specs.Prelude.{◌≡◌};
 ghost use Rattle.acl_syntax.specs.InTurn.{GivesAt, or_fault};
-ghost use Rattle.acl_syntax.specs.declared.fault.FaultKind.TheVariants.{BadHeader, UnknownUser, UnknownGroup};
 ghost use Rattle.acl_dump.specs.Records.{rules, perm_of_spec, entry_item, flag_of, flags_of, named, item_of};
 
 use crate::line::LineKind;
@@ -87,7 +86,7 @@ fn entry_item(spec: Spec) -> Item
 
 /// The user that an `# owner:` line names.
 fn read_owner<N: Names>(alloc: Global, names: &N, at: usize, value: &[u8]) -> Result<Id, TextFault>
-    ensures { GivesAt at (λ id. id) result (named (N.naming names.now).user_id UnknownUser value.now) }
+    ensures { GivesAt at (λ id. id) result (named (N.naming names.now).user_id FaultKind.UnknownUser value.now) }
 {
     if value.is_empty() {
         return Err(bad_header(at));
@@ -103,7 +102,7 @@ fn read_owner<N: Names>(alloc: Global, names: &N, at: usize, value: &[u8]) -> Re
 
 /// The group that a `# group:` line names.
 fn read_group<N: Names>(alloc: Global, names: &N, at: usize, value: &[u8]) -> Result<Id, TextFault>
-    ensures { GivesAt at (λ id. id) result (named (N.naming names.now).group_id UnknownGroup value.now) }
+    ensures { GivesAt at (λ id. id) result (named (N.naming names.now).group_id FaultKind.UnknownGroup value.now) }
 {
     if value.is_empty() {
         return Err(bad_header(at));
@@ -119,7 +118,7 @@ fn read_group<N: Names>(alloc: Global, names: &N, at: usize, value: &[u8]) -> Re
 
 /// The flags that a `# flags:` line gives.
 fn read_flags(at: usize, value: &[u8]) -> Result<[bool; 3], TextFault>
-    ensures { GivesAt at (λ flags. flags) result (or_fault (flags_of value.now) BadHeader) }
+    ensures { GivesAt at (λ flags. flags) result (or_fault (flags_of value.now) FaultKind.BadHeader) }
 {
     match flags_of(value) {
         Some(flags) => Ok(flags),
@@ -129,7 +128,7 @@ fn read_flags(at: usize, value: &[u8]) -> Result<[bool; 3], TextFault>
 
 /// The fault of a header line that has no value, comes twice, or comes after an entry.
 pub(crate) fn bad_header(at: usize) -> TextFault
-    ensures kind { result.kind ≡ BadHeader }
+    ensures kind { result.kind ≡ FaultKind.BadHeader }
     ensures place { result.at ≡ at }
 {
     TextFault {

@@ -8,7 +8,6 @@ ghost use Rattle.acl_edit.specs.Edits as edits;
 ghost use Rattle.acl_edit.specs.Edits.{worked, access_after, default_after, access_before, default_before, changed_access, changed_default, is_misplaced};
 ghost use Rattle.acl_edit.specs.Nodes.{IsSound};
 ghost use Rattle.acl_edit.specs.Rooms.{Fits, HasRoom, size, size_of, puts_of};
-ghost use Rattle.acl_syntax.specs.declared.fault.Which.TheVariants.{Access, Default};
 ghost use Rattle.acl_edit.specs.Laws.{LeavesUnnamed, ShowsRecalculated, BoundsRecalculated, KeepsGranted, GivesModified, GoesByKey, LeavesByKey, CopiesBase, MakesMask, DropsDefault};
 ghost use Rattle.acl_edit.specs.declared.edit.EditFault.TheVariants.{DefaultOnFile, NoMemory};
 ghost use Rattle.std.specs.List.{list_any};
@@ -59,7 +58,7 @@ impl Change {
     #[tactic(auto, unfolding(crate::specs::Edits::access_after))]
     fn edit_access(&self, alloc: Global, x: bool, draft: &mut Draft) -> Result<(), AllocError>
         ensures edited { OnOk result (draft.new ≡ access_after self.now x draft.old) }
-        ensures room { (names (part self.now Access) ≡ true → Fits (size draft.old + puts_of (part self.now Access) + 1)) → IsOk result }
+        ensures room { (names (part self.now Which.Access) ≡ true → Fits (size draft.old + puts_of (part self.now Which.Access) + 1)) → IsOk result }
     {
         if self.names(Which::Access) {
             let lost = self.work(alloc, Which::Access, x, draft)?;
@@ -78,7 +77,7 @@ impl Change {
         draft: &mut Draft,
     ) -> Result<(), AllocError>
         ensures edited { OnOk result (draft.new ≡ default_after self.now x acl.now draft.old) }
-        ensures room { (names (part self.now Default) ≡ true → Fits (size draft.old + puts_of (part self.now Default) + 4)) → IsOk result }
+        ensures room { (names (part self.now Which.Default) ≡ true → Fits (size draft.old + puts_of (part self.now Which.Default) + 4)) → IsOk result }
     {
         if self.names(Which::Default) {
             let lost = self.work(alloc, Which::Default, x, draft)?;

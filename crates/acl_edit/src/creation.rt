@@ -3,7 +3,6 @@ ghost use Rattle.std.specs.Prelude.{◌≡◌, None, if◌then◌else◌, IfOk, 
 ghost use Rattle.acl_edit.specs.Nodes.{IsSound, HasValidLists, is_directory};
 ghost use Rattle.acl_edit.specs.Rooms.{Fits, size_of};
 ghost use Rattle.acl_edit.specs.Creation.{inherit, inherited_access};
-ghost use Rattle.acl_edit.specs.declared.edit.EditFault.TheVariants.{NoMemory};
 
 use crate::change::clone_of;
 use crate::{EditFault, Kind, Node};
@@ -32,7 +31,7 @@ pub fn create(
     ensures made { IfOk result (λ node. node ≡ inherit parent.now kind mode umask owner group) }
     ensures valid { IfOk result HasValidLists }
     ensures sound { IfOk result IsSound }
-    ensures reported { IfErr result (λ fault. fault ≡ NoMemory) }
+    ensures reported { IfErr result (λ fault. fault ≡ EditFault.NoMemory) }
     ensures room { Fits (size_of parent.now.dacl) → IsOk result }
 {
     let node = inherit(alloc, parent, kind, mode, umask, owner, group)?;

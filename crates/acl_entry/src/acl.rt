@@ -2,7 +2,6 @@
 //! BITS".
 ghost use Rattle.std.specs.Prelude.{◌≡◌, ◌≢◌, ◌<◌, ◌≤◌, ◌%◌, length, IfOk, IfErr, OnOk, IsOk, Ok, Err, IsTrue, Some, None, ◌↔◌};
 ghost use Rattle.acl_entry.specs.declared.entry.Key.{Key};
-ghost use Rattle.acl_entry.specs.declared.entry.ListFault.TheVariants.{NoMemory, TooLong};
 ghost use Rattle.acl_entry.specs.declared.entry.Key.TheVariants.{Mask};
 ghost use Rattle.std.specs.FinMap as maps;
 ghost use Rattle.acl_entry.specs.Ids.{nobody};
@@ -95,9 +94,9 @@ impl Acl {
     pub fn from_entries(alloc: Global, entries: &[Entry]) -> Result<Acl, ListFault>
         ensures ok { IfOk result (λ acl. acl ≡ lists.map_of entries.now) }
         ensures no_fault { OnOk result (lists.fault entries.now ≡ None) }
-        ensures reported { IfErr result (λ fault. fault ≢ NoMemory → lists.fault entries.now ≡ Some fault) }
-        ensures inline { length entries.now ≤ INLINE_ENTRIES → result ≢ Err NoMemory }
-        ensures too_long { lists.most_entries < length entries.now → result ≡ Err TooLong }
+        ensures reported { IfErr result (λ fault. fault ≢ ListFault.NoMemory → lists.fault entries.now ≡ Some fault) }
+        ensures inline { length entries.now ≤ INLINE_ENTRIES → result ≢ Err ListFault.NoMemory }
+        ensures too_long { lists.most_entries < length entries.now → result ≡ Err ListFault.TooLong }
     {
         if entries.len() > MAX_ENTRIES {
             return Err(ListFault::TooLong);

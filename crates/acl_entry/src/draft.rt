@@ -6,8 +6,6 @@ ghost use Rattle.std.specs.FinMap as maps;
 ghost use Rattle.acl_entry.specs.Lists as lists;
 ghost use Rattle.acl_entry.specs.Lists.{HasIds, IsValid, IsAt, IsGapFor, IsInOrder, IsList, pairs, keys, repeated, in_class, perm_of_entry};
 ghost use Rattle.acl_entry.specs.declared.entry.Key.{Key};
-ghost use Rattle.acl_entry.specs.declared.entry.ListFault.TheVariants.{NoMemory, Repeated};
-ghost use Rattle.acl_entry.specs.declared.entry.Key.TheVariants.{Mask};
 ghost use Rattle.std.specs.List.Sorted.{IsPermutation};
 ghost use Rattle.acl_entry.specs.Ids.{nobody};
 ghost use Rattle.acl_entry.specs.Keys.{key_cmp, is_named, is_base, id_of};
@@ -180,8 +178,8 @@ pub(crate) fn in_order(
     ensures permutation { IfOk result (λ sorted. IsPermutation entries.now sorted.items) }
     ensures ids { IfOk result (λ sorted. HasIds sorted.items) }
     ensures same { IfOk result (λ sorted. (k : Key) → maps.find key_cmp k (pairs sorted.items) ≡ maps.find key_cmp k (pairs entries.now)) }
-    ensures err { IfErr result (λ fault. fault ≢ NoMemory → option_map Repeated (repeated (keys entries.now)) ≡ Some fault) }
-    ensures inline { length entries.now ≤ INLINE_ENTRIES → result ≢ Err NoMemory }
+    ensures err { IfErr result (λ fault. fault ≢ ListFault.NoMemory → option_map ListFault.Repeated (repeated (keys entries.now)) ≡ Some fault) }
+    ensures inline { length entries.now ≤ INLINE_ENTRIES → result ≢ Err ListFault.NoMemory }
 {
     let mut sorted = SmallVec::new(alloc);
     for (i, entry) in entries.iter().enumerate() {
@@ -251,7 +249,7 @@ pub(crate) fn fault_in_order(sorted: &[Entry]) -> Option<ListFault>
 /// The first named entry where there is no mask.
 pub(crate) fn unmasked(entries: &[Entry], has_mask: bool) -> Option<usize>
     requires short { length entries.now ≤ MAX_ENTRIES }
-    requires mask { has_mask ≡ lists.is_among Mask (keys entries.now) }
+    requires mask { has_mask ≡ lists.is_among Key.Mask (keys entries.now) }
     ensures { result ≡ lists.unmasked (keys entries.now) }
 {
     if has_mask {

@@ -2,13 +2,12 @@
 
 ghost use Rattle.std.specs.Prelude.{◌≡◌, ◌≢◌, ◌↔◌, IsTrue, ◌++◌, ◌∷◌, [], true, map, Ok, Err, Result, IfOk, IfErr, OnOk};
 ghost use Rattle.acl_edit.specs.declared.edit.EditFault as edit_faults;
-ghost use Rattle.acl_edit.specs.declared.edit.EditFault.TheVariants as no_edit;
 ghost use Rattle.acl_edit.specs.declared.node.Node as nodes;
 ghost use Rattle.acl_files.specs.Files.{PathOf};
 ghost use Rattle.acl_files.specs.Changed.{same_label, changed_between, gone_between};
 ghost use Rattle.acl_files.specs.Edits.{KeepsPlace, edit_each, edit_all};
 ghost use Rattle.acl_files.specs.Inner.{file_of, node_after, changed_one, changed_by};
-ghost use Rattle.acl_files.specs.declared.edit.FileFault.TheVariants.{NoMemory};
+ghost use Rattle.acl_files.specs.declared.edit.FileFault.{FileFault};
 
 use crate::fault::TreeFault;
 use crate::files::Files;
@@ -26,7 +25,7 @@ pub trait NodeEdit {
     /// The node after the edit.
     fn edited(&self, alloc: Global, path: &Path, node: &Node) -> Result<Node, EditFault>
         ensures made { IfOk result (λ n. edited self.now path.now node.now ≡ Ok n) }
-        ensures fault { IfErr result (λ fault. fault ≢ no_edit.NoMemory → edited self.now path.now node.now ≡ Err fault) };
+        ensures fault { IfErr result (λ fault. fault ≢ EditFault.NoMemory → edited self.now path.now node.now ≡ Err fault) };
 
     /// Proof only: a directory stays one, and only directories have default lists.
     fn keeps_place(&self)
@@ -43,7 +42,7 @@ pub enum FileFault {
 }
 
 impl From<AllocError> for FileFault {
-    ghost from_gives = { λ _ fault. fault ≡ NoMemory };
+    ghost from_gives = { λ _ fault. fault ≡ FileFault.NoMemory };
 
     fn from(_: AllocError) -> FileFault {
         FileFault::NoMemory
@@ -51,7 +50,7 @@ impl From<AllocError> for FileFault {
 }
 
 impl<T: Drop> From<AllocFailed<T>> for FileFault {
-    ghost from_gives = { λ _ fault. fault ≡ NoMemory };
+    ghost from_gives = { λ _ fault. fault ≡ FileFault.NoMemory };
 
     fn from(_: AllocFailed<T>) -> FileFault {
         FileFault::NoMemory
@@ -106,7 +105,7 @@ pub(crate) fn edit_one<E: NodeEdit>(
     file: &Record,
 ) -> Result<Node, FileFault>
     ensures made { IfOk result (λ n. E.edited edit.now file.now.0 file.now.1 ≡ Ok n) }
-    ensures fault { IfErr result (λ fault. fault ≢ NoMemory → edit_each (E.edited edit.now) (file.now ∷ []) ≡ Err fault) }
+    ensures fault { IfErr result (λ fault. fault ≢ FileFault.NoMemory → edit_each (E.edited edit.now) (file.now ∷ []) ≡ Err fault) }
 {
     match edit.edited(alloc, file.path(), file.value()) {
         Ok(node) => Ok(node),
@@ -126,7 +125,7 @@ fn edit_each<E: NodeEdit>(
     edit: &E,
 ) -> Result<Vec<Rc<Record>>, FileFault>
     ensures made { IfOk result (λ edits. edit_each (E.edited edit.now) (map file_of files.now) ≡ Ok (map (λ r. r.value) edits.items)) }
-    ensures fault { IfErr result (λ fault. fault ≢ NoMemory → edit_each (E.edited edit.now) (map file_of files.now) ≡ Err fault) }
+    ensures fault { IfErr result (λ fault. fault ≢ FileFault.NoMemory → edit_each (E.edited edit.now) (map file_of files.now) ≡ Err fault) }
     ensures reported { OnOk result (map (λ r. r.value) changed.new.items
         ≡ map (λ r. r.value) changed.old.items ++ changed_by (λ _. true) (node_after (E.edited edit.now)) (map file_of files.now)) }
 {
@@ -149,7 +148,7 @@ pub fn edit_files<E: NodeEdit>(
     edit: &E,
 ) -> Result<Files, FileFault>
     ensures made { IfOk result (λ new. edit_all (E.edited edit.now) selection.now.recursive selection.now.operands.now tree.now ≡ Ok new) }
-    ensures fault { IfErr result (λ fault. fault ≢ NoMemory → edit_all (E.edited edit.now) selection.now.recursive selection.now.operands.now tree.now
+    ensures fault { IfErr result (λ fault. fault ≢ FileFault.NoMemory → edit_all (E.edited edit.now) selection.now.recursive selection.now.operands.now tree.now
         ≡ Err fault) }
     ensures reported { IfOk result (λ new. map (λ r. r.value) changed.new.items
         ≡ map (λ r. r.value) changed.old.items ++ changed_between tree.now.files new.files) }

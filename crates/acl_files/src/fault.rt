@@ -2,7 +2,7 @@
 //! value in every layer.
 
 ghost use Rattle.std.specs.Prelude.{◌≡◌};
-ghost use Rattle.acl_files.specs.declared.fault.TreeFault.TheVariants.{NoMemory};
+ghost use Rattle.acl_files.specs.declared.fault.TreeFault.{TreeFault};
 
 use acl_dump::TextFault;
 use acl_edit::EditFault;
@@ -46,7 +46,7 @@ pub enum TreeFault {
 }
 
 impl From<AllocError> for TreeFault {
-    ghost from_gives = { λ _ fault. fault ≡ NoMemory };
+    ghost from_gives = { λ _ fault. fault ≡ TreeFault.NoMemory };
 
     fn from(_: AllocError) -> TreeFault {
         TreeFault::NoMemory
@@ -54,7 +54,7 @@ impl From<AllocError> for TreeFault {
 }
 
 impl<T: Drop> From<AllocFailed<T>> for TreeFault {
-    ghost from_gives = { λ _ fault. fault ≡ NoMemory };
+    ghost from_gives = { λ _ fault. fault ≡ TreeFault.NoMemory };
 
     fn from(_: AllocFailed<T>) -> TreeFault {
         TreeFault::NoMemory

@@ -7,14 +7,11 @@ ghost use Rattle.std.specs.List.Sorted.{IsPermutation};
 ghost use Rattle.acl_names.specs.Paths.{path_cmp};
 ghost use Rattle.acl_dump.specs.OwnPaths.{have_own_paths};
 ghost use Rattle.acl_edit.specs.Edits.{allowed};
-ghost use Rattle.acl_edit.specs.declared.edit.EditFault.TheVariants as no_edit;
 ghost use Rattle.acl_files.specs.Loading.{in_path_order};
 ghost use Rattle.acl_files.specs.Changed.{changed_between, gone_between};
 ghost use Rattle.acl_files.specs.Inner.{IsFileOf, restore_each, changed_by_records};
 ghost use Rattle.acl_files.specs.Operands.{first_missing, IsMissing};
 ghost use Rattle.acl_files.specs.Restoring.{paths_of, restored_tree};
-ghost use Rattle.acl_files.specs.declared.fault.TreeFault.TheVariants.{NoMemory};
-ghost use Rattle.acl_files.specs.declared.edit.FileFault.TheVariants as of_files;
 
 use crate::edit::{FileFault, NodeEdit, edit_one, push_edited};
 use crate::fault::TreeFault;
@@ -89,7 +86,7 @@ impl<'a> Model for Restored<'a> {
 /// The default list of a record, where its file may have one.
 fn default_of(alloc: Global, kind: Kind, entry: &DumpRecord) -> Result<Option<Acl>, EditFault>
     ensures made { IfOk result (λ dacl. allowed kind false entry.now.dacl ≡ Ok dacl) }
-    ensures fault { IfErr result (λ fault. fault ≢ no_edit.NoMemory → allowed kind false entry.now.dacl ≡ Err fault) }
+    ensures fault { IfErr result (λ fault. fault ≢ EditFault.NoMemory → allowed kind false entry.now.dacl ≡ Err fault) }
 {
     match kind {
         Kind::Directory => match &entry.dacl {
@@ -154,7 +151,7 @@ fn files_of<'a>(
     ensures records { IfOk result (λ found. map (λ x. x.1) found.items ≡ records.now) }
     ensures files { IfOk result (λ found. All (IsFileOf tree.now.files) found.items) }
     ensures there { OnOk result (first_missing (paths_of records.now) tree.now.files ≡ None) }
-    ensures reported { IfErr result (λ fault. fault ≢ NoMemory → IsMissing fault (first_missing (paths_of records.now) tree.now.files)) }
+    ensures reported { IfErr result (λ fault. fault ≢ TreeFault.NoMemory → IsMissing fault (first_missing (paths_of records.now) tree.now.files)) }
 {
     let mut found = Vec::with_capacity(alloc, records.len())?;
     let mut files = tree.finder();
@@ -189,7 +186,7 @@ fn restore_each(
     found: &[Restored<'_>],
 ) -> Result<Vec<Rc<Record>>, FileFault>
     ensures made { IfOk result (λ edits. restore_each found.now ≡ Ok (map (λ r. r.value) edits.items)) }
-    ensures fault { IfErr result (λ fault. fault ≢ of_files.NoMemory → restore_each found.now ≡ Err fault) }
+    ensures fault { IfErr result (λ fault. fault ≢ FileFault.NoMemory → restore_each found.now ≡ Err fault) }
     ensures reported { OnOk result (map (λ r. r.value) changed.new.items ≡ map (λ r. r.value) changed.old.items ++ changed_by_records found.now) }
 {
     let mut edits = Vec::with_capacity(alloc, found.len())?;
@@ -210,7 +207,7 @@ pub fn restore_files(
     records: &DumpRecords,
 ) -> Result<Files, TreeFault>
     ensures made { IfOk result (λ new. restored_tree records.now tree.now ≡ Ok new) }
-    ensures fault { IfErr result (λ fault. fault ≢ NoMemory → restored_tree records.now tree.now ≡ Err fault) }
+    ensures fault { IfErr result (λ fault. fault ≢ TreeFault.NoMemory → restored_tree records.now tree.now ≡ Err fault) }
     ensures reported { IfOk result (λ new. map (λ r. r.value) changed.new.items
         ≡ map (λ r. r.value) changed.old.items ++ changed_between tree.now.files new.files) }
     ensures gone { IfOk result (λ new. gone_between tree.now.files new.files ≡ []) }

@@ -6,7 +6,6 @@ ghost use Rattle.acl_files.specs.Files.{PathOf};
 ghost use Rattle.acl_files.specs.Found.{files_found, found_in, found_file};
 ghost use Rattle.acl_files.specs.Inner.{Ascend, next_file_below};
 ghost use Rattle.acl_files.specs.Operands.{means, is_file, first_missing, IsMissing};
-ghost use Rattle.acl_files.specs.declared.fault.TreeFault.TheVariants.{NoMemory};
 
 use crate::fault::TreeFault;
 use crate::files::{Files, FilesIter};
@@ -117,7 +116,7 @@ pub fn select(
 /// Whether each operand is recorded; else the first that isn't.
 pub fn look_up(alloc: Global, tree: &Files, operands: &[Path]) -> Result<(), TreeFault>
     ensures all { OnOk result (first_missing operands.now tree.now.files ≡ None) }
-    ensures reported { IfErr result (λ fault. fault ≢ NoMemory → IsMissing fault (first_missing operands.now tree.now.files)) }
+    ensures reported { IfErr result (λ fault. fault ≢ TreeFault.NoMemory → IsMissing fault (first_missing operands.now tree.now.files)) }
 {
     for path in operands {
         if tree.get(path).is_none() {
@@ -142,7 +141,7 @@ impl Files {
     ) -> Result<Vec<Found>, TreeFault>
         ensures all { IfOk result (λ files. files.items ≡ files_found selection.now.recursive selection.now.operands.now self.now.files) }
         ensures there { OnOk result (first_missing selection.now.operands.now self.now.files ≡ None) }
-        ensures reported { IfErr result (λ fault. fault ≢ NoMemory → IsMissing fault (first_missing selection.now.operands.now self.now.files)) }
+        ensures reported { IfErr result (λ fault. fault ≢ TreeFault.NoMemory → IsMissing fault (first_missing selection.now.operands.now self.now.files)) }
     {
         look_up(alloc, self, selection.operands.as_slice())?;
         Ok(select(alloc, self, selection)?)

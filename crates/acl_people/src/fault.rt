@@ -1,7 +1,7 @@
 //! Why a text of users or groups isn't loaded.
 
 ghost use Rattle.std.specs.Prelude.{◌≡◌, ◌≢◌};
-ghost use Rattle.acl_people.specs.declared.fault.LoadFault.TheVariants.{NoMemory};
+ghost use Rattle.acl_people.specs.declared.fault.LoadFault.{LoadFault};
 
 use acl_syntax::{FaultKind, TextFault};
 use std::alloc::{AllocError, AllocFailed};
@@ -17,7 +17,7 @@ pub enum LoadFault {
 }
 
 impl From<AllocError> for LoadFault {
-    ghost from_gives = { λ _ fault. fault ≡ NoMemory };
+    ghost from_gives = { λ _ fault. fault ≡ LoadFault.NoMemory };
 
     fn from(_: AllocError) -> LoadFault {
         LoadFault::NoMemory
@@ -25,7 +25,7 @@ impl From<AllocError> for LoadFault {
 }
 
 impl<T: Drop> From<AllocFailed<T>> for LoadFault {
-    ghost from_gives = { λ _ fault. fault ≡ NoMemory };
+    ghost from_gives = { λ _ fault. fault ≡ LoadFault.NoMemory };
 
     fn from(_: AllocFailed<T>) -> LoadFault {
         LoadFault::NoMemory
@@ -35,7 +35,7 @@ impl<T: Drop> From<AllocFailed<T>> for LoadFault {
 /// A text's fault, and running out of memory as such.
 pub(crate) fn text_fault(fault: TextFault) -> LoadFault
     ensures text { fault.kind ≢ FaultKind.NoMemory → result ≡ LoadFault.Text fault }
-    ensures memory { fault.kind ≡ FaultKind.NoMemory → result ≡ NoMemory }
+    ensures memory { fault.kind ≡ FaultKind.NoMemory → result ≡ LoadFault.NoMemory }
 {
     if fault.kind == FaultKind::NoMemory {
         LoadFault::NoMemory

@@ -1,7 +1,6 @@
 //! People: who is known by passwd(5) and group(5).
 
 ghost use Rattle.std.specs.Prelude.{◌≡◌, ◌<◌, ◌++◌, ◌∷◌, [], length, map, slice_get, true, Err, IfOk, IfSome, option_map};
-ghost use Rattle.acl_people.specs.declared.fault.LoadFault.TheVariants.{AlreadyLoaded, NoMemory};
 ghost use Rattle.std.specs.Option.{option_copied};
 ghost use Rattle.acl_syntax.specs.InTurn.{GivesUnless};
 ghost use Rattle.acl_people.specs.NameTables.{id_named, name_shown, place_of_word, IsNaming, AreCounted};
@@ -189,8 +188,8 @@ impl People {
     /// These people with the users of a passwd text. Refused where one was loaded, whatever memory there is,
     /// for the text's first fault, or if memory runs out.
     pub fn load_passwd(&self, alloc: Global, bytes: &[u8]) -> Result<People, LoadFault>
-        ensures reported { GivesUnless NoMemory (λ people. people) result (load_passwd self.now bytes.now) }
-        ensures again { self.now.passwd_loaded ≡ true → result ≡ Err AlreadyLoaded }
+        ensures reported { GivesUnless LoadFault.NoMemory (λ people. people) result (load_passwd self.now bytes.now) }
+        ensures again { self.now.passwd_loaded ≡ true → result ≡ Err LoadFault.AlreadyLoaded }
     {
         if self.passwd_loaded {
             return Err(LoadFault::AlreadyLoaded);
@@ -208,8 +207,8 @@ impl People {
     /// These people with the groups of a group text. Refused where one was loaded, whatever memory there is,
     /// for the text's first fault, or if memory runs out.
     pub fn load_group(&self, alloc: Global, bytes: &[u8]) -> Result<People, LoadFault>
-        ensures reported { GivesUnless NoMemory (λ people. people) result (load_group self.now bytes.now) }
-        ensures again { self.now.group_loaded ≡ true → result ≡ Err AlreadyLoaded }
+        ensures reported { GivesUnless LoadFault.NoMemory (λ people. people) result (load_group self.now bytes.now) }
+        ensures again { self.now.group_loaded ≡ true → result ≡ Err LoadFault.AlreadyLoaded }
     {
         if self.group_loaded {
             return Err(LoadFault::AlreadyLoaded);

@@ -4,7 +4,6 @@ ghost use Rattle.std.specs.Prelude.{◌≡◌, ◌+◌, ◌-◌, ◌*◌, ◌<�
 ghost use Rattle.path_map.specs.Entries.{IsInOrder};
 ghost use Rattle.path_map.specs.Below.{within, lies_in};
 ghost use Rattle.acl_tree.specs.acl_people.KnownPeople.{persons};
-ghost use Rattle.acl_tree.specs.declared.user_change.UserChange.TheVariants.{Unchanged, Loaded, Memberships, Added, Removed};
 ghost use Rattle.acl_rights.specs.Groups.{AreLists};
 ghost use Rattle.acl_rights.specs.Tables.{rows_of};
 ghost use Rattle.acl_rights.specs.Stages.{most_asked, most_looked, moves_looked, moves_groups};
@@ -113,7 +112,7 @@ fn after_files<J: Judge>(
     requires room { J.asked_of judge.old + most_asked staged.now < 2 ^ 64 }
     requires counts { length staged.now.state.tree.files * length staged.now.state.people.users < 2 ^ 64 }
     requires goes { GoesOn J.verdict_of grants.now staged.now }
-    requires moved { staged.now.user_change ≡ Unchanged }
+    requires moved { staged.now.user_change ≡ UserChange.Unchanged }
     ensures grants { IfOk result (λ new. AreGrants staged.now.state.tree.files new.grants) }
     ensures rows { IfOk result (λ new. rows_at new.grants ≡ rows_of J.verdict_of (persons staged.now.state.people) staged.now.state.tree.files) }
     ensures at_most { J.asked_of judge.new ≤ J.asked_of judge.old + most_asked staged.now }
@@ -151,7 +150,7 @@ fn after_files_renumbered<J: Judge>(
     requires room { J.asked_of judge.old + most_asked staged.now < 2 ^ 64 }
     requires counts { length staged.now.state.tree.files * length staged.now.state.people.users < 2 ^ 64 }
     requires goes { GoesOnFrom J.verdict_of tree.now.files grants.now staged.now }
-    requires moved { staged.now.user_change ≡ Unchanged }
+    requires moved { staged.now.user_change ≡ UserChange.Unchanged }
     ensures grants { IfOk result (λ new. AreGrants staged.now.state.tree.files new.grants) }
     ensures rows { IfOk result (λ new. rows_at new.grants ≡ rows_of J.verdict_of (persons staged.now.state.people) staged.now.state.tree.files) }
     ensures at_most { J.asked_of judge.new ≤ J.asked_of judge.old + most_asked staged.now }
@@ -192,7 +191,7 @@ fn moved_user<'a, J: Judge>(
     groups: &GroupIds,
 ) -> &'a Subject
     requires goes { GoesOn J.verdict_of grants.now staged.now }
-    requires moved { staged.now.user_change ≡ Memberships at groups.now }
+    requires moved { staged.now.user_change ≡ UserChange.Memberships at groups.now }
     ensures { slice_get (persons staged.now.state.people) at ≡ Some result.now }
 {
     match staged.people().subject_at(at) {
@@ -235,7 +234,7 @@ fn after_move<J: Judge>(
     requires room { J.asked_of judge.old + most_asked staged.now < 2 ^ 64 }
     requires goes { GoesOn J.verdict_of grants.now staged.now }
     requires lists { AreLists staged.now.state.tree.files lists.now }
-    requires moved { staged.now.user_change ≡ Memberships at groups.now }
+    requires moved { staged.now.user_change ≡ UserChange.Memberships at groups.now }
     ensures grants { IfOk result (λ new. AreGrants staged.now.state.tree.files new.grants) }
     ensures rows { IfOk result (λ new. rows_at new.grants ≡ rows_of J.verdict_of (persons staged.now.state.people) staged.now.state.tree.files) }
     ensures at_most { J.asked_of judge.new ≤ J.asked_of judge.old + most_asked staged.now }
@@ -263,7 +262,7 @@ fn after_move<J: Judge>(
 /// The user who came, the last.
 fn joined_user<'a, J: Judge>(grants: &Grants, staged: &'a Staged) -> &'a Subject
     requires goes { GoesOn J.verdict_of grants.now staged.now }
-    requires moved { staged.now.user_change ≡ Added }
+    requires moved { staged.now.user_change ≡ UserChange.Added }
     ensures { slice_get (persons staged.now.state.people) (length (persons staged.now.state.people) - 1) ≡ Some result.now }
 {
     match staged.people().subjects().last() {
@@ -282,7 +281,7 @@ fn after_join<J: Judge>(
 ) -> Result<After, AllocError>
     requires room { J.asked_of judge.old + most_asked staged.now < 2 ^ 64 }
     requires goes { GoesOn J.verdict_of grants.now staged.now }
-    requires moved { staged.now.user_change ≡ Added }
+    requires moved { staged.now.user_change ≡ UserChange.Added }
     ensures grants { IfOk result (λ new. AreGrants staged.now.state.tree.files new.grants) }
     ensures rows { IfOk result (λ new. rows_at new.grants ≡ rows_of J.verdict_of (persons staged.now.state.people) staged.now.state.tree.files) }
     ensures at_most { J.asked_of judge.new ≤ J.asked_of judge.old + most_asked staged.now }
@@ -310,7 +309,7 @@ fn after_leave<J: Judge>(
     at: usize,
 ) -> Result<After, AllocError>
     requires goes { GoesOn J.verdict_of grants.now staged.now }
-    requires moved { staged.now.user_change ≡ Removed at }
+    requires moved { staged.now.user_change ≡ UserChange.Removed at }
     ensures grants { IfOk result (λ new. AreGrants staged.now.state.tree.files new.grants) }
     ensures rows { IfOk result (λ new. rows_at new.grants ≡ rows_of J.verdict_of (persons staged.now.state.people) staged.now.state.tree.files) }
     ensures looked { IfOk result (λ new. new.looked ≡ 0) }

@@ -6,7 +6,6 @@
 ghost use Rattle.std.specs.Prelude.{◌≡◌, ◌<◌, ℕ, true, map, length, slice_index, if◌then◌else◌};
 ghost use Rattle.std.specs.Int.RustNames.{bit_or};
 ghost use Rattle.std.specs.FinMap as maps;
-ghost use Rattle.acl_entry.specs.declared.entry.Key.TheVariants.{Mask};
 ghost use Rattle.acl_entry.specs.Perms.{contains};
 ghost use Rattle.acl_entry.specs.Check.{byte_of, group_of, rights};
 ghost use Rattle.acl_entry.specs.Lists.{masked_by, perm_at};
@@ -80,7 +79,7 @@ fn clear_groups(row: &mut [Requests], users: &Subjects, label: &Label)
 /// Adds what each entry for a group grants, to the users of the group, who have nothing before.
 fn add_groups(row: &mut [Requests], users: &Subjects, label: &Label, mask: &Option<Perm>)
     requires length { length row.old ≡ length users.now }
-    requires mask { mask.now ≡ maps.get label.now.acl Mask }
+    requires mask { mask.now ≡ maps.get label.now.acl Key.Mask }
     ensures { (f : Person → ℕ) → row.old ≡ map (λ u. if is_matched label.now u then 0 else f u) users.now
         → row.new ≡ map (λ u. if is_matched label.now u then by_groups label.now u else f u) users.now }
 {
@@ -94,7 +93,7 @@ fn add_groups(row: &mut [Requests], users: &Subjects, label: &Label, mask: &Opti
 /// Puts what the entries of named users grant, from the last to the first.
 fn put_named(row: &mut [Requests], users: &Subjects, label: &Label, mask: &Option<Perm>)
     requires length { length row.old ≡ length users.now }
-    requires mask { mask.now ≡ maps.get label.now.acl Mask }
+    requires mask { mask.now ≡ maps.get label.now.acl Key.Mask }
     ensures { (f : Person → ℕ) → row.old ≡ map f users.now → row.new ≡ map (λ u. by_name_or label.now u (f u)) users.now }
 {
     let entries = label.acl.entries();

@@ -1,7 +1,7 @@
 //! Why a text has no value.
 
 ghost use Rattle.std.specs.Prelude.{◌≡◌};
-ghost use Rattle.acl_syntax.specs.declared.fault.FaultKind.TheVariants.{NoMemory};
+ghost use Rattle.acl_syntax.specs.declared.fault.FaultKind.{FaultKind};
 
 use acl_entry::ListFault;
 use std::alloc::{AllocError, AllocFailed};
@@ -75,7 +75,7 @@ pub struct TextFault {
 }
 
 impl From<AllocError> for TextFault {
-    ghost from_gives = { λ _ fault. fault.kind ≡ NoMemory };
+    ghost from_gives = { λ _ fault. fault.kind ≡ FaultKind.NoMemory };
 
     fn from(_: AllocError) -> TextFault {
         TextFault {
@@ -86,7 +86,7 @@ impl From<AllocError> for TextFault {
 }
 
 impl<T: Drop> From<AllocFailed<T>> for TextFault {
-    ghost from_gives = { λ _ fault. fault.kind ≡ NoMemory };
+    ghost from_gives = { λ _ fault. fault.kind ≡ FaultKind.NoMemory };
 
     fn from(_: AllocFailed<T>) -> TextFault {
         TextFault {

@@ -8,7 +8,6 @@ ghost use Rattle.acl_files.specs.acl_edit.Nodes.{IsSound};
 ghost use Rattle.acl_files.specs.acl_names.Below.{parent};
 ghost use Rattle.acl_tree.specs.Creat.{row_of, exists, directory_at, creat_by};
 ghost use Rattle.acl_tree.specs.Inner.{Prepares, IsNewIn, whole};
-ghost use Rattle.acl_files.specs.declared.fault.TreeFault.TheVariants.{NoMemory, NoSuchUser};
 ghost use Rattle.acl_tree.specs.declared.command.Command.TheVariants.{Creat};
 
 use crate::command::NewFile;
@@ -25,7 +24,7 @@ use std::rc::Rc;
 fn row_of<'a>(alloc: Global, people: &'a People, user: &Name) -> Result<&'a PasswdRow, TreeFault>
     ensures found { IfOk result (λ row. row_of people.now user.now ≡ Some row.now) }
     ensures none { OnErr result (row_of people.now user.now ≡ None) }
-    ensures fault { IfErr result (λ fault. fault ≢ NoMemory → fault ≡ NoSuchUser user.now) }
+    ensures fault { IfErr result (λ fault. fault ≢ TreeFault.NoMemory → fault ≡ TreeFault.NoSuchUser user.now) }
 {
     match people
         .find_user(user.as_bytes())
@@ -48,7 +47,7 @@ fn exists(tree: &Files, path: &Path) -> bool
 /// The directory of a new file.
 fn directory_of<'a>(alloc: Global, tree: &'a Files, path: &Path) -> Result<&'a Node, TreeFault>
     ensures found { IfOk result (λ node. directory_at (parent path.now) tree.now.files ≡ Ok node.now) }
-    ensures fault { IfErr result (λ fault. fault ≢ NoMemory → directory_at (parent path.now) tree.now.files ≡ Err fault) }
+    ensures fault { IfErr result (λ fault. fault ≢ TreeFault.NoMemory → directory_at (parent path.now) tree.now.files ≡ Err fault) }
 {
     let path = path.parent(alloc)?;
     match tree.get(&path) {
@@ -67,7 +66,7 @@ fn node_of(
 ) -> Result<Node, TreeFault>
     ensures made { IfOk result (λ node. node ≡ inherit directory.now new.now.kind new.now.mode new.now.umask owner.now.uid owner.now.gid) }
     ensures sound { IfOk result IsSound }
-    ensures memory { IfErr result (λ fault. fault ≡ NoMemory) }
+    ensures memory { IfErr result (λ fault. fault ≡ TreeFault.NoMemory) }
 {
     match create(
         alloc, directory, new.kind, new.mode, new.umask, owner.uid, owner.gid,
@@ -87,7 +86,7 @@ fn new_file(
     ensures made { IfOk result (λ file. creat_by new.now tree.now (Some owner.now)
         ≡ Ok (record tree.now { files = put path_cmp file.value.0 file.value.1 tree.now.files })) }
     ensures fits { IfOk result (λ file. IsNewIn tree.now.files file.value) }
-    ensures fault { IfErr result (λ fault. fault ≢ NoMemory → creat_by new.now tree.now (Some owner.now) ≡ Err fault) }
+    ensures fault { IfErr result (λ fault. fault ≢ TreeFault.NoMemory → creat_by new.now tree.now (Some owner.now) ≡ Err fault) }
 {
     tree.soundness_law();
     if exists(tree, &new.path) {

@@ -5,7 +5,6 @@ ghost use Rattle.acl_files.specs.Sound.{IsSoundTree};
 ghost use Rattle.acl_tree.specs.Inner.{whole};
 ghost use Rattle.acl_tree.specs.Step.{load_dump, Stages};
 ghost use Rattle.acl_tree.specs.Reports.{Reports};
-ghost use Rattle.acl_tree.specs.declared.user_change.UserChange.TheVariants.{Unchanged};
 
 use crate::state::BorrowedState;
 use crate::step::Staged;
@@ -48,7 +47,7 @@ pub(crate) fn prepare_dump(
     ensures made { Stages (λ s. s.state) result (load_dump (whole state.now) bytes.now) }
     ensures sound { IfOk result (λ staged. IsSoundTree staged.state.tree) }
     ensures reports { IfOk result (λ staged. state.now.tree.now.files ≡ [] → Reports (whole state.now) staged) }
-    ensures moved { IfOk result (λ staged. staged.user_change ≡ Unchanged) }
+    ensures moved { IfOk result (λ staged. staged.user_change ≡ UserChange.Unchanged) }
 {
     let people = state.people;
     let records = match read_dump(alloc, bytes, DumpUse::Load, people) {

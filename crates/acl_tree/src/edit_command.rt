@@ -3,11 +3,9 @@
 ghost use Rattle.std.specs.Prelude.{◌≡◌, ◌≢◌, Ok, Err, IfOk, IfErr};
 ghost use Rattle.acl_files.specs.Edits.{edit_all};
 ghost use Rattle.acl_files.specs.Sound.{IsSoundTree};
-ghost use Rattle.acl_files.specs.declared.edit.FileFault.TheVariants.{NoMemory};
 ghost use Rattle.acl_tree.specs.Inner.{Prepares, whole};
 ghost use Rattle.acl_tree.specs.Reports.{Reports};
 ghost use Rattle.acl_tree.specs.declared.command.Command.TheVariants as commands;
-ghost use Rattle.acl_tree.specs.declared.user_change.UserChange.TheVariants.{Unchanged};
 ghost use Rattle.acl_tree.specs.declared.command.Command.TheVariants.{Restore};
 
 use crate::state::BorrowedState;
@@ -49,11 +47,11 @@ pub(crate) fn stage_edits<E: NodeEdit>(
     ensures made { IfOk result (λ staged. edit_all (E.edited edit.now) selection.now.recursive selection.now.operands.now state.now.tree.now
         ≡ Ok staged.state.tree) }
     ensures people { IfOk result (λ staged. staged.state.people ≡ state.now.people.now) }
-    ensures fault { IfErr result (λ fault. fault ≢ NoMemory
+    ensures fault { IfErr result (λ fault. fault ≢ FileFault.NoMemory
         → edit_all (E.edited edit.now) selection.now.recursive selection.now.operands.now state.now.tree.now ≡ Err fault) }
     ensures sound { IfOk result (λ staged. IsSoundTree staged.state.tree) }
     ensures reports { IfOk result (λ staged. Reports (whole state.now) staged) }
-    ensures moved { IfOk result (λ staged. staged.user_change ≡ Unchanged) }
+    ensures moved { IfOk result (λ staged. staged.user_change ≡ UserChange.Unchanged) }
 {
     let mut changed = Vec::new(alloc);
     let edited = edit_files(alloc, state.tree, &mut changed, selection, edit)?;

@@ -7,7 +7,6 @@ ghost use Rattle.acl_tree.specs.Inner.{Prepares, whole};
 ghost use Rattle.acl_tree.specs.Memberships.{membership_changed};
 ghost use Rattle.acl_tree.specs.Step.{refused_at_once};
 ghost use Rattle.acl_tree.specs.declared.command.Command.TheVariants.{Gpasswd};
-ghost use Rattle.acl_files.specs.declared.fault.TreeFault.TheVariants.{NoMemory};
 
 use crate::command::Membership;
 use crate::stage_people::{find_group, find_user, stage_user_change};
@@ -29,7 +28,7 @@ fn change_membership(
     requires group { group < length people.now.groups }
     ensures made { IfOk result (λ next. membership_changed user group change people.now ≡ Ok next) }
     ensures change { IfOk result (λ next. ChangesUser (persons people.now) (persons next) user) }
-    ensures fault { IfErr result (λ fault. fault ≢ NoMemory → membership_changed user group change people.now ≡ Err fault) }
+    ensures fault { IfErr result (λ fault. fault ≢ TreeFault.NoMemory → membership_changed user group change people.now ≡ Err fault) }
     ensures at_once { IfErr (membership_changed user group change people.now) (λ fault. result ≡ Err fault) }
 {
     match change {

@@ -16,7 +16,6 @@ ghost use Rattle.acl_files.specs.Restoring.{restore_one, paths_of, restored_tree
 ghost use Rattle.acl_files.specs.Sound.{IsSoundTree};
 ghost use Rattle.acl_tree.specs.Step.{State, step};
 ghost use Rattle.acl_tree.specs.declared.command.Command.{Command};
-ghost use Rattle.acl_tree.specs.declared.command.Command.TheVariants as commands;
 ghost use Rattle.acl_tree.specs.declared.command.NewFile.{NewFile};
 ghost use Rattle.acl_tree.specs.declared.command.NewUser.{NewUser};
 ghost use Rattle.acl_tree.specs.Refusals.{IsRefusedForFirst};
@@ -42,7 +41,7 @@ pub fn unnamed_files_stay()
 /// a directory.
 pub fn new_file_is_removed()
     ensures { (new : NewFile) (recursive : Bool) (old made : State) → (is_directory new.kind && not recursive) ≡ false
-        → step old (commands.Creat new) ≡ Ok made → step made (commands.Rm (new.path ∷ []) recursive) ≡ Ok old }
+        → step old (Command.Creat new) ≡ Ok made → step made (Command.Rm (new.path ∷ []) recursive) ≡ Ok old }
 {}
 
 /// Proof only: a user that is added and removed again, under a name that no group's row has, leaves the files and
@@ -50,15 +49,15 @@ pub fn new_file_is_removed()
 /// only a state in which they were loaded is the same again.
 pub fn new_user_is_removed()
     ensures rows { (new : NewUser) (old made : State) → is_user_name new.name ≡ true → list_any (names_user new.name) old.people.groups ≡ false
-        → step old (commands.Useradd new) ≡ Ok made → step made (commands.Userdel new.name) ≡ Ok (with_users_loaded old) }
+        → step old (Command.Useradd new) ≡ Ok made → step made (Command.Userdel new.name) ≡ Ok (with_users_loaded old) }
     ensures whole { (new : NewUser) (old made : State) → is_user_name new.name ≡ true → list_any (names_user new.name) old.people.groups ≡ false
-        → old.people.passwd_loaded ≡ true → step old (commands.Useradd new) ≡ Ok made → step made (commands.Userdel new.name) ≡ Ok old }
+        → old.people.passwd_loaded ≡ true → step old (Command.Useradd new) ≡ Ok made → step made (Command.Userdel new.name) ≡ Ok old }
 {}
 
 /// Proof only: a restore of records that contain what their files are changes nothing.
 pub fn restore_of_what_is_changes_nothing()
     ensures { (records : List DumpRecord) (state : State) → IsSoundTree state.tree → AllByRecursion (IsAsRecorded state.tree.files) records
-        → step state (commands.Restore records) ≡ Ok state }
+        → step state (Command.Restore records) ≡ Ok state }
 {}
 
 /// Proof only: which faults apply to a state and a command is defined for each fault by itself, without an order. A

@@ -3,12 +3,10 @@
 ghost use Rattle.std.specs.Prelude.{◌≡◌, [], true, IfOk, IfErr, OnOk, Err};
 ghost use Rattle.acl_people.specs.KnownPeople.{KnownPeople};
 ghost use Rattle.acl_tree.specs.Step.{tree_fault, is_loaded, state_from};
-ghost use Rattle.acl_files.specs.declared.fault.TreeFault.TheVariants.{AlreadyLoaded, NoMemory};
 ghost use Rattle.acl_tree.specs.Inner.{Prepares, whole};
 ghost use Rattle.acl_files.specs.Sound.{IsSoundTree};
 ghost use Rattle.acl_tree.specs.Reports.{Reports};
 ghost use Rattle.acl_tree.specs.declared.command.Command.TheVariants.{Load};
-ghost use Rattle.acl_tree.specs.declared.user_change.UserChange.TheVariants.{Loaded};
 
 use crate::command::Table;
 use crate::dump::prepare_dump;
@@ -39,7 +37,7 @@ pub(crate) fn prepare_load(
     bytes: &[u8],
 ) -> Result<Staged, TreeFault>
     ensures prepares { Prepares (whole state.now) (Load which bytes.entry) result }
-    ensures loaded { is_loaded (whole state.now) which ≡ true → result ≡ Err AlreadyLoaded }
+    ensures loaded { is_loaded (whole state.now) which ≡ true → result ≡ Err TreeFault.AlreadyLoaded }
 {
     let (tree, people) = (state.tree, state.people);
     tree.soundness_law();
@@ -60,12 +58,12 @@ fn with_people(
     loaded: Result<People, LoadFault>,
 ) -> Result<Staged, TreeFault>
     ensures ok { IfOk loaded (λ people. IfOk result (λ staged. staged
-        ≡ record { state = state_from tree.now people; changed = []; gone = []; user_change = Loaded })) }
-    ensures moved { IfOk result (λ staged. staged.user_change ≡ Loaded) }
+        ≡ record { state = state_from tree.now people; changed = []; gone = []; user_change = UserChange.Loaded })) }
+    ensures moved { IfOk result (λ staged. staged.user_change ≡ UserChange.Loaded) }
     ensures sound { IfOk result (λ staged. IsSoundTree staged.state.tree) }
     ensures reports { IfOk result (λ staged. (people : KnownPeople) → tree.now.files ≡ [] → Reports (state_from tree.now people) staged) }
     ensures err { IfErr loaded (λ fault. result ≡ Err (tree_fault fault)) }
-    ensures memory { OnOk loaded (IfErr result (λ fault. fault ≡ NoMemory)) }
+    ensures memory { OnOk loaded (IfErr result (λ fault. fault ≡ TreeFault.NoMemory)) }
 {
     match loaded {
         Ok(people) => {

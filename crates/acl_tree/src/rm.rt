@@ -6,7 +6,6 @@ ghost use Rattle.acl_files.specs.acl_names.Paths.{path_cmp};
 ghost use Rattle.acl_tree.specs.Inner.{Prepares, whole};
 ghost use Rattle.acl_files.specs.Inner.{file_of};
 ghost use Rattle.acl_tree.specs.Rm.{refusal, first_refused};
-ghost use Rattle.acl_files.specs.declared.fault.TreeFault.TheVariants.{NoMemory};
 ghost use Rattle.acl_tree.specs.declared.command.Command.TheVariants.{Rm};
 
 use crate::state::BorrowedState;
@@ -19,7 +18,7 @@ use std::rc::Rc;
 /// Whether an operand may be removed.
 fn check_one(alloc: Global, tree: &Files, recursive: bool, path: &Path) -> Result<(), TreeFault>
     ensures ok { OnOk result (refusal recursive path.now (find path_cmp path.now tree.now.files) ≡ None) }
-    ensures fault { IfErr result (λ fault. fault ≢ NoMemory → refusal recursive path.now (find path_cmp path.now tree.now.files) ≡ Some fault) }
+    ensures fault { IfErr result (λ fault. fault ≢ TreeFault.NoMemory → refusal recursive path.now (find path_cmp path.now tree.now.files) ≡ Some fault) }
 {
     let Some(node) = tree.get(path) else {
         return Err(TreeFault::NoSuchFile {
@@ -37,7 +36,7 @@ fn check_one(alloc: Global, tree: &Files, recursive: bool, path: &Path) -> Resul
 /// Whether all operands may be removed; else the fault of the first that may not.
 fn check_all(alloc: Global, tree: &Files, selection: &Selection<'_>) -> Result<(), TreeFault>
     ensures ok { OnOk result (first_refused selection.now.recursive selection.now.operands.now tree.now.files ≡ None) }
-    ensures fault { IfErr result (λ fault. fault ≢ NoMemory → first_refused selection.now.recursive selection.now.operands.now tree.now.files ≡ Some fault) }
+    ensures fault { IfErr result (λ fault. fault ≢ TreeFault.NoMemory → first_refused selection.now.recursive selection.now.operands.now tree.now.files ≡ Some fault) }
 {
     let mut rest = selection.operands.as_slice();
     while let [path, more @ ..] = rest {

@@ -8,7 +8,6 @@ ghost use Rattle.acl_tree.specs.Inner.{whole};
 ghost use Rattle.acl_tree.specs.Step.{state_from};
 ghost use Rattle.acl_tree.specs.Reports.{move_of, UsersMoved, Reports};
 ghost use Rattle.acl_tree.specs.Memberships.{user_at, group_at};
-ghost use Rattle.acl_files.specs.declared.fault.TreeFault.TheVariants.{NoSuchUser, NoSuchGroup, NoMemory};
 
 use crate::state::BorrowedState;
 use crate::step::Staged;
@@ -75,8 +74,8 @@ pub(crate) fn stage_user_change(
 pub(crate) fn find_user(alloc: Global, people: &People, word: &Name) -> Result<usize, TreeFault>
     ensures found { IfOk result (λ user. user_at people.now word.now ≡ Ok user) }
     ensures within { IfOk result (λ user. user < length people.now.users) }
-    ensures fault { IfErr result (λ fault. fault ≢ NoMemory → user_at people.now word.now ≡ Err fault) }
-    ensures unknown { OnErr result (user_at people.now word.now ≡ Err (NoSuchUser word.now)) }
+    ensures fault { IfErr result (λ fault. fault ≢ TreeFault.NoMemory → user_at people.now word.now ≡ Err fault) }
+    ensures unknown { OnErr result (user_at people.now word.now ≡ Err (TreeFault.NoSuchUser word.now)) }
 {
     match people.find_user(word.as_bytes()) {
         Some(user) => Ok(user),
@@ -90,8 +89,8 @@ pub(crate) fn find_user(alloc: Global, people: &People, word: &Name) -> Result<u
 pub(crate) fn find_group(alloc: Global, people: &People, word: &Name) -> Result<usize, TreeFault>
     ensures found { IfOk result (λ group. group_at people.now word.now ≡ Ok group) }
     ensures within { IfOk result (λ group. group < length people.now.groups) }
-    ensures fault { IfErr result (λ fault. fault ≢ NoMemory → group_at people.now word.now ≡ Err fault) }
-    ensures unknown { OnErr result (group_at people.now word.now ≡ Err (NoSuchGroup word.now)) }
+    ensures fault { IfErr result (λ fault. fault ≢ TreeFault.NoMemory → group_at people.now word.now ≡ Err fault) }
+    ensures unknown { OnErr result (group_at people.now word.now ≡ Err (TreeFault.NoSuchGroup word.now)) }
 {
     match people.find_group(word.as_bytes()) {
         Some(group) => Ok(group),

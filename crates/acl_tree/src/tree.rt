@@ -9,7 +9,6 @@ ghost use Rattle.acl_files.specs.Found.{files_found};
 ghost use Rattle.acl_files.specs.Operands.{first_missing, IsMissing};
 ghost use Rattle.acl_files.specs.Sound.{IsSoundTree};
 ghost use Rattle.acl_files.specs.Walks.{within, ancestors};
-ghost use Rattle.acl_files.specs.declared.fault.TreeFault.TheVariants.{NoMemory};
 ghost use Rattle.acl_tree.specs.Step.{refused_at_once, step, Stages, state_from};
 ghost use Rattle.acl_tree.specs.Reports.{users_move, Reports};
 
@@ -115,7 +114,7 @@ impl Tree {
     pub fn files(&self, alloc: Global, selection: &Selection<'_>) -> Result<Vec<Found>, TreeFault>
         ensures all { IfOk result (λ files. files.items ≡ files_found selection.now.recursive selection.now.operands.now self.now.files) }
         ensures there { OnOk result (first_missing selection.now.operands.now self.now.files ≡ None) }
-        ensures reported { IfErr result (λ fault. fault ≢ NoMemory → IsMissing fault (first_missing selection.now.operands.now self.now.files)) }
+        ensures reported { IfErr result (λ fault. fault ≢ TreeFault.NoMemory → IsMissing fault (first_missing selection.now.operands.now self.now.files)) }
     {
         self.files.selected(alloc, selection)
     }

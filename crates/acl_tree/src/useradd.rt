@@ -6,7 +6,6 @@ ghost use Rattle.acl_people.specs.Moves.{JoinsUser};
 ghost use Rattle.acl_tree.specs.Accounts.{useradd};
 ghost use Rattle.acl_tree.specs.Inner.{Prepares, whole};
 ghost use Rattle.acl_tree.specs.Step.{nameless, refused_at_once};
-ghost use Rattle.acl_files.specs.declared.fault.TreeFault.TheVariants.{NoMemory};
 ghost use Rattle.acl_tree.specs.declared.command.Command.TheVariants.{Useradd};
 
 use crate::command::NewUser;
@@ -22,7 +21,7 @@ use std::alloc::Global;
 fn add_user(alloc: Global, people: &People, new: &NewUser) -> Result<People, TreeFault>
     ensures made { IfOk result (λ next. useradd new.now people.now ≡ Ok (record { user = length people.now.users; people = next })) }
     ensures joins { IfOk result (λ next. JoinsUser (persons people.now) (persons next)) }
-    ensures fault { IfErr result (λ fault. fault ≢ NoMemory → useradd new.now people.now ≡ Err fault) }
+    ensures fault { IfErr result (λ fault. fault ≢ TreeFault.NoMemory → useradd new.now people.now ≡ Err fault) }
     ensures at_once { IfSome (nameless (useradd new.now people.now)) (λ fault. result ≡ Err fault) }
 {
     if people.has_user_named(new.name.as_name().as_bytes()) {

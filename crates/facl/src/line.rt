@@ -3,8 +3,6 @@
 ghost use Rattle.std.specs.Prelude.{◌≡◌, ℕ, List, Option, Err, IfOk, map, string_bytes};
 ghost use Rattle.facl_output.specs.facl_script.Units.{UnitText};
 ghost use Rattle.facl_output.specs.facl_script.Held.{IsLineHeld, IsTextHeld};
-ghost use Rattle.facl_output.specs.facl_script.declared.held.HeldLine.TheVariants.{TooLong};
-ghost use Rattle.facl_output.specs.declared.fault.LineFault.TheVariants.{LineTooLong};
 ghost use Rattle.acl_rights.specs.States.{IsPrepared, loaded_state, states_in};
 ghost use Rattle.facl.specs.Replies.{Gives, Replies};
 ghost use Rattle.facl.specs.Tools.{tool_line};
@@ -27,7 +25,7 @@ pub(crate) fn is_silent(line: &HeldLine<'_>) -> bool
 pub(crate) fn words_of_line(alloc: Global, line: &HeldLine<'_>) -> Result<Vec<String>, LineFault>
     ensures words { (content : Option (List ℕ)) → IsLineHeld line.now content
         → Gives (λ words. map string_bytes words.items) result (words_of_line content) }
-    ensures too_long { line.now ≡ TooLong → result ≡ Err LineTooLong }
+    ensures too_long { line.now ≡ HeldLine.TooLong → result ≡ Err LineFault.LineTooLong }
 {
     match line {
         HeldLine::TooLong => Err(LineFault::LineTooLong),

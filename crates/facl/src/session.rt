@@ -5,7 +5,6 @@ ghost use Rattle.std.specs.Prelude.{◌≡◌, ℕ, ◌+◌, ◌≤◌, [], ◌�
 ghost use Rattle.facl_output.specs.facl_script.Units.{ScriptUnit, UnitText};
 ghost use Rattle.facl_output.specs.facl_script.Held.{IsTextHeld, IsUnitHeld};
 ghost use Rattle.facl_output.specs.facl_words.TextWords.{line_asks};
-ghost use Rattle.facl_output.specs.declared.fault.LineFault.TheVariants.{NoMemory};
 ghost use Rattle.acl_rights.specs.Costs.{all_pairs};
 ghost use Rattle.acl_rights.specs.States.{IsPrepared, from_start};
 ghost use Rattle.facl.specs.Replies.{reply_of};
@@ -82,7 +81,7 @@ impl<J: Judge> FaclSession<J> {
     fn refuse(&mut self, number: u64, tool: &[u8], fault: &LineFault)
         requires { IsQuiet self.old }
         ensures answer { (asked : ℕ) → Answers number (refused number tool.now fault.now (states_of self.old)) self.old self.new asked asked true }
-        ensures memory { fault.now ≡ NoMemory → ran_out_of_memory self.new ≡ true }
+        ensures memory { fault.now ≡ LineFault.NoMemory → ran_out_of_memory self.new ≡ true }
         ensures indexed_states { self.new.indexed_states ≡ self.old.indexed_states }
     {
         let has_message = !matches!(fault, LineFault::NoMemory)

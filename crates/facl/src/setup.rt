@@ -2,8 +2,6 @@
 
 ghost use Rattle.std.specs.Prelude.{◌≡◌, ◌≢◌, Ok, Err, MatchResult, option_map};
 ghost use Rattle.acl_rights.specs.acl_tree.Step.{load};
-ghost use Rattle.acl_rights.specs.acl_files.declared.fault.TreeFault.TheVariants as trees;
-ghost use Rattle.facl_output.specs.declared.fault.RunFault.TheVariants as runs;
 ghost use Rattle.facl.specs.Setups.{set_up, with_text, initial_state};
 
 use acl_rights::{Command, Staged, State, Table, TreeFault};
@@ -23,8 +21,8 @@ pub struct Setup<'a> {
 
 /// The fault of a setup whose text is refused so.
 fn setup_fault(which: Table, fault: TreeFault) -> RunFault
-    ensures memory { fault ≡ trees.NoMemory → result ≡ runs.NoMemory }
-    ensures setup { result ≢ runs.NoMemory → result ≡ runs.Setup which fault }
+    ensures memory { fault ≡ TreeFault.NoMemory → result ≡ RunFault.NoMemory }
+    ensures setup { result ≢ RunFault.NoMemory → result ≡ RunFault.Setup which fault }
 {
     match fault {
         TreeFault::NoMemory => RunFault::NoMemory,
@@ -36,7 +34,7 @@ fn setup_fault(which: Table, fault: TreeFault) -> RunFault
 fn prepared(alloc: Global, which: Table, text: &[u8], state: &State) -> Result<Staged, RunFault>
     ensures { MatchResult result
         (λ staged. set_up which (load state.now which text.now) ≡ Ok staged.state)
-        (λ fault. fault ≢ runs.NoMemory → set_up which (load state.now which text.now) ≡ Err fault) }
+        (λ fault. fault ≢ RunFault.NoMemory → set_up which (load state.now which text.now) ≡ Err fault) }
 {
     let command = Command::Load { which, bytes: text };
     let outcome = state.prepare(alloc, &command);
@@ -56,7 +54,7 @@ fn with_loaded(
 ) -> Result<State, RunFault>
     ensures { MatchResult result
         (λ new. set_up which (load state which text.now) ≡ Ok new)
-        (λ fault. fault ≢ runs.NoMemory → set_up which (load state which text.now) ≡ Err fault) }
+        (λ fault. fault ≢ RunFault.NoMemory → set_up which (load state which text.now) ≡ Err fault) }
 {
     let staged = prepared(alloc, which, text, &state)?;
     state.commit(staged);
@@ -72,7 +70,7 @@ fn with_text(
 ) -> Result<State, RunFault>
     ensures { MatchResult result
         (λ new. with_text which (option_map (λ t. t.now) text.entry) state ≡ Ok new)
-        (λ fault. fault ≢ runs.NoMemory → with_text which (option_map (λ t. t.now) text.entry) state ≡ Err fault) }
+        (λ fault. fault ≢ RunFault.NoMemory → with_text which (option_map (λ t. t.now) text.entry) state ≡ Err fault) }
 {
     match text {
         Some(text) => with_loaded(alloc, which, text, state),
@@ -84,7 +82,7 @@ fn with_text(
 pub(crate) fn start(alloc: Global, setup: &Setup<'_>) -> Result<State, RunFault>
     ensures { MatchResult result
         (λ state. initial_state setup.now ≡ Ok state)
-        (λ fault. fault ≢ runs.NoMemory → initial_state setup.now ≡ Err fault) }
+        (λ fault. fault ≢ RunFault.NoMemory → initial_state setup.now ≡ Err fault) }
 {
     let state = State::new(alloc)?;
     let state = with_text(alloc, Table::Passwd, setup.passwd, state)?;

@@ -2,7 +2,6 @@
 
 ghost use Rattle.std.specs.Prelude.{◌≡◌, ◌⊎◌, MatchResult, None, Some, map, string_bytes, if◌then◌else◌};
 ghost use Rattle.std.specs.IoError.{error_kind};
-ghost use Rattle.facl_cli.specs.declared.fault.ProgramFault.TheVariants as faults;
 ghost use Rattle.facl_cli.specs.Lines.{ran_out_of_memory};
 ghost use Rattle.facl_cli.specs.Words.{files_named, names_of};
 
@@ -15,7 +14,7 @@ use std::{env, io};
 
 /// The fault of words that cannot be read: one of them is not text, or memory ran out.
 fn words_fault(error: &io::Error) -> ProgramFault
-    ensures { result ≡ if ran_out_of_memory (error_kind error.now) then faults.NoMemory else faults.Usage }
+    ensures { result ≡ if ran_out_of_memory (error_kind error.now) then ProgramFault.NoMemory else ProgramFault.Usage }
 {
     match error.kind() {
         ErrorKind::OutOfMemory => ProgramFault::NoMemory,
@@ -46,7 +45,7 @@ pub(crate) struct Files {
 pub(crate) fn files_named(alloc: Global, words: &[String]) -> Result<Files, ProgramFault>
     ensures { MatchResult result
         (λ files. files_named (map string_bytes words.now) ≡ Some (names_of files))
-        (λ fault. (fault ≡ faults.NoMemory) ⊎ ((fault ≡ faults.Usage) × (files_named (map string_bytes words.now) ≡ None))) }
+        (λ fault. (fault ≡ ProgramFault.NoMemory) ⊎ ((fault ≡ ProgramFault.Usage) × (files_named (map string_bytes words.now) ≡ None))) }
 {
     let after_name = words.get(1..).unwrap_or(&[]);
     let [passwd, group, dump] = read_args(alloc, after_name)?;

@@ -2,8 +2,8 @@
 
 ghost use Rattle.std.specs.Prelude.{◌≡◌, true, false, IfOk, IfErr, OnOk, OnErr};
 ghost use Rattle.std.specs.Io.KnownBytes.{Appends};
-ghost use Rattle.facl_cli.specs.declared.fault.ProgramFault.TheVariants as faults;
 ghost use Rattle.facl_cli.specs.Lines.{IsLineReported, fault_by_words, fault_line, unread_line};
+ghost use Rattle.facl_cli.specs.declared.fault.ProgramFault.{ProgramFault};
 
 use facl::{RunFault, ScriptFault, Sink, append_run_fault, write_whole};
 use facl_words::WordsFault;
@@ -23,7 +23,7 @@ pub(crate) enum ProgramFault {
 }
 
 impl From<AllocError> for ProgramFault {
-    ghost from_gives = { λ _ fault. fault ≡ faults.NoMemory };
+    ghost from_gives = { λ _ fault. fault ≡ ProgramFault.NoMemory };
 
     fn from(_: AllocError) -> ProgramFault {
         ProgramFault::NoMemory
@@ -42,7 +42,7 @@ impl From<WordsFault> for ProgramFault {
 }
 
 impl From<RunFault> for ProgramFault {
-    ghost from_gives = { λ run_fault fault. fault ≡ faults.Run run_fault };
+    ghost from_gives = { λ run_fault fault. fault ≡ ProgramFault.Run run_fault };
 
     fn from(run_fault: RunFault) -> ProgramFault {
         ProgramFault::Run(run_fault)
@@ -51,7 +51,7 @@ impl From<RunFault> for ProgramFault {
 
 /// The line of a fault of the setup. Fails only if memory runs out.
 fn setup_line(alloc: Global, fault: &RunFault) -> Result<Vec<u8>, AllocError>
-    ensures { IfOk result (λ line. line.items ≡ fault_line (faults.Run fault.now)) }
+    ensures { IfOk result (λ line. line.items ≡ fault_line (ProgramFault.Run fault.now)) }
 {
     let mut line = Vec::from_slice(alloc, b"facl: ")?;
     append_run_fault(&mut line, fault)?;
@@ -62,7 +62,7 @@ fn setup_line(alloc: Global, fault: &RunFault) -> Result<Vec<u8>, AllocError>
 /// Writes the line of a run's fault.
 fn write_run_fault<E: Sink>(alloc: Global, fault: &RunFault, err: &mut E) -> Result<(), ScriptFault>
     requires { E.has_failed err.old ≡ false }
-    ensures ok { OnOk result (IsLineReported (faults.Run fault.now) (E.contents err.old) (E.contents err.new)) }
+    ensures ok { OnOk result (IsLineReported (ProgramFault.Run fault.now) (E.contents err.old) (E.contents err.new)) }
     ensures err { OnErr result (E.has_failed err.new ≡ true) }
     ensures which { IfErr result (λ e. e ≡ ScriptFault.Write) }
 {

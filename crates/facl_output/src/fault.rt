@@ -3,8 +3,8 @@
 
 ghost use Rattle.std.specs.Prelude.{◌≡◌};
 ghost use Rattle.facl_output.specs.Faults.{line_fault_of_split, line_fault_of_text, line_fault_of_tree, line_fault_of_words, run_fault_of_script};
-ghost use Rattle.facl_output.specs.declared.fault.LineFault.TheVariants as line;
-ghost use Rattle.facl_output.specs.declared.fault.RunFault.TheVariants as run;
+ghost use Rattle.facl_output.specs.declared.fault.LineFault.{LineFault};
+ghost use Rattle.facl_output.specs.declared.fault.RunFault.{RunFault};
 
 use acl_tree::{FaultKind, Table, TextFault, TreeFault};
 use facl_words::{ScriptFault, SplitFault, WordsFault};
@@ -98,7 +98,7 @@ impl LineFault {
 }
 
 impl From<AllocError> for LineFault {
-    ghost from_gives = { λ _ fault. fault ≡ line.NoMemory };
+    ghost from_gives = { λ _ fault. fault ≡ LineFault.NoMemory };
 
     fn from(_: AllocError) -> LineFault {
         LineFault::NoMemory
@@ -106,7 +106,7 @@ impl From<AllocError> for LineFault {
 }
 
 impl<T: Drop> From<AllocFailed<T>> for LineFault {
-    ghost from_gives = { λ _ fault. fault ≡ line.NoMemory };
+    ghost from_gives = { λ _ fault. fault ≡ LineFault.NoMemory };
 
     fn from(_: AllocFailed<T>) -> LineFault {
         LineFault::NoMemory
@@ -148,7 +148,7 @@ impl From<WordsFault> for LineFault {
 }
 
 impl From<AllocError> for RunFault {
-    ghost from_gives = { λ _ fault. fault ≡ run.NoMemory };
+    ghost from_gives = { λ _ fault. fault ≡ RunFault.NoMemory };
 
     fn from(_: AllocError) -> RunFault {
         RunFault::NoMemory
@@ -156,7 +156,7 @@ impl From<AllocError> for RunFault {
 }
 
 impl<T: Drop> From<AllocFailed<T>> for RunFault {
-    ghost from_gives = { λ _ fault. fault ≡ run.NoMemory };
+    ghost from_gives = { λ _ fault. fault ≡ RunFault.NoMemory };
 
     fn from(_: AllocFailed<T>) -> RunFault {
         RunFault::NoMemory

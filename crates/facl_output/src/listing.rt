@@ -1,7 +1,6 @@
 //! The listings of getfacl(1), by its options.
 
 ghost use Rattle.std.specs.Prelude.{◌≡◌, ◌++◌, ◌∷◌, []};
-ghost use Rattle.acl_tree.specs.acl_syntax.declared.fault.Which.TheVariants.{Access};
 ghost use Rattle.acl_tree.specs.acl_dump.Writing.{list_text};
 ghost use Rattle.acl_tree.specs.acl_names.Appends.{Appends, AppendsWhole};
 ghost use Rattle.facl_output.specs.Listings.{has_base_alone, is_listed, has_slash, path_shown, flags_shown, headers, default_entries, file_text, files_text, listing};
@@ -128,7 +127,7 @@ fn push_lists<N: Names>(
     options: &Options,
     node: &Node,
 ) -> Result<(), AllocError>
-    ensures { Appends result text.old text.new (list_text (N.naming names.now) options.now.effective Access node.now.label.acl
+    ensures { Appends result text.old text.new (list_text (N.naming names.now) options.now.effective Which.Access node.now.label.acl
         ++ (default_entries (N.naming names.now) options.now node.now ++ 10 ∷ [])) }
 {
     let acl = &node.label.acl;

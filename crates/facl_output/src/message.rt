@@ -8,7 +8,6 @@ ghost use Rattle.acl_tree.specs.acl_syntax.declared.entries.Form.TheVariants.{Lo
 ghost use Rattle.acl_tree.specs.acl_syntax.Writing.{tag_text};
 ghost use Rattle.acl_tree.specs.acl_names.Names.{escaped};
 ghost use Rattle.acl_tree.specs.acl_names.Paths.{path_text};
-ghost use Rattle.facl_output.specs.declared.fault.Source.TheVariants.{TextLine};
 
 use crate::fault::{LineFault, Source};
 use acl_tree::{
@@ -252,7 +251,7 @@ fn push_of_name(text: &mut Vec<u8>, name: &Name, fault: &[u8]) -> Result<(), All
 
 /// Adds the text of a fault in a text that is loaded.
 fn push_in_text(text: &mut Vec<u8>, fault: &TextFault) -> Result<(), AllocError>
-    ensures { Appends result text.old text.new (placed TextLine fault.now) }
+    ensures { Appends result text.old text.new (placed Source.TextLine fault.now) }
 {
     push_numbered(text, b"text line ", fault.at, b": ")?;
     push_kind(text, &fault.kind)?;

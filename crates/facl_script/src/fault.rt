@@ -15,10 +15,10 @@ pub enum ScriptFault {
 }
 
 impl From<AllocError> for ScriptFault {
-    ghost use Rattle.facl_script.specs.declared.fault.ScriptFault.TheVariants.{NoMemory};
     ghost use Rattle.std.specs.Prelude.{◌≡◌};
+    ghost use Rattle.facl_script.specs.declared.fault.ScriptFault.{ScriptFault};
 
-    ghost from_gives = { λ _ e. e ≡ NoMemory };
+    ghost from_gives = { λ _ e. e ≡ ScriptFault.NoMemory };
 
     fn from(_e: AllocError) -> ScriptFault {
         ScriptFault::NoMemory

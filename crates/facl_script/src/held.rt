@@ -4,7 +4,6 @@ ghost use Rattle.facl_script.specs.Held.{IsLineHeld, IsTextHeld};
 ghost use Rattle.facl_script.specs.ReadText.{IsTextFound};
 ghost use Rattle.facl_script.specs.ReadUnit.{IsLineFound};
 ghost use Rattle.facl_script.specs.Units.{UnitText};
-ghost use Rattle.facl_script.specs.declared.text.TextFound.TheVariants as found_texts;
 
 use crate::line::{LineFound, has_no_words};
 use crate::text::TextFound;
@@ -74,7 +73,7 @@ impl<'a> HeldText<'a> {
     /// The text that was found.
     pub(crate) fn found(found: TextFound, bytes: &'a [u8]) -> HeldText<'a>
         ensures held { (text : UnitText) → IsTextFound found bytes.now text → IsTextHeld result text }
-        ensures lost { result ≡ HeldText.Lost → found ≡ found_texts.Lost }
+        ensures lost { result ≡ HeldText.Lost → found ≡ TextFound.Lost }
     {
         match found {
             TextFound::Absent => HeldText::Absent,

@@ -1,7 +1,7 @@
 //! Why words are refused.
 ghost use Rattle.std.specs.Prelude.{◌≡◌};
 ghost use Rattle.clap.specs.Words.{kind_of};
-ghost use Rattle.facl_words.specs.declared.fault.WordsFault.TheVariants.{NoMemory};
+ghost use Rattle.facl_words.specs.declared.fault.WordsFault.{WordsFault};
 
 use clap::Error;
 use clap::error::ErrorKind;
@@ -30,7 +30,7 @@ impl From<Error> for WordsFault {
 }
 
 impl From<AllocError> for WordsFault {
-    ghost from_gives = { λ _ fault. fault ≡ NoMemory };
+    ghost from_gives = { λ _ fault. fault ≡ WordsFault.NoMemory };
 
     fn from(_error: AllocError) -> WordsFault {
         WordsFault::NoMemory
@@ -38,7 +38,7 @@ impl From<AllocError> for WordsFault {
 }
 
 impl<T: Drop> From<AllocFailed<T>> for WordsFault {
-    ghost from_gives = { λ _ fault. fault ≡ NoMemory };
+    ghost from_gives = { λ _ fault. fault ≡ WordsFault.NoMemory };
 
     fn from(_error: AllocFailed<T>) -> WordsFault {
         WordsFault::NoMemory

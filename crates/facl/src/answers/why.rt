@@ -6,7 +6,6 @@ ghost use Rattle.std.specs.List.{list_any};
 ghost use Rattle.acl_rights.specs.acl_entry.Check.{is_for};
 ghost use Rattle.acl_rights.specs.acl_entry.Lists.{entries};
 ghost use Rattle.acl_rights.specs.acl_files.Walks.{ancestors};
-ghost use Rattle.acl_rights.specs.acl_files.declared.fault.TreeFault.TheVariants.{NoMemory};
 ghost use Rattle.acl_rights.specs.acl_tree.Operands.{first_missing, IsMissing};
 ghost use Rattle.facl.specs.Inner.{sole_key, is_chosen, ways, asked_paths};
 ghost use Rattle.facl.specs.WhyText.{deciding_text, files_asked, why_record, why_text};
@@ -176,7 +175,7 @@ pub fn files_asked(
 ) -> Result<Vec<Found>, TreeFault>
     ensures all { IfOk result (λ files. files.items ≡ files_asked along paths tree.now.files) }
     ensures there { OnOk result (first_missing paths tree.now.files ≡ None) }
-    ensures reported { IfErr result (λ fault. fault ≢ NoMemory → IsMissing fault (first_missing paths tree.now.files)) }
+    ensures reported { IfErr result (λ fault. fault ≢ TreeFault.NoMemory → IsMissing fault (first_missing paths tree.now.files)) }
 {
     tree.soundness_law();
     let asked = asked_paths(alloc, tree, paths, along)?;

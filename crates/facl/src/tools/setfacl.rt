@@ -1,6 +1,4 @@
 //! The tool setfacl(1): its words, the line that they give, and what it does.
-
-ghost use Rattle.acl_rights.specs.acl_tree.declared.command.Command.TheVariants.{Restore};
 ghost use Rattle.facl.specs.Replies.{Replies, Gives};
 ghost use Rattle.facl.specs.Setfacl.{answered, change_files, change_line, done_or_tested, records_or_fault, restore_line};
 ghost use Rattle.std.specs.Prelude.{◌≡◌};
@@ -75,7 +73,7 @@ fn restore_records(
     records: DumpRecords,
     is_test: bool,
 ) -> Result<Effect, LineFault>
-    ensures { Replies state.now result (done_or_tested is_test state.now (Restore records)) }
+    ensures { Replies state.now result (done_or_tested is_test state.now (Command.Restore records)) }
 {
     let command = Command::Restore { records };
     do_or_test(alloc, state, command, is_test)
