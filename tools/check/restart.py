@@ -10,7 +10,7 @@ all files and the texts of the users and groups are what a new session loads. As
 verdict, `may --reach` of each user and request, which has every verdict along the path, and `can --reach` and `who
 --reach` of each file. There are 200 states. Each difference is printed with the lines that show it, and the exit status is
 then 1. Users after the lines are as tools/lib/answers.py has them. A state whose root was removed is compared as far as it
-had one.
+had one, and one that has a user whose name starts with `#` as far as it had none: no text can contain that user.
 """
 from __future__ import annotations
 
@@ -113,6 +113,8 @@ def fault_of(program: Program, texts: Texts, units: List[Unit]) -> Tuple[Optiona
     if len(listed.err) != len(before.err):
         return None, 0  # The root was removed.
     people = people_after(kept)
+    if any(user.name.startswith(b"#") for user in people.users):
+        return None, 0
     script = questions(people, listing)
     after = program.run(texts, script_of(kept) + script)
     mine = Printed(after.out[len(before.out) :], after.err[len(before.err) :])
