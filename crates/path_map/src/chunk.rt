@@ -1,10 +1,10 @@
 //! Entries, and chunks of entries that follow one another in path order, shared by the maps that contain them; the place of a path among them.
 
-ghost use Rattle.std.specs.Prelude.{◌≡◌, ◌<◌, ◌≤◌, map, length, List, slice_index_or, option_map, ◌∷◌, []};
-ghost use Rattle.path_map.specs.Entries.{IsInOrder, PathOf};
+ghost use Rattle.std.specs.Prelude.{◌≡◌, ◌<◌, ◌≤◌, length, List, slice_index_or, option_map, ◌∷◌, []};
+ghost use Rattle.path_map.specs.Entries.{IsInOrder, PathOf, entries_in};
 ghost use Rattle.std.specs.Option.{option_copied};
-ghost use Rattle.std.specs.List.{flat_map};
 ghost use Rattle.std.specs.FinMap.{find, is_sorted};
+ghost use Rattle.acl_names.specs.Made.{values};
 ghost use Rattle.acl_names.specs.Paths.{path_cmp};
 ghost use Rattle.path_map.specs.Below.{up_to};
 ghost use Rattle.path_map.specs.Inner.{IsCountUpTo, IsStart};
@@ -27,30 +27,27 @@ pub(crate) struct Chunk<V> {
 }
 
 impl<V> Model for Chunk<V> {
-    ghost use Rattle.std.specs.Prelude.{List, ◌<◌, ◌≤◌, map, length};
-    ghost use Rattle.path_map.specs.Entries.{PathOf, IsInOrder};
-
     ghost Value = { List (PathOf × V) };
 
-    ghost view = { λ c. map (λ r. r.value) c.entries.items };
+    ghost view = { λ c. values c.entries.items };
 
-    ghost invariant = { λ c. IsInOrder (map (λ r. r.value) c.entries.items) × (0 < length c.entries.items) × (length c.entries.items ≤ 256) };
+    ghost invariant = { λ c. IsInOrder (values c.entries.items) × (0 < length c.entries.items) × (length c.entries.items ≤ 256) };
 }
 
 impl<V> Chunk<V> {
     /// The chunk of these entries.
     pub fn new(entries: Vec<Rc<MapEntry<V>>>) -> Chunk<V>
-        requires order { IsInOrder (map (λ r. r.value) entries.items) }
+        requires order { IsInOrder (values entries.items) }
         requires some { 0 < length entries.items }
         requires few { length entries.items ≤ 256 }
-        ensures { result ≡ map (λ r. r.value) entries.items }
+        ensures { result ≡ values entries.items }
     {
         Chunk { entries }
     }
 
     /// The entries.
     pub fn entries(&self) -> &[Rc<MapEntry<V>>]
-        ensures all { map (λ r. r.value) result.now ≡ self.now }
+        ensures all { values result.now ≡ self.now }
         ensures order { IsInOrder self.now }
         ensures some { 0 < length result.now }
         ensures few { length result.now ≤ 256 }
@@ -100,8 +97,6 @@ pub struct MapEntry<V> {
 }
 
 impl<V> Model for MapEntry<V> {
-    ghost use Rattle.path_map.specs.Entries.{PathOf};
-
     ghost Value = { PathOf × V };
 
     ghost view = { λ e. (e.path.value, e.value) };
@@ -179,8 +174,8 @@ pub(crate) fn count_up_to<V, P: Part<V>>(parts: &[Rc<P>], path: &Path) -> usize
 
 /// The value of a path, found in the last part that begins at it or before it.
 pub(crate) fn value_in<'a, V, P: Part<V>>(parts: &'a [Rc<P>], path: &Path) -> Option<&'a V>
-    requires { IsInOrder (flat_map (λ c. P.entries_of c.value) parts.now) }
-    ensures { option_copied result ≡ find path_cmp path.now (flat_map (λ c. P.entries_of c.value) parts.now) }
+    requires { IsInOrder (entries_in P.entries_of parts.now) }
+    ensures { option_copied result ≡ find path_cmp path.now (entries_in P.entries_of parts.now) }
 {
     let at = count_up_to(parts, path).checked_sub(1)?;
     parts[at].get(path)
@@ -191,8 +186,8 @@ pub(crate) fn last_up_to<'a, V, P: Part<V>>(
     parts: &'a [Rc<P>],
     path: &Path,
 ) -> Option<&'a Rc<MapEntry<V>>>
-    requires { IsInOrder (flat_map (λ c. P.entries_of c.value) parts.now) }
-    ensures { option_map (λ e. e.now.value) result ≡ up_to path.now (flat_map (λ c. P.entries_of c.value) parts.now) }
+    requires { IsInOrder (entries_in P.entries_of parts.now) }
+    ensures { option_map (λ e. e.now.value) result ≡ up_to path.now (entries_in P.entries_of parts.now) }
 {
     let at = count_up_to(parts, path).checked_sub(1)?;
     parts[at].up_to(path)
@@ -200,8 +195,8 @@ pub(crate) fn last_up_to<'a, V, P: Part<V>>(
 
 /// How many entries the parts have.
 pub(crate) fn count_entries<V, P: Part<V>>(parts: &[Rc<P>]) -> usize
-    requires { length (flat_map (λ c. P.entries_of c.value) parts.now) < 18446744073709551616 }
-    ensures { result ≡ length (flat_map (λ c. P.entries_of c.value) parts.now) }
+    requires { length (entries_in P.entries_of parts.now) < 18446744073709551616 }
+    ensures { result ≡ length (entries_in P.entries_of parts.now) }
 {
     let mut count = 0;
     let mut rest = parts;
@@ -214,15 +209,15 @@ pub(crate) fn count_entries<V, P: Part<V>>(parts: &[Rc<P>]) -> usize
 
 /// How many entries are before a path.
 pub(crate) fn start<V>(entries: &[Rc<MapEntry<V>>], path: &Path) -> usize
-    requires { IsInOrder (map (λ r. r.value) entries.now) }
-    ensures { IsStart (map (λ r. r.value) entries.now) path.now result }
+    requires { IsInOrder (values entries.now) }
+    ensures { IsStart (values entries.now) path.now result }
 {
     entries.partition_point(|entry| path.order(entry.path()).is_gt())
 }
 
 /// How many entries are not after a path.
 fn end<V>(entries: &[Rc<MapEntry<V>>], path: &Path) -> usize
-    requires { IsInOrder (map (λ r. r.value) entries.now) }
+    requires { IsInOrder (values entries.now) }
     ensures { IsCountUpTo (λ r. r.value ∷ []) entries.now path.now result }
 {
     entries.partition_point(|entry| !path.order(entry.path()).is_lt())
@@ -233,8 +228,8 @@ pub(crate) fn entry_up_to<'a, V>(
     entries: &'a [Rc<MapEntry<V>>],
     path: &Path,
 ) -> Option<&'a Rc<MapEntry<V>>>
-    requires { IsInOrder (map (λ r. r.value) entries.now) }
-    ensures { option_map (λ e. e.now.value) result ≡ up_to path.now (map (λ r. r.value) entries.now) }
+    requires { IsInOrder (values entries.now) }
+    ensures { option_map (λ e. e.now.value) result ≡ up_to path.now (values entries.now) }
 {
     let at = end(entries, path).checked_sub(1)?;
     Some(&entries[at])
@@ -242,8 +237,8 @@ pub(crate) fn entry_up_to<'a, V>(
 
 /// The value of a path.
 pub(crate) fn value_at<'a, V>(entries: &'a [Rc<MapEntry<V>>], path: &Path) -> Option<&'a V>
-    requires { IsInOrder (map (λ r. r.value) entries.now) }
-    ensures { option_copied result ≡ find path_cmp path.now (map (λ r. r.value) entries.now) }
+    requires { IsInOrder (values entries.now) }
+    ensures { option_copied result ≡ find path_cmp path.now (values entries.now) }
 {
     let at = start(entries, path);
     if at == entries.len() {
@@ -258,7 +253,7 @@ pub(crate) fn value_at<'a, V>(entries: &'a [Rc<MapEntry<V>>], path: &Path) -> Op
 
 /// Whether entries are in path order, each path once.
 pub fn is_in_order<V>(entries: &[Rc<MapEntry<V>>]) -> bool
-    ensures { result ≡ is_sorted path_cmp (map (λ r. r.value) entries.now) }
+    ensures { result ≡ is_sorted path_cmp (values entries.now) }
 {
     let mut rest = entries;
     while let Some((first, after)) = rest.split_first() {
@@ -275,8 +270,8 @@ pub fn is_in_order<V>(entries: &[Rc<MapEntry<V>>]) -> bool
 
 /// Whether a path has an entry.
 pub(crate) fn has<V>(entries: &[Rc<MapEntry<V>>], path: &Path) -> bool
-    requires { IsInOrder (map (λ r. r.value) entries.now) }
-    ensures { result ≡ has path.now (map (λ r. r.value) entries.now) }
+    requires { IsInOrder (values entries.now) }
+    ensures { result ≡ has path.now (values entries.now) }
 {
     value_at(entries, path).is_some()
 }

@@ -1,9 +1,9 @@
 //! A map with some entries put and others removed: only the branches and chunks that contain them are copied. New
 //! entries are cut into chunks, and chunks into branches.
 
-ghost use Rattle.std.specs.Prelude.{◌≡◌, ◌++◌, ◌<◌, length, map, IfOk, MatchOption, OnOk, ◌≤◌};
-ghost use Rattle.std.specs.List.{flat_map};
-ghost use Rattle.path_map.specs.Entries.{IsInOrder};
+ghost use Rattle.std.specs.Prelude.{◌≡◌, ◌++◌, ◌<◌, length, IfOk, MatchOption, OnOk, ◌≤◌};
+ghost use Rattle.acl_names.specs.Made.{values};
+ghost use Rattle.path_map.specs.Entries.{IsInOrder, entries_in, all_in};
 ghost use Rattle.path_map.specs.Inner.{IsNextPut};
 ghost use Rattle.path_map.specs.Merged.{put_all, without_all, merged};
 
@@ -15,10 +15,10 @@ use std::cmp::Ordering;
 use std::rc::Rc;
 
 /// Adds values; they are shared.
-fn share_all<T: Drop>(new: &mut Vec<Rc<T>>, values: &[Rc<T>]) -> Result<(), AllocError>
-    ensures { OnOk result (map (λ r. r.value) new.new.items ≡ map (λ r. r.value) new.old.items ++ map (λ r. r.value) values.now) }
+fn share_all<T: Drop>(new: &mut Vec<Rc<T>>, shared: &[Rc<T>]) -> Result<(), AllocError>
+    ensures { OnOk result (values new.new.items ≡ values new.old.items ++ values shared.now) }
 {
-    for value in values {
+    for value in shared {
         new.push(value.clone()?)?;
     }
     Ok(())
@@ -36,8 +36,8 @@ fn next_put<'a, V>(
         &'a [Rc<MapEntry<V>>],
     ),
 >
-    requires entries { IsInOrder (map (λ r. r.value) entries.now) }
-    requires puts { IsInOrder (map (λ r. r.value) puts.now) }
+    requires entries { IsInOrder (values entries.now) }
+    requires puts { IsInOrder (values puts.now) }
     ensures { MatchOption result (length puts.now ≡ 0)
         (λ next. IsNextPut (λ r. r.value) entries.now puts.now next.0.now next.1.now next.2.now) }
 {
@@ -58,9 +58,9 @@ fn put_in<V: Drop>(
     entries: &[Rc<MapEntry<V>>],
     puts: &[Rc<MapEntry<V>>],
 ) -> Result<Vec<Rc<MapEntry<V>>>, AllocError>
-    requires entries { IsInOrder (map (λ r. r.value) entries.now) }
-    requires puts { IsInOrder (map (λ r. r.value) puts.now) }
-    ensures { IfOk result (λ new. map (λ r. r.value) new.items ≡ put_all (map (λ r. r.value) puts.now) (map (λ r. r.value) entries.now)) }
+    requires entries { IsInOrder (values entries.now) }
+    requires puts { IsInOrder (values puts.now) }
+    ensures { IfOk result (λ new. values new.items ≡ put_all (values puts.now) (values entries.now)) }
 {
     let mut new = Vec::with_capacity(alloc, entries.len())?;
     let mut old = entries;
@@ -80,8 +80,8 @@ fn entries_without<V: Drop, W>(
     entries: &[Rc<MapEntry<V>>],
     gone: &[Rc<MapEntry<W>>],
 ) -> Result<Vec<Rc<MapEntry<V>>>, AllocError>
-    requires { IsInOrder (map (λ r. r.value) gone.now) }
-    ensures { IfOk result (λ kept. map (λ r. r.value) kept.items ≡ without_all (map (λ r. r.value) gone.now) (map (λ r. r.value) entries.now)) }
+    requires { IsInOrder (values gone.now) }
+    ensures { IfOk result (λ kept. values kept.items ≡ without_all (values gone.now) (values entries.now)) }
 {
     let mut kept = Vec::with_capacity(alloc, entries.len())?;
     for entry in entries {
@@ -99,11 +99,11 @@ pub(crate) fn merged_entries<V: Drop, W>(
     puts: &[Rc<MapEntry<V>>],
     gone: &[Rc<MapEntry<W>>],
 ) -> Result<Vec<Rc<MapEntry<V>>>, AllocError>
-    requires entries { IsInOrder (map (λ r. r.value) entries.now) }
-    requires puts { IsInOrder (map (λ r. r.value) puts.now) }
-    requires gone { IsInOrder (map (λ r. r.value) gone.now) }
-    ensures { IfOk result (λ new. map (λ r. r.value) new.items ≡ merged (map (λ r. r.value) puts.now) (map (λ r. r.value) gone.now)
-        (map (λ r. r.value) entries.now)) }
+    requires entries { IsInOrder (values entries.now) }
+    requires puts { IsInOrder (values puts.now) }
+    requires gone { IsInOrder (values gone.now) }
+    ensures { IfOk result (λ new. values new.items ≡ merged (values puts.now) (values gone.now)
+        (values entries.now)) }
 {
     if gone.is_empty() {
         return put_in(alloc, entries, puts);
@@ -122,11 +122,11 @@ pub(crate) trait Merge<V>: Part<V> + Sized + Drop {
         puts: &[Rc<MapEntry<V>>],
         gone: &[Rc<MapEntry<W>>],
     ) -> Result<(), AllocError>
-        requires puts { IsInOrder (map (λ r. r.value) puts.now) }
-        requires gone { IsInOrder (map (λ r. r.value) gone.now) }
-        ensures { OnOk result (flat_map (λ c. Self.entries_of c.value) new.new.items
-            ≡ flat_map (λ c. Self.entries_of c.value) new.old.items ++ merged (map (λ r. r.value) puts.now)
-            (map (λ r. r.value) gone.now) (Self.entries_of self.now)) };
+        requires puts { IsInOrder (values puts.now) }
+        requires gone { IsInOrder (values gone.now) }
+        ensures { OnOk result (entries_in Self.entries_of new.new.items
+            ≡ entries_in Self.entries_of new.old.items ++ merged (values puts.now)
+            (values gone.now) (Self.entries_of self.now)) };
 }
 
 /// Adds parts with some entries put and others removed. With nothing to put or remove the parts are shared; else
@@ -139,12 +139,12 @@ pub(crate) fn merge_parts<V, W, P: Merge<V>>(
     gone: &[Rc<MapEntry<W>>],
 ) -> Result<(), AllocError>
     requires some { 0 < length parts.now }
-    requires entries { IsInOrder (flat_map (λ c. P.entries_of c.value) parts.now) }
-    requires puts { IsInOrder (map (λ r. r.value) puts.now) }
-    requires gone { IsInOrder (map (λ r. r.value) gone.now) }
-    ensures { OnOk result (flat_map (λ c. P.entries_of c.value) new.new.items
-        ≡ flat_map (λ c. P.entries_of c.value) new.old.items ++ merged (map (λ r. r.value) puts.now) (map (λ r. r.value) gone.now)
-        (flat_map (λ c. P.entries_of c.value) parts.now)) }
+    requires entries { IsInOrder (entries_in P.entries_of parts.now) }
+    requires puts { IsInOrder (values puts.now) }
+    requires gone { IsInOrder (values gone.now) }
+    ensures { OnOk result (entries_in P.entries_of new.new.items
+        ≡ entries_in P.entries_of new.old.items ++ merged (values puts.now) (values gone.now)
+        (entries_in P.entries_of parts.now)) }
 {
     if puts.is_empty() && gone.is_empty() {
         share_all(new, parts)?;
@@ -171,8 +171,8 @@ pub(crate) fn merge_parts<V, W, P: Merge<V>>(
 impl<V: Drop> PathMap<V> {
     /// The map of entries in path order. Fails only if memory runs out.
     pub fn from_sorted(alloc: Global, entries: &[Rc<MapEntry<V>>]) -> Result<PathMap<V>, AllocError>
-        requires { IsInOrder (map (λ r. r.value) entries.now) }
-        ensures { IfOk result (λ all. all ≡ map (λ r. r.value) entries.now) }
+        requires { IsInOrder (values entries.now) }
+        ensures { IfOk result (λ all. all ≡ values entries.now) }
     {
         let mut chunks = Vec::new(alloc);
         push_entries(alloc, &mut chunks, entries)?;
@@ -190,9 +190,9 @@ impl<V: Drop> PathMap<V> {
         puts: &[Rc<MapEntry<V>>],
         gone: &[Rc<MapEntry<W>>],
     ) -> Result<PathMap<V>, AllocError>
-        requires puts { IsInOrder (map (λ r. r.value) puts.now) }
-        requires gone { IsInOrder (map (λ r. r.value) gone.now) }
-        ensures { IfOk result (λ new. new ≡ merged (map (λ r. r.value) puts.now) (map (λ r. r.value) gone.now) self.now) }
+        requires puts { IsInOrder (values puts.now) }
+        requires gone { IsInOrder (values gone.now) }
+        ensures { IfOk result (λ new. new ≡ merged (values puts.now) (values gone.now) self.now) }
     {
         let branches = self.branches();
         if branches.is_empty() {
@@ -205,8 +205,8 @@ impl<V: Drop> PathMap<V> {
 
     /// The map with some entries put, in path order. This map stays as it is. Fails only if memory runs out.
     pub fn put_all(&self, alloc: Global, puts: &[Rc<MapEntry<V>>]) -> Result<PathMap<V>, AllocError>
-        requires { IsInOrder (map (λ r. r.value) puts.now) }
-        ensures { IfOk result (λ new. new ≡ put_all (map (λ r. r.value) puts.now) self.now) }
+        requires { IsInOrder (values puts.now) }
+        ensures { IfOk result (λ new. new ≡ put_all (values puts.now) self.now) }
     {
         let none: Vec<Rc<MapEntry<V>>> = Vec::new(alloc);
         self.merged(alloc, puts, &none)
@@ -219,8 +219,8 @@ impl<V: Drop> PathMap<V> {
         alloc: Global,
         gone: &[Rc<MapEntry<W>>],
     ) -> Result<PathMap<V>, AllocError>
-        requires { IsInOrder (map (λ r. r.value) gone.now) }
-        ensures { IfOk result (λ new. new ≡ without_all (map (λ r. r.value) gone.now) self.now) }
+        requires { IsInOrder (values gone.now) }
+        ensures { IfOk result (λ new. new ≡ without_all (values gone.now) self.now) }
     {
         let none: Vec<Rc<MapEntry<V>>> = Vec::new(alloc);
         self.merged(alloc, &none, gone)
@@ -229,20 +229,20 @@ impl<V: Drop> PathMap<V> {
 
 /// Entries as one chunk.
 fn chunk_of<V: Drop>(alloc: Global, entries: &[Rc<MapEntry<V>>]) -> Result<Rc<Chunk<V>>, AllocError>
-    requires order { IsInOrder (map (λ r. r.value) entries.now) }
+    requires order { IsInOrder (values entries.now) }
     requires some { 0 < length entries.now }
     requires few { length entries.now ≤ 256 }
-    ensures { IfOk result (λ chunk. chunk.value ≡ map (λ r. r.value) entries.now) }
+    ensures { IfOk result (λ chunk. chunk.value ≡ values entries.now) }
 {
     Ok(Rc::new(alloc, Chunk::new(entries.to_vec(alloc)?))?)
 }
 
 /// Chunks as one branch.
 fn branch_of<V: Drop>(alloc: Global, chunks: &[Rc<Chunk<V>>]) -> Result<Rc<Branch<V>>, AllocError>
-    requires order { IsInOrder (flat_map (λ c. c.value) chunks.now) }
+    requires order { IsInOrder (all_in chunks.now) }
     requires some { 0 < length chunks.now }
     requires few { length chunks.now ≤ 64 }
-    ensures { IfOk result (λ branch. branch.value ≡ flat_map (λ c. c.value) chunks.now) }
+    ensures { IfOk result (λ branch. branch.value ≡ all_in chunks.now) }
 {
     Ok(Rc::new(alloc, Branch::new(chunks.to_vec(alloc)?))?)
 }
@@ -264,8 +264,8 @@ pub(crate) fn push_entries<V: Drop>(
     new: &mut Vec<Rc<Chunk<V>>>,
     entries: &[Rc<MapEntry<V>>],
 ) -> Result<(), AllocError>
-    requires { IsInOrder (map (λ r. r.value) entries.now) }
-    ensures { OnOk result (flat_map (λ c. c.value) new.new.items ≡ flat_map (λ c. c.value) new.old.items ++ map (λ r. r.value) entries.now) }
+    requires { IsInOrder (values entries.now) }
+    ensures { OnOk result (all_in new.new.items ≡ all_in new.old.items ++ values entries.now) }
 {
     let most = piece_length(entries.len(), MAX_ENTRIES);
     let mut rest = entries;
@@ -284,8 +284,8 @@ pub(crate) fn push_chunks<V: Drop>(
     new: &mut Vec<Rc<Branch<V>>>,
     chunks: &[Rc<Chunk<V>>],
 ) -> Result<(), AllocError>
-    requires { IsInOrder (flat_map (λ c. c.value) chunks.now) }
-    ensures { OnOk result (flat_map (λ b. b.value) new.new.items ≡ flat_map (λ b. b.value) new.old.items ++ flat_map (λ c. c.value) chunks.now) }
+    requires { IsInOrder (all_in chunks.now) }
+    ensures { OnOk result (all_in new.new.items ≡ all_in new.old.items ++ all_in chunks.now) }
 {
     let most = piece_length(chunks.len(), MAX_CHUNKS);
     let mut rest = chunks;
