@@ -1,9 +1,10 @@
 //! What a file has for the check, and who asks: acl(5), "ACCESS CHECK ALGORITHM"; and the groups that a label mentions.
 
-ghost use Rattle.std.specs.Prelude.{◌≡◌, IfOk};
+ghost use Rattle.std.specs.Prelude.{◌≡◌, ℕ, IfOk};
 ghost use Rattle.std.specs.List.Sorted.{IsStrictlyIncreasing};
 ghost use Rattle.std.specs.FinSet as sets;
-ghost use Rattle.acl_entry.specs.Mentions.{mentions, meets};
+ghost use Rattle.std.specs.Ordering.{nat_cmp};
+ghost use Rattle.acl_entry.specs.Mentions.{is_one_of, mentions, meets};
 
 use crate::{Acl, Id, Key};
 use std::alloc::{AllocError, Global};
@@ -55,9 +56,7 @@ impl Subject {
     pub fn from_groups(alloc: Global, uid: Id, groups: &[Id]) -> Result<Subject, AllocError>
         ensures { IfOk result (λ subject. subject ≡ record { uid = uid; groups = sets.from_list groups.now }) }
     {
-        let mut rising = groups.to_vec(alloc)?;
-        rising.sort()?;
-        rising.dedup();
+        let rising = rising_ids(groups.to_vec(alloc)?)?;
         Ok(Subject::new(uid, rising))
     }
 
@@ -92,6 +91,18 @@ impl Subject {
     {
         self.groups.binary_search(&group).is_ok()
     }
+}
+
+/// Ids in rising order, each once. Fails only if memory runs out.
+pub fn rising_ids(ids: Vec<Id>) -> Result<Vec<Id>, AllocError>
+    ensures rising { IfOk result (λ rising. IsStrictlyIncreasing rising.items) }
+    ensures set { IfOk result (λ rising. sets.from_list {R = nat_cmp} rising.items ≡ sets.from_list ids.items) }
+    ensures same { IfOk result (λ rising. (id : ℕ) → is_one_of id rising.items ≡ is_one_of id ids.items) }
+{
+    let mut rising = ids;
+    rising.sort()?;
+    rising.dedup();
+    Ok(rising)
 }
 
 impl Label {

@@ -5,13 +5,9 @@ use Rattle.std.specs.Option.{option_map_or}
 use Rattle.std.specs.Str.{bytes_eq}
 use Rattle.std.proofs.Math.Seq.{map-set_same}
 use Rattle.std.proofs.lemmas.Option.{get_or_from_slice_get}
-use Rattle.acl_syntax.specs.declared.rows.PasswdRow.{PasswdRow}
 use Rattle.acl_syntax.specs.declared.rows.GroupRow.{GroupRow}
 use Rattle.acl_people.specs.KnownPeople.{names_user}
 use Rattle.acl_people.specs.Changes.{change_at, name_removed}
-
-abbrev pub user_row : List ℕ → ℕ → ℕ → PasswdRow
-user_row name uid gid = record { name = name; uid = uid; gid = gid }
 
 abbrev pub group_row : List ℕ → ℕ → List (List ℕ) → GroupRow
 group_row name gid names = record { name = name; gid = gid; names = names }

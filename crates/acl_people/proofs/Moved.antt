@@ -1,5 +1,5 @@
 -- The groups that a user joined or left.
-use Rattle.std.proofs.Common.{◌≡◌, ℕ, ◌<◌, Bool, true, false, not, ◌&&◌, ◌||◌, List, [], length, map, get_or, slice_get, slice_set, Some, refl, sym, ap, subst, ◌∙◌}
+use Rattle.std.proofs.Common.{◌≡◌, ℕ, ◌<◌, Bool, true, false, List, [], length, map, get_or, slice_get, slice_set, Some, refl, sym, ap, subst, ◌∙◌}
 use Rattle.std.specs.FinSet as sets
 use Rattle.std.specs.FinSet.{same_set, nat_cmp-IsAntisymmetric}
 use Rattle.std.proofs.lemmas.Cmp.{nat_cmp_total}

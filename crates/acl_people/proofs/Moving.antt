@@ -14,11 +14,11 @@ use Rattle.acl_entry.specs.Person.{Person}
 use Rattle.acl_syntax.specs.declared.rows.PasswdRow.{PasswdRow}
 use Rattle.acl_syntax.specs.declared.rows.GroupRow.{GroupRow}
 use Rattle.acl_people.specs.NameTables.{is_name, AreNames}
-use Rattle.acl_people.specs.Entries.{user_entry}
+use Rattle.acl_people.specs.Entries.{user_entry, user_row}
 use Rattle.acl_people.specs.KnownPeople.{KnownPeople, users_of, names_user, person, persons, IsSound}
 use Rattle.acl_people.specs.Changes.{change_at, name_of, gid_of, name_added, name_removed, without_member, with_gid, with_primary_group, with_user, without_user}
 use Rattle.acl_people.specs.Moves.{ChangesUser, JoinsUser, LeavesUser}
-use Rattle.acl_people.proofs.Changed.{user_row, change_at-set, map-change_at}
+use Rattle.acl_people.proofs.Changed.{change_at-set, map-change_at}
 
 -- ---- rows that do not concern a name
 

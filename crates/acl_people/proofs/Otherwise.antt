@@ -12,10 +12,11 @@ use Rattle.acl_entry.specs.Person.{Person}
 use Rattle.acl_syntax.specs.declared.rows.PasswdRow.{PasswdRow}
 use Rattle.acl_syntax.specs.declared.rows.GroupRow.{GroupRow}
 use Rattle.acl_people.specs.KnownPeople.{KnownPeople, names_user, gids_of, person, persons, IsSound}
-use Rattle.acl_people.specs.Changes.{change_at, name_of, gid_of, name_added, name_removed, is_member}
-use Rattle.acl_people.specs.Laws.{has_otherwise, GroupHeldOtherwiseStays}
+use Rattle.acl_people.specs.Changes.{change_at, name_of, gid_of, name_added, name_removed, is_member, with_member, without_member}
+use Rattle.acl_people.specs.Laws.{has_otherwise}
 use Rattle.acl_people.specs.Moves.{ChangesUser}
-use Rattle.acl_people.proofs.Changed.{change_at-set, user_row}
+use Rattle.acl_people.specs.Entries.{user_row}
+use Rattle.acl_people.proofs.Changed.{change_at-set}
 use Rattle.acl_people.proofs.Moving.{slice_get-set_same, added_changes, removed_changes, row_at, person_at, after_is}
 
 swap : (a b c : Bool) → (a || (b || c)) ≡ (b || (a || c))
@@ -118,7 +119,7 @@ module _ (known : KnownPeople) (sound : IsSound known) (u : ℕ) (within : u < l
       ∙ ap (λ (p : Person). slice_set (persons known) u p) (sym (after_is (persons known) groups known.users u ch row at) ∙ same ∙ sym (get_or_from_slice_get (persons known) u before before (person_at known u row at)))
       ∙ set-get_or (persons known) u before
 
-  pub otherwise : (at : ℕ) → GroupHeldOtherwiseStays u at known
+  pub otherwise : (at : ℕ) → has_otherwise u at known ≡ true → (persons (with_member u at known) ≡ persons known) × (persons (without_member u at known) ≡ persons known)
   otherwise at has = (added (is_member u at known) refl, unmoved (change_at at (name_removed (name_of u known)) known.groups) (removed_changes known sound u within at) (row_same at (name_removed (name_of u known)) (λ r. refl) has))
     where
       added : (b : Bool) → is_member u at known ≡ b → persons (if b then known else (let r : KnownPeople = record { users = known.users; groups = change_at at (name_added (name_of u known)) known.groups; passwd_loaded = known.passwd_loaded; group_loaded = known.group_loaded } in r)) ≡ persons known

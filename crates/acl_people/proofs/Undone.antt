@@ -12,7 +12,8 @@ use Rattle.acl_syntax.specs.declared.rows.GroupRow.{GroupRow}
 use Rattle.acl_people.specs.KnownPeople.{KnownPeople, names_user}
 use Rattle.acl_people.specs.Changes.{change_at, name_of, gid_of, name_added, name_removed, without_member, with_user}
 use Rattle.acl_people.specs.Laws.{AddedMemberIsRemoved, AddedUserIsRemoved}
-use Rattle.acl_people.proofs.Changed.{change_at-set, name_removed-absent, group_row, user_row}
+use Rattle.acl_people.specs.Entries.{user_row}
+use Rattle.acl_people.proofs.Changed.{change_at-set, name_removed-absent, group_row}
 use Rattle.acl_people.proofs.Moving.{slice_get-set_same}
 
 -- the name at the end of a row that did not name the user
@@ -42,7 +43,7 @@ rows_again name at rows absent = by (slice_get rows at) refl absent
         ∙ ap (λ r. slice_set rows at r) (row_again name row h ∙ sym (get_or_from_slice_get rows at row row e))
         ∙ set-get_or rows at row
 
-pub member_again : (user group : ℕ) (known : KnownPeople) → AddedMemberIsRemoved user group known
+pub member_again : AddedMemberIsRemoved
 member_again user group known absent =
     ap (λ (b : Bool). without_member user group (if b then known else (let r : KnownPeople = record { users = known.users; groups = change_at group (name_added (name_of user known)) known.groups; passwd_loaded = known.passwd_loaded; group_loaded = known.group_loaded } in r))) absent
     ∙ ap (λ (rows : List GroupRow). let r : KnownPeople = record { users = known.users; groups = rows; passwd_loaded = known.passwd_loaded; group_loaded = known.group_loaded } in r) (rows_again (name_of user known) group known.groups absent)
@@ -63,7 +64,7 @@ none_named name (row ∷ rows) absent = by (names_user name row) refl absent (λ
     by true is h more = cc
     by false is h more = λ i. name_removed-absent name row is i ∷ more h i
 
-pub user_again : (name : List ℕ) (uid group : ℕ) (known : KnownPeople) → AddedUserIsRemoved name uid group known
+pub user_again : AddedUserIsRemoved
 user_again name uid group known absent =
     let row = user_row name uid (gid_of group known) in
     let same : name_of (length known.users) (with_user name uid group known) ≡ name = ap (λ o. option_map_or (λ (r : PasswdRow). r.name) o []) (slice_get-last known.users row) in

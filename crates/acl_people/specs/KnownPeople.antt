@@ -1,5 +1,5 @@
 -- The users and groups that are known: the counted rows of passwd(5) and group(5).
-use Rattle.std.specs.Prelude.{◌≡◌, ◌≤◌, ℕ, List, [], ◌∷◌, map, filter, length, slice_get, Bool, true, false, Option, option_map, Result, Ok, Err, if◌then◌else◌}
+use Rattle.std.specs.Prelude.{◌≡◌, ◌≤◌, ℕ, List, [], ◌∷◌, map, filter, length, slice_get, Bool, true, false, nat_le, Option, option_map, Result, Ok, Err, if◌then◌else◌}
 use Rattle.std.specs.List.{list_any}
 use Rattle.std.specs.Str.{bytes_eq}
 use Rattle.std.specs.FinSet.{from_list}
@@ -7,11 +7,12 @@ use Rattle.acl_entry.specs.Person.{Person}
 use Rattle.acl_syntax.specs.declared.rows.PasswdRow.{PasswdRow}
 use Rattle.acl_syntax.specs.declared.rows.GroupRow.{GroupRow}
 use Rattle.acl_syntax.specs.declared.fault.TextFault.{TextFault}
+use Rattle.acl_syntax.specs.InTurn.{GivesUnless}
 use Rattle.acl_syntax.specs.Naming.{Naming}
 use Rattle.acl_syntax.specs.Rows.{passwd_of, group_of, most_rows}
 use Rattle.acl_people.specs.declared.fault.LoadFault.{LoadFault}
-use Rattle.acl_people.specs.declared.fault.LoadFault.TheVariants.{AlreadyLoaded, Text}
-use Rattle.acl_people.specs.NameTables.{Named, id_named, name_shown, AreNames}
+use Rattle.acl_people.specs.declared.fault.LoadFault.TheVariants.{AlreadyLoaded, Text, NoMemory}
+use Rattle.acl_people.specs.NameTables.{Named, id_named, name_shown, AreNames, IsNaming}
 use Rattle.acl_people.specs.Entries.{user_entry, group_entry}
 
 -- the counted rows, and which texts were loaded
@@ -84,3 +85,27 @@ pub record IsSound (known : KnownPeople) : Type 0 where
   pub few_groups : length known.groups ≤ most_rows
   pub user_names : AreNames (users_of known)
   pub group_names : AreNames (groups_of known)
+
+-- there is no room for one more user
+abbrev pub is_full : KnownPeople → Bool
+is_full known = nat_le most_rows (length known.users)
+
+-- these rows, and which texts were loaded
+abbrev pub known_by : List PasswdRow → List GroupRow → Bool → Bool → KnownPeople
+known_by users groups passwd group = record { users = users; groups = groups; passwd_loaded = passwd; group_loaded = group }
+
+-- a load gives these people, or exactly this fault, unless memory runs out
+abbrev pub Loads : Result KnownPeople LoadFault → Result KnownPeople LoadFault → Type 0
+Loads result is = GivesUnless NoMemory (λ people. people) result is
+
+-- a text is loaded once, whatever memory there is
+abbrev pub LoadsOnce : Result KnownPeople LoadFault → Bool → Type 0
+LoadsOnce result was_loaded = was_loaded ≡ true → result ≡ Err AlreadyLoaded
+
+-- each name that a user's id prints as is found under that id
+abbrev pub UsersAreReadBack : KnownPeople → Type 0
+UsersAreReadBack known = IsNaming (naming_of known).user_id (naming_of known).user_name
+
+-- each name that a group's id prints as is found under that id
+abbrev pub GroupsAreReadBack : KnownPeople → Type 0
+GroupsAreReadBack known = IsNaming (naming_of known).group_id (naming_of known).group_name

@@ -1,5 +1,6 @@
 pub mod NameTables
 pub mod Entries
+pub mod Kept
 pub mod Hashes
 pub mod KnownPeople
 pub mod Members

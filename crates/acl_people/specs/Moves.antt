@@ -7,7 +7,7 @@ use Rattle.std.specs.FinMap.{keys, from_entries}
 use Rattle.acl_entry.specs.Mentions.{is_one_of}
 use Rattle.acl_entry.specs.Person.{Person}
 use Rattle.acl_subjects.specs.GroupsOfOne.{AreMoved, in_just_one}
-use Rattle.acl_people.specs.KnownPeople.{KnownPeople, gids_of}
+use Rattle.acl_people.specs.KnownPeople.{KnownPeople, gids_of, persons}
 
 -- one user may have other groups; the user's id and all other users are as they were
 pub record ChangesUser (old new : List Person) (user : ℕ) : Type 0 where
@@ -47,3 +47,21 @@ user_gids known user = option_map_or (gids_of known.groups) (slice_get known.use
 -- the groups that the user at a place joined or left
 abbrev pub moved_groups : KnownPeople → KnownPeople → ℕ → List ℕ
 moved_groups old new user = ids_of_one (user_gids old user) (user_gids new user)
+
+-- one user may have other groups, and no other user changed
+abbrev pub ChangesOne : ℕ → KnownPeople → KnownPeople → Type 0
+ChangesOne user old new = ChangesUser (persons old) (persons new) user
+
+-- a user came, the last in order, and no other changed
+abbrev pub GainsOne : KnownPeople → KnownPeople → Type 0
+GainsOne old new = JoinsUser (persons old) (persons new)
+
+-- a user went, and no other changed
+abbrev pub LosesOne : ℕ → KnownPeople → KnownPeople → Type 0
+LosesOne user old new = LeavesUser (persons old) (persons new) user
+
+-- the groups that a user joined or left, rising; without any, all users are as they were
+pub record AreMovedGroups (old new : KnownPeople) (user : ℕ) (gids : List ℕ) : Type 0 where
+  pub moved : MovesUser (persons old) (persons new) user gids
+  pub ids : gids ≡ moved_groups old new user
+  pub none : gids ≡ [] → persons new ≡ persons old

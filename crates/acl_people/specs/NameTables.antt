@@ -1,5 +1,5 @@
 -- Names with their ids, in the order of their rows.
-use Rattle.std.specs.Prelude.{◌≡◌, ◌<◌, ◌≤◌, ℕ, List, length, slice_index_or, Bool, true, not, ◌&&◌, ◌==◌, Option, Some, option_map, option_and_then, find, position, if◌then◌else◌}
+use Rattle.std.specs.Prelude.{◌≡◌, ◌<◌, ◌≤◌, ℕ, List, length, slice_index_or, Bool, true, not, ◌&&◌, ◌==◌, Option, Some, IfSome, option_map, option_and_then, find, position, if◌then◌else◌}
 use Rattle.std.specs.List.{list_all}
 use Rattle.std.specs.Option.{is_some}
 use Rattle.std.specs.Str.{bytes_eq}
@@ -43,6 +43,14 @@ abbrev pub place_of_word : List ℕ → List Named → Option ℕ
 place_of_word word es =
     if is_number word then option_and_then (λ id. position (is_id id) es) (id_of word)
     else position (is_name word) es
+
+-- a place, where there is one, is in the list
+abbrev pub IsPlaceIn : {R : Type 0} → List R → Option ℕ → Type 0
+IsPlaceIn rows place = IfSome place (λ at. at < length rows)
+
+-- a name is made of bytes
+abbrev pub AreBytes : List ℕ → Type 0
+AreBytes name = list_all is_byte name ≡ true
 
 -- each name is in one row, is not empty, and is made of bytes
 pub record AreNames (es : List Named) : Type 0 where

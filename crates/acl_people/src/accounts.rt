@@ -1,13 +1,12 @@
 //! Users that come and go: useradd(8) and userdel(8).
 
-ghost use Rattle.std.specs.Prelude.{◌≡◌, ◌<◌, nat_le, true, false, length, position, IfOk, OnOk};
-ghost use Rattle.std.specs.List.{list_all};
-ghost use Rattle.acl_names.specs.Pieces.{is_byte};
-ghost use Rattle.acl_syntax.specs.Rows.{most_rows};
-ghost use Rattle.acl_people.specs.NameTables.{is_name, has_name, has_id};
-ghost use Rattle.acl_people.specs.KnownPeople.{users_of, persons};
-ghost use Rattle.acl_people.specs.Changes.{gid_of, with_user, without_user};
-ghost use Rattle.acl_people.specs.Moves.{JoinsUser, LeavesUser};
+ghost use Rattle.std.specs.Prelude.{◌≡◌, ◌<◌, length, position, IfOk, OnOk};
+ghost use Rattle.acl_people.specs.NameTables.{is_name, has_name, has_id, AreBytes};
+ghost use Rattle.acl_people.specs.Entries.{user_row};
+ghost use Rattle.acl_people.specs.KnownPeople.{users_of, is_full};
+ghost use Rattle.acl_people.specs.Changes.{with_user, without_user, CanBeAdded};
+ghost use Rattle.acl_people.specs.Moves.{GainsOne, LosesOne};
+ghost use Rattle.acl_names.specs.Made.{Makes};
 
 use crate::people::People;
 use crate::user_name::UserName;
@@ -19,8 +18,8 @@ use std::rc::Rc;
 
 /// A new user's row.
 fn new_row(alloc: Global, name: &[u8], uid: Id, gid: Id) -> Result<PasswdRow, AllocError>
-    ensures made { IfOk result (λ row. row ≡ record { name = name.now; uid = uid; gid = gid }) }
-    ensures bytes { OnOk result (list_all is_byte name.now ≡ true) }
+    ensures made { Makes result (user_row name.now uid gid) }
+    ensures bytes { OnOk result (AreBytes name.now) }
 {
     Ok(PasswdRow {
         name: Name::from_bytes(alloc, name)?,
@@ -53,7 +52,7 @@ impl People {
 
     /// Whether there is no room for one more user.
     pub fn is_full(&self) -> bool
-        ensures { result ≡ nat_le most_rows (length self.now.users) }
+        ensures { result ≡ is_full self.now }
     {
         self.user_rows().rows().len() >= MAX_ROWS
     }
@@ -67,11 +66,9 @@ impl People {
         uid: Id,
         group: usize,
     ) -> Result<People, AllocError>
-        requires new { has_name name.now (users_of self.now) ≡ false }
-        requires room { length self.now.users < most_rows }
-        requires group { group < length self.now.groups }
-        ensures rows { IfOk result (λ people. people ≡ with_user name.now uid group self.now) }
-        ensures joins { IfOk result (λ people. JoinsUser (persons self.now) (persons people)) }
+        requires { CanBeAdded name.now group self.now }
+        ensures rows { Makes result (with_user name.now uid group self.now) }
+        ensures joins { IfOk result (GainsOne self.now) }
     {
         self.soundness_law();
         let gid = self.gid_of(group);
@@ -82,8 +79,8 @@ impl People {
     /// These people without a user, whose name is in no row of a group. Fails only if memory runs out.
     pub fn without_user(&self, alloc: Global, user: usize) -> Result<People, AllocError>
         requires { user < length self.now.users }
-        ensures rows { IfOk result (λ people. people ≡ without_user user self.now) }
-        ensures leaves { IfOk result (λ people. LeavesUser (persons self.now) (persons people) user) }
+        ensures rows { Makes result (without_user user self.now) }
+        ensures leaves { IfOk result (LosesOne user self.now) }
     {
         let users = Rc::new(alloc, self.user_rows().without_row(alloc, user)?)?;
         let groups = Rc::new(

@@ -1,6 +1,7 @@
 //! Values that are shared among copies.
 
-ghost use Rattle.std.specs.Prelude.{◌≡◌, ◌<◌, ◌++◌, ◌∷◌, [], length, map, slice_set, IfOk, OnOk};
+ghost use Rattle.std.specs.Prelude.{◌<◌, ◌∷◌, [], length, slice_set};
+ghost use Rattle.acl_names.specs.Made.{values, MakesShared, AddsShared};
 
 use std::alloc::{AllocError, Global};
 use std::rc::Rc;
@@ -11,7 +12,7 @@ pub(crate) fn push_shared<T: Drop>(
     all: &mut Vec<Rc<T>>,
     item: T,
 ) -> Result<(), AllocError>
-    ensures { OnOk result (map (λ i. i.value) all.new.items ≡ map (λ i. i.value) all.old.items ++ item ∷ []) }
+    ensures { AddsShared result all.old all.new (item ∷ []) }
 {
     all.push(Rc::new(alloc, item)?)?;
     Ok(())
@@ -19,7 +20,7 @@ pub(crate) fn push_shared<T: Drop>(
 
 /// The items, each with a pointer of its own. Fails only if memory runs out.
 pub(crate) fn each_shared<T: Drop>(alloc: Global, items: Vec<T>) -> Result<Vec<Rc<T>>, AllocError>
-    ensures { IfOk result (λ all. map (λ item. item.value) all.items ≡ items.items) }
+    ensures { MakesShared result items.items }
 {
     let mut all = Vec::with_capacity(alloc, items.len())?;
     for item in items {
@@ -36,7 +37,7 @@ pub(crate) fn each_but_one<T: Drop>(
     item: T,
 ) -> Result<Vec<Rc<T>>, AllocError>
     requires { at < length items.now }
-    ensures { IfOk result (λ all. map (λ i. i.value) all.items ≡ slice_set (map (λ i. i.value) items.now) at item) }
+    ensures { MakesShared result (slice_set (values items.now) at item) }
 {
     let item = Rc::new(alloc, item)?;
     let mut all = items.to_vec(alloc)?;

@@ -1,13 +1,13 @@
 //! The rows of group(5), looked up by name and by id.
 
-ghost use Rattle.std.specs.Prelude.{◌≡◌, ◌<◌, [], map, length, slice_set, IfOk, ◌++◌, ◌∷◌, filter, not, OnOk};
+ghost use Rattle.std.specs.Prelude.{◌≡◌, ◌<◌, ◌∷◌, [], map, length, slice_set, List};
 ghost use Rattle.acl_syntax.specs.InTurn.{Gives};
 ghost use Rattle.acl_syntax.specs.Rows.{group_of};
-ghost use Rattle.acl_people.specs.NameTables.{AreCounted};
-ghost use Rattle.acl_people.specs.Entries.{group_entry};
-ghost use Rattle.acl_people.specs.Changes.{change_at, name_added, name_removed};
-ghost use Rattle.std.specs.Str.{bytes_eq};
+ghost use Rattle.acl_syntax.specs.declared.rows.GroupRow.{GroupRow};
+ghost use Rattle.acl_people.specs.Entries.{group_entry, AreGroups, IsTableOf};
 ghost use Rattle.acl_people.specs.KnownPeople.{names_user};
+ghost use Rattle.acl_people.specs.Changes.{change_at, name_added, name_removed, names_but};
+ghost use Rattle.acl_names.specs.Made.{values, Makes, MakesShared, AddsShared};
 
 use crate::each_shared::{each_but_one, each_shared, push_shared};
 use crate::name_table::{NameTable, NamedRow};
@@ -26,17 +26,11 @@ pub(crate) struct Groups {
 }
 
 impl Model for Groups {
-    ghost use Rattle.std.specs.Prelude.{◌≡◌, List, map};
-    ghost use Rattle.acl_syntax.specs.declared.rows.GroupRow.{GroupRow};
-    ghost use Rattle.acl_people.specs.NameTables.{AreCounted};
-    ghost use Rattle.acl_people.specs.Entries.{group_entry};
-
     ghost Value = { List GroupRow };
 
-    ghost view = { λ g. map (λ r. r.value) g.rows.items };
+    ghost view = { λ g. values g.rows.items };
 
-    ghost invariant = { λ g. (g.name_table.value ≡ map group_entry (map (λ r. r.value) g.rows.items))
-        × AreCounted (map group_entry (map (λ r. r.value) g.rows.items)) };
+    ghost invariant = { λ g. IsTableOf group_entry g.name_table.value (values g.rows.items) };
 }
 
 impl NamedRow for GroupRow {
@@ -53,7 +47,7 @@ impl NamedRow for GroupRow {
 
 /// Adds a row, the last. Fails only if memory runs out.
 fn push_row(alloc: Global, groups: &mut Vec<Rc<Group>>, row: GroupRow) -> Result<(), AllocError>
-    ensures { OnOk result (map (λ r. r.value) groups.new.items ≡ map (λ r. r.value) groups.old.items ++ row ∷ []) }
+    ensures { AddsShared result groups.old groups.new (row ∷ []) }
 {
     let group = Group::new(alloc, row)?;
     push_shared(alloc, groups, group)
@@ -61,7 +55,7 @@ fn push_row(alloc: Global, groups: &mut Vec<Rc<Group>>, row: GroupRow) -> Result
 
 /// The rows, shared among copies.
 fn shared_rows(alloc: Global, rows: Vec<GroupRow>) -> Result<Vec<Rc<Group>>, AllocError>
-    ensures { IfOk result (λ groups. map (λ r. r.value) groups.items ≡ rows.items) }
+    ensures { MakesShared result rows.items }
 {
     let mut groups = Vec::with_capacity(alloc, rows.len())?;
     for row in rows {
@@ -77,7 +71,7 @@ fn push_without(
     row: &Rc<Group>,
     name: &[u8],
 ) -> Result<(), AllocError>
-    ensures { OnOk result (map (λ r. r.value) groups.new.items ≡ map (λ r. r.value) groups.old.items ++ name_removed name.now row.now.value ∷ []) }
+    ensures { AddsShared result groups.old groups.new (name_removed name.now row.now.value ∷ []) }
 {
     if row.names_user(name) {
         push_shared(alloc, groups, row.without_name(alloc, name)?)
@@ -93,7 +87,7 @@ fn rows_without(
     rows: &[Rc<Group>],
     name: &[u8],
 ) -> Result<Vec<Rc<Group>>, AllocError>
-    ensures { IfOk result (λ groups. map (λ r. r.value) groups.items ≡ map (name_removed name.now) (map (λ r. r.value) rows.now)) }
+    ensures { MakesShared result (map (name_removed name.now) (values rows.now)) }
 {
     let mut groups = Vec::with_capacity(alloc, rows.len())?;
     for row in rows {
@@ -105,15 +99,15 @@ fn rows_without(
 impl Groups {
     /// No groups. Fails only if memory runs out.
     pub fn new(alloc: Global) -> Result<Groups, AllocError>
-        ensures { IfOk result (λ groups. groups ≡ []) }
+        ensures { Makes result [] }
     {
         Groups::of(alloc, Vec::new(alloc))
     }
 
     /// The groups of these rows. Fails only if memory runs out.
     fn of(alloc: Global, rows: Vec<GroupRow>) -> Result<Groups, AllocError>
-        requires { AreCounted (map group_entry rows.items) }
-        ensures { IfOk result (λ groups. groups ≡ rows.items) }
+        requires { AreGroups rows.items }
+        ensures { Makes result rows.items }
     {
         let name_table = NameTable::shared(alloc, &rows)?;
         let rows = shared_rows(alloc, rows)?;
@@ -131,15 +125,14 @@ impl Groups {
 
     /// The rows.
     pub fn rows(&self) -> &[Rc<Group>]
-        ensures { map (λ r. r.value) result.now ≡ self.now }
+        ensures { values result.now ≡ self.now }
     {
         &self.rows
     }
 
     /// The names and ids.
     pub fn name_table(&self) -> &NameTable
-        ensures all { result.now ≡ map group_entry self.now }
-        ensures counted { AreCounted (map group_entry self.now) }
+        ensures { IsTableOf group_entry result.now self.now }
     {
         &self.name_table
     }
@@ -147,7 +140,7 @@ impl Groups {
     fn with_row(&self, alloc: Global, at: usize, row: Group) -> Result<Groups, AllocError>
         requires within { at < length self.now }
         requires entry { map group_entry (slice_set self.now at row) ≡ map group_entry self.now }
-        ensures { IfOk result (λ groups. groups ≡ slice_set self.now at row) }
+        ensures { Makes result (slice_set self.now at row) }
     {
         let rows = each_but_one(alloc, &self.rows, at, row)?;
         Ok(Groups {
@@ -159,7 +152,7 @@ impl Groups {
     /// These groups with one more name in a row, the last. Fails only if memory runs out.
     pub fn with_name(&self, alloc: Global, at: usize, name: &[u8]) -> Result<Groups, AllocError>
         requires { at < length self.now }
-        ensures { IfOk result (λ groups. groups ≡ change_at at (name_added name.now) self.now) }
+        ensures { Makes result (change_at at (name_added name.now) self.now) }
     {
         let row = self.rows[at].with_name(alloc, name)?;
         self.with_row(alloc, at, row)
@@ -168,7 +161,7 @@ impl Groups {
     /// These groups without a name in a row. Fails only if memory runs out.
     pub fn without_name(&self, alloc: Global, at: usize, name: &[u8]) -> Result<Groups, AllocError>
         requires { at < length self.now }
-        ensures { IfOk result (λ groups. groups ≡ change_at at (name_removed name.now) self.now) }
+        ensures { Makes result (change_at at (name_removed name.now) self.now) }
     {
         let row = self.rows[at].without_name(alloc, name)?;
         self.with_row(alloc, at, row)
@@ -176,7 +169,7 @@ impl Groups {
 
     /// These groups without a name in any row. Fails only if memory runs out.
     pub fn without_user(&self, alloc: Global, name: &[u8]) -> Result<Groups, AllocError>
-        ensures { IfOk result (λ groups. groups ≡ map (name_removed name.now) self.now) }
+        ensures { Makes result (map (name_removed name.now) self.now) }
     {
         let rows = rows_without(alloc, &self.rows, name)?;
         Ok(Groups {
@@ -195,18 +188,14 @@ pub(crate) struct Group {
 }
 
 impl Model for Group {
-    ghost use Rattle.std.specs.Prelude.{map};
-    ghost use Rattle.acl_syntax.specs.declared.rows.GroupRow.{GroupRow};
-
     ghost Value = { GroupRow };
 
-    ghost view = { λ g. record { name = g.name.value; gid = g.gid; names = map (λ n. n.value) g.members.items } };
+    ghost view = { λ g. record { name = g.name.value; gid = g.gid; names = values g.members.items } };
 }
 
 /// Adds a name, unless it is this one.
 fn push_other(members: &mut Vec<Rc<Name>>, member: &Rc<Name>, name: &[u8]) -> Result<(), AllocError>
-    ensures { OnOk result (map (λ n. n.value) members.new.items ≡ map (λ n. n.value) members.old.items
-        ++ filter (λ m. not (bytes_eq m name.now)) (member.now.value ∷ [])) }
+    ensures { AddsShared result members.old members.new (names_but name.now (member.now.value ∷ [])) }
 {
     if member.as_bytes() != name {
         members.push(member.clone()?)?;
@@ -217,7 +206,7 @@ fn push_other(members: &mut Vec<Rc<Name>>, member: &Rc<Name>, name: &[u8]) -> Re
 impl Group {
     /// The row, its names as pointers. Fails only if memory runs out.
     pub fn new(alloc: Global, row: GroupRow) -> Result<Group, AllocError>
-        ensures { IfOk result (λ group. group ≡ row) }
+        ensures { Makes result row }
     {
         Ok(Group {
             name: Rc::new(alloc, row.name)?,
@@ -242,7 +231,7 @@ impl Group {
 
     /// The names in the row, in their order.
     pub fn members(&self) -> &[Rc<Name>]
-        ensures { map (λ n. n.value) result.now ≡ self.now.names }
+        ensures { values result.now ≡ self.now.names }
     {
         &self.members
     }
@@ -255,7 +244,7 @@ impl Group {
     }
     /// The row with one more name, the last. Fails only if memory runs out.
     pub fn with_name(&self, alloc: Global, name: &[u8]) -> Result<Group, AllocError>
-        ensures { IfOk result (λ group. group ≡ name_added name.now self.now) }
+        ensures { Makes result (name_added name.now self.now) }
     {
         let mut members = self.members.clone()?;
         members.push(Rc::new(alloc, Name::from_bytes(alloc, name)?)?)?;
@@ -268,7 +257,7 @@ impl Group {
 
     /// The row without a name, however often it occurs. Fails only if memory runs out.
     pub fn without_name(&self, alloc: Global, name: &[u8]) -> Result<Group, AllocError>
-        ensures { IfOk result (λ group. group ≡ name_removed name.now self.now) }
+        ensures { Makes result (name_removed name.now self.now) }
     {
         let mut members = Vec::with_capacity(alloc, self.members.len())?;
         for member in &self.members {

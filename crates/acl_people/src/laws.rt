@@ -1,21 +1,19 @@
 //! Laws of the definitions, each proved as the contract of a function that does nothing.
 
-ghost use Rattle.std.specs.Prelude.{◌<◌, ℕ, List, length};
-ghost use Rattle.acl_people.specs.KnownPeople.{KnownPeople, IsSound};
 ghost use Rattle.acl_people.specs.Laws.{AddedMemberIsRemoved, AddedUserIsRemoved, GroupHeldOtherwiseStays};
 
 /// Proof only: a member that is added to a group's row and removed again leaves the row as it was.
 pub fn added_member_is_removed()
-    ensures { (user group : ℕ) (known : KnownPeople) → AddedMemberIsRemoved user group known }
+    ensures { AddedMemberIsRemoved }
 {}
 
 /// Proof only: a user that is added and removed again leaves all rows as they were, where no group's row names the user.
 pub fn added_user_is_removed()
-    ensures { (name : List ℕ) (uid group : ℕ) (known : KnownPeople) → AddedUserIsRemoved name uid group known }
+    ensures { AddedUserIsRemoved }
 {}
 
 /// Proof only: where the primary group or another row gives a user the group's id, no user's groups change with the
 /// membership of its row.
 pub fn group_held_otherwise_stays()
-    ensures { (user group : ℕ) (known : KnownPeople) → IsSound known → user < length known.users → GroupHeldOtherwiseStays user group known }
+    ensures { GroupHeldOtherwiseStays }
 {}

@@ -14,7 +14,6 @@ mod subjects;
 mod user_name;
 mod users;
 
-pub use acl_subjects::rising_ids;
 pub use fault::LoadFault;
 pub use laws::{added_member_is_removed, added_user_is_removed, group_held_otherwise_stays};
 pub use people::People;

@@ -1,11 +1,10 @@
 //! The groups of users: gpasswd(1) and usermod(8), the groups whose rows name a user, and those that a user joined or left.
 
-ghost use Rattle.std.specs.Prelude.{◌≡◌, ◌<◌, length, IfOk, ◌++◌, ◌∷◌, [], if◌then◌else◌, ℕ, List, map, OnOk};
-ghost use Rattle.acl_people.specs.KnownPeople.{persons};
-ghost use Rattle.acl_people.specs.Changes.{gid_of, is_member, with_member, without_member, with_primary_group};
-ghost use Rattle.acl_people.specs.Moves.{ChangesUser, MovesUser, moved_groups};
-ghost use Rattle.std.specs.Str.{bytes_eq};
-ghost use Rattle.acl_people.specs.Members.{gids_at, row_gids, rows_gids};
+ghost use Rattle.std.specs.Prelude.{◌≡◌, ◌<◌, length, IfOk, OnOk};
+ghost use Rattle.acl_people.specs.Members.{Joins, JoinsAll, AreMembers};
+ghost use Rattle.acl_people.specs.Changes.{gid_of, is_member, with_member, without_member, with_primary_group, AreThere};
+ghost use Rattle.acl_people.specs.Moves.{ChangesOne, AreMovedGroups};
+ghost use Rattle.acl_names.specs.Made.{values, Makes};
 
 use crate::groups::Group;
 use crate::people::People;
@@ -18,8 +17,7 @@ use std::rc::Rc;
 impl People {
     /// Whether the row of a group names a user.
     pub fn is_member(&self, user: usize, group: usize) -> bool
-        requires user { user < length self.now.users }
-        requires group { group < length self.now.groups }
+        requires { AreThere user group self.now }
         ensures { result ≡ is_member user group self.now }
     {
         self.group_rows().rows()[group].names_user(self.name_of(user))
@@ -41,10 +39,9 @@ impl People {
         user: usize,
         group: usize,
     ) -> Result<People, AllocError>
-        requires user { user < length self.now.users }
-        requires group { group < length self.now.groups }
-        ensures rows { IfOk result (λ people. people ≡ with_member user group self.now) }
-        ensures change { IfOk result (λ people. ChangesUser (persons self.now) (persons people) user) }
+        requires { AreThere user group self.now }
+        ensures rows { Makes result (with_member user group self.now) }
+        ensures change { IfOk result (ChangesOne user self.now) }
     {
         if self.is_member(user, group) {
             return self.share();
@@ -64,10 +61,9 @@ impl People {
         user: usize,
         group: usize,
     ) -> Result<People, AllocError>
-        requires user { user < length self.now.users }
-        requires group { group < length self.now.groups }
-        ensures rows { IfOk result (λ people. people ≡ without_member user group self.now) }
-        ensures change { IfOk result (λ people. ChangesUser (persons self.now) (persons people) user) }
+        requires { AreThere user group self.now }
+        ensures rows { Makes result (without_member user group self.now) }
+        ensures change { IfOk result (ChangesOne user self.now) }
     {
         let groups = self
             .group_rows()
@@ -83,10 +79,9 @@ impl People {
         user: usize,
         group: usize,
     ) -> Result<People, AllocError>
-        requires user { user < length self.now.users }
-        requires group { group < length self.now.groups }
-        ensures rows { IfOk result (λ people. people ≡ with_primary_group user group self.now) }
-        ensures change { IfOk result (λ people. ChangesUser (persons self.now) (persons people) user) }
+        requires { AreThere user group self.now }
+        ensures rows { Makes result (with_primary_group user group self.now) }
+        ensures change { IfOk result (ChangesOne user self.now) }
     {
         let users = self.user_rows().with_gid(alloc, user, self.gid_of(group))?;
         let users = Rc::new(alloc, users)?;
@@ -101,7 +96,7 @@ fn join<'a>(
     name: &'a [u8],
     gid: Id,
 ) -> Result<(), AllocError>
-    ensures { OnOk result ((q : List ℕ) → gids_at members.new q ≡ (if bytes_eq name.now q then gids_at members.old q ++ gid ∷ [] else gids_at members.old q)) }
+    ensures { OnOk result (Joins members.old members.new name.now gid) }
 {
     let mut gids = members.remove(name).unwrap_or(Vec::new(alloc));
     gids.push(gid)?;
@@ -115,7 +110,7 @@ fn add_row<'a>(
     members: &mut BTreeMap<&'a [u8], Vec<Id>>,
     row: &'a Group,
 ) -> Result<(), AllocError>
-    ensures { OnOk result ((name : List ℕ) → gids_at members.new name ≡ gids_at members.old name ++ row_gids name row.now) }
+    ensures { OnOk result (JoinsAll members.old members.new row.now) }
 {
     for name in row.members() {
         join(alloc, members, name.as_bytes(), row.gid())?;
@@ -128,7 +123,7 @@ pub(crate) fn members_of<'a>(
     alloc: Global,
     rows: &'a [Rc<Group>],
 ) -> Result<BTreeMap<&'a [u8], Vec<Id>>, AllocError>
-    ensures { IfOk result (λ members. (name : List ℕ) → gids_at members name ≡ rows_gids name (map (λ r. r.value) rows.now)) }
+    ensures { IfOk result (AreMembers (values rows.now)) }
 {
     let mut members = BTreeMap::new(alloc);
     for row in rows {
@@ -146,10 +141,8 @@ impl People {
         next: &People,
         user: usize,
     ) -> Result<Vec<Id>, AllocError>
-        requires { ChangesUser (persons self.now) (persons next.now) user }
-        ensures moved { IfOk result (λ ids. MovesUser (persons self.now) (persons next.now) user ids.items) }
-        ensures ids { IfOk result (λ ids. ids.items ≡ moved_groups self.now next.now user) }
-        ensures none { IfOk result (λ ids. ids.items ≡ [] → persons next.now ≡ persons self.now) }
+        requires { ChangesOne user self.now next.now }
+        ensures { IfOk result (λ ids. AreMovedGroups self.now next.now user ids.items) }
     {
         let groups = groups_of_one(alloc, &self.subjects()[user], &next.subjects()[user])?;
         Ok(groups)

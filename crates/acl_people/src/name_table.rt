@@ -1,12 +1,12 @@
 //! Names with their ids, looked up by name and by id; and the hashes of names, keyed by all the names that they are to tell
 //! apart.
 
-ghost use Rattle.std.specs.Prelude.{◌≡◌, ◌<◌, ◌++◌, ◌∷◌, [], ℕ, ◌==◌, map, length, position, Some, None, IfOk, IfSome, OnOk, option_map, slice_get, if◌then◌else◌, List};
-ghost use Rattle.std.specs.Ordering.{nat_cmp};
-ghost use Rattle.std.specs.BTreeMap.{get};
-ghost use Rattle.std.specs.Option.{option_copied, option_or};
-ghost use Rattle.acl_people.specs.NameTables.{is_name, is_id, prints, id_named, name_shown, place_of_word, AreNames, Named};
+ghost use Rattle.std.specs.Prelude.{◌≡◌, ◌++◌, ◌∷◌, [], ℕ, ◌==◌, map, position, None, OnOk, option_map, slice_get, List};
+ghost use Rattle.std.specs.Option.{option_copied};
+ghost use Rattle.acl_people.specs.NameTables.{is_name, is_id, prints, id_named, name_shown, place_of_word, AreNames, IsPlaceIn};
 ghost use Rattle.acl_people.specs.Hashes.{keyed};
+ghost use Rattle.acl_people.specs.Kept.{named_in, AreFirst, Keeps, AddsName};
+ghost use Rattle.acl_names.specs.Made.{Makes, MakesOne};
 
 use acl_entry::Id;
 use acl_syntax::{is_number, read_id};
@@ -28,23 +28,17 @@ pub(crate) struct NameTable {
 }
 
 impl Model for NameTable {
-    ghost use Rattle.std.specs.Prelude.{◌≡◌, ℕ, List, map, position};
-    ghost use Rattle.std.specs.Ordering.{nat_cmp};
-    ghost use Rattle.std.specs.BTreeMap.{get};
-    ghost use Rattle.acl_people.specs.NameTables.{is_id, prints};
-
     ghost Value = { List (List ℕ × ℕ) };
 
-    ghost view = { λ r. map (λ e. (e.0.items, e.1)) r.ids.entries };
+    ghost view = { λ r. named_in r.ids.entries };
 
     ghost invariant = { λ r.
-        ((id : ℕ) → get nat_cmp r.first id ≡ position (is_id id) (map (λ e. (e.0.items, e.1)) r.ids.entries))
-        × ((id : ℕ) → get nat_cmp r.shown id ≡ position (prints id) (map (λ e. (e.0.items, e.1)) r.ids.entries)) };
+        AreFirst is_id r.first (named_in r.ids.entries) × AreFirst prints r.shown (named_in r.ids.entries) };
 }
 
 /// Keeps the place for the id, unless it has one. Fails only if memory runs out.
 fn note(places: &mut BTreeMap<u32, usize>, id: u32, place: usize) -> Result<(), AllocError>
-    ensures { OnOk result ((q : ℕ) → get nat_cmp places.new q ≡ option_or (get nat_cmp places.old q) (if id == q then Some place else None)) }
+    ensures { OnOk result (Keeps places.old places.new (λ q. id == q) place) }
 {
     places.entry(id)?.or_insert(place);
     Ok(())
@@ -59,10 +53,8 @@ fn add(
     name: &[u8],
     id: Id,
 ) -> Result<(), AllocError>
-    requires { position (is_name name.now) (map {B = Named} (λ e. (e.0.items, e.1)) ids.old.entries) ≡ None }
-    ensures added { OnOk result (map {B = Named} (λ e. (e.0.items, e.1)) ids.new.entries ≡ map (λ e. (e.0.items, e.1)) ids.old.entries ++ (name.now, id) ∷ []) }
-    ensures first { OnOk result ((q : ℕ) → get nat_cmp first.new q ≡ option_or (get nat_cmp first.old q) (if is_id q (name.now, id) then Some (length ids.old.entries) else None)) }
-    ensures shown { OnOk result ((q : ℕ) → get nat_cmp shown.new q ≡ option_or (get nat_cmp shown.old q) (if prints q (name.now, id) then Some (length ids.old.entries) else None)) }
+    requires { position (is_name name.now) (named_in ids.old.entries) ≡ None }
+    ensures { OnOk result (AddsName ids.old.entries ids.new.entries first.old first.new shown.old shown.new (name.now, id)) }
 {
     let place = ids.len();
     note(first, id.number(), place)?;
@@ -78,7 +70,7 @@ impl NameTable {
     /// name table, so a name is never added under a key that was known before. Fails only if memory runs out.
     pub fn of<R: NamedRow>(alloc: Global, rows: &[R]) -> Result<NameTable, AllocError>
         requires { AreNames (map R.named rows.now) }
-        ensures { IfOk result (λ name_table. name_table ≡ map R.named rows.now) }
+        ensures { Makes result (map R.named rows.now) }
     {
         let mut name_table = NameTable::with_room(alloc, rows.len(), NameHashes::of(rows))?;
         for row in rows {
@@ -90,7 +82,7 @@ impl NameTable {
     /// The names of the rows, for those that share them. Fails only if memory runs out.
     pub fn shared<R: NamedRow>(alloc: Global, rows: &[R]) -> Result<Rc<NameTable>, AllocError>
         requires { AreNames (map R.named rows.now) }
-        ensures { IfOk result (λ name_table. name_table.value ≡ map R.named rows.now) }
+        ensures { MakesOne result (map R.named rows.now) }
     {
         let name_table = NameTable::of(alloc, rows)?;
         Ok(Rc::new(alloc, name_table)?)
@@ -98,7 +90,7 @@ impl NameTable {
 
     /// No names, and room for some.
     fn with_room(alloc: Global, count: usize, hashes: NameHashes) -> Result<NameTable, AllocError>
-        ensures { IfOk result (λ name_table. name_table ≡ []) }
+        ensures { Makes result [] }
     {
         Ok(NameTable {
             ids: IndexMap::with_capacity_and_hasher(alloc, count, hashes)?,
@@ -110,7 +102,7 @@ impl NameTable {
     /// The names and one more, which is not among them.
     fn with(mut self, alloc: Global, name: &[u8], id: Id) -> Result<NameTable, AllocError>
         requires { position (is_name name.now) self ≡ None }
-        ensures { IfOk result (λ name_table. name_table ≡ self ++ (name.now, id) ∷ []) }
+        ensures { Makes result (self ++ (name.now, id) ∷ []) }
     {
         add(
             alloc,
@@ -140,7 +132,7 @@ impl NameTable {
     /// The place that a word means: digits alone are an id, any other word is a name.
     pub fn place_of_word(&self, word: &[u8]) -> Option<usize>
         ensures found { result ≡ place_of_word word.now self.now }
-        ensures within { IfSome result (λ at. at < length self.now) }
+        ensures within { IsPlaceIn self.now result }
     {
         if is_number(word) {
             match read_id(word) {

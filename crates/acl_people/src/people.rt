@@ -1,13 +1,13 @@
 //! People: who is known by passwd(5) and group(5).
 
-ghost use Rattle.std.specs.Prelude.{◌≡◌, ◌<◌, ◌++◌, ◌∷◌, [], length, map, slice_get, true, Err, IfOk, IfSome, option_map};
+ghost use Rattle.std.specs.Prelude.{◌≡◌, ◌<◌, ◌++◌, ◌∷◌, [], length, map, slice_get, option_map};
 ghost use Rattle.std.specs.Option.{option_copied};
-ghost use Rattle.acl_syntax.specs.InTurn.{GivesUnless};
-ghost use Rattle.acl_people.specs.NameTables.{id_named, name_shown, place_of_word, IsNaming, AreCounted};
-ghost use Rattle.acl_people.specs.Entries.{user_entry};
-ghost use Rattle.acl_people.specs.Moves.{ChangesUser, LeavesUser};
-ghost use Rattle.acl_people.specs.Changes.{name_of};
-ghost use Rattle.acl_people.specs.KnownPeople.{person, nobody, users_of, groups_of, persons, subject, IsSound, load_passwd, load_group, naming_of};
+ghost use Rattle.acl_people.specs.NameTables.{place_of_word, IsPlaceIn};
+ghost use Rattle.acl_people.specs.Entries.{AreUsers};
+ghost use Rattle.acl_people.specs.KnownPeople.{KnownPeople, person, nobody, known_by, users_of, groups_of, persons, subject, load_passwd, load_group, naming_of, IsSound, Loads, LoadsOnce, UsersAreReadBack, GroupsAreReadBack};
+ghost use Rattle.acl_people.specs.Changes.{name_of, with_rows, with_user_row};
+ghost use Rattle.acl_people.specs.Moves.{ChangesOne, LosesOne};
+ghost use Rattle.acl_names.specs.Made.{values, Makes};
 
 use crate::fault::{LoadFault, text_fault};
 use crate::groups::Groups;
@@ -32,12 +32,9 @@ pub struct People {
 }
 
 impl Model for People {
-    ghost use Rattle.std.specs.Prelude.{◌≡◌, map};
-    ghost use Rattle.acl_people.specs.KnownPeople.{KnownPeople, person};
-
     ghost Value = { KnownPeople };
 
-    ghost view = { λ p. record { users = p.users.value; groups = p.groups.value; passwd_loaded = p.passwd_loaded; group_loaded = p.group_loaded } };
+    ghost view = { λ p. known_by p.users.value p.groups.value p.passwd_loaded p.group_loaded };
 
     ghost invariant = { λ p. p.subjects ≡ map (person p.groups.value) p.users.value };
 }
@@ -45,7 +42,7 @@ impl Model for People {
 impl People {
     /// Nobody: no text is loaded. Fails only if memory runs out.
     pub fn new(alloc: Global) -> Result<People, AllocError>
-        ensures { IfOk result (λ people. people ≡ nobody) }
+        ensures { Makes result nobody }
     {
         let users = Rc::new(alloc, Users::new(alloc)?)?;
         let groups = Rc::new(alloc, Groups::new(alloc)?)?;
@@ -60,12 +57,7 @@ impl People {
         passwd_loaded: bool,
         group_loaded: bool,
     ) -> Result<People, AllocError>
-        ensures { IfOk result (λ people. people ≡ record {
-          users = users.value;
-          groups = groups.value;
-          passwd_loaded = passwd_loaded;
-          group_loaded = group_loaded;
-        }) }
+        ensures { Makes result (known_by users.value groups.value passwd_loaded group_loaded) }
     {
         let subjects = subjects_of(alloc, users.rows(), groups.rows())?;
         let subjects = Subjects::of(alloc, subjects)?;
@@ -80,7 +72,7 @@ impl People {
 
     /// The same people once more; the rows are shared. Fails only if memory runs out.
     pub fn share(&self) -> Result<People, AllocError>
-        ensures { IfOk result (λ people. people ≡ self.now) }
+        ensures { Makes result self.now }
     {
         Ok(People {
             users: self.users.clone()?,
@@ -116,7 +108,7 @@ impl People {
     /// word is a name.
     pub fn find_user(&self, word: &[u8]) -> Option<usize>
         ensures found { result ≡ place_of_word word.now (users_of self.now) }
-        ensures within { IfSome result (λ user. user < length self.now.users) }
+        ensures within { IsPlaceIn self.now.users result }
     {
         self.users.name_table().place_of_word(word)
     }
@@ -125,7 +117,7 @@ impl People {
     /// word is a name.
     pub fn find_group(&self, word: &[u8]) -> Option<usize>
         ensures found { result ≡ place_of_word word.now (groups_of self.now) }
-        ensures within { IfSome result (λ group. group < length self.now.groups) }
+        ensures within { IsPlaceIn self.now.groups result }
     {
         self.groups.name_table().place_of_word(word)
     }
@@ -153,7 +145,7 @@ impl People {
     /// A copy of the user's id and groups; `None` past the last user. Fails only if memory runs out;
     /// [`People::subject_at`] borrows them, and takes none.
     pub fn subject(&self, alloc: Global, user: usize) -> Result<Option<Subject>, AllocError>
-        ensures { IfOk result (λ found. found ≡ subject self.now user) }
+        ensures { Makes result (subject self.now user) }
     {
         match self.subject_at(user) {
             Some(subject) => Ok(Some(subject.try_clone(alloc)?)),
@@ -173,7 +165,7 @@ impl People {
 
     /// Every user's id and groups, in the order of their rows.
     pub fn subjects(&self) -> &[Rc<Subject>]
-        ensures { map (λ s. s.value) result.now ≡ persons self.now }
+        ensures { values result.now ≡ persons self.now }
     {
         self.subjects.as_slice()
     }
@@ -188,8 +180,8 @@ impl People {
     /// These people with the users of a passwd text. Refused where one was loaded, whatever memory there is,
     /// for the text's first fault, or if memory runs out.
     pub fn load_passwd(&self, alloc: Global, bytes: &[u8]) -> Result<People, LoadFault>
-        ensures reported { GivesUnless LoadFault.NoMemory (λ people. people) result (load_passwd self.now bytes.now) }
-        ensures again { self.now.passwd_loaded ≡ true → result ≡ Err LoadFault.AlreadyLoaded }
+        ensures reported { Loads result (load_passwd self.now bytes.now) }
+        ensures again { LoadsOnce result self.now.passwd_loaded }
     {
         if self.passwd_loaded {
             return Err(LoadFault::AlreadyLoaded);
@@ -207,8 +199,8 @@ impl People {
     /// These people with the groups of a group text. Refused where one was loaded, whatever memory there is,
     /// for the text's first fault, or if memory runs out.
     pub fn load_group(&self, alloc: Global, bytes: &[u8]) -> Result<People, LoadFault>
-        ensures reported { GivesUnless LoadFault.NoMemory (λ people. people) result (load_group self.now bytes.now) }
-        ensures again { self.now.group_loaded ≡ true → result ≡ Err LoadFault.AlreadyLoaded }
+        ensures reported { Loads result (load_group self.now bytes.now) }
+        ensures again { LoadsOnce result self.now.group_loaded }
     {
         if self.group_loaded {
             return Err(LoadFault::AlreadyLoaded);
@@ -258,13 +250,8 @@ impl People {
         groups: &Rc<Groups>,
         user: usize,
     ) -> Result<People, AllocError>
-        requires { ChangesUser (persons self.now) (map (person groups.now.value) users.now.value) user }
-        ensures { IfOk result (λ people. people ≡ record {
-          users = users.now.value;
-          groups = groups.now.value;
-          passwd_loaded = self.now.passwd_loaded;
-          group_loaded = self.now.group_loaded;
-        }) }
+        requires { ChangesOne user self.now (with_rows users.now.value groups.now.value self.now) }
+        ensures { Makes result (with_rows users.now.value groups.now.value self.now) }
     {
         let subject = shared_person(alloc, groups, &users.rows()[user])?;
         let subjects = self.all_subjects().with(alloc, user, subject)?;
@@ -279,13 +266,8 @@ impl People {
 
     /// These people and one user more, the last. The users count as loaded. Fails only if memory runs out.
     pub(crate) fn with_user_row(&self, alloc: Global, row: PasswdRow) -> Result<People, AllocError>
-        requires { AreCounted (map user_entry (self.now.users ++ row ∷ [])) }
-        ensures { IfOk result (λ people. people ≡ record {
-          users = self.now.users ++ row ∷ [];
-          groups = self.now.groups;
-          passwd_loaded = true;
-          group_loaded = self.now.group_loaded;
-        }) }
+        requires { AreUsers (self.now.users ++ row ∷ []) }
+        ensures { Makes result (with_user_row row self.now) }
     {
         let subject = shared_person(alloc, &self.groups, &row)?;
         let subjects = self.all_subjects().with_last(alloc, subject)?;
@@ -306,13 +288,8 @@ impl People {
         groups: Rc<Groups>,
         user: usize,
     ) -> Result<People, AllocError>
-        requires { LeavesUser (persons self.now) (map (person groups.value) users.value) user }
-        ensures { IfOk result (λ people. people ≡ record {
-          users = users.value;
-          groups = groups.value;
-          passwd_loaded = self.now.passwd_loaded;
-          group_loaded = self.now.group_loaded;
-        }) }
+        requires { LosesOne user self.now (with_rows users.value groups.value self.now) }
+        ensures { Makes result (with_rows users.value groups.value self.now) }
     {
         let subjects = self.all_subjects().without(alloc, user)?;
         Ok(People {
@@ -335,8 +312,8 @@ impl People {
     /// Proof only: the names that ids print as are found under these ids, are made of bytes, are not empty, and are
     /// not digits alone.
     pub fn naming_is_read_back(&self)
-        ensures users { IsNaming (naming_of self.now).user_id (naming_of self.now).user_name }
-        ensures groups { IsNaming (naming_of self.now).group_id (naming_of self.now).group_name }
+        ensures users { UsersAreReadBack self.now }
+        ensures groups { GroupsAreReadBack self.now }
     {
         let _users = self.users.name_table();
         let _groups = self.groups.name_table();

@@ -1,9 +1,9 @@
 //! Each user as the check of access sees one.
 
-ghost use Rattle.std.specs.Prelude.{◌≡◌, ◌++◌, ◌∷◌, [], map, IfOk, OnOk};
-ghost use Rattle.std.specs.FinSet as sets;
-ghost use Rattle.acl_people.specs.Members.{gids_at};
+ghost use Rattle.std.specs.Prelude.{◌∷◌, [], map};
+ghost use Rattle.acl_people.specs.Members.{person_among};
 ghost use Rattle.acl_people.specs.KnownPeople.{person};
+ghost use Rattle.acl_names.specs.Made.{values, Makes, MakesOne, MakesShared, AddsShared};
 
 use crate::each_shared::push_shared;
 use crate::groups::{Group, Groups};
@@ -20,7 +20,7 @@ fn subject_of(
     members: &BTreeMap<&[u8], Vec<Id>>,
     row: &PasswdRow,
 ) -> Result<Subject, AllocError>
-    ensures { IfOk result (λ subject. subject ≡ record { uid = row.now.uid; groups = sets.from_list (row.now.gid ∷ gids_at members.now row.now.name) }) }
+    ensures { Makes result (person_among members.now row.now) }
 {
     let mut gids = Vec::new(alloc);
     gids.push(row.gid)?;
@@ -37,8 +37,7 @@ fn push_subject(
     members: &BTreeMap<&[u8], Vec<Id>>,
     row: &PasswdRow,
 ) -> Result<(), AllocError>
-    ensures { OnOk result (map (λ s. s.value) subjects.new.items ≡ map (λ s. s.value) subjects.old.items
-        ++ record { uid = row.now.uid; groups = sets.from_list (row.now.gid ∷ gids_at members.now row.now.name) } ∷ []) }
+    ensures { AddsShared result subjects.old subjects.new (person_among members.now row.now ∷ []) }
 {
     let subject = subject_of(alloc, members, row)?;
     push_shared(alloc, subjects, subject)
@@ -51,7 +50,7 @@ pub(crate) fn subjects_of(
     users: &[Rc<PasswdRow>],
     groups: &[Rc<Group>],
 ) -> Result<Vec<Rc<Subject>>, AllocError>
-    ensures { IfOk result (λ subjects. map (λ s. s.value) subjects.items ≡ map (person (map (λ r. r.value) groups.now)) (map (λ r. r.value) users.now)) }
+    ensures { MakesShared result (map (person (values groups.now)) (values users.now)) }
 {
     let members = members_of(alloc, groups)?;
     let mut subjects = Vec::with_capacity(alloc, users.len())?;
@@ -63,7 +62,7 @@ pub(crate) fn subjects_of(
 
 /// One user's id and groups: a pass over the group rows. Fails only if memory runs out.
 fn person_of(alloc: Global, groups: &[Rc<Group>], user: &PasswdRow) -> Result<Subject, AllocError>
-    ensures { IfOk result (λ subject. subject ≡ person (map (λ r. r.value) groups.now) user.now) }
+    ensures { Makes result (person (values groups.now) user.now) }
 {
     let mut gids = Vec::new(alloc);
     gids.push(user.gid)?;
@@ -82,7 +81,7 @@ pub(crate) fn shared_person(
     groups: &Groups,
     user: &PasswdRow,
 ) -> Result<Rc<Subject>, AllocError>
-    ensures { IfOk result (λ subject. subject.value ≡ person groups.now user.now) }
+    ensures { MakesOne result (person groups.now user.now) }
 {
     let subject = person_of(alloc, groups.rows(), user)?;
     Ok(Rc::new(alloc, subject)?)

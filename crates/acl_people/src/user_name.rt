@@ -1,6 +1,6 @@
 //! Names that new users may have.
 
-ghost use Rattle.std.specs.Prelude.{◌≡◌, ◌<◌, length, Some, None, if◌then◌else◌};
+ghost use Rattle.std.specs.Prelude.{◌≡◌, ◌<◌, length, Some, None, if◌then◌else◌, true, List, ℕ};
 ghost use Rattle.acl_syntax.specs.UserNames.{is_user_name};
 
 use acl_names::Name;
@@ -15,9 +15,6 @@ pub struct UserName {
 }
 
 impl Model for UserName {
-    ghost use Rattle.std.specs.Prelude.{◌≡◌, true, List, ℕ};
-    ghost use Rattle.acl_syntax.specs.UserNames.{is_user_name};
-
     ghost Value = { List ℕ };
 
     ghost view = { λ n. n.name };

@@ -1,12 +1,13 @@
 //! The rows of passwd(5), looked up by name and by id.
 
-ghost use Rattle.std.specs.Prelude.{◌≡◌, ◌<◌, ◌++◌, ◌∷◌, [], map, length, IfOk};
+ghost use Rattle.std.specs.Prelude.{◌≡◌, ◌<◌, ◌++◌, ◌∷◌, [], length, List};
 ghost use Rattle.std.specs.List.{remove};
 ghost use Rattle.acl_syntax.specs.InTurn.{Gives};
 ghost use Rattle.acl_syntax.specs.Rows.{passwd_of};
-ghost use Rattle.acl_people.specs.NameTables.{AreCounted};
-ghost use Rattle.acl_people.specs.Entries.{user_entry};
+ghost use Rattle.acl_syntax.specs.declared.rows.PasswdRow.{PasswdRow};
+ghost use Rattle.acl_people.specs.Entries.{user_entry, AreUsers, IsTableOf};
 ghost use Rattle.acl_people.specs.Changes.{change_at, with_gid};
+ghost use Rattle.acl_names.specs.Made.{values, Makes};
 
 use crate::each_shared::{each_but_one, each_shared};
 use crate::name_table::{NameTable, NamedRow};
@@ -24,17 +25,11 @@ pub(crate) struct Users {
 }
 
 impl Model for Users {
-    ghost use Rattle.std.specs.Prelude.{◌≡◌, List, map};
-    ghost use Rattle.acl_syntax.specs.declared.rows.PasswdRow.{PasswdRow};
-    ghost use Rattle.acl_people.specs.NameTables.{AreCounted};
-    ghost use Rattle.acl_people.specs.Entries.{user_entry};
-
     ghost Value = { List PasswdRow };
 
-    ghost view = { λ u. map (λ r. r.value) u.rows.items };
+    ghost view = { λ u. values u.rows.items };
 
-    ghost invariant = { λ u. (u.name_table.value ≡ map user_entry (map (λ r. r.value) u.rows.items))
-        × AreCounted (map user_entry (map (λ r. r.value) u.rows.items)) };
+    ghost invariant = { λ u. IsTableOf user_entry u.name_table.value (values u.rows.items) };
 }
 
 impl NamedRow for Rc<PasswdRow> {
@@ -52,15 +47,15 @@ impl NamedRow for Rc<PasswdRow> {
 impl Users {
     /// No users. Fails only if memory runs out.
     pub fn new(alloc: Global) -> Result<Users, AllocError>
-        ensures { IfOk result (λ users. users ≡ []) }
+        ensures { Makes result [] }
     {
         Users::of(alloc, Vec::new(alloc))
     }
 
     /// The users of these rows. Fails only if memory runs out.
     pub fn of(alloc: Global, rows: Vec<Rc<PasswdRow>>) -> Result<Users, AllocError>
-        requires { AreCounted (map user_entry (map (λ r. r.value) rows.items)) }
-        ensures { IfOk result (λ users. users ≡ map (λ r. r.value) rows.items) }
+        requires { AreUsers (values rows.items) }
+        ensures { Makes result (values rows.items) }
     {
         let name_table = NameTable::shared(alloc, &rows)?;
         Ok(Users { rows, name_table })
@@ -77,22 +72,21 @@ impl Users {
 
     /// The rows.
     pub fn rows(&self) -> &[Rc<PasswdRow>]
-        ensures { map (λ r. r.value) result.now ≡ self.now }
+        ensures { values result.now ≡ self.now }
     {
         &self.rows
     }
 
     /// The names and ids.
     pub fn name_table(&self) -> &NameTable
-        ensures all { result.now ≡ map user_entry self.now }
-        ensures counted { AreCounted (map user_entry self.now) }
+        ensures { IsTableOf user_entry result.now self.now }
     {
         &self.name_table
     }
     /// These users, one of them with another primary group. Fails only if memory runs out.
     pub fn with_gid(&self, alloc: Global, user: usize, gid: Id) -> Result<Users, AllocError>
         requires { user < length self.now }
-        ensures { IfOk result (λ users. users ≡ change_at user (with_gid gid) self.now) }
+        ensures { Makes result (change_at user (with_gid gid) self.now) }
     {
         let row = &self.rows[user];
         let changed = PasswdRow {
@@ -109,8 +103,8 @@ impl Users {
 
     /// These users and one more, the last. Fails only if memory runs out.
     pub fn with_row(&self, alloc: Global, row: PasswdRow) -> Result<Users, AllocError>
-        requires { AreCounted (map user_entry (self.now ++ row ∷ [])) }
-        ensures { IfOk result (λ users. users ≡ self.now ++ row ∷ []) }
+        requires { AreUsers (self.now ++ row ∷ []) }
+        ensures { Makes result (self.now ++ row ∷ []) }
     {
         let mut rows = self.rows.clone()?;
         rows.push(Rc::new(alloc, row)?)?;
@@ -120,7 +114,7 @@ impl Users {
     /// These users without one of them. Fails only if memory runs out.
     pub fn without_row(&self, alloc: Global, user: usize) -> Result<Users, AllocError>
         requires { user < length self.now }
-        ensures { IfOk result (λ users. users ≡ remove self.now user) }
+        ensures { Makes result (remove self.now user) }
     {
         let mut rows = self.rows.clone()?;
         let _gone = rows.remove(user);

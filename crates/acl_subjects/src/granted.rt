@@ -3,23 +3,19 @@
 //! First all are others. Then the users of the groups that the label mentions, then those whom it names, and then
 //! the owner have what the case of the check that is theirs grants.
 
-ghost use Rattle.std.specs.Prelude.{◌≡◌, ◌<◌, ℕ, true, map, length, slice_index, if◌then◌else◌};
+ghost use Rattle.std.specs.Prelude.{◌≡◌, map, length};
 ghost use Rattle.std.specs.Int.RustNames.{bit_or};
-ghost use Rattle.std.specs.FinMap as maps;
-ghost use Rattle.acl_entry.specs.Perms.{contains};
-ghost use Rattle.acl_entry.specs.Check.{byte_of, group_of, rights};
+ghost use Rattle.acl_entry.specs.Check.{group_of, rights};
 ghost use Rattle.acl_entry.specs.Lists.{masked_by, perm_at};
-ghost use Rattle.acl_entry.specs.Mentions.{is_one_of};
-ghost use Rattle.acl_entry.specs.Person.{Person};
-ghost use Rattle.acl_subjects.specs.Cases.{is_matched, by_groups, by_name_or};
+ghost use Rattle.acl_subjects.specs.Cases.{by_groups, by_name_or, granted_by, mask_of, to_matched, AreWithin, ChangesAt, Regrants};
 
 use crate::subjects::Subjects;
 use acl_entry::{Acl, Id, Key, Label, Perm, Requests};
 
 /// Puts requests at places.
 fn put(row: &mut [Requests], places: &[usize], requests: Requests)
-    requires { (at : ℕ) → is_one_of at places.now ≡ true → at < length row.old }
-    ensures { (at : ℕ) → slice_index row.new at ≡ (if is_one_of at places.now then requests else slice_index row.old at) }
+    requires { AreWithin places.now row.old }
+    ensures { ChangesAt places.now (λ _. requests) row.old row.new }
 {
     for place in places {
         row[*place] = requests;
@@ -28,8 +24,8 @@ fn put(row: &mut [Requests], places: &[usize], requests: Requests)
 
 /// Adds requests at places.
 fn add(row: &mut [Requests], places: &[usize], requests: Requests)
-    requires { (at : ℕ) → is_one_of at places.now ≡ true → at < length row.old }
-    ensures { (at : ℕ) → slice_index row.new at ≡ (if is_one_of at places.now then bit_or (slice_index row.old at) requests else slice_index row.old at) }
+    requires { AreWithin places.now row.old }
+    ensures { ChangesAt places.now (λ n. bit_or n requests) row.old row.new }
 {
     for place in places {
         row[*place] = row[*place].union(requests);
@@ -38,7 +34,7 @@ fn add(row: &mut [Requests], places: &[usize], requests: Requests)
 
 /// What permissions grant, met with the mask, if there is one.
 fn under(mask: &Option<Perm>, perm: Perm) -> Requests
-    ensures { result ≡ byte_of (contains (masked_by mask.now perm)) }
+    ensures { result ≡ granted_by (masked_by mask.now perm) }
 {
     match mask {
         Some(mask) => Requests::within(perm.meet(*mask)),
@@ -48,7 +44,7 @@ fn under(mask: &Option<Perm>, perm: Perm) -> Requests
 
 /// What the entry of a key grants without the mask.
 fn unmasked(acl: &Acl, key: Key) -> Requests
-    ensures { result ≡ byte_of (contains (perm_at acl.now key)) }
+    ensures { result ≡ granted_by (perm_at acl.now key) }
 {
     Requests::within(acl.get(key).unwrap_or(Perm::none()))
 }
@@ -67,7 +63,7 @@ fn group_of(owning: Id, key: &Key) -> Option<Id>
 /// Takes everything from the users of the groups that the entries are for.
 fn clear_groups(row: &mut [Requests], users: &Subjects, label: &Label)
     requires { length row.old ≡ length users.now }
-    ensures { (f : Person → ℕ) → row.old ≡ map f users.now → row.new ≡ map (λ u. if is_matched label.now u then 0 else f u) users.now }
+    ensures { Regrants users.now row.old row.new (λ f. f) (to_matched label.now (λ _. 0)) }
 {
     for entry in label.acl.entries() {
         if let Some(group) = group_of(label.group, &entry.key) {
@@ -79,9 +75,8 @@ fn clear_groups(row: &mut [Requests], users: &Subjects, label: &Label)
 /// Adds what each entry for a group grants, to the users of the group, who have nothing before.
 fn add_groups(row: &mut [Requests], users: &Subjects, label: &Label, mask: &Option<Perm>)
     requires length { length row.old ≡ length users.now }
-    requires mask { mask.now ≡ maps.get label.now.acl Key.Mask }
-    ensures { (f : Person → ℕ) → row.old ≡ map (λ u. if is_matched label.now u then 0 else f u) users.now
-        → row.new ≡ map (λ u. if is_matched label.now u then by_groups label.now u else f u) users.now }
+    requires mask { mask.now ≡ mask_of label.now }
+    ensures { Regrants users.now row.old row.new (to_matched label.now (λ _. 0)) (to_matched label.now (by_groups label.now)) }
 {
     for entry in label.acl.entries() {
         if let Some(group) = group_of(label.group, &entry.key) {
@@ -93,8 +88,8 @@ fn add_groups(row: &mut [Requests], users: &Subjects, label: &Label, mask: &Opti
 /// Puts what the entries of named users grant, from the last to the first.
 fn put_named(row: &mut [Requests], users: &Subjects, label: &Label, mask: &Option<Perm>)
     requires length { length row.old ≡ length users.now }
-    requires mask { mask.now ≡ maps.get label.now.acl Key.Mask }
-    ensures { (f : Person → ℕ) → row.old ≡ map f users.now → row.new ≡ map (λ u. by_name_or label.now u (f u)) users.now }
+    requires mask { mask.now ≡ mask_of label.now }
+    ensures { Regrants users.now row.old row.new (λ f. f) (λ f u. by_name_or label.now u (f u)) }
 {
     let entries = label.acl.entries();
     for i in (0..entries.len()).rev() {

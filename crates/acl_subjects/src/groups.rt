@@ -1,18 +1,14 @@
 //! The groups that just one of two users has: those that a user joined or left, where the two are that user before and after.
 
-ghost use Rattle.std.specs.Prelude.{◌≡◌, ◌||◌, ◌&&◌, not, ℕ, IfOk, OnOk};
-ghost use Rattle.std.specs.FinSet as sets;
-ghost use Rattle.acl_entry.specs.Mentions.{is_one_of};
-ghost use Rattle.acl_subjects.specs.GroupsOfOne.{AreMoved};
+ghost use Rattle.std.specs.Prelude.{IfOk, OnOk};
+ghost use Rattle.acl_subjects.specs.GroupsOfOne.{AddsOthers, AreMoved};
 
-use crate::rising::rising_ids;
-use acl_entry::{Id, Subject};
+use acl_entry::{Id, Subject, rising_ids};
 use std::alloc::{AllocError, Global};
 
 /// Adds the groups of one user that another is not of.
 fn add_others(groups: &mut Vec<Id>, of: &Subject, but: &Subject) -> Result<(), AllocError>
-    ensures { OnOk result ((gid : ℕ) → is_one_of gid groups.new.items
-        ≡ (is_one_of gid groups.old.items || (sets.contains of.now.groups gid && not (sets.contains but.now.groups gid)))) }
+    ensures { OnOk result (AddsOthers groups.old.items groups.new.items of.now but.now) }
 {
     for group in of.groups() {
         if !but.is_of(*group) {

@@ -5,10 +5,8 @@
 mod granted;
 mod groups;
 mod places_by_id;
-mod rising;
 mod subjects;
 
 pub use granted::granted_to_all;
 pub use groups::groups_of_one;
-pub use rising::rising_ids;
 pub use subjects::Subjects;

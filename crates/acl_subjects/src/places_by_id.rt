@@ -1,9 +1,10 @@
 //! For each id, or group, the places of users that are noted for it, in lists that copies share.
 
-ghost use Rattle.std.specs.Prelude.{◌≡◌, ◌==◌, ◌&&◌, ◌||◌, ◌≤◌, ◌++◌, [], ℕ, not, if◌then◌else◌, map, filter, take, length, IfOk, OnOk};
+ghost use Rattle.std.specs.Prelude.{◌≡◌, ◌==◌, ◌&&◌, ◌≤◌, ◌++◌, [], not, if◌then◌else◌, map, filter, take, length, IfOk, OnOk};
 ghost use Rattle.std.specs.List.{All};
 ghost use Rattle.acl_entry.specs.Mentions.{is_one_of};
-ghost use Rattle.acl_subjects.specs.Places.{noted_for, is_noted, has_id, is_in, passes_at, after_move};
+ghost use Rattle.acl_names.specs.Made.{values, MakesList};
+ghost use Rattle.acl_subjects.specs.Places.{noted_for, is_noted, has_id, is_in, for_id, for_groups, for_others, AreListed, ArePlaces, AreNotes, AddsNotes, Notes, Forgets, Moves};
 
 use acl_entry::{Id, Subject};
 use std::alloc::{AllocError, Global};
@@ -38,7 +39,7 @@ fn count_of(notes: &[Note], id: Id) -> usize
 
 /// Some places and those of notes.
 fn joined(alloc: Global, places: &[usize], notes: &[Note]) -> Result<Vec<usize>, AllocError>
-    ensures { IfOk result (λ all. all.items ≡ places.now ++ map (λ n. n.place) notes.now) }
+    ensures { MakesList result (places.now ++ map (λ n. n.place) notes.now) }
 {
     let mut all = Vec::with_capacity(alloc, places.len() + notes.len())?;
     all.extend_from_slice(places)?;
@@ -50,7 +51,7 @@ fn joined(alloc: Global, places: &[usize], notes: &[Note]) -> Result<Vec<usize>,
 
 /// Some places without one.
 fn without(alloc: Global, places: &[usize], place: usize) -> Result<Vec<usize>, AllocError>
-    ensures { IfOk result (λ others. others.items ≡ filter (λ x. not (x == place)) places.now) }
+    ensures { MakesList result (filter (λ x. not (x == place)) places.now) }
 {
     let mut others = Vec::new(alloc);
     for other in places {
@@ -64,7 +65,7 @@ fn without(alloc: Global, places: &[usize], place: usize) -> Result<Vec<usize>, 
 impl PlacesById {
     /// No places.
     fn new(alloc: Global) -> PlacesById
-        ensures { (id : ℕ) → noted_for result id ≡ [] }
+        ensures { AreListed result (λ _. []) }
     {
         PlacesById {
             lists: BTreeMap::new(alloc),
@@ -73,7 +74,7 @@ impl PlacesById {
 
     /// The same places, in lists that both share. Fails only if memory runs out.
     pub fn copy(&self) -> Result<PlacesById, AllocError>
-        ensures { IfOk result (λ copy. (id : ℕ) → noted_for copy id ≡ noted_for self.now id) }
+        ensures { IfOk result (λ copy. AreListed copy (noted_for self.now)) }
     {
         Ok(PlacesById {
             lists: self.lists.clone()?,
@@ -92,7 +93,7 @@ impl PlacesById {
 
     /// Puts places in the place of those that are noted for an id.
     fn put(&mut self, alloc: Global, id: Id, places: Vec<usize>) -> Result<(), AllocError>
-        ensures { OnOk result ((q : ℕ) → noted_for self.new q ≡ (if id == q then places.items else noted_for self.old q)) }
+        ensures { OnOk result (AreListed self.new (λ q. if id == q then places.items else noted_for self.old q)) }
     {
         let places = Rc::new(alloc, places)?;
         self.lists.insert(id, places)?;
@@ -101,8 +102,7 @@ impl PlacesById {
 
     /// Notes the places of some notes for an id. Fails only if memory runs out.
     fn add_all(&mut self, alloc: Global, id: Id, notes: &[Note]) -> Result<(), AllocError>
-        ensures { OnOk result ((q at : ℕ) → is_one_of at (noted_for self.new q)
-            ≡ (is_one_of at (noted_for self.old q) || ((id == q) && is_one_of at (map (λ n. n.place) notes.now)))) }
+        ensures { OnOk result (Notes self.old self.new (λ q at. (id == q) && is_one_of at (map (λ n. n.place) notes.now))) }
     {
         let places = joined(alloc, self.get(id), notes)?;
         self.put(alloc, id, places)?;
@@ -111,7 +111,7 @@ impl PlacesById {
 
     /// Notes one place more for an id. Fails only if memory runs out.
     pub fn add(&mut self, alloc: Global, id: Id, place: usize) -> Result<(), AllocError>
-        ensures { OnOk result ((q at : ℕ) → is_one_of at (noted_for self.new q) ≡ (is_one_of at (noted_for self.old q) || ((id == q) && (place == at)))) }
+        ensures { OnOk result (Notes self.old self.new (for_id id place)) }
     {
         self.add_all(alloc, id, &[Note { id, place }])?;
         Ok(())
@@ -119,7 +119,7 @@ impl PlacesById {
 
     /// Takes a place from an id. Fails only if memory runs out.
     pub fn remove(&mut self, alloc: Global, id: Id, place: usize) -> Result<(), AllocError>
-        ensures { OnOk result ((q at : ℕ) → is_one_of at (noted_for self.new q) ≡ (is_one_of at (noted_for self.old q) && not ((id == q) && (place == at)))) }
+        ensures { OnOk result (Forgets self.old self.new (for_id id place)) }
     {
         let places = without(alloc, self.get(id), place)?;
         self.put(alloc, id, places)?;
@@ -130,7 +130,7 @@ impl PlacesById {
     ///
     /// The notes are sorted by their ids first, so that the list of an id is made at once.
     pub fn of(alloc: Global, mut notes: Vec<Note>) -> Result<PlacesById, AllocError>
-        ensures { IfOk result (λ noted. (id at : ℕ) → is_one_of at (noted_for noted id) ≡ is_noted id at notes.items) }
+        ensures { IfOk result (λ noted. ArePlaces noted (λ id at. is_noted id at notes.items)) }
     {
         notes.sort_unstable_by_key(|note| note.id);
         let mut noted = PlacesById::new(alloc);
@@ -146,7 +146,7 @@ impl PlacesById {
 
 /// Adds a note of a place for each of some groups.
 fn note_groups(notes: &mut Vec<Note>, groups: &[Id], place: usize) -> Result<(), AllocError>
-    ensures { OnOk result ((q at : ℕ) → is_noted q at notes.new.items ≡ (is_noted q at notes.old.items || (is_one_of q groups.now && (place == at)))) }
+    ensures { OnOk result (AddsNotes notes.old.items notes.new.items groups.now place) }
 {
     for group in groups {
         notes.push(Note { id: *group, place })?;
@@ -156,7 +156,7 @@ fn note_groups(notes: &mut Vec<Note>, groups: &[Id], place: usize) -> Result<(),
 
 /// A note of each user's place for the user's id. Fails only if memory runs out.
 pub(crate) fn notes_by_id(alloc: Global, users: &[Rc<Subject>]) -> Result<Vec<Note>, AllocError>
-    ensures { IfOk result (λ notes. (id at : ℕ) → is_noted id at notes.items ≡ passes_at (has_id id) (map (λ s. s.value) users.now) at) }
+    ensures { IfOk result (λ notes. AreNotes has_id (values users.now) notes.items) }
 {
     let mut notes = Vec::with_capacity(alloc, users.len())?;
     for (place, user) in users.iter().enumerate() {
@@ -170,7 +170,7 @@ pub(crate) fn notes_by_id(alloc: Global, users: &[Rc<Subject>]) -> Result<Vec<No
 
 /// Notes of each user's place for the user's groups. Fails only if memory runs out.
 pub(crate) fn notes_by_group(alloc: Global, users: &[Rc<Subject>]) -> Result<Vec<Note>, AllocError>
-    ensures { IfOk result (λ notes. (group at : ℕ) → is_noted group at notes.items ≡ passes_at (is_in group) (map (λ s. s.value) users.now) at) }
+    ensures { IfOk result (λ notes. AreNotes is_in (values users.now) notes.items) }
 {
     let mut notes = Vec::new(alloc);
     for (place, user) in users.iter().enumerate() {
@@ -187,8 +187,7 @@ fn leave(
     user: &Subject,
     other: &Subject,
 ) -> Result<(), AllocError>
-    ensures { OnOk result ((g at : ℕ) → is_one_of at (noted_for noted.new g)
-        ≡ (is_one_of at (noted_for noted.old g) && not ((is_in g user.now && not (is_in g other.now)) && (place == at)))) }
+    ensures { OnOk result (Forgets noted.old noted.new (for_others user.now other.now place)) }
 {
     for group in user.groups() {
         if !other.is_of(*group) {
@@ -206,8 +205,7 @@ fn join(
     user: &Subject,
     other: &Subject,
 ) -> Result<(), AllocError>
-    ensures { OnOk result ((g at : ℕ) → is_one_of at (noted_for noted.new g)
-        ≡ (is_one_of at (noted_for noted.old g) || ((is_in g user.now && not (is_in g other.now)) && (place == at)))) }
+    ensures { OnOk result (Notes noted.old noted.new (for_others user.now other.now place)) }
 {
     for group in user.groups() {
         if !other.is_of(*group) {
@@ -226,8 +224,7 @@ pub(crate) fn moved(
     old: &Subject,
     new: &Subject,
 ) -> Result<PlacesById, AllocError>
-    ensures { IfOk result (λ after. (g at : ℕ) → is_one_of at (noted_for after g)
-        ≡ after_move g old.now new.now (place == at) (is_one_of at (noted_for noted.now g))) }
+    ensures { IfOk result (λ after. Moves noted.now after place old.now new.now) }
 {
     let mut after = noted.copy()?;
     leave(alloc, &mut after, place, old, new)?;
@@ -242,8 +239,7 @@ pub(crate) fn joined_by(
     place: usize,
     user: &Subject,
 ) -> Result<PlacesById, AllocError>
-    ensures { IfOk result (λ after. (g at : ℕ) → is_one_of at (noted_for after g)
-        ≡ (is_one_of at (noted_for noted.now g) || (is_in g user.now && (place == at)))) }
+    ensures { IfOk result (λ after. Notes noted.now after (for_groups user.now place)) }
 {
     let mut after = noted.copy()?;
     for group in user.groups() {

@@ -1,7 +1,10 @@
 //! All users in their order, found by id and by group.
 
-ghost use Rattle.std.specs.Prelude.{◌≡◌, ◌<◌, ◌++◌, ◌∷◌, [], Some, map, length, option_map, slice_get, slice_set, IfOk};
+ghost use Rattle.std.specs.Prelude.{◌≡◌, ◌<◌, ◌++◌, ◌∷◌, [], Some, length, option_map, slice_get, slice_set, List};
 ghost use Rattle.std.specs.List.{remove};
+ghost use Rattle.std.specs.Coded.{coded_list};
+ghost use Rattle.acl_entry.specs.Person.{Person, coded_person};
+ghost use Rattle.acl_names.specs.Made.{values, Makes, MakesShared};
 ghost use Rattle.acl_subjects.specs.Places.{has_id, is_in, AreThose, AreNoted};
 
 use crate::places_by_id::{PlacesById, joined_by, moved, notes_by_group, notes_by_id};
@@ -20,24 +23,19 @@ pub struct Subjects {
 }
 
 impl Model for Subjects {
-    ghost use Rattle.std.specs.Prelude.{List, map};
-    ghost use Rattle.std.specs.Coded.{coded_list};
-    ghost use Rattle.acl_entry.specs.Person.{Person, coded_person};
-    ghost use Rattle.acl_subjects.specs.Places.{has_id, is_in, AreNoted};
-
     ghost Value = { List Person };
 
     ghost coded = { coded_list coded_person };
 
-    ghost view = { λ u. map (λ s. s.value) u.users.value.items };
+    ghost view = { λ u. values u.users.value.items };
 
-    ghost invariant = { λ u. AreNoted has_id u.by_id.value (map (λ s. s.value) u.users.value.items)
-        × AreNoted is_in u.by_group.value (map (λ s. s.value) u.users.value.items) };
+    ghost invariant = { λ u. AreNoted has_id u.by_id.value (values u.users.value.items)
+        × AreNoted is_in u.by_group.value (values u.users.value.items) };
 }
 
 /// Some users, by their pointers, with room for one more.
 fn copied(alloc: Global, users: &[Rc<Subject>]) -> Result<Vec<Rc<Subject>>, AllocError>
-    ensures { IfOk result (λ all. map (λ s. s.value) all.items ≡ map (λ s. s.value) users.now) }
+    ensures { MakesShared result (values users.now) }
 {
     let mut all = Vec::with_capacity(alloc, users.len() + 1)?;
     for user in users {
@@ -54,9 +52,9 @@ impl Subjects {
         by_id: Rc<PlacesById>,
         by_group: PlacesById,
     ) -> Result<Subjects, AllocError>
-        requires ids { AreNoted has_id by_id.value (map (λ s. s.value) users.items) }
-        requires groups { AreNoted is_in by_group (map (λ s. s.value) users.items) }
-        ensures { IfOk result (λ all. all ≡ map (λ s. s.value) users.items) }
+        requires ids { AreNoted has_id by_id.value (values users.items) }
+        requires groups { AreNoted is_in by_group (values users.items) }
+        ensures { Makes result (values users.items) }
     {
         Ok(Subjects {
             users: Rc::new(alloc, users)?,
@@ -81,7 +79,7 @@ impl Subjects {
 
     /// These users. Fails only if memory runs out.
     pub fn of(alloc: Global, users: Vec<Rc<Subject>>) -> Result<Subjects, AllocError>
-        ensures { IfOk result (λ all. all ≡ map (λ s. s.value) users.items) }
+        ensures { Makes result (values users.items) }
     {
         let by_id = PlacesById::of(alloc, notes_by_id(alloc, &users)?)?;
         let by_group = PlacesById::of(alloc, notes_by_group(alloc, &users)?)?;
@@ -91,7 +89,7 @@ impl Subjects {
 
     /// The same users, in shared memory. Fails only if memory runs out.
     pub fn share(&self) -> Result<Subjects, AllocError>
-        ensures { IfOk result (λ all. all ≡ self.now) }
+        ensures { Makes result self.now }
     {
         Ok(Subjects {
             users: self.users.clone()?,
@@ -109,7 +107,7 @@ impl Subjects {
 
     /// The users in their order.
     pub fn as_slice(&self) -> &[Rc<Subject>]
-        ensures { map (λ s. s.value) result.now ≡ self.now }
+        ensures { values result.now ≡ self.now }
     {
         &self.users
     }
@@ -139,7 +137,7 @@ impl Subjects {
     /// joined or left are made again. Fails only if memory runs out.
     pub fn with(&self, alloc: Global, at: usize, user: Rc<Subject>) -> Result<Subjects, AllocError>
         requires { option_map (λ u. u.uid) (slice_get self.now at) ≡ Some user.value.uid }
-        ensures { IfOk result (λ all. all ≡ slice_set self.now at user.value) }
+        ensures { Makes result (slice_set self.now at user.value) }
     {
         let users = self.as_slice();
         let by_group = moved(alloc, self.groups(), at, &users[at], &user)?;
@@ -152,7 +150,7 @@ impl Subjects {
     /// The users with one more, the last. Only the lists of this user's id and groups are made again. Fails only
     /// if memory runs out.
     pub fn with_last(&self, alloc: Global, user: Rc<Subject>) -> Result<Subjects, AllocError>
-        ensures { IfOk result (λ all. all ≡ self.now ++ user.value ∷ []) }
+        ensures { Makes result (self.now ++ user.value ∷ []) }
     {
         let users = self.as_slice();
         let mut by_id = self.ids().copy()?;
@@ -168,7 +166,7 @@ impl Subjects {
     /// memory runs out.
     pub fn without(&self, alloc: Global, at: usize) -> Result<Subjects, AllocError>
         requires { at < length self.now }
-        ensures { IfOk result (λ all. all ≡ remove self.now at) }
+        ensures { Makes result (remove self.now at) }
     {
         let mut users = copied(alloc, self.as_slice())?;
         let _gone = users.remove(at);

@@ -7,7 +7,7 @@ pub shared-requires : goal.shared-requires
 shared-requires c = subst (λ rows. AreNames (map group_entry rows)) (sym c.deref.ensures.value) c.requires.names
 
 pub invariant_of-result : goal.invariant_of-result
-invariant_of-result c = (
-  c.in_ok-name_table.ensures ∙ ap (λ rows. map group_entry rows) (c.deref.ensures.value ∙ sym c.in_ok-rows.ensures),
-  subst (λ rows. AreCounted (map group_entry rows)) (sym c.in_ok-rows.ensures) c.requires,
-)
+invariant_of-result c = record {
+  all = c.in_ok-name_table.ensures ∙ ap (λ rows. map group_entry rows) (c.deref.ensures.value ∙ sym c.in_ok-rows.ensures);
+  counted = subst (λ rows. AreCounted (map group_entry rows)) (sym c.in_ok-rows.ensures) c.requires;
+}

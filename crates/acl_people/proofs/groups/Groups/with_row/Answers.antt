@@ -20,7 +20,7 @@ invariant_of-result c =
     ap (λ rs. map group_entry rs) (rows (goal.at.invariant_of-result c).In_ok-clone)
     ∙ c.requires.entry
     ∙ ap (λ rs. map group_entry rs) (sym c.self.view_is)
-    in (
-      c.in_ok-clone.ensures.cases ∙ c.self.invariant.0 ∙ sym entries,
-      subst AreCounted (sym entries) c.self.invariant.1,
-    )
+    in record {
+      all = c.in_ok-clone.ensures.cases ∙ c.self.invariant.all ∙ sym entries;
+      counted = subst AreCounted (sym entries) c.self.invariant.counted;
+    }

@@ -11,7 +11,7 @@ invariant_of-result c =
     let entries : map group_entry (map (λ r. r.value) c.in_ok-rows.rows.items) ≡ map group_entry old =
     ap (λ rows. map group_entry rows) (c.in_ok-rows.ensures ∙ ap (λ rows. map (name_removed c.args.name.now) (map (λ r. r.value) rows)) c.deref.ensures.value)
     ∙ map-map group_entry (name_removed c.args.name.now) old
-    in (
-      c.in_ok-clone.ensures.cases ∙ c.self.invariant.0 ∙ sym entries,
-      subst AreCounted (sym entries) c.self.invariant.1,
-    )
+    in record {
+      all = c.in_ok-clone.ensures.cases ∙ c.self.invariant.all ∙ sym entries;
+      counted = subst AreCounted (sym entries) c.self.invariant.counted;
+    }

@@ -19,17 +19,15 @@ moved c =
     let after : c.deref-2.result.now ≡ c.requires.after = c.deref-2.ensures ∙ subject_is (λ s. s.value) c.subjects-2.result.now new c.args.user c.index-subjects-user-2.result c.requires.after c.subjects-2.ensures at c.index-subjects-user-2.is in
     subst (λ (p : Person). AreMoved c.requires.before p c.in_ok-groups.groups.items) after (subst (λ (p : Person). AreMoved p c.deref-2.result.now c.in_ok-groups.groups.items) before c.in_ok-groups.ensures)
 
-pub returns-clause-moved : goal.returns-clause-moved
-returns-clause-moved c = record { change = c.requires; moved = moved c }
-
-pub returns-clause-ids : goal.returns-clause-ids
-returns-clause-ids c =
+pub returns : goal.returns
+returns c =
     let old = persons c.args.self.now in
     let at : slice_get (persons c.args.next.now) c.args.user ≡ Some c.requires.after = ap (λ ps. slice_get ps c.args.user) c.requires.becomes ∙ slice_get-set_same old c.args.user c.requires.before c.requires.after c.requires.was in
-    moved_ids c.args.self.now c.args.next.now c.args.user c.requires.before c.requires.after c.in_ok-groups.groups.items c.requires.was at (moved c)
-
-pub returns-clause-none : goal.returns-clause-none
-returns-clause-none c = λ none. none_moved (persons c.args.self.now) (persons c.args.next.now) c.args.user c.requires (subst (λ (ids : List ℕ). AreMoved c.requires.before c.requires.after ids) none (moved c))
+    record {
+      moved = record { change = c.requires; moved = moved c };
+      ids = moved_ids c.args.self.now c.args.next.now c.args.user c.requires.before c.requires.after c.in_ok-groups.groups.items c.requires.was at (moved c);
+      none = λ none. none_moved (persons c.args.self.now) (persons c.args.next.now) c.args.user c.requires (subst (λ (ids : List ℕ). AreMoved c.requires.before c.requires.after ids) none (moved c));
+    }
 
 pub bounds-subjects-user : goal.bounds-subjects-user
 bounds-subjects-user c =

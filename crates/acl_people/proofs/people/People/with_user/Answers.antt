@@ -7,11 +7,10 @@ use Rattle.acl_syntax.specs.declared.rows.PasswdRow.{PasswdRow}
 use Rattle.acl_syntax.specs.Rows.{most_rows}
 use Rattle.std.proofs.lemmas.Result.{IfOk-weaker}
 use Rattle.acl_people.specs.NameTables.{is_name, AreCounted}
-use Rattle.acl_people.specs.Entries.{user_entry}
+use Rattle.acl_people.specs.Entries.{user_entry, user_row}
 use Rattle.acl_people.specs.KnownPeople.{KnownPeople, persons, users_of}
 use Rattle.acl_people.specs.Changes.{gid_of, with_user}
 use Rattle.acl_people.specs.Moves.{JoinsUser}
-use Rattle.acl_people.proofs.Changed.{user_row}
 use Rattle.acl_people.proofs.Counted.{IsNameText, counted_push}
 use Rattle.acl_people.proofs.Moving.{joins}
 use Rattle.acl_people.proofs.people.People.with_user.Goals as goal

@@ -13,4 +13,4 @@ pub shared-requires : goal.shared-requires
 shared-requires c = subst AreNames (named (goal.at.shared-requires c).After-deref) c.requires.names
 
 pub invariant_of-result : goal.invariant_of-result
-invariant_of-result c = (c.in_ok-name_table.ensures ∙ sym (named (goal.at.invariant_of-result c).After-deref), c.requires)
+invariant_of-result c = record { all = c.in_ok-name_table.ensures ∙ sym (named (goal.at.invariant_of-result c).After-deref); counted = c.requires }

@@ -2,10 +2,10 @@ use Rattle.std.proofs.Common.{◌≡◌, length, map, slice_get, slice_set, Some
 use Rattle.std.proofs.lemmas.List.{length-map}
 use Rattle.acl_syntax.specs.declared.rows.PasswdRow.{PasswdRow}
 use Rattle.acl_people.specs.NameTables.{AreCounted}
-use Rattle.acl_people.specs.Entries.{user_entry}
+use Rattle.acl_people.specs.Entries.{user_entry, user_row}
 use Rattle.acl_people.specs.Changes.{change_at, with_gid}
 use Rattle.acl_people.proofs.Pointers.{value_at}
-use Rattle.acl_people.proofs.Changed.{change_at-set, map-change_at, user_row}
+use Rattle.acl_people.proofs.Changed.{change_at-set, map-change_at}
 use Rattle.acl_people.proofs.users.Users.with_gid.Goals as goal
 use Rattle.acl_people.proofs.users.Users.with_gid.Goals.{In_ok-clone}
 
@@ -37,7 +37,7 @@ invariant_of-result c =
     ap (λ rs. map user_entry rs) (rows (goal.at.invariant_of-result c).In_ok-clone)
     ∙ map-change_at user_entry c.args.user (with_gid c.args.gid) c.args.self.now (λ row. refl)
     ∙ ap (λ rs. map user_entry rs) (sym c.self.view_is)
-    in (
-      c.in_ok-clone.ensures.cases ∙ c.self.invariant.0 ∙ sym entries,
-      subst AreCounted (sym entries) c.self.invariant.1,
-    )
+    in record {
+      all = c.in_ok-clone.ensures.cases ∙ c.self.invariant.all ∙ sym entries;
+      counted = subst AreCounted (sym entries) c.self.invariant.counted;
+    }

@@ -22,7 +22,7 @@ of-requires c =
     ap (λ rs. map user_entry rs) (rows c) ∙ map-remove user_entry c.args.user c.args.self.now
     in
     let within : c.args.user < length (map user_entry c.args.self.now) = subst (λ n. c.args.user < n) (sym (length-map c.args.self.now user_entry)) c.requires in
-    subst AreCounted (sym entries) (counted_remove (map user_entry c.args.self.now) c.args.user within (subst (λ rs. AreCounted (map user_entry rs)) c.self.view_is c.self.invariant.1))
+    subst AreCounted (sym entries) (counted_remove (map user_entry c.args.self.now) c.args.user within (subst (λ rs. AreCounted (map user_entry rs)) c.self.view_is c.self.invariant.counted))
 
 pub returns : goal.returns
 returns c =
