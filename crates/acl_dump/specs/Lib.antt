@@ -8,4 +8,5 @@ pub mod Seen
 pub mod Watched
 pub mod Writing
 pub mod Again
+pub mod Laws
 pub use Rattle.acl_syntax.specs as acl_syntax

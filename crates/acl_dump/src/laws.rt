@@ -1,34 +1,20 @@
 //! Laws of the definitions, each proved as the contract of a function that does nothing.
 
-ghost use Rattle.std.specs.Prelude.{◌≡◌, ◌↔◌, ℕ, List, [], Option, Ok, Err, true};
-ghost use Rattle.std.specs.List.{AllByRecursion};
-ghost use Rattle.acl_dump.specs.declared.record.DumpUse.{DumpUse};
-ghost use Rattle.acl_dump.specs.declared.record.DumpRecord.{DumpRecord};
-ghost use Rattle.acl_syntax.specs.Naming.{Naming};
-ghost use Rattle.acl_syntax.specs.declared.fault.TextFault.{TextFault};
-ghost use Rattle.acl_syntax.specs.Lowest.{ReportsLowest};
-ghost use Rattle.acl_dump.specs.declared.draft.RecordDraft.{RecordDraft};
-ghost use Rattle.acl_dump.specs.Records.{Numbered, begins, opened_draft, judged, lines_of, dump_of};
-ghost use Rattle.acl_dump.specs.Faults.{IsFirstFault};
-ghost use Rattle.acl_dump.specs.Lowest.{FileHas, LineHas};
-ghost use Rattle.acl_dump.specs.Lines.{content_of};
-ghost use Rattle.acl_dump.specs.Again.{IsReadable, AreApart, paths, placed, dump_text};
+ghost use Rattle.acl_dump.specs.Laws.{DumpFaultIsFirst, DumpFileFaultIsLowest, DumpLineFaultIsLowest, RecordsAreReadAgain};
 
 /// Proof only: the fault of a dump is that of the first faulty record: the lines before the record are a dump without a
 /// fault. Where its `# file:` line is not faulty, it is that of the record's first faulty line, and where
 /// no line is faulty that of the record as a whole, at its `# file:` line, whatever comes after the
 /// record. A fault of a line before the first record goes before all these.
 pub fn dump_fault_is_first()
-    ensures { (naming : Naming) (dump_use : DumpUse) (bytes : List ℕ) (fault : TextFault) →
-        (dump_of naming dump_use bytes ≡ Err fault) ↔ IsFirstFault naming dump_use (lines_of bytes) fault }
+    ensures { DumpFaultIsFirst }
 {}
 
 /// Proof only: the fault of a `# file:` line is the lowest of the kinds that it has, each looked for on its own: an
 /// empty value, a value that is not a path, and the path of an earlier record. Without a fault, the line
 /// begins a record.
 pub fn dump_file_fault_is_lowest()
-    ensures { (records : List DumpRecord) (line : Numbered) → begins line ≡ true →
-        ReportsLowest (FileHas records (content_of line.1).1) (opened_draft records line.0 (content_of line.1).1) }
+    ensures { DumpFileFaultIsLowest }
 {}
 
 /// Proof only: the fault of a line that begins no record is the lowest of the kinds that it has, each looked for on its
@@ -36,15 +22,12 @@ pub fn dump_file_fault_is_lowest()
 /// flags, a line before the first record, and a header that comes twice or after an entry. Without a
 /// fault, the line is read.
 pub fn dump_line_fault_is_lowest()
-    ensures { (naming : Naming) (draft : Option RecordDraft) (line : Numbered) →
-        ReportsLowest (LineHas naming draft line) (judged naming draft line) }
+    ensures { DumpLineFaultIsLowest }
 {}
 
 /// Proof only: the texts of records, put one after another, are read as those records, each at its line: where their
 /// names are found again under the ids that they are written for, no path is twice, and records that
 /// are loaded have owners and groups.
 pub fn records_are_read_again()
-    ensures { (naming : Naming) (dump_use : DumpUse) (records : List DumpRecord) →
-        AllByRecursion (IsReadable naming dump_use) records → AreApart [] (paths records) →
-        dump_of naming dump_use (dump_text naming records) ≡ Ok (placed 1 records) }
+    ensures { RecordsAreReadAgain }
 {}

@@ -13,3 +13,4 @@ pub mod Entries
 pub mod Means
 pub mod Writing
 pub mod Lowest
+pub mod Laws

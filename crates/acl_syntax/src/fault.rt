@@ -2,6 +2,7 @@
 
 ghost use Rattle.std.specs.Prelude.{◌≡◌};
 ghost use Rattle.acl_syntax.specs.declared.fault.FaultKind.{FaultKind};
+ghost use Rattle.acl_syntax.specs.InTurn.{of_list};
 
 use acl_entry::ListFault;
 use std::alloc::{AllocError, AllocFailed};
@@ -54,8 +55,6 @@ pub enum FaultKind {
 }
 
 impl FaultKind {
-    ghost use Rattle.acl_syntax.specs.InTurn.{of_list};
-
     /// What is wrong with a text whose list has this fault.
     pub fn of_list(which: Which, fault: ListFault) -> FaultKind
         ensures { result ≡ of_list which fault }
