@@ -1,5 +1,5 @@
 -- How many entries the steps add.
-use Rattle.std.proofs.Common.{◌≡◌, ℕ, ◌+◌, ◌-◌, ◌≤◌, Bool, true, false, cond, if◌then◌else◌, not, ◌&&◌, List, [], ◌∷◌, length, Option, Some, None, sym, ◌∙◌, arith}
+use Rattle.std.proofs.Common.{◌≡◌, ℕ, ◌+◌, ◌-◌, ◌≤◌, Bool, true, false, cond, if◌then◌else◌, not, ◌&&◌, List, [], ◌∷◌, length, Option, Some, None, Result, Ok, Err, IsErrAnd, sym, ◌∙◌, arith}
 use Rattle.std.proofs.lemmas.List.{length-map}
 use Rattle.std.specs.FinMap as maps
 use Rattle.acl_entry.specs.Perms.{Perms}
@@ -13,7 +13,7 @@ use Rattle.acl_edit.specs.Steps.{perms_of, put_some, remove, modify, replace, fi
 use Rattle.acl_edit.specs.Masks.{has_mask, has_named, add_mask}
 use Rattle.acl_edit.specs.Parts.{Part}
 use Rattle.acl_edit.specs.Edits.{worked}
-use Rattle.acl_edit.specs.Rooms.{size, puts_of}
+use Rattle.acl_edit.specs.Rooms.{LeavesIn, size, puts_of}
 
 size-len : (m : KeyMap) → size m ≡ maps.len m
 size-len m = length-map (maps.entries m) (λ (p : Key × Perms). record { key = p.0; perm = p.1 }) ∙ sym (maps.len-entries m)
@@ -72,3 +72,13 @@ pub size-worked : (x : Bool) (p : Part) (m : KeyMap) → size (worked x p m) ≤
 unfolding worked
 size-worked x p m =
     omega (arith, size-modify x p.modify (remove p.remove (replace x p.set m)), size-remove p.remove (replace x p.set m), size-replace x p.set m)
+
+-- what is left in some room is left in more
+pub leaves_in : {X F : Type 0} {Room More : Type 0} (result : Result X F) (new is same : KeyMap) → (More → Room) → is ≡ same → LeavesIn Room result new is → LeavesIn More result new same
+leaves_in (Ok x) new is same room equal left = left ∙ equal
+leaves_in (Err fault) new is same room equal left = λ more. left (room more)
+
+-- a call that fails where there is room
+pub none_left : {X F : Type 0} {Room : Type 0} (Q : F → Type 0) (result : Result X F) (new is : KeyMap) → IsErrAnd result Q → (Room → false ≡ true) → LeavesIn Room result new is
+none_left Q (Ok x) new is failed room = absurd failed
+none_left Q (Err fault) new is failed room = room

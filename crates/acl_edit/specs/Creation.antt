@@ -14,6 +14,10 @@ abbrev pub inherited_access : Option KeyMap → ℕ → ℕ → KeyMap
 inherited_access (Some d) mode umask = restrict d mode
 inherited_access None mode umask = minimal (without mode umask)
 
+-- a directory gets the default list of the directory that it is in
+abbrev pub inherited_default : Option KeyMap → Kind → Option KeyMap
+inherited_default dacl kind = if is_directory kind then dacl else None
+
 -- a set group ID directory hands its group on, and to a directory the flag too
 abbrev pub inherit : Node → Kind → ℕ → ℕ → ℕ → ℕ → Node
 inherit parent kind mode umask owner group = record {
@@ -24,5 +28,5 @@ inherit parent kind mode umask owner group = record {
     acl = inherited_access parent.dacl mode umask;
   };
   flags = false ∷ (setgid parent.flags && is_directory kind) ∷ false ∷ [];
-  dacl = if is_directory kind then parent.dacl else None;
+  dacl = inherited_default parent.dacl kind;
 }

@@ -5,7 +5,7 @@ use Rattle.std.specs.FinMap as maps
 use Rattle.acl_entry.specs.Lists.{KeyMap, entries, fault, minimal, mode, or_else}
 use Rattle.acl_syntax.specs.declared.fault.Which.{Which}
 use Rattle.acl_syntax.specs.declared.fault.Which.TheVariants.{Access, Default}
-use Rattle.acl_syntax.specs.InTurn.{◌>>=◌}
+use Rattle.acl_syntax.specs.InTurn.{◌>>=◌, GivesUnless}
 use Rattle.acl_edit.specs.Nodes.{is_directory, with_lists}
 use Rattle.acl_edit.specs.Parts.{Part, part, puts, names}
 use Rattle.acl_edit.specs.Steps.{gives_execute, strip, remove, modify, replace, fill_from}
@@ -14,10 +14,14 @@ use Rattle.acl_edit.specs.Changes.{Change}
 use Rattle.acl_edit.specs.declared.edit.Edit.{Edit}
 use Rattle.acl_edit.specs.declared.edit.Edit.TheVariants as edits
 use Rattle.acl_edit.specs.declared.edit.EditFault.{EditFault}
-use Rattle.acl_edit.specs.declared.edit.EditFault.TheVariants.{DefaultOnFile, List as ListIs}
+use Rattle.acl_edit.specs.declared.edit.EditFault.TheVariants.{DefaultOnFile, NoMemory, List as ListIs}
 use Rattle.acl_edit.specs.declared.node.Kind.{Kind}
 use Rattle.acl_edit.specs.declared.node.Kind.TheVariants.{Plain, Directory}
 use Rattle.acl_edit.specs.declared.node.Node.{Node}
+
+-- a call gives the value, seen by view, or exactly its fault, unless memory ran out
+abbrev pub Gives : {X Y : Type 0} → (X → Y) → Result X EditFault → Result Y EditFault → Type 0
+Gives view result is = GivesUnless NoMemory view result is
 
 -- ---- a line of setfacl
 
@@ -54,12 +58,16 @@ access_before c m = if c.flags.strip then strip m else m
 abbrev pub default_before : Change → Option KeyMap → KeyMap
 default_before c o = if c.flags.strip || c.flags.drop_default then maps.empty else unwrap_or o maps.empty
 
+-- -b and -k remove the default list
+abbrev pub kept_default : Change → Option KeyMap → Option KeyMap
+kept_default c o = if c.flags.strip || c.flags.drop_default then None else o
+
 abbrev pub changed_access : Node → Change → Result KeyMap EditFault
 changed_access n c = checked Access (access_after c (gives_execute n) (access_before c n.label.acl))
 
 -- only directories have default lists: entries for one skip every other file, and -b and -k remove the default list
 abbrev pub changed_default : Kind → Node → Change → KeyMap → Result (Option KeyMap) EditFault
-changed_default Plain n c acl = Ok (if c.flags.strip || c.flags.drop_default then None else n.dacl)
+changed_default Plain n c acl = Ok (kept_default c n.dacl)
 changed_default Directory n c acl = checked_default (default_after c (gives_execute n) acl (default_before c n.dacl))
 
 -- default entries for a file that is not a directory are refused, and skipped in a recursion

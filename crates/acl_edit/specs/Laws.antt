@@ -1,5 +1,5 @@
 -- What edits keep, in words of lists and modes.
-use Rattle.std.specs.Prelude.{◌≡◌, ◌≢◌, ◌↔◌, Bool, true, false, not, List, [], ◌∷◌, Option, Some, None, is_some, option_and_then, option_map, Ok, Err, ◌&&◌, ◌||◌, if◌then◌else◌}
+use Rattle.std.specs.Prelude.{◌≡◌, ◌≢◌, ◌↔◌, Bool, true, false, not, List, [], ◌∷◌, Option, Some, None, is_some, option_and_then, option_map, Result, Ok, Err, IfOk, ◌&&◌, ◌||◌, if◌then◌else◌}
 use Rattle.std.specs.Option.{ForSome}
 use Rattle.std.specs.List.{list_any}
 use Rattle.std.specs.FinMap as maps
@@ -20,7 +20,8 @@ use Rattle.acl_edit.specs.Edits.{edit, edit_of}
 use Rattle.acl_edit.specs.Changes.{Change}
 use Rattle.acl_edit.specs.declared.edit.Edit.{Edit}
 use Rattle.acl_edit.specs.declared.edit.Edit.TheVariants as edits
-use Rattle.acl_edit.specs.declared.edit.EditFault.TheVariants.{List as ListIs}
+use Rattle.acl_edit.specs.declared.edit.EditFault.{EditFault}
+use Rattle.acl_edit.specs.declared.edit.EditFault.TheVariants.{DefaultOnFile, NoMemory, List as ListIs}
 use Rattle.acl_edit.specs.declared.node.Kind.TheVariants.{Directory}
 use Rattle.acl_edit.specs.declared.node.Node.{Node}
 
@@ -145,6 +146,19 @@ module _ (old : Node) (c : Change) (new : Node) where
   pub record DropsDefault : Type 0 where
     pub dacl : (c.flags.strip || c.flags.drop_default) ≡ true → names (part c Default) ≡ false → new.dacl ≡ None
 
+  -- the file that a line leaves: all of these
+  pub record IsLeft : Type 0 where
+    pub unnamed : LeavesUnnamed
+    pub shown : ShowsRecalculated
+    pub bounded : BoundsRecalculated
+    pub granted : KeepsGranted
+    pub modified : GivesModified
+    pub by_key : GoesByKey
+    pub every_key : LeavesByKey
+    pub copied : CopiesBase
+    pub masked : MakesMask
+    pub dropped : DropsDefault
+
 -- ---- why an edit is refused
 
 -- the edit puts entries of a default list, or a whole one; a removed entry puts nothing
@@ -205,6 +219,26 @@ OfLine (edits.Change c) P = P c
 OfLine (edits.Put access dacl) P = Unit {0}
 OfLine (edits.Flatten access dacl) P = Unit {0}
 OfLine (edits.Restore access dacl owner group flags) P = Unit {0}
+
+-- a fact of the file that a line leaves, where the edit is a line and is not refused
+abbrev pub OnLine : (Node → Change → Node → Type 0) → Node → Edit → Result Node EditFault → Type 0
+OnLine P old e result = IfOk result (λ new. OfLine e (λ c. P old c new))
+
+-- the lists of a line are refused as it is said above
+abbrev pub RefusesOfLine : Node → Edit → Bool → Type 0
+RefusesOfLine n e in_recursion = OfLine e (λ c. RefusesLists n c in_recursion)
+
+-- entries of a default list are refused where they are misplaced, and nowhere else
+abbrev pub RefusesMisplaced : Node → Edit → Bool → Type 0
+RefusesMisplaced n e in_recursion = (edit n e in_recursion ≡ Err DefaultOnFile) ↔ (misplaces_default n e in_recursion ≡ true)
+
+-- running out of memory is not part of the definition
+abbrev pub NeedsNoMemory : Node → Edit → Bool → Type 0
+NeedsNoMemory n e in_recursion = edit n e in_recursion ≢ Err NoMemory
+
+-- a law of every edit of every file, in a recursion or not
+abbrev pub OfEach : (Node → Edit → Bool → Type 0) → Type 0
+OfEach P = (n : Node) (e : Edit) (in_recursion : Bool) → P n e in_recursion
 
 -- the edit makes each file of this one's kind this one
 abbrev pub GivesBack : Node → Edit → Type 0

@@ -7,11 +7,16 @@ use Rattle.acl_syntax.specs.declared.entries.Spec.{Spec}
 use Rattle.acl_syntax.specs.declared.fault.Which.{Which}
 use Rattle.acl_syntax.specs.declared.fault.Which.TheVariants.{Access, Default}
 use Rattle.acl_edit.specs.Changes.{Change}
+use Rattle.acl_edit.specs.declared.change.Scope.{Scope}
 
 -- the entry is for this list: under -d plain entries are default ones, and default ones are dropped
 abbrev pub is_for : Bool → Which → Spec → Bool
 is_for as_default Access s = not (as_default || s.dflt)
 is_for as_default Default s = if as_default then not s.dflt else s.dflt
+
+-- the entries that are for a list
+abbrev pub entries_for : Scope → List Spec → List Spec
+entries_for scope specs = filter (is_for scope.as_default scope.which) specs
 
 -- what a line asks of one list
 pub record Part : Type 0 where

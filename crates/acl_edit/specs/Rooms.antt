@@ -1,7 +1,8 @@
 -- Lists and lines so small that they take no memory.
-use Rattle.std.specs.Prelude.{◌≡◌, ℕ, true, ◌+◌, ◌≤◌, length, Option, unwrap_or}
+use Rattle.std.specs.Prelude.{◌≡◌, ℕ, true, ◌+◌, ◌≤◌, length, Option, unwrap_or, Result, MatchResult, IsOk}
 use Rattle.std.specs.FinMap as maps
 use Rattle.acl_entry.specs.Lists.{KeyMap, entries, inline_entries}
+use Rattle.acl_syntax.specs.declared.fault.Which.{Which}
 use Rattle.acl_syntax.specs.declared.fault.Which.TheVariants.{Access, Default}
 use Rattle.acl_edit.specs.Parts.{Part, part, names}
 use Rattle.acl_edit.specs.Edits.{access_before, default_before}
@@ -26,6 +27,18 @@ Fits n = n ≤ inline_entries
 abbrev pub size_of : Option KeyMap → ℕ
 size_of o = size (unwrap_or o maps.empty)
 
+-- a list that the line names finds room, beside what the line puts into it and so many more entries
+abbrev pub FitsPart : Change → Which → ℕ → KeyMap → Type 0
+FitsPart c which more m = names (part c which) ≡ true → Fits (size m + puts_of (part c which) + more)
+
+-- a call makes this unless memory runs out, which it does not where there is this room
+abbrev pub MakesIn : {X F : Type 0} → Type 0 → Result X F → X → Type 0
+MakesIn Room result is = MatchResult result (λ x. x ≡ is) (λ _. Room → IsOk result)
+
+-- a call leaves this list unless memory runs out, which it does not where there is this room
+abbrev pub LeavesIn : {X F : Type 0} → Type 0 → Result X F → KeyMap → KeyMap → Type 0
+LeavesIn Room result new is = MatchResult result (λ _. new ≡ is) (λ _. Room → IsOk result)
+
 -- both lists of a file find room
 pub record HasShortLists (n : Node) : Type 0 where
   pub access : Fits (size n.label.acl)
@@ -35,8 +48,8 @@ pub record HasShortLists (n : Node) : Type 0 where
 -- entries too
 pub record HasRoom (n : Node) (c : Change) : Type 0 where
   pub lists : HasShortLists n
-  pub access : names (part c Access) ≡ true → Fits (size (access_before c n.label.acl) + puts_of (part c Access) + 1)
-  pub dacl : names (part c Default) ≡ true → Fits (size (default_before c n.dacl) + puts_of (part c Default) + 4)
+  pub access : FitsPart c Access 1 (access_before c n.label.acl)
+  pub dacl : FitsPart c Default 4 (default_before c n.dacl)
 
 -- the file's lists and the edit's find room
 abbrev pub IsSmall : Node → Edit → Type 0

@@ -1,17 +1,17 @@
 //! What a setfacl(1) line leaves of a file's lists: its entries, each for one of the two.
 
-ghost use Rattle.std.specs.Prelude.{◌≡◌, ◌≢◌, ◌+◌, ◌||◌, true, None, Ok, Err, IfOk, IfErr, IsOk, OnOk, if◌then◌else◌, filter};
-ghost use Rattle.acl_edit.specs.Parts.{part, names, is_mask, is_given, is_for, is_of_mask};
+ghost use Rattle.std.specs.Prelude.{◌≡◌, ◌≢◌, ◌+◌, Err, IfOk};
+ghost use Rattle.std.specs.List.{list_any};
+ghost use Rattle.acl_edit.specs.Parts as parts;
+ghost use Rattle.acl_edit.specs.Parts.{part, is_mask, is_given, is_for, is_of_mask, entries_for};
 ghost use Rattle.acl_edit.specs.Masks.{takes_mask};
 ghost use Rattle.acl_edit.specs.Steps as steps;
 ghost use Rattle.acl_edit.specs.Edits as edits;
-ghost use Rattle.acl_edit.specs.Edits.{worked, access_after, default_after, access_before, default_before, changed_access, changed_default, is_misplaced};
+ghost use Rattle.acl_edit.specs.Edits.{Gives, worked, is_misplaced};
 ghost use Rattle.acl_edit.specs.Nodes.{IsSound};
-ghost use Rattle.acl_edit.specs.Rooms.{Fits, HasRoom, size, size_of, puts_of};
-ghost use Rattle.acl_edit.specs.Laws.{LeavesUnnamed, ShowsRecalculated, BoundsRecalculated, KeepsGranted, GivesModified, GoesByKey, LeavesByKey, CopiesBase, MakesMask, DropsDefault};
+ghost use Rattle.acl_edit.specs.Rooms.{Fits, FitsPart, HasRoom, LeavesIn, MakesIn, size, size_of, puts_of};
+ghost use Rattle.acl_edit.specs.Laws.{IsLeft};
 ghost use Rattle.acl_edit.specs.declared.edit.EditFault.TheVariants.{DefaultOnFile, NoMemory};
-ghost use Rattle.std.specs.List.{list_any};
-ghost use Rattle.acl_edit.specs.Parts as parts;
 
 use crate::edit::Change;
 use crate::steps::{
@@ -42,9 +42,8 @@ impl Change {
         x: bool,
         draft: &mut Draft,
     ) -> Result<bool, AllocError>
-        ensures list { OnOk result (draft.new ≡ worked x (part self.now which) draft.old) }
+        ensures list { LeavesIn (Fits (size draft.old + puts_of (part self.now which))) result draft.new (worked x (part self.now which) draft.old) }
         ensures lost { IfOk result (λ lost. lost ≡ takes_mask (part self.now which) (steps.replace x (part self.now which).set draft.old)) }
-        ensures room { Fits (size draft.old + puts_of (part self.now which)) → IsOk result }
     {
         let scope = self.scope(which);
         replace(alloc, draft, scope, x, self.entries.set.as_slice())?;
@@ -57,8 +56,7 @@ impl Change {
     /// The line's steps on an access list.
     #[tactic(auto, unfolding(crate::specs::Edits::access_after))]
     fn edit_access(&self, alloc: Global, x: bool, draft: &mut Draft) -> Result<(), AllocError>
-        ensures edited { OnOk result (draft.new ≡ access_after self.now x draft.old) }
-        ensures room { (names (part self.now Which.Access) ≡ true → Fits (size draft.old + puts_of (part self.now Which.Access) + 1)) → IsOk result }
+        ensures { LeavesIn (FitsPart self.now Which.Access 1 draft.old) result draft.new (edits.access_after self.now x draft.old) }
     {
         if self.names(Which::Access) {
             let lost = self.work(alloc, Which::Access, x, draft)?;
@@ -76,8 +74,7 @@ impl Change {
         acl: &Acl,
         draft: &mut Draft,
     ) -> Result<(), AllocError>
-        ensures edited { OnOk result (draft.new ≡ default_after self.now x acl.now draft.old) }
-        ensures room { (names (part self.now Which.Default) ≡ true → Fits (size draft.old + puts_of (part self.now Which.Default) + 4)) → IsOk result }
+        ensures { LeavesIn (FitsPart self.now Which.Default 4 draft.old) result draft.new (edits.default_after self.now x acl.now draft.old) }
     {
         if self.names(Which::Default) {
             let lost = self.work(alloc, Which::Default, x, draft)?;
@@ -91,8 +88,7 @@ impl Change {
 
     /// The access list that the steps begin with.
     fn access_before(&self, alloc: Global, acl: &Acl) -> Result<Draft, AllocError>
-        ensures starts_from { IfOk result (λ draft. draft ≡ access_before self.now acl.now) }
-        ensures room { Fits (size acl.now) → IsOk result }
+        ensures { MakesIn (Fits (size acl.now)) result (edits.access_before self.now acl.now) }
     {
         if self.flags.strip {
             strip(alloc, acl)
@@ -103,8 +99,7 @@ impl Change {
 
     /// The default list of a file that is not a directory, if there is one: -b and -k remove it.
     fn kept_default(&self, alloc: Global, dacl: &Option<Acl>) -> Result<Option<Acl>, AllocError>
-        ensures kept { IfOk result (λ kept. kept ≡ (if self.now.flags.strip || self.now.flags.drop_default then None else dacl.now)) }
-        ensures room { Fits (size_of dacl.now) → IsOk result }
+        ensures { MakesIn (Fits (size_of dacl.now)) result (edits.kept_default self.now dacl.now) }
     {
         if self.flags.strip || self.flags.drop_default {
             return Ok(None);
@@ -114,8 +109,7 @@ impl Change {
 
     /// The default list that the steps begin with.
     fn default_before(&self, alloc: Global, dacl: &Option<Acl>) -> Result<Draft, AllocError>
-        ensures starts_from { IfOk result (λ draft. draft ≡ default_before self.now dacl.now) }
-        ensures room { Fits (size_of dacl.now) → IsOk result }
+        ensures { MakesIn (Fits (size_of dacl.now)) result (edits.default_before self.now dacl.now) }
     {
         match dacl {
             Some(acl) if !self.flags.strip && !self.flags.drop_default => Draft::of(alloc, acl),
@@ -126,8 +120,7 @@ impl Change {
 
 /// The entries as a list, if they are one.
 fn checked(which: Which, draft: Draft) -> Result<Acl, EditFault>
-    ensures made { IfOk result (λ acl. edits.checked which draft ≡ Ok acl) }
-    ensures reported { IfErr result (λ fault. edits.checked which draft ≡ Err fault) }
+    ensures made { Gives (λ x. x) result (edits.checked which draft) }
     ensures memory { result ≢ Err NoMemory }
 {
     match draft.finish() {
@@ -138,8 +131,7 @@ fn checked(which: Which, draft: Draft) -> Result<Acl, EditFault>
 
 /// The entries as a default list; `None` where there are no entries.
 fn checked_default(draft: Draft) -> Result<Option<Acl>, EditFault>
-    ensures made { IfOk result (λ dacl. edits.checked_default draft ≡ Ok dacl) }
-    ensures reported { IfErr result (λ fault. edits.checked_default draft ≡ Err fault) }
+    ensures made { Gives (λ x. x) result (edits.checked_default draft) }
     ensures memory { result ≢ Err NoMemory }
 {
     if draft.entries().is_empty() {
@@ -151,8 +143,7 @@ fn checked_default(draft: Draft) -> Result<Option<Acl>, EditFault>
 /// The access list that a line leaves.
 fn changed_access(alloc: Global, node: &Node, line: &Change, x: bool) -> Result<Acl, EditFault>
     requires { x ≡ steps.gives_execute node.now }
-    ensures made { IfOk result (λ acl. changed_access node.now line.now ≡ Ok acl) }
-    ensures reported { IfErr result (λ fault. fault ≢ NoMemory → changed_access node.now line.now ≡ Err fault) }
+    ensures made { Gives (λ x. x) result (edits.changed_access node.now line.now) }
     ensures room { HasRoom node.now line.now → result ≢ Err NoMemory }
 {
     let mut draft = line.access_before(alloc, &node.label.acl)?;
@@ -169,8 +160,7 @@ fn changed_default(
     acl: &Acl,
 ) -> Result<Option<Acl>, EditFault>
     requires { x ≡ steps.gives_execute node.now }
-    ensures made { IfOk result (λ dacl. changed_default node.now.kind node.now line.now acl.now ≡ Ok dacl) }
-    ensures reported { IfErr result (λ fault. fault ≢ NoMemory → changed_default node.now.kind node.now line.now acl.now ≡ Err fault) }
+    ensures made { Gives (λ x. x) result (edits.changed_default node.now.kind node.now line.now acl.now) }
     ensures room { HasRoom node.now line.now → result ≢ Err NoMemory }
 {
     if node.kind == Kind::Plain {
@@ -183,8 +173,7 @@ fn changed_default(
 
 /// The same list again, if there is one.
 pub(crate) fn clone_of(alloc: Global, acl: &Option<Acl>) -> Result<Option<Acl>, AllocError>
-    ensures same { IfOk result (λ clone. clone ≡ acl.now) }
-    ensures room { Fits (size_of acl.now) → IsOk result }
+    ensures { MakesIn (Fits (size_of acl.now)) result acl.now }
 {
     match acl {
         Some(acl) => Ok(Some(acl.try_clone(alloc)?)),
@@ -207,20 +196,10 @@ pub(crate) fn change(
     line: &Change,
     in_recursion: bool,
 ) -> Result<Node, EditFault>
-    ensures made { IfOk result (λ n. edits.change node.now line.now in_recursion ≡ Ok n) }
-    ensures reported { IfErr result (λ fault. fault ≢ NoMemory → edits.change node.now line.now in_recursion ≡ Err fault) }
+    ensures made { Gives (λ x. x) result (edits.change node.now line.now in_recursion) }
     ensures misplaced { edits.change node.now line.now in_recursion ≡ Err DefaultOnFile → result ≡ Err DefaultOnFile }
     ensures room { HasRoom node.now line.now → result ≢ Err NoMemory }
-    ensures unnamed { IfOk result (LeavesUnnamed node.now line.now) }
-    ensures shown { IfOk result (ShowsRecalculated node.now line.now) }
-    ensures bounded { IfOk result (BoundsRecalculated node.now line.now) }
-    ensures granted { IfOk result (KeepsGranted node.now line.now) }
-    ensures modified { IfOk result (GivesModified node.now line.now) }
-    ensures by_key { IfOk result (GoesByKey node.now line.now) }
-    ensures every_key { IfOk result (LeavesByKey node.now line.now) }
-    ensures copied { IfOk result (CopiesBase node.now line.now) }
-    ensures masked { IfOk result (MakesMask node.now line.now) }
-    ensures dropped { IfOk result (DropsDefault node.now line.now) }
+    ensures left { IfOk result (IsLeft node.now line.now) }
     ensures sound { IsSound node.now → IfOk result IsSound }
 {
     node.lists_are_valid();
@@ -254,7 +233,7 @@ impl Scope {
 
     /// Whether an entry is for the list.
     pub fn takes_some(self, specs: &[Spec]) -> bool
-        ensures { result ≡ is_given (filter (is_for self.as_default self.which) specs.now) }
+        ensures { result ≡ is_given (entries_for self specs.now) }
     {
         for spec in specs {
             if self.takes(spec) {
@@ -266,7 +245,7 @@ impl Scope {
 
     /// Whether an entry is the list's mask.
     pub fn takes_mask(self, specs: &[Spec]) -> bool
-        ensures { result ≡ list_any is_of_mask (filter (is_for self.as_default self.which) specs.now) }
+        ensures { result ≡ list_any is_of_mask (entries_for self specs.now) }
     {
         for spec in specs {
             if self.takes(spec) && is_mask(&spec.key) {

@@ -1,8 +1,8 @@
 //! New files: acl(5), "OBJECT CREATION AND DEFAULT ACLs".
-ghost use Rattle.std.specs.Prelude.{◌≡◌, None, if◌then◌else◌, IfOk, IfErr, IsOk};
-ghost use Rattle.acl_edit.specs.Nodes.{IsSound, HasValidLists, is_directory};
-ghost use Rattle.acl_edit.specs.Rooms.{Fits, size_of};
-ghost use Rattle.acl_edit.specs.Creation.{inherit, inherited_access};
+ghost use Rattle.std.specs.Prelude.{◌≡◌, IfOk, IfErr, IsOk};
+ghost use Rattle.acl_edit.specs.Nodes.{IsSound, HasValidLists};
+ghost use Rattle.acl_edit.specs.Rooms.{Fits, MakesIn, size_of};
+ghost use Rattle.acl_edit.specs.Creation.{inherit, inherited_access, inherited_default};
 
 use crate::change::clone_of;
 use crate::{EditFault, Kind, Node};
@@ -45,8 +45,7 @@ fn inherited_default(
     dacl: &Option<Acl>,
     kind: Kind,
 ) -> Result<Option<Acl>, AllocError>
-    ensures made { IfOk result (λ given. given ≡ (if is_directory kind then dacl.now else None)) }
-    ensures room { Fits (size_of dacl.now) → IsOk result }
+    ensures { MakesIn (Fits (size_of dacl.now)) result (inherited_default dacl.now kind) }
 {
     match kind {
         Kind::Directory => clone_of(alloc, dacl),
@@ -64,8 +63,7 @@ fn inherit(
     owner: Id,
     group: Id,
 ) -> Result<Node, AllocError>
-    ensures made { IfOk result (λ node. node ≡ inherit parent.now kind mode umask owner group) }
-    ensures room { Fits (size_of parent.now.dacl) → IsOk result }
+    ensures { MakesIn (Fits (size_of parent.now.dacl)) result (inherit parent.now kind mode umask owner group) }
 {
     let [_setuid, setgid, _sticky] = parent.flags;
     let dacl = inherited_default(alloc, &parent.dacl, kind)?;
@@ -89,8 +87,7 @@ fn inherited_access(
     mode: u16,
     umask: u16,
 ) -> Result<Acl, AllocError>
-    ensures made { IfOk result (λ acl. acl ≡ inherited_access dacl.now mode umask) }
-    ensures room { Fits (size_of dacl.now) → IsOk result }
+    ensures { MakesIn (Fits (size_of dacl.now)) result (inherited_access dacl.now mode umask) }
 {
     match dacl {
         Some(dacl) => {

@@ -1,14 +1,15 @@
 //! What may be done to a file's lists: setfacl(1) and chacl(1), with entries as a command line or a text gives them; and what
 //! it leaves of them.
 
-ghost use Rattle.std.specs.Prelude.{◌≡◌, ◌≢◌, true, None, Ok, Err, IfOk, IfErr, IsOk};
+ghost use Rattle.std.specs.Prelude.{◌≡◌, ◌≢◌, true, None, Err, IfOk, IsOk};
 ghost use Rattle.acl_edit.specs.declared.edit.EditFault.TheVariants.{NoMemory, DefaultOnFile};
 ghost use Rattle.acl_entry.specs.Lists.{or_else};
 ghost use Rattle.acl_edit.specs.Edits as edits;
-ghost use Rattle.acl_edit.specs.Edits.{allowed};
+ghost use Rattle.acl_edit.specs.Edits.{Gives};
 ghost use Rattle.acl_edit.specs.Nodes.{IsSound, HasValidLists};
-ghost use Rattle.acl_edit.specs.Rooms.{Fits, HasShortLists, IsSmall, size_of};
-ghost use Rattle.acl_edit.specs.Laws.{LeavesUnnamed, ShowsRecalculated, BoundsRecalculated, KeepsGranted, GivesModified, GoesByKey, LeavesByKey, CopiesBase, MakesMask, DropsDefault, OfLine, GivesBack, misplaces_default};
+ghost use Rattle.acl_edit.specs.Rooms.{Fits, HasShortLists, IsSmall, MakesIn, size_of};
+ghost use Rattle.acl_edit.specs.Laws as laws;
+ghost use Rattle.acl_edit.specs.Laws.{OnLine, GivesBack, misplaces_default};
 
 use crate::change::{change, clone_of};
 use crate::{Kind, Node};
@@ -116,8 +117,7 @@ impl<T: Drop> From<AllocFailed<T>> for EditFault {
 /// eight entries, counted with what a setfacl(1) line puts into it, a mask, and copied base entries.
 #[tactic(auto, unfolding(crate::specs::Edits::restore))]
 pub fn apply(alloc: Global, node: &Node, edit: &Edit, in_recursion: bool) -> Result<Node, EditFault>
-    ensures made { IfOk result (λ n. edits.edit node.now edit.now in_recursion ≡ Ok n) }
-    ensures reported { IfErr result (λ fault. fault ≢ NoMemory → edits.edit node.now edit.now in_recursion ≡ Err fault) }
+    ensures made { Gives (λ x. x) result (edits.edit node.now edit.now in_recursion) }
     ensures misplaced { misplaces_default node.now edit.now in_recursion ≡ true → result ≡ Err DefaultOnFile }
     ensures room { IsSmall node.now edit.now → result ≢ Err NoMemory }
 
@@ -125,16 +125,16 @@ pub fn apply(alloc: Global, node: &Node, edit: &Edit, in_recursion: bool) -> Res
     ensures sound { IsSound node.now → IfOk result IsSound }
 
     // What a setfacl(1) line keeps.
-    ensures unnamed { IfOk result (λ n. OfLine edit.now (λ c. LeavesUnnamed node.now c n)) }
-    ensures shown { IfOk result (λ n. OfLine edit.now (λ c. ShowsRecalculated node.now c n)) }
-    ensures bounded { IfOk result (λ n. OfLine edit.now (λ c. BoundsRecalculated node.now c n)) }
-    ensures granted { IfOk result (λ n. OfLine edit.now (λ c. KeepsGranted node.now c n)) }
-    ensures modified { IfOk result (λ n. OfLine edit.now (λ c. GivesModified node.now c n)) }
-    ensures by_key { IfOk result (λ n. OfLine edit.now (λ c. GoesByKey node.now c n)) }
-    ensures every_key { IfOk result (λ n. OfLine edit.now (λ c. LeavesByKey node.now c n)) }
-    ensures copied { IfOk result (λ n. OfLine edit.now (λ c. CopiesBase node.now c n)) }
-    ensures masked { IfOk result (λ n. OfLine edit.now (λ c. MakesMask node.now c n)) }
-    ensures dropped { IfOk result (λ n. OfLine edit.now (λ c. DropsDefault node.now c n)) }
+    ensures unnamed { OnLine laws.LeavesUnnamed node.now edit.now result }
+    ensures shown { OnLine laws.ShowsRecalculated node.now edit.now result }
+    ensures bounded { OnLine laws.BoundsRecalculated node.now edit.now result }
+    ensures granted { OnLine laws.KeepsGranted node.now edit.now result }
+    ensures modified { OnLine laws.GivesModified node.now edit.now result }
+    ensures by_key { OnLine laws.GoesByKey node.now edit.now result }
+    ensures every_key { OnLine laws.LeavesByKey node.now edit.now result }
+    ensures copied { OnLine laws.CopiesBase node.now edit.now result }
+    ensures masked { OnLine laws.MakesMask node.now edit.now result }
+    ensures dropped { OnLine laws.DropsDefault node.now edit.now result }
 {
     let edited = match edit {
         Edit::Change(line) => change(alloc, node, line, in_recursion)?,
@@ -171,9 +171,8 @@ fn allowed(
     in_recursion: bool,
     dacl: &Option<Acl>,
 ) -> Result<Option<Acl>, EditFault>
-    ensures made { IfOk result (λ d. allowed kind in_recursion dacl.now ≡ Ok d) }
-    ensures reported { IfErr result (λ fault. fault ≢ NoMemory → allowed kind in_recursion dacl.now ≡ Err fault) }
-    ensures misplaced { allowed kind in_recursion dacl.now ≡ Err DefaultOnFile → result ≡ Err DefaultOnFile }
+    ensures made { Gives (λ x. x) result (edits.allowed kind in_recursion dacl.now) }
+    ensures misplaced { edits.allowed kind in_recursion dacl.now ≡ Err DefaultOnFile → result ≡ Err DefaultOnFile }
     ensures room { Fits (size_of dacl.now) → result ≢ Err NoMemory }
     ensures sound { kind ≡ Kind.Plain → IfOk result (λ d. d ≡ None) }
 {
@@ -190,8 +189,7 @@ fn given_or_clone(
     given: Option<Acl>,
     dacl: &Option<Acl>,
 ) -> Result<Option<Acl>, AllocError>
-    ensures made { IfOk result (λ d. d ≡ or_else given dacl.now) }
-    ensures room { Fits (size_of dacl.now) → IsOk result }
+    ensures { MakesIn (Fits (size_of dacl.now)) result (or_else given dacl.now) }
 {
     match given {
         Some(dacl) => Ok(Some(dacl)),
@@ -208,8 +206,7 @@ fn put(
     dacl: &Option<Acl>,
     in_recursion: bool,
 ) -> Result<Node, EditFault>
-    ensures made { IfOk result (λ n. edits.put node.now access.now dacl.now in_recursion ≡ Ok n) }
-    ensures reported { IfErr result (λ fault. fault ≢ NoMemory → edits.put node.now access.now dacl.now in_recursion ≡ Err fault) }
+    ensures made { Gives (λ x. x) result (edits.put node.now access.now dacl.now in_recursion) }
     ensures misplaced { edits.put node.now access.now dacl.now in_recursion ≡ Err DefaultOnFile → result ≡ Err DefaultOnFile }
     ensures room { HasShortLists node.now → Fits (size_of access.now) → Fits (size_of dacl.now) → result ≢ Err NoMemory }
     ensures sound { IsSound node.now → IfOk result IsSound }
@@ -224,8 +221,7 @@ fn put(
 /// The minimal list of the mode, and no default list, as they are asked for.
 #[tactic(auto, unfolding(crate::specs::Edits::flatten))]
 fn flatten(alloc: Global, node: &Node, access: bool, dacl: bool) -> Result<Node, AllocError>
-    ensures made { IfOk result (λ n. n ≡ edits.flatten node.now access dacl) }
-    ensures room { HasShortLists node.now → IsOk result }
+    ensures made { MakesIn (HasShortLists node.now) result (edits.flatten node.now access dacl) }
     ensures sound { IsSound node.now → IfOk result IsSound }
 {
     let acl = if access {

@@ -1,10 +1,9 @@
 //! The steps of a setfacl(1) line on one list, and the mask that the line leaves in a list that it names.
 
-ghost use Rattle.std.specs.Prelude.{◌≡◌, ◌<◌, ◌+◌, length, IfOk, IsOk, OnOk, filter};
+ghost use Rattle.std.specs.Prelude.{◌≡◌, ◌+◌, length, IfOk, IsOk, OnOk};
 ghost use Rattle.std.specs.List.{list_any};
-ghost use Rattle.acl_edit.specs.Parts.{is_for, part};
-ghost use Rattle.acl_entry.specs.Lists.{inline_entries};
-ghost use Rattle.acl_edit.specs.Rooms.{Fits, size};
+ghost use Rattle.acl_edit.specs.Parts.{entries_for, part};
+ghost use Rattle.acl_edit.specs.Rooms.{Fits, LeavesIn, size};
 ghost use Rattle.acl_edit.specs.Steps as steps;
 ghost use Rattle.acl_edit.specs.Steps.{execute, gives_execute, perms_of, may_execute};
 ghost use Rattle.acl_edit.specs.Masks as masks;
@@ -58,8 +57,7 @@ fn perms_of(x: bool, perm: &Option<PermSpec>) -> Perm
 
 /// Puts an entry, if there is one.
 pub(crate) fn put_some(draft: &mut Draft, key: &Key, perm: Option<Perm>) -> Result<(), AllocError>
-    ensures put { OnOk result (draft.new ≡ steps.put_some draft.old key.now perm) }
-    ensures room { size draft.old < inline_entries → IsOk result }
+    ensures { LeavesIn (Fits (size draft.old + 1)) result draft.new (steps.put_some draft.old key.now perm) }
 {
     if let Some(perm) = perm {
         draft.insert(*key, perm)?;
@@ -85,7 +83,7 @@ pub(crate) fn strip(alloc: Global, acl: &Acl) -> Result<Draft, AllocError>
 
 /// Takes the keys out of a list.
 pub(crate) fn remove(draft: &mut Draft, scope: Scope, specs: &[Spec])
-    ensures { draft.new ≡ steps.remove (filter (is_for scope.as_default scope.which) specs.now) draft.old }
+    ensures { draft.new ≡ steps.remove (entries_for scope specs.now) draft.old }
 {
     for spec in specs {
         if scope.takes(spec) {
@@ -101,8 +99,7 @@ pub(crate) fn modify(
     x: bool,
     specs: &[Spec],
 ) -> Result<(), AllocError>
-    ensures put { OnOk result (draft.new ≡ steps.modify x (filter (is_for scope.as_default scope.which) specs.now) draft.old) }
-    ensures room { Fits (size draft.old + length (filter (is_for scope.as_default scope.which) specs.now)) → IsOk result }
+    ensures { LeavesIn (Fits (size draft.old + length (entries_for scope specs.now))) result draft.new (steps.modify x (entries_for scope specs.now) draft.old) }
 {
     for spec in specs {
         if scope.takes(spec) {
@@ -120,8 +117,7 @@ pub(crate) fn replace(
     x: bool,
     specs: &[Spec],
 ) -> Result<(), AllocError>
-    ensures put { OnOk result (draft.new ≡ steps.replace x (filter (is_for scope.as_default scope.which) specs.now) draft.old) }
-    ensures room { Fits (size draft.old + length (filter (is_for scope.as_default scope.which) specs.now)) → IsOk result }
+    ensures { LeavesIn (Fits (size draft.old + length (entries_for scope specs.now))) result draft.new (steps.replace x (entries_for scope specs.now) draft.old) }
 {
     if scope.takes_some(specs) {
         *draft = Draft::new(alloc);
@@ -132,8 +128,7 @@ pub(crate) fn replace(
 
 /// Copies the base entries that a list lacks from another.
 pub(crate) fn fill_from(draft: &mut Draft, other: &Acl) -> Result<(), AllocError>
-    ensures filled { OnOk result (draft.new ≡ steps.fill_from other.now draft.old) }
-    ensures room { Fits (size draft.old + 3) → IsOk result }
+    ensures { LeavesIn (Fits (size draft.old + 3)) result draft.new (steps.fill_from other.now draft.old) }
 {
     fill_one(draft, &Key::Owner, other)?;
     fill_one(draft, &Key::OwningGroup, other)?;
@@ -142,8 +137,7 @@ pub(crate) fn fill_from(draft: &mut Draft, other: &Acl) -> Result<(), AllocError
 
 /// Copies one entry, if the list lacks it.
 fn fill_one(draft: &mut Draft, key: &Key, other: &Acl) -> Result<(), AllocError>
-    ensures filled { OnOk result (draft.new ≡ steps.fill_one other.now draft.old key.now) }
-    ensures room { size draft.old < inline_entries → IsOk result }
+    ensures { LeavesIn (Fits (size draft.old + 1)) result draft.new (steps.fill_one other.now draft.old key.now) }
 {
     if draft.get(*key).is_some() {
         return Ok(());
@@ -167,8 +161,7 @@ fn has_named(draft: &Draft) -> bool
 
 /// Gives a list with named entries and without a mask one that is equal to the owning group.
 fn add_mask(draft: &mut Draft) -> Result<(), AllocError>
-    ensures added { OnOk result (draft.new ≡ masks.add_mask draft.old) }
-    ensures room { size draft.old < inline_entries → IsOk result }
+    ensures { LeavesIn (Fits (size draft.old + 1)) result draft.new (masks.add_mask draft.old) }
 {
     if has_named(draft) && !has_mask(draft) {
         if let Some(perm) = draft.get(Key::OwningGroup) {
@@ -204,8 +197,7 @@ pub(crate) fn complete_mask(
     which: Which,
     lost: bool,
 ) -> Result<(), AllocError>
-    ensures completed { OnOk result (draft.new ≡ masks.with_mask line.now (part line.now which) lost draft.old) }
-    ensures room { size draft.old < inline_entries → IsOk result }
+    ensures { LeavesIn (Fits (size draft.old + 1)) result draft.new (masks.with_mask line.now (part line.now which) lost draft.old) }
 {
     if !lost {
         add_mask(draft)?;

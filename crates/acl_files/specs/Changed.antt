@@ -1,5 +1,5 @@
 -- What changed from one list of files to another: where the check of access may answer otherwise.
-use Rattle.std.specs.Prelude.{List, [], ◌∷◌, Bool, true, false, ◌==◌, ◌&&◌, not, is_some, filter}
+use Rattle.std.specs.Prelude.{◌≡◌, List, [], ◌∷◌, ◌++◌, Bool, true, false, ◌==◌, ◌&&◌, not, is_some, filter}
 use Rattle.std.specs.Option.{option_map_or}
 use Rattle.std.specs.FinMap.{find}
 use Rattle.acl_entry.specs.Keys.{same_key}
@@ -8,6 +8,8 @@ use Rattle.acl_entry.specs.Lists.{entries}
 use Rattle.acl_entry.specs.declared.entry.Entry.{Entry}
 use Rattle.acl_entry.specs.declared.label.Label.{Label}
 use Rattle.acl_names.specs.Paths.{path_cmp}
+use Rattle.acl_names.specs.Made.{values}
+use Rattle.std.specs.declared.rc.Rc.{Rc}
 use Rattle.acl_edit.specs.declared.node.Node.{Node}
 use Rattle.acl_files.specs.Files.{PathOf, Files}
 
@@ -35,3 +37,11 @@ changed_between old new = filter (is_changed old) new
 -- the old files that are recorded no more
 abbrev pub gone_between : Files → Files → Files
 gone_between old new = filter (λ e. not (is_some (find path_cmp e.0 new))) old
+
+-- these files were added to shared ones
+abbrev pub Adds : {Z : Type 0} → List (Rc (PathOf × Node) Z) → Files → List (Rc (PathOf × Node) Z) → Type 0
+Adds before more after = values after ≡ values before ++ more
+
+-- the files that changed were added to those noted before, and none is gone
+abbrev pub Notes : {Z : Type 0} → Files → Files → List (Rc (PathOf × Node) Z) → List (Rc (PathOf × Node) Z) → Type 0
+Notes old new before after = Adds before (changed_between old new) after × (gone_between old new ≡ [])

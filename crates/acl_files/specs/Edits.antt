@@ -16,6 +16,14 @@ pub record KeepsPlace (old new : Node) : Type 0 where
   pub kind : new.kind ≡ old.kind
   pub default : nodes.IsSound old → nodes.IsSound new
 
+-- an edit of files, each by its path and its node
+abbrev pub FileEdit : Type 0
+FileEdit = PathOf → Node → Result Node EditFault
+
+-- the edit leaves each file what its place in a tree asks for
+abbrev pub KeepsPlaces : FileEdit → Type 0
+KeepsPlaces edit = (p : PathOf) (n m : Node) → edit p n ≡ Ok m → KeepsPlace n m
+
 -- one file edited, before others
 abbrev pub and_others : PathOf → Result Node EditFault → Result Files FileFault → Result Files FileFault
 and_others p (Err fault) others = Err (of_files.Edit p fault)
@@ -23,7 +31,7 @@ and_others p (Ok n) (Err fault) = Err fault
 and_others p (Ok n) (Ok es) = Ok ((p, n) ∷ es)
 
 -- each file edited, or the first fault with its path
-abbrev pub edit_each : (PathOf → Node → Result Node EditFault) → Files → Result Files FileFault
+abbrev pub edit_each : FileEdit → Files → Result Files FileFault
 edit_each edit [] = Ok []
 edit_each edit (e ∷ es) = and_others e.0 (edit e.0 e.1) (edit_each edit es)
 
@@ -32,7 +40,7 @@ with_edits t (Err fault) = Err fault
 with_edits t (Ok es) = Ok (record t { files = put_all es t.files })
 
 -- the tree with the files of a command edited, or the first fault in path order
-abbrev pub edit_all : (PathOf → Node → Result Node EditFault) → Bool → List PathOf → Recorded → Result Recorded FileFault
+abbrev pub edit_all : FileEdit → Bool → List PathOf → Recorded → Result Recorded FileFault
 edit_all edit recursive paths t = with_edits t (edit_each edit (files_meant recursive paths t.files))
 
 -- ---- as faults of a command

@@ -1,11 +1,14 @@
 -- A file of a command, as those see it who list it.
-use Rattle.std.specs.Prelude.{List, Bool, map, refl}
+use Rattle.std.specs.Prelude.{◌≡◌, ◌≢◌, List, Bool, map, None, Result, MatchResult, refl}
 use Rattle.std.specs.Coded.{Coded, code_by, coded×, coded_ℕ, coded_list, coded_bool}
 use Rattle.acl_edit.specs.declared.node.Node.{Node}
 use Rattle.acl_edit.specs.contracts.node.Node as node_contracts
 use Rattle.acl_files.specs.Files.{PathOf, Files}
 use Rattle.acl_files.specs.Sound.{holds_below}
-use Rattle.acl_files.specs.Operands.{files_meant}
+use Rattle.acl_files.specs.Operands.{first_missing, IsMissing, files_meant}
+use Rattle.acl_files.specs.declared.fault.TreeFault.{TreeFault}
+use Rattle.acl_files.specs.declared.fault.TreeFault.TheVariants.{NoMemory}
+use Rattle.acl_files.specs.declared.selection.Selection.{Selection}
 
 -- a recorded file, and whether another one lies below it
 pub record FoundFile : Type 0 where
@@ -27,3 +30,10 @@ found_in all es = map (λ e. found_file (holds_below all e.0) e) es
 -- the files of a command in path order, each once: its operands, and with `recursive` all files below them
 abbrev pub files_found : Bool → List PathOf → Files → List FoundFile
 files_found recursive paths t = found_in t (files_meant recursive paths t)
+
+-- A call gives the files of a selection, seen by view, if each operand is recorded; else the first that is not is
+-- reported, unless memory ran out.
+abbrev pub Selects : {A : Type 0} → (A → List FoundFile) → Selection → Files → Result A TreeFault → Type 0
+Selects view s t result =
+    MatchResult result (λ found. (view found ≡ files_found s.recursive s.operands.now t) × (first_missing s.operands.now t ≡ None))
+    (λ fault. fault ≢ NoMemory → IsMissing fault (first_missing s.operands.now t))

@@ -1,7 +1,8 @@
 -- For inner functions and their callers' proofs: no public contract names these definitions.
-use Rattle.std.specs.Prelude.{◌≡◌, ◌≢◌, ⊤, List, Some, [], ◌∷◌, ◌++◌, Bool, true, false, ◌&&◌, not, if◌then◌else◌, Result, Ok, Err}
+use Rattle.std.specs.Prelude.{◌≡◌, ◌≢◌, ⊤, List, Option, Some, None, map, [], ◌∷◌, ◌++◌, Bool, true, false, ◌&&◌, not, if◌then◌else◌, Result, Ok, Err}
 use Rattle.std.specs.Coded.{Coded, coded×, coded_ℕ, coded_list}
 use Rattle.std.specs.FinMap.{find}
+use Rattle.std.specs.List.{All}
 use Rattle.std.specs.declared.cmp.Ordering.TheVariants.{Greater}
 use Rattle.acl_names.specs.Paths.{path_cmp}
 use Rattle.acl_dump.specs.declared.record.DumpRecord.{DumpRecord}
@@ -11,10 +12,11 @@ use Rattle.acl_edit.specs.declared.edit.EditFault.{EditFault}
 use Rattle.acl_edit.specs.declared.node.Node.{Node}
 use Rattle.acl_edit.specs.contracts.node.Node as node_contracts
 use Rattle.acl_files.specs.declared.edit.FileFault.{FileFault}
+use Rattle.acl_files.specs.declared.edit.FileFault.TheVariants.{NoMemory}
 use Rattle.acl_names.specs.Below.{is_above}
 use Rattle.acl_files.specs.Files.{PathOf, Files}
 use Rattle.acl_files.specs.Loading.{node_of}
-use Rattle.acl_files.specs.Edits.{and_others}
+use Rattle.acl_files.specs.Edits.{FileEdit, and_others, edit_each}
 use Rattle.acl_files.specs.Found.{FoundFile}
 use Rattle.acl_files.specs.Changed.{same_label}
 use Rattle.acl_files.specs.Restoring.{edit_of}
@@ -67,13 +69,18 @@ abbrev pub ok_or : Node → Result Node EditFault → Node
 ok_or n (Ok m) = m
 ok_or n (Err fault) = n
 
-abbrev pub node_after : (PathOf → Node → Result Node EditFault) → PathOf → Node → Node
+abbrev pub node_after : FileEdit → PathOf → Node → Node
 node_after edit p n = ok_or n (edit p n)
 
 -- files edited, before others
 abbrev pub after_edits : Files → Result Files FileFault → Result Files FileFault
 after_edits edits (Ok es) = Ok (edits ++ es)
 after_edits edits (Err fault) = Err fault
+
+-- a call edits a file's node, or returns its fault with its path, unless memory ran out
+abbrev pub EditsOne : FileEdit → PathOf × Node → Result Node FileFault → Type 0
+EditsOne edit e (Ok n) = edit e.0 e.1 ≡ Ok n
+EditsOne edit e (Err fault) = fault ≢ NoMemory → edit_each edit (e ∷ []) ≡ Err fault
 
 -- ---- what an edit changes
 
@@ -86,6 +93,10 @@ abbrev pub changed_by : (PathOf → Bool) → (PathOf → Node → Node) → Fil
 changed_by test edit [] = []
 changed_by test edit (e ∷ es) = changed_one (test e.0) edit e ++ changed_by test edit es
 
+-- the files that an edit of all changes
+abbrev pub changed_each : FileEdit → Files → Files
+changed_each edit es = changed_by (λ _. true) (node_after edit) es
+
 -- ---- restored files
 
 -- a file, and the record that it is restored from
@@ -95,9 +106,19 @@ RestoredFile = (PathOf × Node) × DumpRecord
 abbrev pub coded_restored : Coded RestoredFile
 coded_restored = coded× (coded× (coded_list (coded_list coded_ℕ)) node_contracts.the_row.coded) record_contracts.the_row.coded
 
+-- a call finds the file of a path, or there is none
+abbrev pub FindsAt : PathOf → Files → Option (PathOf × Node) → Type 0
+FindsAt p t None = find path_cmp p t ≡ None
+FindsAt p t (Some e) = (e.0 ≡ p) × (find path_cmp p t ≡ Some e.1)
+
 -- it is the file of the record's path
 abbrev pub IsFileOf : Files → RestoredFile → Type 0
 IsFileOf t x = (x.0.0 ≡ x.1.path) × (find path_cmp x.1.path t ≡ Some x.0.1)
+
+-- these are the files of records, in their order
+pub record AreFilesOf (t : Files) (rs : List DumpRecord) (xs : List RestoredFile) : Type 0 where
+  pub records : map (λ x. x.1) xs ≡ rs
+  pub files : All (IsFileOf t) xs
 
 -- a node restored from a record: this is not a recursion
 abbrev pub restored_by : DumpRecord → Node → Result Node EditFault

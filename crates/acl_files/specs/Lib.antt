@@ -8,6 +8,7 @@ pub mod Edits
 pub mod Restoring
 pub mod Inner
 pub mod Loading
+pub mod Laws
 pub use Rattle.acl_dump.specs as acl_dump
 pub use Rattle.acl_edit.specs as acl_edit
 pub use Rattle.acl_entry.specs as acl_entry

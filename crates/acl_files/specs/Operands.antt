@@ -1,5 +1,5 @@
 -- The files of a command: its operands, and with `recursive` all files below them.
-use Rattle.std.specs.Prelude.{◌≡◌, List, [], ◌∷◌, Bool, if◌then◌else◌, Option, Some, None, is_some, option_map, map, filter}
+use Rattle.std.specs.Prelude.{◌≡◌, ◌≢◌, List, [], ◌∷◌, Bool, if◌then◌else◌, Option, Some, None, is_some, option_map, map, filter, Result, MatchResult}
 use Rattle.std.specs.List.{list_any}
 use Rattle.std.specs.Ordering.{eq_by_cmp}
 use Rattle.std.specs.FinMap.{find}
@@ -8,7 +8,7 @@ use Rattle.acl_edit.specs.declared.node.Node.{Node}
 use Rattle.acl_files.specs.Files.{PathOf, Files}
 use Rattle.acl_names.specs.Below.{encloses}
 use Rattle.acl_files.specs.declared.fault.TreeFault.{TreeFault}
-use Rattle.acl_files.specs.declared.fault.TreeFault.TheVariants.{NoSuchFile}
+use Rattle.acl_files.specs.declared.fault.TreeFault.TheVariants.{NoSuchFile, NoMemory}
 
 -- whether an operand means the file
 abbrev pub means : Bool → PathOf → PathOf → Bool
@@ -30,6 +30,10 @@ edit_files test edit t = map (λ e. (e.0, if test e.0 then edit e.0 e.1 else e.1
 -- the fault names that operand
 abbrev pub IsMissing : TreeFault → Option PathOf → Type 0
 IsMissing fault missing = option_map NoSuchFile missing ≡ Some fault
+
+-- a call looks operands up: none is missing, or the fault names the first missing one, unless memory ran out
+abbrev pub LooksUp : {X : Type 0} → Result X TreeFault → Option PathOf → Type 0
+LooksUp result missing = MatchResult result (λ _. missing ≡ None) (λ fault. fault ≢ NoMemory → IsMissing fault missing)
 
 -- the files of a command
 abbrev pub files_meant : Bool → List PathOf → Files → Files

@@ -1,12 +1,12 @@
 //! Edits of the files of a command: each file of it is edited, or none.
 
-ghost use Rattle.std.specs.Prelude.{◌≡◌, ◌≢◌, ◌↔◌, IsTrue, ◌++◌, ◌∷◌, [], true, map, Ok, Err, Result, IfOk, IfErr, OnOk};
-ghost use Rattle.acl_edit.specs.declared.edit.EditFault as edit_faults;
-ghost use Rattle.acl_edit.specs.declared.node.Node as nodes;
-ghost use Rattle.acl_files.specs.Files.{PathOf};
-ghost use Rattle.acl_files.specs.Changed.{same_label, changed_between, gone_between};
-ghost use Rattle.acl_files.specs.Edits.{KeepsPlace, edit_each, edit_all};
-ghost use Rattle.acl_files.specs.Inner.{file_of, node_after, changed_one, changed_by};
+ghost use Rattle.std.specs.Prelude.{◌≡◌, ◌∷◌, [], true, map, IfOk, OnOk};
+ghost use Rattle.acl_names.specs.Made.{values};
+ghost use Rattle.acl_dump.specs.acl_syntax.InTurn.{GivesUnless};
+ghost use Rattle.acl_edit.specs.Edits.{Gives};
+ghost use Rattle.acl_files.specs.Changed.{Adds, Notes, same_label};
+ghost use Rattle.acl_files.specs.Edits.{FileEdit, KeepsPlaces, edit_each, edit_all, file_fault};
+ghost use Rattle.acl_files.specs.Inner.{EditsOne, file_of, changed_one, changed_each};
 ghost use Rattle.acl_files.specs.declared.edit.FileFault.{FileFault};
 
 use crate::fault::TreeFault;
@@ -20,16 +20,15 @@ use std::rc::Rc;
 
 /// What a command does to each of its files.
 pub trait NodeEdit {
-    ghost edited: { Self → PathOf → nodes.Node → Result nodes.Node edit_faults.EditFault };
+    ghost edited: { Self → FileEdit };
 
     /// The node after the edit.
     fn edited(&self, alloc: Global, path: &Path, node: &Node) -> Result<Node, EditFault>
-        ensures made { IfOk result (λ n. edited self.now path.now node.now ≡ Ok n) }
-        ensures fault { IfErr result (λ fault. fault ≢ EditFault.NoMemory → edited self.now path.now node.now ≡ Err fault) };
+        ensures { Gives (λ x. x) result (edited self.now path.now node.now) };
 
     /// Proof only: a directory stays one, and only directories have default lists.
     fn keeps_place(&self)
-        ensures { (p : PathOf) (n m : nodes.Node) → edited self.now p n ≡ Ok m → KeepsPlace n m };
+        ensures { KeepsPlaces (edited self.now) };
 }
 
 /// Why the files of a command are not edited.
@@ -58,8 +57,6 @@ impl<T: Drop> From<AllocFailed<T>> for FileFault {
 }
 
 impl From<FileFault> for TreeFault {
-    ghost use Rattle.acl_files.specs.Edits.{file_fault};
-
     ghost from_gives = { λ file fault. fault ≡ file_fault file };
 
     fn from(fault: FileFault) -> TreeFault {
@@ -72,8 +69,7 @@ impl From<FileFault> for TreeFault {
 
 /// Whether both nodes have the same owner, group and access list.
 fn is_same_label(old: &Node, new: &Node) -> bool
-    ensures computed { result ≡ same_label old.now.label new.now.label }
-    ensures decided { IsTrue result ↔ (old.now.label ≡ new.now.label) }
+    ensures { result ≡ same_label old.now.label new.now.label }
 {
     old.same_label(new)
 }
@@ -86,8 +82,8 @@ pub(crate) fn push_edited(
     file: &Record,
     node: Node,
 ) -> Result<(), AllocError>
-    ensures made { OnOk result (map (λ r. r.value) edits.new.items ≡ map (λ r. r.value) edits.old.items ++ (file.now.0, node) ∷ []) }
-    ensures reported { OnOk result (map (λ r. r.value) changed.new.items ≡ map (λ r. r.value) changed.old.items ++ changed_one true (λ _ _. node) file.now) }
+    ensures made { OnOk result (Adds edits.old.items ((file.now.0, node) ∷ []) edits.new.items) }
+    ensures reported { OnOk result (Adds changed.old.items (changed_one true (λ _ _. node) file.now) changed.new.items) }
 {
     let is_changed = !is_same_label(file.value(), &node);
     let edited = Rc::new(alloc, Record::new(file.shared_path().clone()?, node))?;
@@ -104,8 +100,7 @@ pub(crate) fn edit_one<E: NodeEdit>(
     edit: &E,
     file: &Record,
 ) -> Result<Node, FileFault>
-    ensures made { IfOk result (λ n. E.edited edit.now file.now.0 file.now.1 ≡ Ok n) }
-    ensures fault { IfErr result (λ fault. fault ≢ FileFault.NoMemory → edit_each (E.edited edit.now) (file.now ∷ []) ≡ Err fault) }
+    ensures { EditsOne (E.edited edit.now) file.now result }
 {
     match edit.edited(alloc, file.path(), file.value()) {
         Ok(node) => Ok(node),
@@ -124,10 +119,8 @@ fn edit_each<E: NodeEdit>(
     files: &[Found],
     edit: &E,
 ) -> Result<Vec<Rc<Record>>, FileFault>
-    ensures made { IfOk result (λ edits. edit_each (E.edited edit.now) (map file_of files.now) ≡ Ok (map (λ r. r.value) edits.items)) }
-    ensures fault { IfErr result (λ fault. fault ≢ FileFault.NoMemory → edit_each (E.edited edit.now) (map file_of files.now) ≡ Err fault) }
-    ensures reported { OnOk result (map (λ r. r.value) changed.new.items
-        ≡ map (λ r. r.value) changed.old.items ++ changed_by (λ _. true) (node_after (E.edited edit.now)) (map file_of files.now)) }
+    ensures made { GivesUnless FileFault.NoMemory (λ es. values es.items) result (edit_each (E.edited edit.now) (map file_of files.now)) }
+    ensures reported { OnOk result (Adds changed.old.items (changed_each (E.edited edit.now) (map file_of files.now)) changed.new.items) }
 {
     let mut edits = Vec::with_capacity(alloc, files.len())?;
     let mut rest = files;
@@ -147,12 +140,8 @@ pub fn edit_files<E: NodeEdit>(
     selection: &Selection<'_>,
     edit: &E,
 ) -> Result<Files, FileFault>
-    ensures made { IfOk result (λ new. edit_all (E.edited edit.now) selection.now.recursive selection.now.operands.now tree.now ≡ Ok new) }
-    ensures fault { IfErr result (λ fault. fault ≢ FileFault.NoMemory → edit_all (E.edited edit.now) selection.now.recursive selection.now.operands.now tree.now
-        ≡ Err fault) }
-    ensures reported { IfOk result (λ new. map (λ r. r.value) changed.new.items
-        ≡ map (λ r. r.value) changed.old.items ++ changed_between tree.now.files new.files) }
-    ensures gone { IfOk result (λ new. gone_between tree.now.files new.files ≡ []) }
+    ensures made { GivesUnless FileFault.NoMemory (λ t. t) result (edit_all (E.edited edit.now) selection.now.recursive selection.now.operands.now tree.now) }
+    ensures noted { IfOk result (λ new. Notes tree.now.files new.files changed.old.items changed.new.items) }
 {
     edit.keeps_place();
     let files = select(alloc, tree, selection)?;

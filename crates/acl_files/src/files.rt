@@ -1,18 +1,21 @@
-//! The recorded files, in path order.
+//! The recorded files, in path order; those at a path or below it, and above it; and the nearest path above one that has an entry.
 
 ghost use Rattle.std.specs.Prelude.{◌≡◌, IfOk};
 ghost use Rattle.std.specs.Option.{option_copied};
 ghost use Rattle.std.specs.FinMap.{find};
 ghost use Rattle.acl_names.specs.Paths.{path_cmp};
-ghost use Rattle.acl_files.specs.Files.{no_files};
+ghost use Rattle.acl_names.specs.Made.{values};
+ghost use Rattle.acl_files.specs.Files.{no_files, Recorded, coded_recorded};
 ghost use Rattle.acl_files.specs.Sound.{IsSoundTree};
+ghost use Rattle.acl_files.specs.Walks.{within, ancestors, nearest_above};
 
 use crate::records::Record;
 use acl_edit::Node;
 use acl_names::Path;
-use path_map::{Entries, Finder, PathMap};
+use path_map::{Entries, Finder, MapEntry, PathMap};
 use std::alloc::{AllocError, Global};
 use std::marker::Model;
+use std::rc::Rc;
 
 /// A cursor over recorded files: those that are still to come, in path order.
 pub type FilesIter<'a> = Entries<'a, Node>;
@@ -29,9 +32,6 @@ pub struct Files {
 }
 
 impl Model for Files {
-    ghost use Rattle.acl_files.specs.Files.{Recorded, coded_recorded};
-    ghost use Rattle.acl_files.specs.Sound.{IsSoundTree};
-
     ghost Value = { Recorded };
 
     ghost coded = { coded_recorded };
@@ -114,4 +114,57 @@ impl Files {
     {
         self.files.iter()
     }
+
+    /// The paths of the recorded files at or below a path, in path order. Fails only if memory runs out.
+    pub fn within(&self, alloc: Global, path: &Path) -> Result<Vec<Path>, AllocError>
+        ensures { IfOk result (λ paths. paths.items ≡ within path.now self.now.files) }
+    {
+        let mut paths = Vec::new(alloc);
+        let mut rest = self.files_by_path().within(path);
+        while let Some(file) = rest.next() {
+            paths.push(file.path().try_clone(alloc)?)?;
+        }
+        Ok(paths)
+    }
+
+    /// The paths of the recorded files that a path is below, parents first: each is found from the one below it.
+    /// Fails only if memory runs out.
+    pub fn ancestors(&self, alloc: Global, path: &Path) -> Result<Vec<Path>, AllocError>
+        ensures { IfOk result (λ paths. paths.items ≡ ancestors path.now self.now.files) }
+    {
+        self.soundness_law();
+        let mut paths = Vec::new(alloc);
+        let mut above = nearest_above(alloc, self.files_by_path(), path)?;
+        while let Some(file) = above.pop() {
+            above = nearest_above(alloc, self.files_by_path(), file.path())?;
+            paths.push(file.path().try_clone(alloc)?)?;
+        }
+        paths.reverse();
+        Ok(paths)
+    }
+}
+
+/// The nearest entry above a path, if there is one: the last entry up to its parent, or else one above what they
+/// have in common. That is a search for each entry in the way. Fails only if memory runs out.
+pub fn nearest_above<V: Drop>(
+    alloc: Global,
+    entries: &PathMap<V>,
+    path: &Path,
+) -> Result<Vec<Rc<MapEntry<V>>>, AllocError>
+    ensures { IfOk result (λ above. values above.items ≡ nearest_above path.now entries.now) }
+{
+    entries.order_law();
+    let mut above = Vec::new(alloc);
+    if path.components().is_empty() {
+        return Ok(above);
+    }
+    let mut top = path.parent(alloc)?;
+    while let Some(entry) = entries.up_to(&top) {
+        if top.is_within(entry.path()) {
+            above.push(entry.clone()?)?;
+            return Ok(above);
+        }
+        top = top.common(alloc, entry.path())?;
+    }
+    Ok(above)
 }

@@ -9,7 +9,6 @@ mod laws;
 mod records;
 mod restore;
 mod selection;
-mod walks;
 
 pub use acl_dump::{
     DumpRecord, DumpUse, Effective, FaultKind, Form, Header, Names, NoNames, PasswdRow, Sep, Spec,
@@ -21,14 +20,14 @@ pub use acl_edit::{
 };
 pub use acl_entry::{
     Acl, Draft, Entry, Id, Key, Label, ListFault, NoMemory, Perm, Requests, Subject, granted,
+    rising_ids,
 };
 pub use acl_names::{Name, Path, append_name, append_path, read_name, read_path, write_name};
 pub use edit::{FileFault, NodeEdit, edit_files};
 pub use fault::TreeFault;
-pub use files::{Files, FilesFinder, FilesIter};
+pub use files::{Files, FilesFinder, FilesIter, nearest_above};
 pub use laws::each_record_is_a_file;
 pub use path_map::PathMap;
 pub use records::{Record, files_of, in_path_order};
 pub use restore::{DumpRecords, restore_files};
 pub use selection::{Found, Paths, Selection, look_up, select};
-pub use walks::nearest_above;

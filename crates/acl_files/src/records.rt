@@ -1,6 +1,7 @@
 //! The files of a dump's records, sorted by their paths.
 
-ghost use Rattle.std.specs.Prelude.{◌≡◌, true, map, reverse, IfOk, unwrap_or};
+ghost use Rattle.std.specs.Prelude.{◌≡◌, true, reverse, IfOk, unwrap_or};
+ghost use Rattle.acl_names.specs.Made.{values};
 ghost use Rattle.acl_dump.specs.OwnPaths.{have_own_paths};
 ghost use Rattle.acl_files.specs.Loading.{node_of, files_of, in_path_order};
 ghost use Rattle.acl_files.specs.Inner.{next_file_below, files_from};
@@ -57,7 +58,7 @@ fn file_of(alloc: Global, has_below: bool, entry: DumpRecord) -> Result<Rc<Recor
 
 /// Whether the first of the files that follow in path order, which are given from the last to the first, is below a path.
 fn next_below(path: &Path, following: &[Rc<Record>]) -> bool
-    ensures { result ≡ next_file_below path.now (reverse (map (λ r. r.value) following.now)) }
+    ensures { result ≡ next_file_below path.now (reverse (values following.now)) }
 {
     match following {
         [.., next] => next.path().is_below(path),
@@ -80,7 +81,7 @@ fn free_moved(left: &mut Vec<DumpRecord>)
 /// The files of records that are in path order. Paths and lists are moved out of the records, from the last one on, so
 /// that records and files do not both take memory for long.
 fn files_from(alloc: Global, sorted: Vec<DumpRecord>) -> Result<Vec<Rc<Record>>, AllocError>
-    ensures { IfOk result (λ files. map (λ r. r.value) files.items ≡ files_from sorted.items) }
+    ensures { IfOk result (λ files. values files.items ≡ files_from sorted.items) }
 {
     let mut files = Vec::with_capacity(alloc, sorted.len())?;
     let mut left = sorted;
@@ -96,7 +97,7 @@ fn files_from(alloc: Global, sorted: Vec<DumpRecord>) -> Result<Vec<Rc<Record>>,
 /// The files of a dump's records, in path order. Fails only if memory runs out.
 pub fn files_of(alloc: Global, records: Vec<DumpRecord>) -> Result<Vec<Rc<Record>>, AllocError>
     requires { have_own_paths records.items ≡ true }
-    ensures { IfOk result (λ files. map (λ r. r.value) files.items ≡ files_of records.items) }
+    ensures { IfOk result (λ files. values files.items ≡ files_of records.items) }
 {
     files_from(alloc, in_path_order(records))
 }

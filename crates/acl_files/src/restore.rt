@@ -1,17 +1,19 @@
 //! setfacl(1) --restore: files get back what their records contain.
 
-ghost use Rattle.std.specs.Prelude.{◌≡◌, ◌≢◌, ◌++◌, [], true, map, None, Some, Ok, Err, false, MatchOption, IfOk, IfErr, OnOk};
-ghost use Rattle.std.specs.FinMap.{find};
-ghost use Rattle.std.specs.List.{All};
+ghost use Rattle.std.specs.Prelude.{◌≡◌, true, map, false, option_map, IfOk, OnOk, List};
 ghost use Rattle.std.specs.List.Sorted.{IsPermutation};
-ghost use Rattle.acl_names.specs.Paths.{path_cmp};
+ghost use Rattle.std.specs.Coded.{coded_list};
+ghost use Rattle.acl_names.specs.Made.{values};
+ghost use Rattle.acl_dump.specs.acl_syntax.InTurn.{GivesUnless};
 ghost use Rattle.acl_dump.specs.OwnPaths.{have_own_paths};
-ghost use Rattle.acl_edit.specs.Edits.{allowed};
+ghost use Rattle.acl_edit.specs.Edits.{Gives, allowed};
 ghost use Rattle.acl_files.specs.Loading.{in_path_order};
-ghost use Rattle.acl_files.specs.Changed.{changed_between, gone_between};
-ghost use Rattle.acl_files.specs.Inner.{IsFileOf, restore_each, changed_by_records};
-ghost use Rattle.acl_files.specs.Operands.{first_missing, IsMissing};
+ghost use Rattle.acl_files.specs.Changed.{Adds, Notes};
+ghost use Rattle.acl_files.specs.Inner.{AreFilesOf, FindsAt, restore_each, changed_by_records, RestoredFile, coded_restored, restored_by};
+ghost use Rattle.acl_files.specs.Operands.{LooksUp, first_missing};
 ghost use Rattle.acl_files.specs.Restoring.{paths_of, restored_tree};
+ghost use Rattle.acl_dump.specs.contracts.record.DumpRecord as record_contracts;
+ghost use Rattle.acl_dump.specs.declared.record.DumpRecord.{DumpRecord as Whole};
 
 use crate::edit::{FileFault, NodeEdit, edit_one, push_edited};
 use crate::fault::TreeFault;
@@ -33,12 +35,6 @@ pub struct DumpRecords {
 }
 
 impl Model for DumpRecords {
-    ghost use Rattle.std.specs.Prelude.{◌≡◌, true, List};
-    ghost use Rattle.acl_dump.specs.OwnPaths.{have_own_paths};
-    ghost use Rattle.std.specs.Coded.{coded_list};
-    ghost use Rattle.acl_dump.specs.contracts.record.DumpRecord as record_contracts;
-    ghost use Rattle.acl_dump.specs.declared.record.DumpRecord.{DumpRecord as Whole};
-
     ghost Value = { List Whole };
 
     ghost coded = { coded_list record_contracts.the_row.coded };
@@ -74,8 +70,6 @@ struct Restored<'a> {
 }
 
 impl<'a> Model for Restored<'a> {
-    ghost use Rattle.acl_files.specs.Inner.{RestoredFile, coded_restored};
-
     ghost Value = { RestoredFile };
 
     ghost coded = { coded_restored };
@@ -85,8 +79,7 @@ impl<'a> Model for Restored<'a> {
 
 /// The default list of a record, where its file may have one.
 fn default_of(alloc: Global, kind: Kind, entry: &DumpRecord) -> Result<Option<Acl>, EditFault>
-    ensures made { IfOk result (λ dacl. allowed kind false entry.now.dacl ≡ Ok dacl) }
-    ensures fault { IfErr result (λ fault. fault ≢ EditFault.NoMemory → allowed kind false entry.now.dacl ≡ Err fault) }
+    ensures { Gives (λ x. x) result (allowed kind false entry.now.dacl) }
 {
     match kind {
         Kind::Directory => match &entry.dacl {
@@ -100,8 +93,6 @@ fn default_of(alloc: Global, kind: Kind, entry: &DumpRecord) -> Result<Option<Ac
 
 /// The record is for its file alone.
 impl NodeEdit for Restored<'_> {
-    ghost use Rattle.acl_files.specs.Inner.{restored_by};
-
     ghost edited = { λ restored _ n. restored_by restored.1 n };
 
     #[tactic(auto, unfolding(acl_edit::specs::Edits::restore))]
@@ -128,8 +119,7 @@ impl NodeEdit for Restored<'_> {
 /// The file of a path.
 fn file_at<'a>(files: &mut FilesFinder<'a>, path: &Path) -> Option<&'a Rc<Record>>
     ensures same { files.new ≡ files.old }
-    ensures found { MatchOption result (find path_cmp path.now files.old ≡ None) (λ file. (file.now.value.0 ≡ path.now)
-        × (find path_cmp path.now files.old ≡ Some file.now.value.1)) }
+    ensures found { FindsAt path.now files.old (option_map (λ file. file.now.value) result) }
 {
     files.order_law();
     let Some(file) = files.from(path).next() else {
@@ -148,10 +138,8 @@ fn files_of<'a>(
     tree: &'a Files,
     records: &'a [DumpRecord],
 ) -> Result<Vec<Restored<'a>>, TreeFault>
-    ensures records { IfOk result (λ found. map (λ x. x.1) found.items ≡ records.now) }
-    ensures files { IfOk result (λ found. All (IsFileOf tree.now.files) found.items) }
-    ensures there { OnOk result (first_missing (paths_of records.now) tree.now.files ≡ None) }
-    ensures reported { IfErr result (λ fault. fault ≢ TreeFault.NoMemory → IsMissing fault (first_missing (paths_of records.now) tree.now.files)) }
+    ensures found { IfOk result (λ found. AreFilesOf tree.now.files records.now found.items) }
+    ensures there { LooksUp result (first_missing (paths_of records.now) tree.now.files) }
 {
     let mut found = Vec::with_capacity(alloc, records.len())?;
     let mut files = tree.finder();
@@ -185,9 +173,8 @@ fn restore_each(
     changed: &mut Vec<Rc<Record>>,
     found: &[Restored<'_>],
 ) -> Result<Vec<Rc<Record>>, FileFault>
-    ensures made { IfOk result (λ edits. restore_each found.now ≡ Ok (map (λ r. r.value) edits.items)) }
-    ensures fault { IfErr result (λ fault. fault ≢ FileFault.NoMemory → restore_each found.now ≡ Err fault) }
-    ensures reported { OnOk result (map (λ r. r.value) changed.new.items ≡ map (λ r. r.value) changed.old.items ++ changed_by_records found.now) }
+    ensures made { GivesUnless FileFault.NoMemory (λ es. values es.items) result (restore_each found.now) }
+    ensures reported { OnOk result (Adds changed.old.items (changed_by_records found.now) changed.new.items) }
 {
     let mut edits = Vec::with_capacity(alloc, found.len())?;
     let mut rest = found;
@@ -206,11 +193,8 @@ pub fn restore_files(
     changed: &mut Vec<Rc<Record>>,
     records: &DumpRecords,
 ) -> Result<Files, TreeFault>
-    ensures made { IfOk result (λ new. restored_tree records.now tree.now ≡ Ok new) }
-    ensures fault { IfErr result (λ fault. fault ≢ TreeFault.NoMemory → restored_tree records.now tree.now ≡ Err fault) }
-    ensures reported { IfOk result (λ new. map (λ r. r.value) changed.new.items
-        ≡ map (λ r. r.value) changed.old.items ++ changed_between tree.now.files new.files) }
-    ensures gone { IfOk result (λ new. gone_between tree.now.files new.files ≡ []) }
+    ensures made { GivesUnless TreeFault.NoMemory (λ t. t) result (restored_tree records.now tree.now) }
+    ensures noted { IfOk result (λ new. Notes tree.now.files new.files changed.old.items changed.new.items) }
 {
     tree.soundness_law();
     let found = files_of(alloc, tree, records.as_slice())?;

@@ -3,7 +3,7 @@
 ghost use Rattle.std.specs.Prelude.{◌≡◌, ◌≢◌, ◌++◌, Bool, false, map, filter, None, IfOk, IfErr, OnOk};
 ghost use Rattle.std.specs.Option.{option_map_or};
 ghost use Rattle.acl_files.specs.Files.{PathOf};
-ghost use Rattle.acl_files.specs.Found.{files_found, found_in, found_file};
+ghost use Rattle.acl_files.specs.Found.{files_found, found_in, found_file, Selects};
 ghost use Rattle.acl_files.specs.Inner.{Ascend, next_file_below};
 ghost use Rattle.acl_files.specs.Operands.{means, is_file, first_missing, IsMissing};
 
@@ -139,9 +139,7 @@ impl Files {
         alloc: Global,
         selection: &Selection<'_>,
     ) -> Result<Vec<Found>, TreeFault>
-        ensures all { IfOk result (λ files. files.items ≡ files_found selection.now.recursive selection.now.operands.now self.now.files) }
-        ensures there { OnOk result (first_missing selection.now.operands.now self.now.files ≡ None) }
-        ensures reported { IfErr result (λ fault. fault ≢ TreeFault.NoMemory → IsMissing fault (first_missing selection.now.operands.now self.now.files)) }
+        ensures { Selects (λ files. files.items) selection.now self.now.files result }
     {
         look_up(alloc, self, selection.operands.as_slice())?;
         Ok(select(alloc, self, selection)?)

@@ -49,8 +49,8 @@ returns-clause-made g c =
     in
     ap (λ r. with_edits c.args.tree.now r) made ∙ ap (λ (t : Recorded). Ok t) (sym (c.of.ensures ∙ (λ i. record { files = new i; loaded = c.is_loaded.ensures i })))
 
-pub returns-clause-reported : goal.returns-clause-reported
-returns-clause-reported g c =
+pub returns-clause-noted : goal.returns-clause-noted
+returns-clause-noted g c =
     let t : Files = c.args.tree.now.files in
     let edit = g.E.NodeEdit.edited c.args.edit.now in
     let test = is_file c.args.selection.now.recursive c.args.selection.now.operands.now in
@@ -60,32 +60,20 @@ returns-clause-reported g c =
     let made : edit_each edit meant ≡ Ok ns = ap (λ es. edit_each edit es) (sym seen) ∙ c.in_ok-edits.ensures.made in
     let new : c.in_ok-by_path.by_path ≡ edit_files test (node_after edit) t =
     c.in_ok-by_path.ensures ∙ (λ i. put_all (map (λ r. r.value) (c.deref-2.ensures.value i)) (c.files_by_path.ensures.all i)) ∙ put_edits edit c.args.selection.now.recursive c.args.selection.now.operands.now t ns c.files_by_path.ensures.sound.order made
-    in
-    c.in_ok-edits.ensures.reported
-    ∙ ap (λ l. map (λ r. r.value) c.args.changed.now.items ++ l)
-    (ap (λ es. changed_by (λ _. true) (node_after edit) es) seen
-    ∙ changed-all test (node_after edit) t
-    ∙ changed-edited test (node_after edit) t c.files_by_path.ensures.sound.order
-    ∙ ap (λ es. changed_between t es) (sym (ap (λ (t : Recorded). t.files) c.of.ensures ∙ new)))
+    in (
+      c.in_ok-edits.ensures.reported
+          ∙ ap (λ l. map (λ r. r.value) c.args.changed.now.items ++ l)
+          (ap (λ es. changed_by (λ _. true) (node_after edit) es) seen
+          ∙ changed-all test (node_after edit) t
+          ∙ changed-edited test (node_after edit) t c.files_by_path.ensures.sound.order
+          ∙ ap (λ es. changed_between t es) (sym (ap (λ (t : Recorded). t.files) c.of.ensures ∙ new))),
+      ap (λ es. gone_between t es) (ap (λ (t : Recorded). t.files) c.of.ensures ∙ new) ∙ gone-edited test (node_after edit) t c.files_by_path.ensures.sound.order,
+    )
 
-pub returns-clause-gone : goal.returns-clause-gone
-returns-clause-gone g c =
-    let t : Files = c.args.tree.now.files in
-    let edit = g.E.NodeEdit.edited c.args.edit.now in
-    let test = is_file c.args.selection.now.recursive c.args.selection.now.operands.now in
-    let meant : Files = files_meant c.args.selection.now.recursive c.args.selection.now.operands.now t in
-    let seen : map file_of c.deref.result.now ≡ meant = ap (λ l. map file_of l) (c.deref.ensures.value ∙ c.in_ok-files.ensures) ∙ files_seen t meant in
-    let ns : Files = map (λ r. r.value) c.in_ok-edits.edits.items in
-    let made : edit_each edit meant ≡ Ok ns = ap (λ es. edit_each edit es) (sym seen) ∙ c.in_ok-edits.ensures.made in
-    let new : c.in_ok-by_path.by_path ≡ edit_files test (node_after edit) t =
-    c.in_ok-by_path.ensures ∙ (λ i. put_all (map (λ r. r.value) (c.deref-2.ensures.value i)) (c.files_by_path.ensures.all i)) ∙ put_edits edit c.args.selection.now.recursive c.args.selection.now.operands.now t ns c.files_by_path.ensures.sound.order made
-    in
-    ap (λ es. gone_between t es) (ap (λ (t : Recorded). t.files) c.of.ensures ∙ new) ∙ gone-edited test (node_after edit) t c.files_by_path.ensures.sound.order
-
-pub returns-in_err-edits-clause-fault : goal.returns-in_err-edits-clause-fault
-returns-in_err-edits-clause-fault g c =
+pub returns-in_err-edits-clause-made : goal.returns-in_err-edits-clause-made
+returns-in_err-edits-clause-made g c =
     let edit = g.E.NodeEdit.edited c.args.edit.now in
     let meant : Files = files_meant c.args.selection.now.recursive c.args.selection.now.operands.now c.args.tree.now.files in
     let seen : map file_of c.deref.result.now ≡ meant = ap (λ l. map file_of l) (c.deref.ensures.value ∙ c.in_ok-files.ensures) ∙ files_seen c.args.tree.now.files meant in
     let p = err_from_is_err_and c.from_residual-in_err-edits.result c.from_residual-in_err-edits.ensures.1 in
-    rw (p.1, p.2) (λ some. ap (λ r. with_edits c.args.tree.now r) (ap (λ es. edit_each edit es) (sym seen) ∙ c.in_err-edits.ensures.fault some))
+    rw (p.1, p.2) (λ some. ap (λ r. with_edits c.args.tree.now r) (ap (λ es. edit_each edit es) (sym seen) ∙ c.in_err-edits.ensures.made some))

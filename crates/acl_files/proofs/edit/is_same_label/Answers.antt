@@ -3,6 +3,6 @@ use Rattle.acl_files.specs.Changed.{same_label}
 use Rattle.acl_files.proofs.Changes.{label_decides}
 use Rattle.acl_files.proofs.edit.is_same_label.Goals as goal
 
-pub returns-clause-computed : goal.returns-clause-computed
-returns-clause-computed c =
+pub returns : goal.returns
+returns c =
     same_from_decides c.same_label.result (same_label c.args.old.now.label c.args.new.now.label) c.same_label.ensures (label_decides c.args.old.now.label c.args.new.now.label)

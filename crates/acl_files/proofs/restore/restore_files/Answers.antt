@@ -25,7 +25,7 @@ use Rattle.acl_files.proofs.restore.restore_files.Goals as goal
 
 pub in_path_order-sorted-requires : goal.in_path_order-sorted-requires
 in_path_order-sorted-requires c =
-    ap (λ rs. have_own_paths rs) (c.in_ok-found.ensures.records ∙ c.as_slice.ensures.all) ∙ c.as_slice.ensures.apart
+    ap (λ rs. have_own_paths rs) (c.in_ok-found.ensures.found.records ∙ c.as_slice.ensures.all) ∙ c.as_slice.ensures.apart
 
 pub put_all-requires : goal.put_all-requires
 put_all-requires c =
@@ -36,9 +36,9 @@ put_all-requires c =
     let test = is_file false (paths_of records) in
     let meant : Files = files_meant false (paths_of records) t in
     let listed : xs ≡ c.in_path_order-sorted.result.items = c.deref.ensures.value in
-    let whole : map (λ x. x.1) c.in_ok-found.found.items ≡ records = c.in_ok-found.ensures.records ∙ c.as_slice.ensures.all in
+    let whole : map (λ x. x.1) c.in_ok-found.found.items ≡ records = c.in_ok-found.ensures.found.records ∙ c.as_slice.ensures.all in
     let sorted : map (λ x. x.1) xs ≡ in_path_order records = ap (λ l. map (λ x. x.1) l) listed ∙ c.in_path_order-sorted.ensures.order ∙ ap (λ rs. in_path_order rs) whole in
-    let all : All (IsFileOf t) xs = subst (λ l. All (IsFileOf t) l) (sym listed) (All-permutation (IsFileOf t) c.in_ok-found.found.items c.in_path_order-sorted.result.items c.in_path_order-sorted.ensures.same c.in_ok-found.ensures.files) in
+    let all : All (IsFileOf t) xs = subst (λ l. All (IsFileOf t) l) (sym listed) (All-permutation (IsFileOf t) c.in_ok-found.found.items c.in_path_order-sorted.result.items c.in_path_order-sorted.ensures.same c.in_ok-found.ensures.found.files) in
     let seen : map (λ x. x.0) xs ≡ meant = files_are t records xs c.soundness_law.ensures.order sorted all in
     let by_record = each_by_record t records xs c.soundness_law.ensures.order sorted all in
     let ns : Files = map (λ r. r.value) c.in_ok-edits.edits.items in
@@ -54,9 +54,9 @@ of-requires c =
     let test = is_file false (paths_of records) in
     let meant : Files = files_meant false (paths_of records) t in
     let listed : xs ≡ c.in_path_order-sorted.result.items = c.deref.ensures.value in
-    let whole : map (λ x. x.1) c.in_ok-found.found.items ≡ records = c.in_ok-found.ensures.records ∙ c.as_slice.ensures.all in
+    let whole : map (λ x. x.1) c.in_ok-found.found.items ≡ records = c.in_ok-found.ensures.found.records ∙ c.as_slice.ensures.all in
     let sorted : map (λ x. x.1) xs ≡ in_path_order records = ap (λ l. map (λ x. x.1) l) listed ∙ c.in_path_order-sorted.ensures.order ∙ ap (λ rs. in_path_order rs) whole in
-    let all : All (IsFileOf t) xs = subst (λ l. All (IsFileOf t) l) (sym listed) (All-permutation (IsFileOf t) c.in_ok-found.found.items c.in_path_order-sorted.result.items c.in_path_order-sorted.ensures.same c.in_ok-found.ensures.files) in
+    let all : All (IsFileOf t) xs = subst (λ l. All (IsFileOf t) l) (sym listed) (All-permutation (IsFileOf t) c.in_ok-found.found.items c.in_path_order-sorted.result.items c.in_path_order-sorted.ensures.same c.in_ok-found.ensures.found.files) in
     let seen : map (λ x. x.0) xs ≡ meant = files_are t records xs c.soundness_law.ensures.order sorted all in
     let by_record = each_by_record t records xs c.soundness_law.ensures.order sorted all in
     let ns : Files = map (λ r. r.value) c.in_ok-edits.edits.items in
@@ -77,9 +77,9 @@ returns-clause-made c =
     let test = is_file false (paths_of records) in
     let meant : Files = files_meant false (paths_of records) t in
     let listed : xs ≡ c.in_path_order-sorted.result.items = c.deref.ensures.value in
-    let whole : map (λ x. x.1) c.in_ok-found.found.items ≡ records = c.in_ok-found.ensures.records ∙ c.as_slice.ensures.all in
+    let whole : map (λ x. x.1) c.in_ok-found.found.items ≡ records = c.in_ok-found.ensures.found.records ∙ c.as_slice.ensures.all in
     let sorted : map (λ x. x.1) xs ≡ in_path_order records = ap (λ l. map (λ x. x.1) l) listed ∙ c.in_path_order-sorted.ensures.order ∙ ap (λ rs. in_path_order rs) whole in
-    let all : All (IsFileOf t) xs = subst (λ l. All (IsFileOf t) l) (sym listed) (All-permutation (IsFileOf t) c.in_ok-found.found.items c.in_path_order-sorted.result.items c.in_path_order-sorted.ensures.same c.in_ok-found.ensures.files) in
+    let all : All (IsFileOf t) xs = subst (λ l. All (IsFileOf t) l) (sym listed) (All-permutation (IsFileOf t) c.in_ok-found.found.items c.in_path_order-sorted.result.items c.in_path_order-sorted.ensures.same c.in_ok-found.ensures.found.files) in
     let seen : map (λ x. x.0) xs ≡ meant = files_are t records xs c.soundness_law.ensures.order sorted all in
     let by_record = each_by_record t records xs c.soundness_law.ensures.order sorted all in
     let ns : Files = map (λ r. r.value) c.in_ok-edits.edits.items in
@@ -92,8 +92,8 @@ returns-clause-made c =
     ∙ ap (λ r. unless_missing None (with_edits c.args.tree.now r)) made
     ∙ ap (λ (t : Recorded). Ok t) (sym (c.of.ensures ∙ (λ i. record { files = new i; loaded = c.is_loaded.ensures i })))
 
-pub returns-clause-reported : goal.returns-clause-reported
-returns-clause-reported c =
+pub returns-clause-noted : goal.returns-clause-noted
+returns-clause-noted c =
     let t : Files = c.args.tree.now.files in
     let records : List DumpRecord = c.args.records.now in
     let xs : List RestoredFile = c.deref.result.now in
@@ -101,26 +101,28 @@ returns-clause-reported c =
     let test = is_file false (paths_of records) in
     let meant : Files = files_meant false (paths_of records) t in
     let listed : xs ≡ c.in_path_order-sorted.result.items = c.deref.ensures.value in
-    let whole : map (λ x. x.1) c.in_ok-found.found.items ≡ records = c.in_ok-found.ensures.records ∙ c.as_slice.ensures.all in
+    let whole : map (λ x. x.1) c.in_ok-found.found.items ≡ records = c.in_ok-found.ensures.found.records ∙ c.as_slice.ensures.all in
     let sorted : map (λ x. x.1) xs ≡ in_path_order records = ap (λ l. map (λ x. x.1) l) listed ∙ c.in_path_order-sorted.ensures.order ∙ ap (λ rs. in_path_order rs) whole in
-    let all : All (IsFileOf t) xs = subst (λ l. All (IsFileOf t) l) (sym listed) (All-permutation (IsFileOf t) c.in_ok-found.found.items c.in_path_order-sorted.result.items c.in_path_order-sorted.ensures.same c.in_ok-found.ensures.files) in
+    let all : All (IsFileOf t) xs = subst (λ l. All (IsFileOf t) l) (sym listed) (All-permutation (IsFileOf t) c.in_ok-found.found.items c.in_path_order-sorted.result.items c.in_path_order-sorted.ensures.same c.in_ok-found.ensures.found.files) in
     let seen : map (λ x. x.0) xs ≡ meant = files_are t records xs c.soundness_law.ensures.order sorted all in
     let by_record = each_by_record t records xs c.soundness_law.ensures.order sorted all in
     let ns : Files = map (λ r. r.value) c.in_ok-edits.edits.items in
     let made : edit_each edit meant ≡ Ok ns = ap (λ es. edit_each edit es) (sym seen) ∙ sym (restored_are edit xs by_record) ∙ c.in_ok-edits.ensures.made in
     let new : c.in_ok-by_path.by_path ≡ edit_files test (node_after edit) t =
     c.in_ok-by_path.ensures ∙ (λ i. put_all (map (λ r. r.value) (c.deref-2.ensures.value i)) (c.files_by_path.ensures.all i)) ∙ put_edits edit false (paths_of records) t ns c.soundness_law.ensures.order made
-    in
-    c.in_ok-edits.ensures.reported
-    ∙ ap (λ l. map (λ r. r.value) c.args.changed.now.items ++ l)
-    (changed_are edit xs by_record
-    ∙ ap (λ es. changed_by (λ _. true) (node_after edit) es) seen
-    ∙ changed-all test (node_after edit) t
-    ∙ changed-edited test (node_after edit) t c.soundness_law.ensures.order
-    ∙ ap (λ es. changed_between t es) (sym (ap (λ (t : Recorded). t.files) c.of.ensures ∙ new)))
+    in (
+      c.in_ok-edits.ensures.reported
+          ∙ ap (λ l. map (λ r. r.value) c.args.changed.now.items ++ l)
+          (changed_are edit xs by_record
+          ∙ ap (λ es. changed_by (λ _. true) (node_after edit) es) seen
+          ∙ changed-all test (node_after edit) t
+          ∙ changed-edited test (node_after edit) t c.soundness_law.ensures.order
+          ∙ ap (λ es. changed_between t es) (sym (ap (λ (t : Recorded). t.files) c.of.ensures ∙ new))),
+      ap (λ es. gone_between t es) (ap (λ (t : Recorded). t.files) c.of.ensures ∙ new) ∙ gone-edited test (node_after edit) t c.soundness_law.ensures.order,
+    )
 
-pub returns-clause-gone : goal.returns-clause-gone
-returns-clause-gone c =
+pub returns-in_err-edits-clause-made : goal.returns-in_err-edits-clause-made
+returns-in_err-edits-clause-made c =
     let t : Files = c.args.tree.now.files in
     let records : List DumpRecord = c.args.records.now in
     let xs : List RestoredFile = c.deref.result.now in
@@ -128,33 +130,12 @@ returns-clause-gone c =
     let test = is_file false (paths_of records) in
     let meant : Files = files_meant false (paths_of records) t in
     let listed : xs ≡ c.in_path_order-sorted.result.items = c.deref.ensures.value in
-    let whole : map (λ x. x.1) c.in_ok-found.found.items ≡ records = c.in_ok-found.ensures.records ∙ c.as_slice.ensures.all in
+    let whole : map (λ x. x.1) c.in_ok-found.found.items ≡ records = c.in_ok-found.ensures.found.records ∙ c.as_slice.ensures.all in
     let sorted : map (λ x. x.1) xs ≡ in_path_order records = ap (λ l. map (λ x. x.1) l) listed ∙ c.in_path_order-sorted.ensures.order ∙ ap (λ rs. in_path_order rs) whole in
-    let all : All (IsFileOf t) xs = subst (λ l. All (IsFileOf t) l) (sym listed) (All-permutation (IsFileOf t) c.in_ok-found.found.items c.in_path_order-sorted.result.items c.in_path_order-sorted.ensures.same c.in_ok-found.ensures.files) in
-    let seen : map (λ x. x.0) xs ≡ meant = files_are t records xs c.soundness_law.ensures.order sorted all in
-    let by_record = each_by_record t records xs c.soundness_law.ensures.order sorted all in
-    let ns : Files = map (λ r. r.value) c.in_ok-edits.edits.items in
-    let made : edit_each edit meant ≡ Ok ns = ap (λ es. edit_each edit es) (sym seen) ∙ sym (restored_are edit xs by_record) ∙ c.in_ok-edits.ensures.made in
-    let new : c.in_ok-by_path.by_path ≡ edit_files test (node_after edit) t =
-    c.in_ok-by_path.ensures ∙ (λ i. put_all (map (λ r. r.value) (c.deref-2.ensures.value i)) (c.files_by_path.ensures.all i)) ∙ put_edits edit false (paths_of records) t ns c.soundness_law.ensures.order made
-    in
-    ap (λ es. gone_between t es) (ap (λ (t : Recorded). t.files) c.of.ensures ∙ new) ∙ gone-edited test (node_after edit) t c.soundness_law.ensures.order
-
-pub returns-in_err-edits-clause-fault : goal.returns-in_err-edits-clause-fault
-returns-in_err-edits-clause-fault c =
-    let t : Files = c.args.tree.now.files in
-    let records : List DumpRecord = c.args.records.now in
-    let xs : List RestoredFile = c.deref.result.now in
-    let edit = restore_one records in
-    let test = is_file false (paths_of records) in
-    let meant : Files = files_meant false (paths_of records) t in
-    let listed : xs ≡ c.in_path_order-sorted.result.items = c.deref.ensures.value in
-    let whole : map (λ x. x.1) c.in_ok-found.found.items ≡ records = c.in_ok-found.ensures.records ∙ c.as_slice.ensures.all in
-    let sorted : map (λ x. x.1) xs ≡ in_path_order records = ap (λ l. map (λ x. x.1) l) listed ∙ c.in_path_order-sorted.ensures.order ∙ ap (λ rs. in_path_order rs) whole in
-    let all : All (IsFileOf t) xs = subst (λ l. All (IsFileOf t) l) (sym listed) (All-permutation (IsFileOf t) c.in_ok-found.found.items c.in_path_order-sorted.result.items c.in_path_order-sorted.ensures.same c.in_ok-found.ensures.files) in
+    let all : All (IsFileOf t) xs = subst (λ l. All (IsFileOf t) l) (sym listed) (All-permutation (IsFileOf t) c.in_ok-found.found.items c.in_path_order-sorted.result.items c.in_path_order-sorted.ensures.same c.in_ok-found.ensures.found.files) in
     let seen : map (λ x. x.0) xs ≡ meant = files_are t records xs c.soundness_law.ensures.order sorted all in
     let by_record = each_by_record t records xs c.soundness_law.ensures.order sorted all in
     let there : first_missing (paths_of records) t ≡ None = ap (λ rs. first_missing (paths_of rs) t) (sym c.as_slice.ensures.all) ∙ c.in_ok-found.ensures.there in
     let each : restore_each xs ≡ edit_each edit meant = restored_are edit xs by_record ∙ ap (λ es. edit_each edit es) seen in
     let p = err_from_is_err_and c.from_residual-in_err-edits.result c.from_residual-in_err-edits.ensures.1 in
-    rw (p.1, p.2) (fault_reported records c.args.tree.now c.in_err-edits.field-0.0 there (λ some. ap (λ r. with_edits c.args.tree.now r) (sym each ∙ c.in_err-edits.ensures.fault some)))
+    rw (p.1, p.2) (fault_reported records c.args.tree.now c.in_err-edits.field-0.0 there (λ some. ap (λ r. with_edits c.args.tree.now r) (sym each ∙ c.in_err-edits.ensures.made some)))

@@ -1,7 +1,7 @@
 use Rattle.std.proofs.Common.{◌≡◌, ◌<◌, ◌++◌, ◌∷◌, [], true, false, length, map, ap, sym, subst, ◌∙◌}
 use Rattle.acl_names.specs.Below.{encloses, common}
 use Rattle.acl_files.proofs.Nearest.{Alike, full_path, empty_path, root_alone, alike_begins, alike_found, alike_ends, alike_on, alike_shorter}
-use Rattle.acl_files.proofs.walks.nearest_above.Goals as goal
+use Rattle.acl_files.proofs.files.nearest_above.Goals as goal
 
 pub returns-then-is_empty : goal.returns-then-is_empty
 returns-then-is_empty g c =

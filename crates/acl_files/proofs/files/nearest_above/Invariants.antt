@@ -1,6 +1,6 @@
 use Rattle.std.proofs.Common.{◌≡◌, [], length}
 use Rattle.acl_files.proofs.Nearest.{Alike}
-use Rattle.acl_files.proofs.walks.nearest_above.Given as goal
+use Rattle.acl_files.proofs.files.nearest_above.Given as goal
 
 abbrev pub invariant-loop-entry : goal.invariant-loop-entry
 invariant-loop-entry g l = record {
