@@ -1,32 +1,52 @@
 -- For inner functions: no public contract names these definitions.
-use Rattle.std.specs.Prelude.{◌≡◌, ◌<◌, length, Some, false, Result, IfOk}
+use Rattle.std.specs.Prelude.{◌≡◌, ◌≢◌, ◌<◌, [], length, Option, Some, None, false, Result, MatchResult}
 use Rattle.std.specs.FinMap.{find}
 use Rattle.acl_files.specs.acl_names.Paths.{path_cmp}
+use Rattle.acl_files.specs.acl_syntax.InTurn.{GivesUnless}
 use Rattle.acl_files.specs.acl_edit.Nodes as nodes
 use Rattle.acl_files.specs.acl_edit.declared.node.Node.{Node}
 use Rattle.acl_files.specs.acl_edit.declared.node.Kind.TheVariants.{Directory}
-use Rattle.acl_files.specs.Files.{PathOf, Files, max_files}
+use Rattle.acl_files.specs.Files.{PathOf, Files, Recorded, max_files}
 use Rattle.acl_files.specs.Sound.{IsSoundTree}
 use Rattle.acl_files.specs.declared.fault.TreeFault.{TreeFault}
+use Rattle.acl_files.specs.declared.fault.TreeFault.TheVariants.{NoMemory}
 use Rattle.acl_files.specs.acl_names.Below.{parent}
+use Rattle.acl_people.specs.KnownPeople.{KnownPeople}
 use Rattle.acl_tree.specs.Creat.{exists}
-use Rattle.acl_tree.specs.Step.{State, state_from, step, Stages}
-use Rattle.acl_tree.specs.Reports.{StagedState, Reports, users_move}
+use Rattle.acl_tree.specs.Step.{State, state_from}
+use Rattle.acl_tree.specs.Reports.{StagedState, UsersMoved, Reports}
+use Rattle.acl_tree.specs.declared.user_change.UserChange.{UserChange}
 use Rattle.acl_tree.specs.declared.state.BorrowedState.{BorrowedState}
-use Rattle.acl_tree.specs.declared.command.Command.{Command}
 
--- ---- a command
+-- ---- a state
 
 -- the state that is borrowed
 abbrev pub whole : BorrowedState → State
 whole s = state_from s.tree.now s.people.now
 
--- A call prepares the state after a command: a sound tree, with what it changes. Or it returns the command's fault.
-pub record Prepares (old : State) (command : Command) (result : Result StagedState TreeFault) : Type 0 where
-  pub made : Stages (λ s. s.state) result (step old command)
-  pub sound : IfOk result (λ staged. IsSoundTree staged.state.tree)
-  pub reports : IfOk result (λ staged. Reports old staged)
-  pub moved : IfOk result (λ staged. staged.user_change ≡ users_move old command)
+-- ---- what is found
+
+-- A call gives the value, seen by view, or exactly its fault, unless memory ran out.
+abbrev pub Gives : {A B : Type 0} → (A → B) → Result A TreeFault → Result B TreeFault → Type 0
+Gives view result is = GivesUnless NoMemory view result is
+
+-- A call succeeds if there is no such fault; else it returns the fault, unless memory ran out.
+abbrev pub IsRefusedFor : {A : Type 0} → Result A TreeFault → Option TreeFault → Type 0
+IsRefusedFor result refused = MatchResult result (λ _. refused ≡ None) (λ fault. fault ≢ NoMemory → refused ≡ Some fault)
+
+-- ---- what is staged
+
+-- what is staged is a sound tree, with what differs from the state before, and how the users moved
+pub record IsStaged (old : State) (user_change : UserChange) (staged : StagedState) : Type 0 where
+  pub sound : IsSoundTree staged.state.tree
+  pub reports : Reports old staged
+  pub moved : staged.user_change ≡ user_change
+
+-- the same files with other people: it reports what that changes of a state with these files whose users moved so
+pub record StagesPeople (tree : Recorded) (people : KnownPeople) (user_change : UserChange) (staged : StagedState) : Type 0 where
+  pub all : staged ≡ record { state = state_from tree people; changed = []; gone = []; user_change = user_change }
+  pub sound : IsSoundTree staged.state.tree
+  pub reports : (old : KnownPeople) → UsersMoved (state_from tree old) (state_from tree people) user_change → Reports (state_from tree old) staged
 
 -- ---- a new file
 

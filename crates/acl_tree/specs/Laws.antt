@@ -1,22 +1,31 @@
 -- What commands leave as it is, and what edits of the files of a command leave at each path.
-use Rattle.std.specs.Prelude.{◌≡◌, List, Bool, true, false, Some, Result, Ok, option_map, unwrap_or}
+use Rattle.std.specs.Prelude.{◌≡◌, List, [], ◌∷◌, Bool, true, false, not, ◌&&◌, Some, Result, Ok, option_map, unwrap_or}
+use Rattle.std.specs.List.{AllByRecursion, list_any}
 use Rattle.std.specs.Ordering.{eq_by_cmp}
 use Rattle.std.specs.FinMap.{find}
 use Rattle.acl_files.specs.acl_names.Paths.{path_cmp}
 use Rattle.acl_files.specs.acl_dump.declared.record.DumpRecord.{DumpRecord}
-use Rattle.acl_files.specs.acl_edit.Edits.{no_flags}
+use Rattle.acl_files.specs.acl_edit.Edits.{edit_of, no_flags}
 use Rattle.acl_files.specs.acl_edit.Laws.{ShowsRecalculated, BoundsRecalculated, MakesMask}
+use Rattle.acl_files.specs.acl_edit.Nodes.{is_directory}
 use Rattle.acl_files.specs.acl_edit.declared.edit.Change.{Change}
+use Rattle.acl_files.specs.acl_edit.declared.edit.Edit as edits
 use Rattle.acl_files.specs.acl_edit.declared.edit.EditFault.{EditFault}
 use Rattle.acl_files.specs.acl_edit.declared.node.Node.{Node}
+use Rattle.acl_people.specs.KnownPeople.{names_user}
+use Rattle.acl_people.specs.UserNames.{is_user_name}
 use Rattle.acl_tree.specs.declared.command.Command.{Command}
 use Rattle.acl_tree.specs.declared.command.Command.TheVariants.{Load, Chmod, Edit, Restore, Creat, Rm, Gpasswd, Usermod, Useradd, Userdel}
+use Rattle.acl_tree.specs.declared.command.NewFile.{NewFile}
+use Rattle.acl_tree.specs.declared.command.NewUser.{NewUser}
 use Rattle.acl_tree.specs.declared.command.Table.{Table}
 use Rattle.acl_tree.specs.declared.command.Table.TheVariants.{Passwd, Group, Dump}
-use Rattle.acl_files.specs.Files.{PathOf, Files, Recorded}
+use Rattle.acl_files.specs.Files.{PathOf, Files, IsInOrder, Recorded}
 use Rattle.acl_files.specs.Operands.{is_file}
-use Rattle.acl_files.specs.Restoring.{paths_of}
-use Rattle.acl_tree.specs.Step.{State}
+use Rattle.acl_files.specs.Restoring.{restore_one, paths_of, restored_tree}
+use Rattle.acl_files.specs.Sound.{IsSoundTree}
+use Rattle.acl_tree.specs.EditCommand.{edit_one, edited_tree}
+use Rattle.acl_tree.specs.Step.{State, step}
 
 -- ---- each file of an edit
 
@@ -26,16 +35,31 @@ pub record EditsEach (edit : PathOf → Node → Result Node EditFault) (recursi
   pub edited : (p : PathOf) (n : Node) → is_file recursive paths p ≡ true → find path_cmp p old.files ≡ Some n → option_map Ok (find path_cmp p new.files) ≡ Some (edit p n)
   pub others : (p : PathOf) → is_file recursive paths p ≡ false → find path_cmp p new.files ≡ find path_cmp p old.files
 
+-- an edit makes of each file what the edit of that one file makes of it
+abbrev pub EachFileIsEdited : Type 0
+EachFileIsEdited =
+    (recursive : Bool) (paths : List PathOf) (e : edits.Edit) (old new : Recorded) → IsInOrder old.files → edited_tree recursive paths e old ≡ Ok new → EditsEach (edit_one e recursive) recursive paths old new
+
+-- and a restore what the restore of that one file makes of it
+abbrev pub EachFileIsRestored : Type 0
+EachFileIsRestored =
+    (records : List DumpRecord) (old new : Recorded) → IsInOrder old.files → restored_tree records old ≡ Ok new → EditsEach (restore_one records) false (paths_of records) old new
+
 -- the rules on the masks that a line leaves of one file
 pub record KeepsMaskRules (old : Node) (line : Change) (new : Node) : Type 0 where
   pub made : MakesMask old line new
   pub shown : ShowsRecalculated old line new
   pub bounded : BoundsRecalculated old line new
 
--- they are true at each file of the command
+-- those rules at each file of the command
 abbrev pub MasksEach : Change → Bool → List PathOf → Recorded → Recorded → Type 0
 MasksEach line recursive paths old new =
     (p : PathOf) (n m : Node) → is_file recursive paths p ≡ true → find path_cmp p old.files ≡ Some n → find path_cmp p new.files ≡ Some m → KeepsMaskRules n line m
+
+-- they are true at each file of the command, whatever line edits it
+abbrev pub EachFileKeepsMaskRules : Type 0
+EachFileKeepsMaskRules =
+    (recursive : Bool) (paths : List PathOf) (line : Change) (old new : Recorded) → IsInOrder old.files → edited_tree recursive paths (edit_of line) old ≡ Ok new → MasksEach line recursive paths old new
 
 -- ---- what a command does not name
 
@@ -62,11 +86,31 @@ names (Userdel user) p = false
 abbrev pub LeavesUnnamed : Command → State → State → Type 0
 LeavesUnnamed command old new = (p : PathOf) → names command p ≡ false → find path_cmp p new.tree.files ≡ find path_cmp p old.tree.files
 
--- ---- a user who comes and goes
+-- so it is with every command
+abbrev pub UnnamedFilesStay : Type 0
+UnnamedFilesStay = (command : Command) (old new : State) → IsInOrder old.tree.files → step old command ≡ Ok new → LeavesUnnamed command old new
+
+-- ---- a file or a user who comes and goes
+
+-- a new file that is removed again, a directory with recursion, leaves the state as it was
+abbrev pub NewFileIsRemoved : Type 0
+NewFileIsRemoved =
+    (new : NewFile) (recursive : Bool) (old made : State) → (is_directory new.kind && not recursive) ≡ false → step old (Creat new) ≡ Ok made → step made (Rm (new.path ∷ []) recursive) ≡ Ok old
 
 -- the state in which users count as loaded, as they do once one was added
 abbrev pub with_users_loaded : State → State
 with_users_loaded s = record s { people = record s.people { passwd_loaded = true } }
+
+-- a user who is added, under a name that no group's row has, and removed again leaves the state as it was, but that
+-- users count as loaded
+abbrev pub NewUserIsRemoved : Type 0
+NewUserIsRemoved =
+    (new : NewUser) (old made : State) → is_user_name new.name ≡ true → list_any (names_user new.name) old.people.groups ≡ false → step old (Useradd new) ≡ Ok made → step made (Userdel new.name) ≡ Ok (with_users_loaded old)
+
+-- where users were loaded before, it is the same state
+abbrev pub NewUserIsRemovedWhole : Type 0
+NewUserIsRemovedWhole =
+    (new : NewUser) (old made : State) → is_user_name new.name ≡ true → list_any (names_user new.name) old.people.groups ≡ false → old.people.passwd_loaded ≡ true → step old (Useradd new) ≡ Ok made → step made (Userdel new.name) ≡ Ok old
 
 -- ---- a restore of what is
 
@@ -83,3 +127,7 @@ pub record IsAsRecorded (t : Files) (r : DumpRecord) : Type 0 where
   pub node : Node
   pub recorded : find path_cmp r.path t ≡ Some node
   pub contains : Contains r node
+
+-- a restore of such records changes nothing
+abbrev pub RestoreOfWhatIsChangesNothing : Type 0
+RestoreOfWhatIsChangesNothing = (records : List DumpRecord) (state : State) → IsSoundTree state.tree → AllByRecursion (IsAsRecorded state.tree.files) records → step state (Restore records) ≡ Ok state

@@ -11,7 +11,7 @@ use Rattle.acl_files.specs.acl_edit.declared.node.Kind.{Kind}
 use Rattle.acl_files.specs.acl_edit.declared.node.Kind.TheVariants.{Plain, Directory}
 use Rattle.acl_files.specs.acl_edit.declared.node.Node.{Node}
 use Rattle.acl_files.specs.acl_names.Below.{encloses, parent}
-use Rattle.acl_files.specs.Files.{PathOf, Files, max_files}
+use Rattle.acl_files.specs.Files.{PathOf, Files, IsInOrder, max_files}
 use Rattle.acl_files.specs.Operands.{is_file}
 use Rattle.acl_files.specs.Restoring.{restore_one, paths_of}
 use Rattle.acl_files.specs.declared.fault.TreeFault.{TreeFault}
@@ -170,3 +170,7 @@ pub record IsFirst (s : State) (c : Command) (f : TreeFault) : Type 0 where
 pub record IsRefusedForFirst (s : State) (c : Command) : Type 0 where
   pub reported : (f : TreeFault) → (step s c ≡ Err f) ↔ IsFirst s c f
   pub refused : (f : TreeFault) → Applies s c f → IsErr (step s c)
+
+-- so it is with every command, where the files are in path order
+abbrev pub CommandsAreRefusedForFirst : Type 0
+CommandsAreRefusedForFirst = (s : State) (command : Command) → IsInOrder s.tree.files → IsRefusedForFirst s command

@@ -1,5 +1,5 @@
 -- What a prepared command reports of the state after it.
-use Rattle.std.specs.Prelude.{◌≡◌, ◌≢◌, ◌==◌, ◌-◌, if◌then◌else◌, ℕ, List, [], ◌∷◌, false, Option, Some, None, Result, Ok, Err, refl}
+use Rattle.std.specs.Prelude.{◌≡◌, ◌≢◌, ◌==◌, ◌-◌, if◌then◌else◌, ℕ, List, [], ◌∷◌, false, Option, Some, None, IfSome, Result, Ok, Err, IfOk, refl}
 use Rattle.std.specs.List.{AllByRecursion}
 use Rattle.std.specs.Coded.{Coded, code_by, coded×, coded_ℕ, coded_list}
 use Rattle.acl_files.specs.acl_edit.contracts.node.Node as node_contracts
@@ -15,8 +15,8 @@ use Rattle.acl_tree.specs.declared.command.Table.TheVariants.{Passwd, Group, Dum
 use Rattle.acl_files.specs.declared.fault.TreeFault.{TreeFault}
 use Rattle.acl_files.specs.Files.{Files}
 use Rattle.acl_files.specs.Changed.{changed_between, gone_between}
-use Rattle.acl_files.specs.Sound.{holds_below}
-use Rattle.acl_tree.specs.Step.{State, coded_state}
+use Rattle.acl_files.specs.Sound.{IsSoundTree, holds_below}
+use Rattle.acl_tree.specs.Step.{State, coded_state, refused_at_once, step, Stages}
 use Rattle.acl_tree.specs.Memberships.{ChangedUser, gpasswd, usermod}
 use Rattle.acl_tree.specs.Accounts.{userdel}
 
@@ -106,3 +106,17 @@ pub record Reports (old : State) (staged : StagedState) : Type 0 where
   pub gone : staged.gone ≡ gone_between old.tree.files staged.state.tree.files
   pub apart : AllByRecursion (λ e. holds_below staged.state.tree.files e.0 ≡ false) staged.gone
   pub users : UsersMoved old staged.state staged.user_change
+
+-- ---- a prepared command
+
+-- A call prepares the state after a command: a sound tree, with what the command changes. Or it returns the command's
+-- fault, unless memory ran out.
+pub record Prepares (old : State) (command : Command) (result : Result StagedState TreeFault) : Type 0 where
+  pub made : Stages (λ s. s.state) result (step old command)
+  pub sound : IfOk result (λ staged. IsSoundTree staged.state.tree)
+  pub reports : IfOk result (λ staged. Reports old staged)
+  pub moved : IfOk result (λ staged. staged.user_change ≡ users_move old command)
+
+-- a command that is refused at once is refused for that fault, also where memory runs out
+abbrev pub RefusesAtOnce : State → Command → Result StagedState TreeFault → Type 0
+RefusesAtOnce old command result = IfSome (refused_at_once old command) (λ fault. result ≡ Err fault)

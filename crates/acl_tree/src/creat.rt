@@ -1,13 +1,14 @@
 //! creat: a new file in a directory.
 
-ghost use Rattle.std.specs.Prelude.{◌≡◌, ◌≢◌, None, Some, Ok, Err, IfOk, IfErr, OnErr};
+ghost use Rattle.std.specs.Prelude.{◌≡◌, ◌≢◌, None, Some, IfOk, IfErr, OnErr, IsOkUnless};
 ghost use Rattle.std.specs.FinMap.{put};
 ghost use Rattle.acl_files.specs.acl_names.Paths.{path_cmp};
 ghost use Rattle.acl_files.specs.acl_edit.Creation.{inherit};
 ghost use Rattle.acl_files.specs.acl_edit.Nodes.{IsSound};
 ghost use Rattle.acl_files.specs.acl_names.Below.{parent};
 ghost use Rattle.acl_tree.specs.Creat.{row_of, exists, directory_at, creat_by};
-ghost use Rattle.acl_tree.specs.Inner.{Prepares, IsNewIn, whole};
+ghost use Rattle.acl_tree.specs.Inner.{Gives, IsNewIn, whole};
+ghost use Rattle.acl_tree.specs.Reports.{Prepares};
 ghost use Rattle.acl_tree.specs.declared.command.Command.TheVariants.{Creat};
 
 use crate::command::NewFile;
@@ -46,8 +47,7 @@ fn exists(tree: &Files, path: &Path) -> bool
 
 /// The directory of a new file.
 fn directory_of<'a>(alloc: Global, tree: &'a Files, path: &Path) -> Result<&'a Node, TreeFault>
-    ensures found { IfOk result (λ node. directory_at (parent path.now) tree.now.files ≡ Ok node.now) }
-    ensures fault { IfErr result (λ fault. fault ≢ TreeFault.NoMemory → directory_at (parent path.now) tree.now.files ≡ Err fault) }
+    ensures { Gives (λ node. node.now) result (directory_at (parent path.now) tree.now.files) }
 {
     let path = path.parent(alloc)?;
     match tree.get(&path) {
@@ -66,7 +66,7 @@ fn node_of(
 ) -> Result<Node, TreeFault>
     ensures made { IfOk result (λ node. node ≡ inherit directory.now new.now.kind new.now.mode new.now.umask owner.now.uid owner.now.gid) }
     ensures sound { IfOk result IsSound }
-    ensures memory { IfErr result (λ fault. fault ≡ TreeFault.NoMemory) }
+    ensures memory { IsOkUnless result TreeFault.NoMemory }
 {
     match create(
         alloc, directory, new.kind, new.mode, new.umask, owner.uid, owner.gid,
@@ -83,10 +83,9 @@ fn new_file(
     new: &NewFile,
     owner: &PasswdRow,
 ) -> Result<Rc<Record>, TreeFault>
-    ensures made { IfOk result (λ file. creat_by new.now tree.now (Some owner.now)
-        ≡ Ok (record tree.now { files = put path_cmp file.value.0 file.value.1 tree.now.files })) }
+    ensures made { Gives (λ file. record tree.now { files = put path_cmp file.value.0 file.value.1 tree.now.files }) result
+        (creat_by new.now tree.now (Some owner.now)) }
     ensures fits { IfOk result (λ file. IsNewIn tree.now.files file.value) }
-    ensures fault { IfErr result (λ fault. fault ≢ TreeFault.NoMemory → creat_by new.now tree.now (Some owner.now) ≡ Err fault) }
 {
     tree.soundness_law();
     if exists(tree, &new.path) {

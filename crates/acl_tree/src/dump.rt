@@ -1,6 +1,7 @@
 //! A dump as a tree.
 
-ghost use Rattle.std.specs.Prelude.{◌≡◌, ◌≢◌, [], true, map, IfOk};
+ghost use Rattle.std.specs.Prelude.{◌≡◌, ◌≢◌, [], true, IfOk};
+ghost use Rattle.acl_files.specs.acl_names.Made.{values};
 ghost use Rattle.acl_files.specs.Sound.{IsSoundTree};
 ghost use Rattle.acl_tree.specs.Inner.{whole};
 ghost use Rattle.acl_tree.specs.Step.{load_dump, Stages};
@@ -32,8 +33,8 @@ fn text_fault(fault: TextFault) -> TreeFault
 
 /// The files of a dump as a tree.
 fn tree_of(alloc: Global, files: &[Rc<Record>]) -> Result<Files, AllocError>
-    requires { IsSoundTree (record { files = map (λ r. r.value) files.now; loaded = true }) }
-    ensures { IfOk result (λ tree. tree ≡ record { files = map (λ r. r.value) files.now; loaded = true }) }
+    requires { IsSoundTree (record { files = values files.now; loaded = true }) }
+    ensures { IfOk result (λ tree. tree ≡ record { files = values files.now; loaded = true }) }
 {
     Ok(Files::of(PathMap::from_sorted(alloc, files)?, true))
 }

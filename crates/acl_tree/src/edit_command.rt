@@ -1,10 +1,10 @@
 //! Files are edited: setfacl(1) and chacl(1), `setfacl --restore`, chmod(1).
 
-ghost use Rattle.std.specs.Prelude.{◌≡◌, ◌≢◌, Ok, Err, IfOk, IfErr};
+ghost use Rattle.std.specs.Prelude.{◌≡◌, IfOk};
 ghost use Rattle.acl_files.specs.Edits.{edit_all};
-ghost use Rattle.acl_files.specs.Sound.{IsSoundTree};
-ghost use Rattle.acl_tree.specs.Inner.{Prepares, whole};
-ghost use Rattle.acl_tree.specs.Reports.{Reports};
+ghost use Rattle.acl_files.specs.acl_syntax.InTurn.{GivesUnless};
+ghost use Rattle.acl_tree.specs.Inner.{IsStaged, whole};
+ghost use Rattle.acl_tree.specs.Reports.{Prepares};
 ghost use Rattle.acl_tree.specs.declared.command.Command.TheVariants as commands;
 ghost use Rattle.acl_tree.specs.declared.command.Command.TheVariants.{Restore};
 
@@ -44,14 +44,10 @@ pub(crate) fn stage_edits<E: NodeEdit>(
     selection: &Selection<'_>,
     edit: &E,
 ) -> Result<Staged, FileFault>
-    ensures made { IfOk result (λ staged. edit_all (E.edited edit.now) selection.now.recursive selection.now.operands.now state.now.tree.now
-        ≡ Ok staged.state.tree) }
+    ensures made { GivesUnless FileFault.NoMemory (λ staged. staged.state.tree) result
+        (edit_all (E.edited edit.now) selection.now.recursive selection.now.operands.now state.now.tree.now) }
     ensures people { IfOk result (λ staged. staged.state.people ≡ state.now.people.now) }
-    ensures fault { IfErr result (λ fault. fault ≢ FileFault.NoMemory
-        → edit_all (E.edited edit.now) selection.now.recursive selection.now.operands.now state.now.tree.now ≡ Err fault) }
-    ensures sound { IfOk result (λ staged. IsSoundTree staged.state.tree) }
-    ensures reports { IfOk result (λ staged. Reports (whole state.now) staged) }
-    ensures moved { IfOk result (λ staged. staged.user_change ≡ UserChange.Unchanged) }
+    ensures staged { IfOk result (IsStaged (whole state.now) UserChange.Unchanged) }
 {
     let mut changed = Vec::new(alloc);
     let edited = edit_files(alloc, state.tree, &mut changed, selection, edit)?;

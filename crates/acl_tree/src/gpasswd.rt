@@ -1,11 +1,11 @@
 //! gpasswd(1): a user joins or leaves the row of a group.
 
-ghost use Rattle.std.specs.Prelude.{◌≡◌, ◌≢◌, ◌<◌, length, Ok, Err, IfOk, IfErr, IfSome};
+ghost use Rattle.std.specs.Prelude.{◌≡◌, ◌<◌, length, Err, IfOk, IfErr};
 ghost use Rattle.acl_people.specs.KnownPeople.{persons};
 ghost use Rattle.acl_people.specs.Moves.{ChangesUser};
-ghost use Rattle.acl_tree.specs.Inner.{Prepares, whole};
+ghost use Rattle.acl_tree.specs.Inner.{Gives, whole};
+ghost use Rattle.acl_tree.specs.Reports.{Prepares, RefusesAtOnce};
 ghost use Rattle.acl_tree.specs.Memberships.{membership_changed};
-ghost use Rattle.acl_tree.specs.Step.{refused_at_once};
 ghost use Rattle.acl_tree.specs.declared.command.Command.TheVariants.{Gpasswd};
 
 use crate::command::Membership;
@@ -26,9 +26,8 @@ fn change_membership(
 ) -> Result<People, TreeFault>
     requires user { user < length people.now.users }
     requires group { group < length people.now.groups }
-    ensures made { IfOk result (λ next. membership_changed user group change people.now ≡ Ok next) }
+    ensures made { Gives (λ next. next) result (membership_changed user group change people.now) }
     ensures change { IfOk result (λ next. ChangesUser (persons people.now) (persons next) user) }
-    ensures fault { IfErr result (λ fault. fault ≢ TreeFault.NoMemory → membership_changed user group change people.now ≡ Err fault) }
     ensures at_once { IfErr (membership_changed user group change people.now) (λ fault. result ≡ Err fault) }
 {
     match change {
@@ -55,7 +54,7 @@ pub(crate) fn prepare_gpasswd(
     change: Membership,
 ) -> Result<Staged, TreeFault>
     ensures prepares { Prepares (whole state.now) (Gpasswd user.now group.now change) result }
-    ensures at_once { IfSome (refused_at_once (whole state.now) (Gpasswd user.now group.now change)) (λ fault. result ≡ Err fault) }
+    ensures at_once { RefusesAtOnce (whole state.now) (Gpasswd user.now group.now change) result }
 {
     let people = state.people;
     let user = find_user(alloc, people, user)?;

@@ -25,9 +25,9 @@ pub use acl_files::{
     Requests, Selection, Sep, Spec, Specs, Subject, TextFault, TreeFault, Want, Which,
     append_entry, append_header, append_id, append_line, append_list, append_name, append_path,
     append_short, each_record_is_a_file, granted, read_dump, read_entries, read_id, read_name,
-    read_path, read_perms, records_are_read_again, trim, write_name,
+    read_path, read_perms, records_are_read_again, rising_ids, trim, write_name,
 };
-pub use acl_people::{People, UserName, rising_ids};
+pub use acl_people::{People, UserName};
 pub use command::{Command, Membership, NewFile, NewUser, Table};
 pub use laws::{
     commands_are_refused_for_their_first_fault, each_file_is_edited, new_file_is_removed,

@@ -1,11 +1,9 @@
 //! The loads of users, groups and files.
 
-ghost use Rattle.std.specs.Prelude.{◌≡◌, [], true, IfOk, IfErr, OnOk, Err};
-ghost use Rattle.acl_people.specs.KnownPeople.{KnownPeople};
-ghost use Rattle.acl_tree.specs.Step.{tree_fault, is_loaded, state_from};
-ghost use Rattle.acl_tree.specs.Inner.{Prepares, whole};
-ghost use Rattle.acl_files.specs.Sound.{IsSoundTree};
-ghost use Rattle.acl_tree.specs.Reports.{Reports};
+ghost use Rattle.std.specs.Prelude.{◌≡◌, true, Err, IfOk, IfErr, MatchResult};
+ghost use Rattle.acl_tree.specs.Step.{tree_fault, is_loaded};
+ghost use Rattle.acl_tree.specs.Inner.{StagesPeople, whole};
+ghost use Rattle.acl_tree.specs.Reports.{Prepares};
 ghost use Rattle.acl_tree.specs.declared.command.Command.TheVariants.{Load};
 
 use crate::command::Table;
@@ -57,13 +55,8 @@ fn with_people(
     tree: &Files,
     loaded: Result<People, LoadFault>,
 ) -> Result<Staged, TreeFault>
-    ensures ok { IfOk loaded (λ people. IfOk result (λ staged. staged
-        ≡ record { state = state_from tree.now people; changed = []; gone = []; user_change = UserChange.Loaded })) }
-    ensures moved { IfOk result (λ staged. staged.user_change ≡ UserChange.Loaded) }
-    ensures sound { IfOk result (λ staged. IsSoundTree staged.state.tree) }
-    ensures reports { IfOk result (λ staged. (people : KnownPeople) → tree.now.files ≡ [] → Reports (state_from tree.now people) staged) }
+    ensures ok { IfOk loaded (λ people. MatchResult result (StagesPeople tree.now people UserChange.Loaded) (λ fault. fault ≡ TreeFault.NoMemory)) }
     ensures err { IfErr loaded (λ fault. result ≡ Err (tree_fault fault)) }
-    ensures memory { OnOk loaded (IfErr result (λ fault. fault ≡ TreeFault.NoMemory)) }
 {
     match loaded {
         Ok(people) => {

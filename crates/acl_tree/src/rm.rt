@@ -1,9 +1,11 @@
 //! rm: files removed.
 
-ghost use Rattle.std.specs.Prelude.{◌≡◌, ◌≢◌, None, Some, map, IfOk, IfErr, OnOk};
+ghost use Rattle.std.specs.Prelude.{◌≡◌, map, IfOk};
 ghost use Rattle.std.specs.FinMap.{find};
+ghost use Rattle.acl_files.specs.acl_names.Made.{values};
 ghost use Rattle.acl_files.specs.acl_names.Paths.{path_cmp};
-ghost use Rattle.acl_tree.specs.Inner.{Prepares, whole};
+ghost use Rattle.acl_tree.specs.Inner.{IsRefusedFor, whole};
+ghost use Rattle.acl_tree.specs.Reports.{Prepares};
 ghost use Rattle.acl_files.specs.Inner.{file_of};
 ghost use Rattle.acl_tree.specs.Rm.{refusal, first_refused};
 ghost use Rattle.acl_tree.specs.declared.command.Command.TheVariants.{Rm};
@@ -17,8 +19,7 @@ use std::rc::Rc;
 
 /// Whether an operand may be removed.
 fn check_one(alloc: Global, tree: &Files, recursive: bool, path: &Path) -> Result<(), TreeFault>
-    ensures ok { OnOk result (refusal recursive path.now (find path_cmp path.now tree.now.files) ≡ None) }
-    ensures fault { IfErr result (λ fault. fault ≢ TreeFault.NoMemory → refusal recursive path.now (find path_cmp path.now tree.now.files) ≡ Some fault) }
+    ensures { IsRefusedFor result (refusal recursive path.now (find path_cmp path.now tree.now.files)) }
 {
     let Some(node) = tree.get(path) else {
         return Err(TreeFault::NoSuchFile {
@@ -35,8 +36,7 @@ fn check_one(alloc: Global, tree: &Files, recursive: bool, path: &Path) -> Resul
 
 /// Whether all operands may be removed; else the fault of the first that may not.
 fn check_all(alloc: Global, tree: &Files, selection: &Selection<'_>) -> Result<(), TreeFault>
-    ensures ok { OnOk result (first_refused selection.now.recursive selection.now.operands.now tree.now.files ≡ None) }
-    ensures fault { IfErr result (λ fault. fault ≢ TreeFault.NoMemory → first_refused selection.now.recursive selection.now.operands.now tree.now.files ≡ Some fault) }
+    ensures { IsRefusedFor result (first_refused selection.now.recursive selection.now.operands.now tree.now.files) }
 {
     let mut rest = selection.operands.as_slice();
     while let [path, more @ ..] = rest {
@@ -48,7 +48,7 @@ fn check_all(alloc: Global, tree: &Files, selection: &Selection<'_>) -> Result<(
 
 /// The files found, for those that share them.
 fn records(alloc: Global, files: &[Found]) -> Result<Vec<Rc<Record>>, AllocError>
-    ensures { IfOk result (λ all. map (λ r. r.value) all.items ≡ map file_of files.now) }
+    ensures { IfOk result (λ all. values all.items ≡ map file_of files.now) }
 {
     let mut all = Vec::with_capacity(alloc, files.len())?;
     for file in files {

@@ -1,12 +1,11 @@
 //! The users and groups that words mean, and a change of people, staged: no file changes.
 
-ghost use Rattle.std.specs.Prelude.{◌≡◌, [], IfOk, ◌≢◌, ◌<◌, length, Ok, Err, IfErr, OnErr};
-ghost use Rattle.acl_people.specs.KnownPeople.{KnownPeople, persons};
+ghost use Rattle.std.specs.Prelude.{◌≡◌, ◌<◌, length, Err, IfOk, OnErr};
+ghost use Rattle.acl_people.specs.KnownPeople.{persons};
 ghost use Rattle.acl_people.specs.Moves.{ChangesUser, moved_groups};
-ghost use Rattle.acl_files.specs.Sound.{IsSoundTree};
-ghost use Rattle.acl_tree.specs.Inner.{whole};
+ghost use Rattle.acl_tree.specs.Inner.{Gives, IsStaged, StagesPeople, whole};
 ghost use Rattle.acl_tree.specs.Step.{state_from};
-ghost use Rattle.acl_tree.specs.Reports.{move_of, UsersMoved, Reports};
+ghost use Rattle.acl_tree.specs.Reports.{move_of};
 ghost use Rattle.acl_tree.specs.Memberships.{user_at, group_at};
 
 use crate::state::BorrowedState;
@@ -23,10 +22,7 @@ pub(crate) fn stage_people(
     people: People,
     user_change: UserChange,
 ) -> Result<Staged, AllocError>
-    ensures all { IfOk result (λ staged. staged ≡ record { state = state_from tree.now people; changed = []; gone = []; user_change = user_change }) }
-    ensures sound { IfOk result (λ staged. IsSoundTree staged.state.tree) }
-    ensures reports { IfOk result (λ staged. (old : KnownPeople) → UsersMoved (state_from tree.now old) (state_from tree.now people) user_change
-        → Reports (state_from tree.now old) staged) }
+    ensures { IfOk result (StagesPeople tree.now people user_change) }
 {
     tree.soundness_law();
     Ok(Staged::of(
@@ -61,9 +57,7 @@ pub(crate) fn stage_user_change(
 ) -> Result<Staged, AllocError>
     requires { ChangesUser (persons state.now.people.now) (persons next) user }
     ensures state { IfOk result (λ staged. staged.state ≡ state_from state.now.tree.now next) }
-    ensures sound { IfOk result (λ staged. IsSoundTree staged.state.tree) }
-    ensures reports { IfOk result (λ staged. Reports (whole state.now) staged) }
-    ensures moved { IfOk result (λ staged. staged.user_change ≡ move_of user (moved_groups state.now.people.now next user)) }
+    ensures staged { IfOk result (IsStaged (whole state.now) (move_of user (moved_groups state.now.people.now next user))) }
 {
     let groups = state.people.moved_groups(alloc, &next, user)?;
     let staged = stage_people(alloc, state.tree, next, move_of(user, groups))?;
@@ -72,9 +66,8 @@ pub(crate) fn stage_user_change(
 
 /// The place of the user that a word means.
 pub(crate) fn find_user(alloc: Global, people: &People, word: &Name) -> Result<usize, TreeFault>
-    ensures found { IfOk result (λ user. user_at people.now word.now ≡ Ok user) }
+    ensures found { Gives (λ user. user) result (user_at people.now word.now) }
     ensures within { IfOk result (λ user. user < length people.now.users) }
-    ensures fault { IfErr result (λ fault. fault ≢ TreeFault.NoMemory → user_at people.now word.now ≡ Err fault) }
     ensures unknown { OnErr result (user_at people.now word.now ≡ Err (TreeFault.NoSuchUser word.now)) }
 {
     match people.find_user(word.as_bytes()) {
@@ -87,9 +80,8 @@ pub(crate) fn find_user(alloc: Global, people: &People, word: &Name) -> Result<u
 
 /// The place of the group that a word means.
 pub(crate) fn find_group(alloc: Global, people: &People, word: &Name) -> Result<usize, TreeFault>
-    ensures found { IfOk result (λ group. group_at people.now word.now ≡ Ok group) }
+    ensures found { Gives (λ group. group) result (group_at people.now word.now) }
     ensures within { IfOk result (λ group. group < length people.now.groups) }
-    ensures fault { IfErr result (λ fault. fault ≢ TreeFault.NoMemory → group_at people.now word.now ≡ Err fault) }
     ensures unknown { OnErr result (group_at people.now word.now ≡ Err (TreeFault.NoSuchGroup word.now)) }
 {
     match people.find_group(word.as_bytes()) {

@@ -1,12 +1,11 @@
 //! The whole state: the recorded files, and the users and groups; and the state that a command starts from.
 
-ghost use Rattle.std.specs.Prelude.{◌≡◌, IfOk, IfSome, Err};
-ghost use Rattle.acl_files.specs.Sound.{IsSoundTree};
-ghost use Rattle.acl_tree.specs.Step.{nothing, refused_at_once, step, Stages};
-ghost use Rattle.acl_tree.specs.Reports.{users_move, Reports};
+ghost use Rattle.std.specs.Prelude.{◌≡◌, IfOk};
+ghost use Rattle.acl_tree.specs.Step.{nothing};
+ghost use Rattle.acl_tree.specs.Reports.{Prepares, RefusesAtOnce};
 
 use crate::command::Command;
-use crate::step::Staged;
+use crate::step::{Staged, prepare_command};
 use crate::tree::Tree;
 use acl_files::{Files, TreeFault};
 use acl_people::People;
@@ -66,13 +65,10 @@ impl State {
     /// The state after a command, as [`Tree::prepare`] makes it of this state's tree and people, with its errors. This
     /// state stays as it is: a refused command changes nothing.
     pub fn prepare(&self, alloc: Global, command: &Command<'_>) -> Result<Staged, TreeFault>
-        ensures made { Stages (λ s. s.state) result (step self.now command.now) }
-        ensures at_once { IfSome (refused_at_once self.now command.now) (λ fault. result ≡ Err fault) }
-        ensures sound { IfOk result (λ staged. IsSoundTree staged.state.tree) }
-        ensures reports { IfOk result (λ staged. Reports self.now staged) }
-        ensures moved { IfOk result (λ staged. staged.user_change ≡ users_move self.now command.now) }
+        ensures prepares { Prepares self.now command.now result }
+        ensures at_once { RefusesAtOnce self.now command.now result }
     {
-        self.tree.prepare(alloc, &self.people, command)
+        prepare_command(alloc, &self.tree.with_people(&self.people), command)
     }
 
     /// Puts a prepared state in place of this one. Allocates nothing.

@@ -1,10 +1,10 @@
 //! Commands on the whole state: each is prepared whole, or refused; and a prepared command, before it is put in place.
 
-ghost use Rattle.std.specs.Prelude.{◌≡◌, IfSome, Err, length, map, option_map};
-ghost use Rattle.acl_tree.specs.Inner.{Prepares, whole};
-ghost use Rattle.acl_tree.specs.Step.{refused_at_once};
+ghost use Rattle.std.specs.Prelude.{◌≡◌, length, option_map};
+ghost use Rattle.acl_files.specs.acl_names.Made.{values};
+ghost use Rattle.acl_tree.specs.Inner.{whole};
 ghost use Rattle.acl_files.specs.Sound.{IsSoundTree};
-ghost use Rattle.acl_tree.specs.Reports.{memberships_moved, place_joined, place_left};
+ghost use Rattle.acl_tree.specs.Reports.{Prepares, RefusesAtOnce, memberships_moved, place_joined, place_left};
 
 use crate::command::Command;
 use crate::creat::prepare_creat;
@@ -41,7 +41,7 @@ pub(crate) fn prepare_command(
     command: &Command<'_>,
 ) -> Result<Staged, TreeFault>
     ensures prepares { Prepares (whole state.now) command.now result }
-    ensures at_once { IfSome (refused_at_once (whole state.now) command.now) (λ fault. result ≡ Err fault) }
+    ensures at_once { RefusesAtOnce (whole state.now) command.now result }
 {
     match command {
         Command::Load { which, bytes } => prepare_load(alloc, state, *which, bytes),
@@ -84,7 +84,7 @@ pub struct Staged {
 }
 
 impl Model for Staged {
-    ghost use Rattle.std.specs.Prelude.{map};
+    ghost use Rattle.acl_files.specs.acl_names.Made.{values};
     ghost use Rattle.acl_tree.specs.Reports.{StagedState, coded_staged};
 
     ghost Value = { StagedState };
@@ -93,8 +93,8 @@ impl Model for Staged {
 
     ghost view = { λ s. record {
       state = record { tree = s.tree; people = s.people };
-      changed = map (λ r. r.value) s.changed.items;
-      gone = map (λ r. r.value) s.gone.items;
+      changed = values s.changed.items;
+      gone = values s.gone.items;
       user_change = s.user_change;
     } };
 }
@@ -110,8 +110,8 @@ impl Staged {
     ) -> Staged
         ensures all { result ≡ record {
           state = record { tree = files; people = people };
-          changed = map (λ r. r.value) changed.items;
-          gone = map (λ r. r.value) gone.items;
+          changed = values changed.items;
+          gone = values gone.items;
           user_change = user_change;
         } }
         ensures sound { IsSoundTree files }
@@ -143,14 +143,14 @@ impl Staged {
     /// The files after the command that are new, or whose owner, group or access list is another than
     /// before, in path order. It allocates nothing.
     pub fn changed(&self) -> &[Rc<Record>]
-        ensures { map (λ r. r.value) result.now ≡ self.now.changed }
+        ensures { values result.now ≡ self.now.changed }
     {
         &self.changed
     }
 
     /// The files before the command that are recorded no more, in path order. It allocates nothing.
     pub fn gone(&self) -> &[Rc<Record>]
-        ensures { map (λ r. r.value) result.now ≡ self.now.gone }
+        ensures { values result.now ≡ self.now.gone }
     {
         &self.gone
     }

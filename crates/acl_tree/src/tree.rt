@@ -1,16 +1,15 @@
 //! The recorded files, with the commands on them and on the users and groups: each is prepared whole, or refused.
 
-ghost use Rattle.std.specs.Prelude.{◌≡◌, ◌≢◌, None, IfOk, IfErr, IfSome, OnOk, Err};
+ghost use Rattle.std.specs.Prelude.{◌≡◌, IfOk};
 ghost use Rattle.std.specs.FinMap.{find};
 ghost use Rattle.std.specs.Option.{option_copied};
 ghost use Rattle.acl_files.specs.acl_names.Paths.{path_cmp};
 ghost use Rattle.acl_files.specs.Files.{no_files};
-ghost use Rattle.acl_files.specs.Found.{files_found};
-ghost use Rattle.acl_files.specs.Operands.{first_missing, IsMissing};
+ghost use Rattle.acl_files.specs.Found.{Selects};
 ghost use Rattle.acl_files.specs.Sound.{IsSoundTree};
 ghost use Rattle.acl_files.specs.Walks.{within, ancestors};
-ghost use Rattle.acl_tree.specs.Step.{refused_at_once, step, Stages, state_from};
-ghost use Rattle.acl_tree.specs.Reports.{users_move, Reports};
+ghost use Rattle.acl_tree.specs.Step.{state_from};
+ghost use Rattle.acl_tree.specs.Reports.{Prepares, RefusesAtOnce};
 
 use crate::command::Command;
 use crate::state::BorrowedState;
@@ -112,9 +111,7 @@ impl Tree {
     ///
     /// `NoSuchFile` of the first operand that is not recorded, or `NoMemory`.
     pub fn files(&self, alloc: Global, selection: &Selection<'_>) -> Result<Vec<Found>, TreeFault>
-        ensures all { IfOk result (λ files. files.items ≡ files_found selection.now.recursive selection.now.operands.now self.now.files) }
-        ensures there { OnOk result (first_missing selection.now.operands.now self.now.files ≡ None) }
-        ensures reported { IfErr result (λ fault. fault ≢ TreeFault.NoMemory → IsMissing fault (first_missing selection.now.operands.now self.now.files)) }
+        ensures { Selects (λ files. files.items) selection.now self.now.files result }
     {
         self.files.selected(alloc, selection)
     }
@@ -126,6 +123,17 @@ impl Tree {
         ensures { IsSoundTree self.now }
     {
         self.files.soundness_law();
+    }
+
+    /// The state of this tree and these people.
+    pub(crate) fn with_people<'a>(&'a self, people: &'a People) -> BorrowedState<'a>
+        ensures tree { result.tree.now ≡ self.now }
+        ensures people { result.people.now ≡ people.now }
+    {
+        BorrowedState {
+            tree: &self.files,
+            people,
+        }
     }
 
     /// The state after a command on these files and these people. Both stay as they are: a refused command changes
@@ -152,17 +160,10 @@ impl Tree {
         people: &People,
         command: &Command<'_>,
     ) -> Result<Staged, TreeFault>
-        ensures made { Stages (λ s. s.state) result (step (state_from self.now people.now) command.now) }
-        ensures at_once { IfSome (refused_at_once (state_from self.now people.now) command.now) (λ fault. result ≡ Err fault) }
-        ensures sound { IfOk result (λ staged. IsSoundTree staged.state.tree) }
-        ensures reports { IfOk result (λ staged. Reports (state_from self.now people.now) staged) }
-        ensures moved { IfOk result (λ staged. staged.user_change ≡ users_move (state_from self.now people.now) command.now) }
+        ensures prepares { Prepares (state_from self.now people.now) command.now result }
+        ensures at_once { RefusesAtOnce (state_from self.now people.now) command.now result }
     {
-        let state = BorrowedState {
-            tree: &self.files,
-            people,
-        };
-        prepare_command(alloc, &state, command)
+        prepare_command(alloc, &self.with_people(people), command)
     }
 
     /// Puts a prepared state in place of this tree and of its people. Allocates nothing and succeeds.

@@ -1,11 +1,12 @@
 //! useradd(8): one user more.
 
-ghost use Rattle.std.specs.Prelude.{◌≡◌, ◌≢◌, length, Ok, Err, IfOk, IfErr, IfSome};
+ghost use Rattle.std.specs.Prelude.{◌≡◌, length, Err, IfOk, IfSome};
 ghost use Rattle.acl_people.specs.KnownPeople.{persons};
 ghost use Rattle.acl_people.specs.Moves.{JoinsUser};
 ghost use Rattle.acl_tree.specs.Accounts.{useradd};
-ghost use Rattle.acl_tree.specs.Inner.{Prepares, whole};
-ghost use Rattle.acl_tree.specs.Step.{nameless, refused_at_once};
+ghost use Rattle.acl_tree.specs.Inner.{Gives, whole};
+ghost use Rattle.acl_tree.specs.Reports.{Prepares, RefusesAtOnce};
+ghost use Rattle.acl_tree.specs.Step.{nameless};
 ghost use Rattle.acl_tree.specs.declared.command.Command.TheVariants.{Useradd};
 
 use crate::command::NewUser;
@@ -19,9 +20,8 @@ use std::alloc::Global;
 
 /// The people with one user more.
 fn add_user(alloc: Global, people: &People, new: &NewUser) -> Result<People, TreeFault>
-    ensures made { IfOk result (λ next. useradd new.now people.now ≡ Ok (record { user = length people.now.users; people = next })) }
+    ensures made { Gives (λ next. record { user = length people.now.users; people = next }) result (useradd new.now people.now) }
     ensures joins { IfOk result (λ next. JoinsUser (persons people.now) (persons next)) }
-    ensures fault { IfErr result (λ fault. fault ≢ TreeFault.NoMemory → useradd new.now people.now ≡ Err fault) }
     ensures at_once { IfSome (nameless (useradd new.now people.now)) (λ fault. result ≡ Err fault) }
 {
     if people.has_user_named(new.name.as_name().as_bytes()) {
@@ -47,7 +47,7 @@ pub(crate) fn prepare_useradd(
     new: &NewUser,
 ) -> Result<Staged, TreeFault>
     ensures prepares { Prepares (whole state.now) (Useradd new.now) result }
-    ensures at_once { IfSome (refused_at_once (whole state.now) (Useradd new.now)) (λ fault. result ≡ Err fault) }
+    ensures at_once { RefusesAtOnce (whole state.now) (Useradd new.now) result }
 {
     let next = add_user(alloc, state.people, new)?;
     let staged = stage_people(alloc, state.tree, next, UserChange::Added)?;

@@ -1,6 +1,7 @@
 //! userdel(8): one user fewer.
 
-ghost use Rattle.acl_tree.specs.Inner.{Prepares, whole};
+ghost use Rattle.acl_tree.specs.Inner.{whole};
+ghost use Rattle.acl_tree.specs.Reports.{Prepares};
 ghost use Rattle.acl_tree.specs.declared.command.Command.TheVariants.{Userdel};
 
 use crate::stage_people::{find_user, stage_people};

@@ -1,6 +1,7 @@
 //! usermod(8): a user's primary group is another.
 
-ghost use Rattle.acl_tree.specs.Inner.{Prepares, whole};
+ghost use Rattle.acl_tree.specs.Inner.{whole};
+ghost use Rattle.acl_tree.specs.Reports.{Prepares};
 ghost use Rattle.acl_tree.specs.declared.command.Command.TheVariants.{Usermod};
 
 use crate::stage_people::{find_group, find_user, stage_user_change};

@@ -21,7 +21,7 @@ returns-in-Ok c =
       made =
           ap (λ missing. or_missing missing staged) (ap (λ ps. first_missing ps old.files) (sym c.as_slice.ensures) ∙ c.in_ok-look_up.ensures.all)
           ∙ ap (λ s. Ok s) (sym is);
-      sound = c.in-Ok.ensures.sound;
-      reports = c.in-Ok.ensures.reports;
-      moved = c.in-Ok.ensures.moved;
+      sound = c.in-Ok.ensures.staged.sound;
+      reports = c.in-Ok.ensures.staged.reports;
+      moved = c.in-Ok.ensures.staged.moved;
     }

@@ -61,7 +61,7 @@ returns c =
     let is : c.of-2.result.state ≡ whole = ap (λ s. s.state) c.of-2.ensures.all ∙ (λ i. record { tree = new i; people = c.in_ok-share.ensures i }) in
     let files : c.of-2.result.state.tree.files ≡ without_files r paths t = ap (λ s. s.tree.files) is in
     let is_gone : c.of-2.result.gone ≡ meant = ap (λ s. s.gone) c.of-2.ensures.all ∙ gone in
-    let may : first_refused r paths t ≡ None = c.in_ok-check_all.ensures.ok in
+    let may : first_refused r paths t ≡ None = c.in_ok-check_all.ensures in
     record {
       made =
           ap (λ o. with_tree old (or_refused o tree)) may

@@ -1,9 +1,8 @@
-use Rattle.std.proofs.Common.{◌≡◌, sym, subst}
-use Rattle.std.specs.Prelude.{IfSome, Err}
+use Rattle.std.proofs.Common.{sym, subst}
 use Rattle.acl_files.specs.declared.selection.Selection.{Selection}
 use Rattle.acl_tree.specs.declared.command.Command.TheVariants as commands
-use Rattle.acl_tree.specs.Step.{refused_at_once}
-use Rattle.acl_tree.specs.Inner.{Prepares, whole}
+use Rattle.acl_tree.specs.Inner.{whole}
+use Rattle.acl_tree.specs.Reports.{Prepares, RefusesAtOnce}
 use Rattle.acl_tree.proofs.AtOnce.{loaded_at_once}
 use Rattle.acl_tree.proofs.step.prepare_command.Goals as goal
 
@@ -11,13 +10,13 @@ pub returns-in-Load-clause-prepares : goal.returns-in-Load-clause-prepares
 returns-in-Load-clause-prepares c = subst (λ command. Prepares (whole c.args.state.now) command c.prepare_load.result) (sym c.in-Load.is) c.prepare_load.ensures.prepares
 
 pub returns-in-Load-clause-at_once : goal.returns-in-Load-clause-at_once
-returns-in-Load-clause-at_once c = subst (λ command. IfSome (refused_at_once (whole c.args.state.now) command) (λ fault. c.prepare_load.result ≡ Err fault)) (sym c.in-Load.is) (loaded_at_once _ c.prepare_load.result c.prepare_load.ensures.loaded)
+returns-in-Load-clause-at_once c = subst (λ command. RefusesAtOnce (whole c.args.state.now) command c.prepare_load.result) (sym c.in-Load.is) (loaded_at_once _ c.prepare_load.result c.prepare_load.ensures.loaded)
 
 pub returns-in-Gpasswd-clause-at_once : goal.returns-in-Gpasswd-clause-at_once
-returns-in-Gpasswd-clause-at_once c = subst (λ command. IfSome (refused_at_once (whole c.args.state.now) command) (λ fault. c.prepare_gpasswd.result ≡ Err fault)) (sym c.in-Gpasswd.is) c.prepare_gpasswd.ensures.at_once
+returns-in-Gpasswd-clause-at_once c = subst (λ command. RefusesAtOnce (whole c.args.state.now) command c.prepare_gpasswd.result) (sym c.in-Gpasswd.is) c.prepare_gpasswd.ensures.at_once
 
 pub returns-in-Useradd-clause-at_once : goal.returns-in-Useradd-clause-at_once
-returns-in-Useradd-clause-at_once c = subst (λ command. IfSome (refused_at_once (whole c.args.state.now) command) (λ fault. c.prepare_useradd.result ≡ Err fault)) (sym c.in-Useradd.is) c.prepare_useradd.ensures.at_once
+returns-in-Useradd-clause-at_once c = subst (λ command. RefusesAtOnce (whole c.args.state.now) command c.prepare_useradd.result) (sym c.in-Useradd.is) c.prepare_useradd.ensures.at_once
 
 pub returns-in-Chmod-clause-prepares : goal.returns-in-Chmod-clause-prepares
 returns-in-Chmod-clause-prepares c = subst (λ command. Prepares (whole c.args.state.now) command c.prepare_chmod.result) (sym c.in-Chmod.is)
