@@ -16,6 +16,9 @@ use Rattle.path_map.specs.Merged.{put_all}
 use Rattle.path_map.proofs.Merges.{in_order-put_all}
 use Rattle.path_map.proofs.Rows.{find_put_all}
 use Rattle.acl_rights.specs.declared.lists.GroupLists.{GroupLists}
+use Rattle.acl_tree.specs.declared.user_change.UserChange.{UserChange}
+use Rattle.acl_tree.specs.declared.user_change.UserChange.TheVariants.{Unchanged, Loaded, Memberships, Added, Removed}
+use Rattle.acl_rights.specs.Stages.{moves_looked, most_looked}
 use Rattle.acl_rights.specs.Groups.{mentions_group, mentions_one, set_of, mentioning, list_at, AreLists, sum_mentioning}
 use Rattle.acl_rights.specs.Inner.{has_one}
 use Rattle.acl_verdicts.proofs.Maps.{map_filter, find-values, find-filter, if_passes, same_found}
@@ -146,6 +149,13 @@ pub looked_le : (groups : List ℕ) (fs : Files) → length (filter (mentions_on
 looked_le groups fs =
     let is = ap length (sym (ones_are groups fs)) ∙ length-filter (has_one groups) fs in
     omega (arith, is, count_ones groups fs)
+
+pub moves_looked_le : (move : UserChange) (fs : Files) → moves_looked move fs ≤ most_looked move fs
+moves_looked_le Unchanged fs = omega arith
+moves_looked_le Loaded fs = omega arith
+moves_looked_le (Memberships user groups) fs = omega (arith, length-filter (mentions_one groups) fs, looked_le groups fs)
+moves_looked_le Added fs = omega arith
+moves_looked_le (Removed user) fs = omega arith
 
 pub set_paths : (fs : Files) → map (λ (e : PathOf × Unit {0}). e.0) (set_of fs) ≡ map (λ (e : PathOf × Node). e.0) fs
 set_paths [] = refl

@@ -1,5 +1,5 @@
 -- For inner functions: no public contract names these definitions.
-use Rattle.std.specs.Prelude.{◌≡◌, ℕ, ◌==◌, ◌&&◌, Bool, true, false, not, List, [], ◌∷◌, map, filter}
+use Rattle.std.specs.Prelude.{◌≡◌, ℕ, ◌==◌, ◌&&◌, Bool, true, false, not, if◌then◌else◌, List, [], ◌∷◌, ◌++◌, filter}
 use Rattle.std.specs.List.{list_any}
 use Rattle.std.specs.Option.{option_map_or}
 use Rattle.std.specs.Ordering.{nat_cmp}
@@ -11,12 +11,13 @@ use Rattle.std.specs.declared.vec.Vec.{Vec}
 use Rattle.acl_tree.specs.acl_entry.Mentions.{mentions, is_one_of}
 use Rattle.acl_tree.specs.acl_entry.declared.label.Label.{Label}
 use Rattle.acl_tree.specs.acl_names.Paths.{path_cmp}
+use Rattle.acl_tree.specs.acl_names.Made.{values}
 use Rattle.acl_tree.specs.acl_edit.declared.node.Node.{Node}
 use Rattle.acl_tree.specs.Files.{PathOf, Files}
 use Rattle.path_map.specs.Entries.{IsInOrder}
 use Rattle.path_map.specs.Merged.{merged, without_all}
 use Rattle.acl_rights.specs.declared.lists.ListChanges.{ListChanges}
-use Rattle.acl_rights.specs.Groups.{mentions_group, PathSet}
+use Rattle.acl_rights.specs.Groups.{mentions_group, set_of, PathSet}
 
 -- a file mentions one of the groups, each looked for by itself
 abbrev pub has_one : List ℕ → PathOf × Node → Bool
@@ -48,7 +49,22 @@ abbrev pub ByGroups : Type 0
 ByGroups = BTreeMap ℕ (Vec (Rc (PathOf × Unit {0}) Global) Global)
 
 abbrev pub noted_at : ByGroups → ℕ → PathSet
-noted_at noted g = option_map_or (λ entries. map (λ e. e.value) entries.items) (get nat_cmp noted g) []
+noted_at noted g = option_map_or (λ entries. values entries.items) (get nat_cmp noted g) []
+
+-- a path is noted, after the others, for the groups that pass a test
+abbrev pub Notes : (old new : ByGroups) → PathOf → (test : ℕ → Bool) → Type 0
+Notes old new p test = (g : ℕ) → noted_at new g ≡ noted_at old g ++ (if test g then (p, tt) ∷ [] else [])
+
+-- for each group the noted paths are those of the files that pass its test
+abbrev pub AreNoted : (test : ℕ → PathOf × Node → Bool) → Files → ByGroups → Type 0
+AreNoted test fs noted = (g : ℕ) → noted_at noted g ≡ set_of (filter (test g) fs)
+
+-- by groups what is noted: of changed files that mention other groups than before, those that mention a group now, and those
+-- that did before; of files that are gone, those that mentioned it
+pub record AreNotedOf (old changed left : Files) (noted : ListChanges) : Type 0 where
+  pub puts : AreNoted mentions_group (regrouped old changed) noted.puts
+  pub before : AreNoted (mentioned_group old) (regrouped old changed) noted.before
+  pub gone : AreNoted mentions_group left noted.gone
 
 -- a group's list with the noted paths put and removed
 abbrev pub list_with : ListChanges → ℕ → PathSet → PathSet

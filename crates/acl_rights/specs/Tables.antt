@@ -1,10 +1,15 @@
 -- The whole table of verdicts of a state.
-use Rattle.std.specs.Prelude.{◌≡◌, ℕ, List, length, map, filter, slice_get, Option, option_map, option_and_then, refl}
+use Rattle.std.specs.Prelude.{◌≡◌, ℕ, List, length, map, filter, slice_get, Option, Some, None, option_map, option_and_then, nat_lt, if◌then◌else◌, Result, IfOk, refl}
 use Rattle.std.specs.Coded.{Coded, code_by, coded×, coded_ℕ}
 use Rattle.std.specs.FinMap.{find}
+use Rattle.std.specs.declared.alloc.Global.{Global}
+use Rattle.std.specs.declared.rc.Rc.{Rc}
+use Rattle.std.specs.declared.vec.Vec.{Vec}
 use Rattle.acl_tree.specs.acl_entry.Check.{has}
 use Rattle.acl_tree.specs.acl_entry.Perms.{Perms}
 use Rattle.acl_tree.specs.acl_names.Paths.{path_cmp}
+use Rattle.acl_tree.specs.acl_names.Made.{values}
+use Rattle.acl_tree.specs.acl_names.declared.path.Path.{Path}
 use Rattle.acl_tree.specs.acl_people.KnownPeople.{persons}
 use Rattle.acl_tree.specs.Files.{PathOf, Files}
 use Rattle.acl_tree.specs.Step.{State}
@@ -40,6 +45,21 @@ coded_staged = code_by (VerdictTable × (ℕ × ℕ)) (coded× coded_table (code
 
 abbrev pub cell_at : VerdictTable → ℕ → PathOf → Option ℕ
 cell_at t user p = option_and_then (λ cells. slice_get cells user) (find path_cmp p t.rows)
+
+-- the users to whom rows grant a request on a file, if it is there
+abbrev pub who_at : Rows → PathOf → Perms → Option (List ℕ)
+who_at rows p q = option_map (who_in q) (find path_cmp p rows)
+
+-- the files on which rows of so many users grant a request to a user, if the user is there
+abbrev pub may_at : (users : ℕ) → Rows → ℕ → Perms → Option (List PathOf)
+may_at users rows user q = if nat_lt user users then Some (may_in q user rows) else None
+
+-- the places of users, or the paths of files, that a call returns unless memory runs out
+abbrev pub FindsUsers : {E : Type 0} → Result (Option (Vec ℕ Global)) E → Option (List ℕ) → Type 0
+FindsUsers r places = IfOk r (λ found. option_map (λ users. users.items) found ≡ places)
+
+abbrev pub FindsFiles : {E : Type 0} → Result (Option (Vec (Rc Path Global) Global)) E → Option (List PathOf) → Type 0
+FindsFiles r paths = IfOk r (λ found. option_map (λ files. values files.items) found ≡ paths)
 
 -- ---- what is asked of a state
 

@@ -1,9 +1,12 @@
 //! The index: the whole table of verdicts of a state, and of verdicts along paths.
 
-ghost use Rattle.std.specs.Prelude.{◌≡◌, ◌+◌, ◌*◌, ◌<◌, ◌≤◌, ◌^◌, length, IfOk, OnOk, true};
+ghost use Rattle.std.specs.Prelude.{◌≡◌, ◌+◌, ◌<◌, ◌≤◌, ◌^◌, length, IfOk, true};
 ghost use Rattle.acl_tree.specs.acl_people.KnownPeople.{persons};
+ghost use Rattle.acl_tree.specs.Step.{state_from};
+ghost use Rattle.acl_verdicts.specs.Rows.{Asks};
+ghost use Rattle.acl_rights.specs.Costs.{all_pairs};
 ghost use Rattle.acl_rights.specs.Tables.{rows_of};
-ghost use Rattle.acl_rights.specs.Grants.{rows_at, AreGrants};
+ghost use Rattle.acl_rights.specs.Grants.{rows_at, AreGrants, table_of};
 
 use crate::lists::{GroupLists, records};
 use crate::stage::{After, after_line};
@@ -26,13 +29,13 @@ pub(crate) struct VerdictTable {
 impl Model for VerdictTable {
     ghost use Rattle.acl_rights.specs.Tables.{VerdictTable as Whole, coded_table};
     ghost use Rattle.acl_rights.specs.Groups.{AreLists};
-    ghost use Rattle.acl_rights.specs.Grants.{rows_at, AreGrants};
+    ghost use Rattle.acl_rights.specs.Grants.{AreGrants, table_of};
 
     ghost Value = { Whole };
 
     ghost coded = { coded_table };
 
-    ghost view = { λ a. record { users = a.users; files = a.tree.files; rows = rows_at a.grants } };
+    ghost view = { λ a. table_of a.users a.tree.files a.grants };
 
     ghost invariant = { λ a. AreLists a.tree.files a.lists × AreGrants a.tree.files a.grants };
 }
@@ -50,7 +53,7 @@ impl VerdictTable {
     ) -> Result<VerdictTable, AllocError>
         requires lists { AreLists tree.now.files lists }
         requires grants { AreGrants tree.now.files grants }
-        ensures { IfOk result (λ table. table ≡ record { users = users; files = tree.now.files; rows = rows_at grants }) }
+        ensures { IfOk result (λ table. table ≡ table_of users tree.now.files grants) }
     {
         Ok(VerdictTable {
             users,
@@ -68,7 +71,7 @@ impl VerdictTable {
         grants: Grants,
     ) -> Result<VerdictTable, AllocError>
         requires { AreGrants tree.now.files grants }
-        ensures { IfOk result (λ table. table ≡ record { users = users; files = tree.now.files; rows = rows_at grants }) }
+        ensures { IfOk result (λ table. table ≡ table_of users tree.now.files grants) }
     {
         let lists = GroupLists::of_tree(alloc, tree)?;
         VerdictTable::of(users, tree, grants, lists)
@@ -84,7 +87,7 @@ impl VerdictTable {
         requires changed { staged.now.changed ≡ changed_between self.now.files staged.now.state.tree.files }
         requires gone { staged.now.gone ≡ gone_between self.now.files staged.now.state.tree.files }
         requires grants { AreGrants staged.now.state.tree.files grants }
-        ensures { IfOk result (λ table. table ≡ record { users = length staged.now.state.people.users; files = staged.now.state.tree.files; rows = rows_at grants }) }
+        ensures { IfOk result (λ table. table ≡ table_of (length staged.now.state.people.users) staged.now.state.tree.files grants) }
     {
         let tree = staged.tree();
         let lists = self
@@ -163,11 +166,10 @@ fn all_granted<J: Judge>(
     tree: &Tree,
     people: &People,
 ) -> Result<Grants, AllocError>
-    requires room { J.asked_of judge.old + length tree.now.files * length people.now.users < 2 ^ 64 }
+    requires room { J.asked_of judge.old + all_pairs (state_from tree.now people.now) < 2 ^ 64 }
     ensures grants { IfOk result (λ new. AreGrants tree.now.files new) }
     ensures rows { IfOk result (λ new. rows_at new ≡ rows_of J.verdict_of (persons people.now) tree.now.files) }
-    ensures asked { OnOk result (J.asked_of judge.new ≡ J.asked_of judge.old + length tree.now.files * length people.now.users) }
-    ensures at_most { J.asked_of judge.new ≤ J.asked_of judge.old + length tree.now.files * length people.now.users }
+    ensures asked { Asks result (J.asked_of judge.old) (J.asked_of judge.new) (all_pairs (state_from tree.now people.now)) }
 {
     tree.soundness_law();
     let files = records(alloc, tree)?;
@@ -189,10 +191,9 @@ impl<J: Judge> Index<J> {
         tree: &Tree,
         people: &People,
     ) -> Result<Index<J>, NoMemory>
-        requires room { J.asked_of judge.old + length tree.now.files * length people.now.users < 2 ^ 64 }
-        ensures whole { IfOk result (λ index. IsWhole J.verdict_of (record { tree = tree.now; people = people.now }) index) }
-        ensures asked { OnOk result (J.asked_of judge.new ≡ J.asked_of judge.old + length tree.now.files * length people.now.users) }
-        ensures at_most { J.asked_of judge.new ≤ J.asked_of judge.old + length tree.now.files * length people.now.users }
+        requires room { J.asked_of judge.old + all_pairs (state_from tree.now people.now) < 2 ^ 64 }
+        ensures whole { IfOk result (λ index. IsWhole J.verdict_of (state_from tree.now people.now) index) }
+        ensures asked { Asks result (J.asked_of judge.old) (J.asked_of judge.new) (all_pairs (state_from tree.now people.now)) }
     {
         let grants = all_granted(alloc, judge, tree, people)?;
         let table = VerdictTable::with_lists(alloc, people.users(), tree, grants)?;
@@ -205,11 +206,11 @@ impl<J: Judge> Index<J> {
     /// The table of the state after a line. The judge is asked for verdicts that the line can have changed, and
     /// for no others. Fails only if memory runs out.
     pub fn stage(&self, alloc: Global, judge: &mut J, staged: &Staged) -> Result<Rows, NoMemory>
-        requires room { J.asked_of judge.old + length staged.now.state.tree.files * length staged.now.state.people.users < 2 ^ 64 }
+        requires room { J.asked_of judge.old + all_pairs staged.now.state < 2 ^ 64 }
         requires goes { CanStage J.verdict_of self.now staged.now }
         ensures whole { IfOk result (λ rows. IsWhole J.verdict_of staged.now.state rows.table) }
         ensures at_most { J.asked_of judge.new ≤ J.asked_of judge.old + most_asked staged.now }
-        ensures bounded { J.asked_of judge.new ≤ J.asked_of judge.old + length staged.now.state.tree.files * length staged.now.state.people.users }
+        ensures bounded { J.asked_of judge.new ≤ J.asked_of judge.old + all_pairs staged.now.state }
         ensures looked { IfOk result (λ rows. rows.looked ≡ moves_looked staged.now.user_change staged.now.state.tree.files) }
         ensures looked_most { IfOk result (λ rows. rows.looked ≤ most_looked staged.now.user_change staged.now.state.tree.files) }
         ensures looked_least { IfOk result (λ rows. moves_groups staged.now.user_change ≡ true → J.asked_of judge.new ≤ J.asked_of judge.old + rows.looked) }

@@ -1,16 +1,21 @@
-//! A state with the index of who may do what in it, and what users are granted in it, with or without search along the path.
+//! A state with the index of who may do what in it, and what users are granted in it, with or without search along the path;
+//! the present one with the one after the texts were loaded, the states that the lines of a script see.
 
-ghost use Rattle.std.specs.Prelude.{◌≡◌, ◌+◌, ◌*◌, ◌<◌, ◌≤◌, ◌^◌, length, IfOk, OnOk, map, option_map};
+ghost use Rattle.std.specs.Prelude.{◌≡◌, ◌+◌, ◌<◌, ◌≤◌, ◌^◌, IfOk, OnOk, OnErr};
 ghost use Rattle.acl_tree.specs.Reports.{Reports};
 ghost use Rattle.acl_rights.specs.Stages.{most_asked};
-ghost use Rattle.acl_rights.specs.Tables.{IsWhole};
+ghost use Rattle.acl_verdicts.specs.Rows.{Asks};
+ghost use Rattle.acl_rights.specs.Costs.{all_pairs, most_pairs, most_between};
+ghost use Rattle.acl_rights.specs.Tables.{IsWhole, FindsUsers, FindsFiles};
 ghost use Rattle.acl_rights.specs.Verdicts.{can_requests, users_granted, paths_granted, rows_granted};
+ghost use Rattle.acl_rights.specs.States.{IsPrepared, from_start, loaded_state, states_after, states_in, state_after, most_after};
 
 use crate::index::Index;
 use acl_tree::{Path, Perm, Requests, Staged, State};
 use acl_verdicts::{FileRows, Judge};
 use std::alloc::{AllocError, Global};
 use std::marker::Model;
+use std::mem;
 use std::rc::Rc;
 
 /// A state with its index of who may do what, which is the whole table of that state. To a contract it is the state.
@@ -37,10 +42,9 @@ impl<J: Judge> IndexedState<J> {
     /// A state with its index, for which the judge is asked about every user and every file. Fails only if memory
     /// runs out.
     pub fn build(alloc: Global, judge: &mut J, state: State) -> Result<IndexedState<J>, AllocError>
-        requires room { J.asked_of judge.old + length state.tree.files * length state.people.users < 2 ^ 64 }
+        requires room { J.asked_of judge.old + all_pairs state < 2 ^ 64 }
         ensures state { IfOk result (λ indexed. indexed ≡ state) }
-        ensures asked { OnOk result (J.asked_of judge.new ≡ J.asked_of judge.old + length state.tree.files * length state.people.users) }
-        ensures at_most { J.asked_of judge.new ≤ J.asked_of judge.old + length state.tree.files * length state.people.users }
+        ensures asked { Asks result (J.asked_of judge.old) (J.asked_of judge.new) (all_pairs state) }
     {
         match Index::build(alloc, judge, state.tree(), state.people()) {
             Ok(index) => Ok(IndexedState { state, index }),
@@ -59,11 +63,11 @@ impl<J: Judge> IndexedState<J> {
         judge: &mut J,
         staged: Staged,
     ) -> Result<IndexedState<J>, AllocError>
-        requires room { J.asked_of judge.old + length staged.state.tree.files * length staged.state.people.users < 2 ^ 64 }
+        requires room { J.asked_of judge.old + all_pairs staged.state < 2 ^ 64 }
         requires reports { Reports self.now staged }
         ensures state { IfOk result (λ indexed. indexed ≡ staged.state) }
         ensures at_most { J.asked_of judge.new ≤ J.asked_of judge.old + most_asked staged }
-        ensures bounded { J.asked_of judge.new ≤ J.asked_of judge.old + length staged.state.tree.files * length staged.state.people.users }
+        ensures bounded { J.asked_of judge.new ≤ J.asked_of judge.old + all_pairs staged.state }
     {
         match self.index.stage(alloc, judge, &staged) {
             Ok(rows) => Ok(IndexedState {
@@ -128,8 +132,7 @@ impl<'a, J: Judge> Verdicts<'a, J> {
         path: &Path,
         request: Perm,
     ) -> Result<Option<Vec<usize>>, AllocError>
-        ensures { IfOk result (λ found. option_map (λ users. users.items) found
-            ≡ users_granted J.verdict_of self.now.along self.now.state.now path.now request) }
+        ensures { FindsUsers result (users_granted J.verdict_of self.now.along self.now.state.now path.now request) }
     {
         let index = self.state.index();
         if self.along {
@@ -147,8 +150,7 @@ impl<'a, J: Judge> Verdicts<'a, J> {
         user: usize,
         request: Perm,
     ) -> Result<Option<Vec<Rc<Path>>>, AllocError>
-        ensures { IfOk result (λ found. option_map (λ paths. map (λ p. p.value) paths.items) found
-            ≡ paths_granted J.verdict_of self.now.along self.now.state.now user request) }
+        ensures { FindsFiles result (paths_granted J.verdict_of self.now.along self.now.state.now user request) }
     {
         let index = self.state.index();
         if self.along {
@@ -165,4 +167,120 @@ impl<'a, J: Judge> Verdicts<'a, J> {
         let index = self.state.index();
         index.file_rows(self.along)
     }
+}
+
+/// The present state with its index, and the one after the texts were loaded. Both share what did not change.
+#[derive(Drop)]
+pub struct IndexedStates<J: Judge> {
+    pub state: IndexedState<J>,
+    /// The state after the texts were loaded; `None` where no line that may change the state was accepted since.
+    pub loaded: Option<IndexedState<J>>,
+}
+
+impl<J: Judge> IndexedStates<J> {
+    /// A state with its index, for which the judge is asked about every user and every file. Fails only if memory
+    /// runs out.
+    pub fn new(alloc: Global, judge: &mut J, state: State) -> Result<IndexedStates<J>, AllocError>
+        requires { J.asked_of judge.old ≡ 0 }
+        ensures state { IfOk result (λ indexed_states. states_in indexed_states ≡ from_start state) }
+        ensures asked { OnOk result (J.asked_of judge.new ≡ all_pairs state) }
+        ensures at_most { J.asked_of judge.new ≤ all_pairs state }
+        ensures few { all_pairs state ≤ most_pairs }
+    {
+        state.tree().soundness_law();
+        state.people().soundness_law();
+        let state = IndexedState::build(alloc, judge, state)?;
+        Ok(IndexedStates {
+            state,
+            loaded: None,
+        })
+    }
+
+    /// The state after the texts were loaded, with its index.
+    pub fn loaded(&self) -> &IndexedState<J>
+        ensures { result.now ≡ loaded_state self.now }
+    {
+        match &self.loaded {
+            Some(loaded) => loaded,
+            None => &self.state,
+        }
+    }
+
+    /// Forgets the state after the texts were loaded: it is the present one, where a load begins again. Allocates
+    /// nothing.
+    fn begin_again(&mut self, loads: bool)
+        ensures { states_in self.new ≡ states_after loads (states_in self.old) self.old.state }
+    {
+        if loads {
+            drop(self.loaded.take());
+        }
+    }
+
+    /// Puts a state in place of the present one, which is kept where no line has changed the state since the texts were
+    /// loaded. Allocates nothing.
+    fn put(&mut self, state: IndexedState<J>)
+        ensures loaded { loaded_state self.new ≡ loaded_state self.old }
+        ensures state { self.new.state ≡ state }
+    {
+        let before = mem::replace(&mut self.state, state);
+        let _loaded = self.loaded.get_or_insert(before);
+    }
+
+    /// Puts a prepared state with its index in place of the present one; where a load prepared it, it is the state after
+    /// the texts were loaded too. The index is made first, which fails only if memory runs out: then the prepared state
+    /// is discarded, and all is as it was.
+    fn accept(
+        &mut self,
+        alloc: Global,
+        judge: &mut J,
+        staged: Staged,
+        loads: bool,
+    ) -> Result<(), AllocError>
+        requires room { J.asked_of judge.old + most_pairs < 2 ^ 64 }
+        requires reports { Reports self.old.state staged }
+        ensures state { OnOk result (states_in self.new ≡ states_after loads (states_in self.old) staged.state) }
+        ensures unchanged { OnErr result (self.new ≡ self.old) }
+        ensures asked { J.asked_of judge.new ≤ J.asked_of judge.old + most_between self.old.state staged.state staged.user_change }
+        ensures few { J.asked_of judge.new ≤ J.asked_of judge.old + most_pairs }
+    {
+        staged.tree().soundness_law();
+        staged.people().soundness_law();
+        let state = self.state.after(alloc, judge, staged)?;
+        self.put(state);
+        self.begin_again(loads);
+        Ok(())
+    }
+
+    /// Puts a prepared state, if there is one, with its index in place of the present one; after a load it is the state
+    /// after the texts were loaded too. Fails only if memory runs out: then both states stay, and the prepared one is
+    /// discarded.
+    pub fn accept_if(
+        &mut self,
+        alloc: Global,
+        judge: &mut J,
+        staged: Option<Staged>,
+        loads: bool,
+    ) -> Result<(), AllocError>
+        requires room { J.asked_of judge.old + most_pairs < 2 ^ 64 }
+        requires prepared { IsPrepared self.old.state staged }
+        ensures state { OnOk result (states_in self.new ≡ states_after loads (states_in self.old) (state_after staged self.old.state)) }
+        ensures unchanged { OnErr result (self.new ≡ self.old) }
+        ensures asked { J.asked_of judge.new ≤ J.asked_of judge.old + most_after staged self.old.state }
+        ensures few { J.asked_of judge.new ≤ J.asked_of judge.old + most_pairs }
+    {
+        match staged {
+            Some(staged) => self.accept(alloc, judge, staged, loads),
+            None => {
+                self.begin_again(loads);
+                Ok(())
+            }
+        }
+    }
+}
+
+/// The state after the texts were loaded, and the present one: what contracts know of a session.
+#[derive(Drop)]
+pub struct States {
+    pub loaded: State,
+    pub now: State,
 }

@@ -4,7 +4,6 @@
 
 mod index;
 mod indexed;
-mod indexed_states;
 mod lists;
 mod mentioned;
 mod paths_of_groups;
@@ -23,5 +22,4 @@ pub use acl_tree::{
 };
 pub use acl_verdicts::{FileRow, FileRows, Judge, Posix, Subjects, same_row};
 pub use index::{Index, Rows};
-pub use indexed::{IndexedState, Verdicts};
-pub use indexed_states::{IndexedStates, States};
+pub use indexed::{IndexedState, IndexedStates, States, Verdicts};

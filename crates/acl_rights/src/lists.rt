@@ -1,14 +1,15 @@
 //! By groups the paths of the files that mention them: of all files, and of some in one pass over these.
 
-ghost use Rattle.std.specs.Prelude.{◌≡◌, ◌==◌, [], if◌then◌else◌, ℕ, map, IfOk, OnOk, ◌++◌, ◌∷◌, false, filter};
+ghost use Rattle.std.specs.Prelude.{◌≡◌, ◌==◌, [], if◌then◌else◌, ℕ, IfOk, OnOk, ◌++◌, ◌∷◌, false};
 ghost use Rattle.std.specs.Option.{option_map_or};
 ghost use Rattle.path_map.specs.Entries.{IsInOrder};
 ghost use Rattle.path_map.specs.Merged.{merged, without_all};
 ghost use Rattle.acl_tree.specs.Changed.{changed_between, gone_between};
-ghost use Rattle.acl_rights.specs.Groups.{AreLists, list_at, mentions_group, set_of, mentioning};
-ghost use Rattle.acl_rights.specs.Inner.{AreInOrder, kept_at, list_with, noted_at, mentioned_group, regrouped, AreNone};
+ghost use Rattle.acl_rights.specs.Groups.{AreLists, list_at, mentions_group};
+ghost use Rattle.acl_rights.specs.Inner.{AreInOrder, kept_at, list_with, noted_at, mentioned_group, Notes, AreNoted, AreNotedOf, AreNone};
 ghost use Rattle.acl_tree.specs.acl_entry.Mentions.{mentions, is_one_of};
 ghost use Rattle.std.specs.BTreeMap.{keys};
+ghost use Rattle.acl_tree.specs.acl_names.Made.{values};
 
 use crate::mentioned::regrouped;
 use acl_tree::{FilesFinder, Id, Label, Path, Record, Tree, rising_ids};
@@ -32,11 +33,10 @@ fn list_after(
     before: &[Rc<MapEntry<()>>],
     gone: &[Rc<MapEntry<()>>],
 ) -> Result<PathMap<()>, AllocError>
-    requires puts { IsInOrder (map (λ e. e.value) puts.now) }
-    requires before { IsInOrder (map (λ e. e.value) before.now) }
-    requires gone { IsInOrder (map (λ e. e.value) gone.now) }
-    ensures { IfOk result (λ new. new ≡ without_all (map (λ e. e.value) gone.now) (merged (map (λ e. e.value) puts.now)
-        (map (λ e. e.value) before.now) list.now)) }
+    requires puts { IsInOrder (values puts.now) }
+    requires before { IsInOrder (values before.now) }
+    requires gone { IsInOrder (values gone.now) }
+    ensures { IfOk result (λ new. new ≡ without_all (values gone.now) (merged (values puts.now) (values before.now) list.now)) }
 {
     let first = list.merged(alloc, puts, before)?;
     let new = first.without_all(alloc, gone)?;
@@ -69,7 +69,7 @@ fn copied(
 
 /// The files of a tree.
 pub(crate) fn records(alloc: Global, tree: &Tree) -> Result<Vec<Rc<Record>>, AllocError>
-    ensures { IfOk result (λ records. map (λ r. r.value) records.items ≡ tree.now.files) }
+    ensures { IfOk result (λ records. values records.items ≡ tree.now.files) }
 {
     let mut records = Vec::new(alloc);
     let mut files = tree.iter();
@@ -175,8 +175,8 @@ impl GroupLists {
         gone: &[Rc<Record>],
     ) -> Result<GroupLists, AllocError>
         requires lists { AreLists old.now.files self.now }
-        requires changed { map (λ r. r.value) changed.now ≡ changed_between old.now.files new.now.files }
-        requires gone { map (λ r. r.value) gone.now ≡ gone_between old.now.files new.now.files }
+        requires changed { values changed.now ≡ changed_between old.now.files new.now.files }
+        requires gone { values gone.now ≡ gone_between old.now.files new.now.files }
         ensures { IfOk result (λ lists. AreLists new.now.files lists) }
     {
         old.soundness_law();
@@ -212,8 +212,7 @@ fn note_label(
     path: &Rc<Path>,
     label: &Label,
 ) -> Result<(), AllocError>
-    ensures { OnOk result ((g : ℕ) → noted_at noted.new g ≡ noted_at noted.old g
-        ++ (if is_one_of g (mentions label.now) then (path.now.value, tt) ∷ [] else [])) }
+    ensures { OnOk result (Notes noted.old noted.new path.now.value (λ g. is_one_of g (mentions label.now))) }
 {
     let entry = Rc::new(alloc, MapEntry::new(path.clone()?, ()))?;
     let groups = rising_ids(label.mentions(alloc)?)?;
@@ -229,7 +228,7 @@ fn note_file(
     noted: &mut BTreeMap<Id, Vec<Rc<MapEntry<()>>>>,
     file: &Record,
 ) -> Result<(), AllocError>
-    ensures { OnOk result ((g : ℕ) → noted_at noted.new g ≡ noted_at noted.old g ++ (if mentions_group g file.now then (file.now.0, tt) ∷ [] else [])) }
+    ensures { OnOk result (Notes noted.old noted.new file.now.0 (λ g. mentions_group g file.now)) }
 {
     note_label(alloc, noted, file.shared_path(), &file.value().label)
 }
@@ -239,7 +238,7 @@ pub(crate) fn noted_of(
     alloc: Global,
     files: &[Rc<Record>],
 ) -> Result<BTreeMap<Id, Vec<Rc<MapEntry<()>>>>, AllocError>
-    ensures { IfOk result (λ noted. (g : ℕ) → noted_at noted g ≡ set_of (mentioning g (map (λ r. r.value) files.now))) }
+    ensures { IfOk result (AreNoted mentions_group (values files.now)) }
 {
     let mut noted = BTreeMap::new(alloc);
     for file in files {
@@ -256,8 +255,7 @@ fn note_before(
     file: &Record,
 ) -> Result<(), AllocError>
     ensures same { old.new ≡ old.old }
-    ensures noted { OnOk result ((g : ℕ) → noted_at noted.new g ≡ noted_at noted.old g
-        ++ (if mentioned_group old.old g file.now then (file.now.0, tt) ∷ [] else [])) }
+    ensures noted { OnOk result (Notes noted.old noted.new file.now.0 (λ g. mentioned_group old.old g file.now)) }
 {
     if let Some(node) = old.get(file.path()) {
         note_label(alloc, noted, file.shared_path(), &node.label)?;
@@ -271,7 +269,7 @@ pub(crate) fn noted_before(
     old: &Tree,
     files: &[Rc<Record>],
 ) -> Result<BTreeMap<Id, Vec<Rc<MapEntry<()>>>>, AllocError>
-    ensures { IfOk result (λ noted. (g : ℕ) → noted_at noted g ≡ set_of (filter (mentioned_group old.now.files g) (map (λ r. r.value) files.now))) }
+    ensures { IfOk result (AreNoted (mentioned_group old.now.files) (values files.now)) }
 {
     let mut noted = BTreeMap::new(alloc);
     let mut finder = old.finder();
@@ -286,7 +284,7 @@ pub(crate) fn noted_for(
     noted: &BTreeMap<Id, Vec<Rc<MapEntry<()>>>>,
     group: Id,
 ) -> &[Rc<MapEntry<()>>]
-    ensures { map (λ e. e.value) result.now ≡ noted_at noted.now group }
+    ensures { values result.now ≡ noted_at noted.now group }
 {
     match noted.get(&group) {
         Some(entries) => entries.as_slice(),
@@ -326,11 +324,7 @@ impl ListChanges {
         changed: &[Rc<Record>],
         gone: &[Rc<Record>],
     ) -> Result<ListChanges, AllocError>
-        ensures puts { IfOk result (λ noted. (g : ℕ) → noted_at noted.puts g
-            ≡ set_of (mentioning g (regrouped old.now.files (map (λ r. r.value) changed.now)))) }
-        ensures before { IfOk result (λ noted. (g : ℕ) → noted_at noted.before g
-            ≡ set_of (filter (mentioned_group old.now.files g) (regrouped old.now.files (map (λ r. r.value) changed.now)))) }
-        ensures gone { IfOk result (λ noted. (g : ℕ) → noted_at noted.gone g ≡ set_of (mentioning g (map (λ r. r.value) gone.now))) }
+        ensures { IfOk result (AreNotedOf old.now.files (values changed.now) (values gone.now)) }
     {
         let files = regrouped(alloc, old, changed)?;
         Ok(ListChanges {

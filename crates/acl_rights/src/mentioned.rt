@@ -1,7 +1,8 @@
 //! The groups that labels mention.
 
-ghost use Rattle.std.specs.Prelude.{◌≡◌, ◌<◌, ◌∷◌, [], length, IfOk, IfSome, map};
+ghost use Rattle.std.specs.Prelude.{◌≡◌, ◌<◌, ◌∷◌, [], length, IfOk, IfSome};
 ghost use Rattle.std.specs.Option.{option_map_or};
+ghost use Rattle.acl_tree.specs.acl_names.Made.{values};
 ghost use Rattle.acl_tree.specs.acl_entry.Mentions.{named_groups};
 ghost use Rattle.acl_rights.specs.Inner.{same_ids, same_mentions, is_regrouped, regrouped};
 
@@ -67,7 +68,7 @@ pub(crate) fn regrouped(
     old: &Tree,
     files: &[Rc<Record>],
 ) -> Result<Vec<Rc<Record>>, AllocError>
-    ensures { IfOk result (λ found. map (λ r. r.value) found.items ≡ regrouped old.now.files (map (λ r. r.value) files.now)) }
+    ensures { IfOk result (λ found. values found.items ≡ regrouped old.now.files (values files.now)) }
 {
     let mut found = Vec::new(alloc);
     let mut finder = old.finder();

@@ -1,6 +1,7 @@
 //! The files that mention one of some groups, by the groups' lists.
 
 ghost use Rattle.std.specs.Prelude.{◌≡◌, ◌||◌, Bool, map, filter, IfOk};
+ghost use Rattle.acl_tree.specs.acl_names.Made.{values};
 ghost use Rattle.acl_tree.specs.acl_edit.declared.node.Node as node_types;
 ghost use Rattle.path_map.specs.Entries.{IsInOrder};
 ghost use Rattle.acl_tree.specs.Files.{PathOf, Files};
@@ -15,7 +16,7 @@ use std::rc::Rc;
 
 /// The entries of a map.
 fn entries_of(alloc: Global, paths: &PathMap<()>) -> Result<Vec<Rc<MapEntry<()>>>, AllocError>
-    ensures { IfOk result (λ entries. map (λ e. e.value) entries.items ≡ paths.now) }
+    ensures { IfOk result (λ entries. values entries.items ≡ paths.now) }
 {
     let mut entries = Vec::new(alloc);
     let mut rest = paths.iter();
@@ -64,7 +65,7 @@ fn set_of_groups(
 
 /// The paths of a map.
 fn paths_in(alloc: Global, set: &PathMap<()>) -> Result<Vec<Rc<Path>>, AllocError>
-    ensures { IfOk result (λ paths. map (λ p. p.value) paths.items ≡ map (λ e. e.0) set.now) }
+    ensures { IfOk result (λ paths. values paths.items ≡ map (λ e. e.0) set.now) }
 {
     let mut paths = Vec::new(alloc);
     let mut rest = set.iter();
@@ -82,7 +83,7 @@ pub(crate) fn paths_of_groups(
     groups: &[Id],
 ) -> Result<Vec<Rc<Path>>, AllocError>
     ensures { IfOk result (λ paths. (fs : Files) → IsInOrder fs → AreLists fs lists.now
-        → map (λ p. p.value) paths.items ≡ map (λ e. e.0) (filter (mentions_one groups.now) fs)) }
+        → values paths.items ≡ map (λ e. e.0) (filter (mentions_one groups.now) fs)) }
 {
     let set = set_of_groups(alloc, lists, groups)?;
     let paths = paths_in(alloc, &set)?;

@@ -1,6 +1,6 @@
 //! What an index answers: who may do what, with and without search along the files' paths.
 
-ghost use Rattle.std.specs.Prelude.{◌≡◌, map, IfOk, option_map, if◌then◌else◌, nat_lt, Some, None};
+ghost use Rattle.std.specs.Prelude.{◌≡◌};
 ghost use Rattle.std.specs.Option.{option_copied};
 ghost use Rattle.std.specs.FinMap.{find};
 ghost use Rattle.acl_tree.specs.acl_names.Paths.{path_cmp};
@@ -13,7 +13,7 @@ use std::alloc::Global;
 use std::rc::Rc;
 
 impl<J: Judge> Index<J> {
-    ghost use Rattle.acl_rights.specs.Tables.{IsWhole, cell_at, verdict_at, row_at, who_in, may_in, users_granted, files_granted};
+    ghost use Rattle.acl_rights.specs.Tables.{IsWhole, FindsUsers, FindsFiles, cell_at, who_at, may_at, verdict_at, row_at, users_granted, files_granted};
     ghost use Rattle.acl_rights.specs.Reach.{rows_along, reached_rows, reached_at, reach_at, users_reaching, files_reached};
 
     /// The verdict on a user and a file.
@@ -42,7 +42,7 @@ impl<J: Judge> Index<J> {
         path: &Path,
         request: Perm,
     ) -> Result<Option<Vec<usize>>, NoMemory>
-        ensures { IfOk result (λ found. option_map (λ users. users.items) found ≡ option_map (who_in request) (find path_cmp path.now self.now.rows)) }
+        ensures { FindsUsers result (who_at self.now.rows path.now request) }
     {
         let Some(cells) = self.cells(path) else {
             return Ok(None);
@@ -59,9 +59,8 @@ impl<J: Judge> Index<J> {
         path: &Path,
         request: Perm,
     ) -> Result<Option<Vec<usize>>, NoMemory>
-        ensures reported { IfOk result (λ found. option_map (λ users. users.items) found ≡ option_map (who_in request) (find path_cmp path.now self.now.rows)) }
-        ensures whole { IfOk result (λ found. (s : step.State) → IsWhole J.verdict_of s self.now
-            → option_map (λ users. users.items) found ≡ users_granted J.verdict_of s path.now request) }
+        ensures reported { FindsUsers result (who_at self.now.rows path.now request) }
+        ensures whole { (s : step.State) → IsWhole J.verdict_of s self.now → FindsUsers result (users_granted J.verdict_of s path.now request) }
     {
         self.users(alloc, path, request)
     }
@@ -73,8 +72,7 @@ impl<J: Judge> Index<J> {
         user: usize,
         request: Perm,
     ) -> Result<Option<Vec<Rc<Path>>>, NoMemory>
-        ensures { IfOk result (λ found. option_map (λ paths. map (λ p. p.value) paths.items) found
-            ≡ (if nat_lt user self.now.users then Some (may_in request user self.now.rows) else None)) }
+        ensures { FindsFiles result (may_at self.now.users self.now.rows user request) }
     {
         if user >= self.table.users {
             return Ok(None);
@@ -92,10 +90,8 @@ impl<J: Judge> Index<J> {
         user: usize,
         request: Perm,
     ) -> Result<Option<Vec<Rc<Path>>>, NoMemory>
-        ensures reported { IfOk result (λ found. option_map (λ paths. map (λ p. p.value) paths.items) found
-            ≡ (if nat_lt user self.now.users then Some (may_in request user self.now.rows) else None)) }
-        ensures whole { IfOk result (λ found. (s : step.State) → IsWhole J.verdict_of s self.now
-            → option_map (λ paths. map (λ p. p.value) paths.items) found ≡ files_granted J.verdict_of s user request) }
+        ensures reported { FindsFiles result (may_at self.now.users self.now.rows user request) }
+        ensures whole { (s : step.State) → IsWhole J.verdict_of s self.now → FindsFiles result (files_granted J.verdict_of s user request) }
     {
         self.paths(alloc, user, request)
     }
@@ -127,8 +123,7 @@ impl<J: Judge> Index<J> {
         path: &Path,
         request: Perm,
     ) -> Result<Option<Vec<usize>>, NoMemory>
-        ensures { IfOk result (λ found. option_map (λ users. users.items) found
-            ≡ option_map (who_in request) (find path_cmp path.now (reached_rows self.now.rows))) }
+        ensures { FindsUsers result (who_at (reached_rows self.now.rows) path.now request) }
     {
         let now = &self.table;
         let Some(cells) = now.grants.reach(path) else {
@@ -146,10 +141,8 @@ impl<J: Judge> Index<J> {
         path: &Path,
         request: Perm,
     ) -> Result<Option<Vec<usize>>, NoMemory>
-        ensures reported { IfOk result (λ found. option_map (λ users. users.items) found
-            ≡ option_map (who_in request) (find path_cmp path.now (reached_rows self.now.rows))) }
-        ensures whole { IfOk result (λ found. (s : step.State) → IsWhole J.verdict_of s self.now
-            → option_map (λ users. users.items) found ≡ users_reaching J.verdict_of s path.now request) }
+        ensures reported { FindsUsers result (who_at (reached_rows self.now.rows) path.now request) }
+        ensures whole { (s : step.State) → IsWhole J.verdict_of s self.now → FindsUsers result (users_reaching J.verdict_of s path.now request) }
     {
         self.reaching(alloc, path, request)
     }
@@ -161,8 +154,7 @@ impl<J: Judge> Index<J> {
         user: usize,
         request: Perm,
     ) -> Result<Option<Vec<Rc<Path>>>, NoMemory>
-        ensures { IfOk result (λ found. option_map (λ paths. map (λ p. p.value) paths.items) found
-            ≡ (if nat_lt user self.now.users then Some (may_in request user (reached_rows self.now.rows)) else None)) }
+        ensures { FindsFiles result (may_at self.now.users (reached_rows self.now.rows) user request) }
     {
         let now = &self.table;
         if user >= now.users {
@@ -181,10 +173,8 @@ impl<J: Judge> Index<J> {
         user: usize,
         request: Perm,
     ) -> Result<Option<Vec<Rc<Path>>>, NoMemory>
-        ensures reported { IfOk result (λ found. option_map (λ paths. map (λ p. p.value) paths.items) found
-            ≡ (if nat_lt user self.now.users then Some (may_in request user (reached_rows self.now.rows)) else None)) }
-        ensures whole { IfOk result (λ found. (s : step.State) → IsWhole J.verdict_of s self.now
-            → option_map (λ paths. map (λ p. p.value) paths.items) found ≡ files_reached J.verdict_of s user request) }
+        ensures reported { FindsFiles result (may_at self.now.users (reached_rows self.now.rows) user request) }
+        ensures whole { (s : step.State) → IsWhole J.verdict_of s self.now → FindsFiles result (files_reached J.verdict_of s user request) }
     {
         self.reached_paths(alloc, user, request)
     }

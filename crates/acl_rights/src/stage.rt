@@ -1,23 +1,18 @@
 //! What is granted, and what is reached, after a line, by how the line moves the users.
 
-ghost use Rattle.std.specs.Prelude.{◌≡◌, ◌+◌, ◌-◌, ◌*◌, ◌<◌, ◌≤◌, ◌^◌, true, false, ℕ, [], Some, length, map, get_or, slice_get, count_by, IfOk};
+ghost use Rattle.std.specs.Prelude.{◌≡◌, ◌+◌, ◌-◌, ◌<◌, ◌≤◌, ◌^◌, true, [], Some, length, map, slice_get, count_by, IfOk};
 ghost use Rattle.path_map.specs.Entries.{IsInOrder};
 ghost use Rattle.path_map.specs.Below.{within, lies_in};
 ghost use Rattle.acl_tree.specs.acl_people.KnownPeople.{persons};
 ghost use Rattle.acl_rights.specs.Groups.{AreLists};
-ghost use Rattle.acl_rights.specs.Tables.{rows_of};
-ghost use Rattle.acl_rights.specs.Stages.{most_asked, most_looked, moves_looked, moves_groups};
-ghost use Rattle.acl_rights.specs.Reach.{verdicts_refreshed};
-ghost use Rattle.acl_verdicts.specs.Ways.{reaches_of, AreFirst};
-ghost use Rattle.acl_rights.specs.Grants.{rows_at, AreGrants, GoesOn, GoesOnFrom};
+ghost use Rattle.acl_rights.specs.Costs.{all_pairs};
+ghost use Rattle.acl_rights.specs.Stages.{most_asked, moves_groups};
+ghost use Rattle.acl_rights.specs.Grants.{GoesOn, GoesOnFrom, IsAfter, IsAfterLoad};
 
 use crate::lists::{GroupLists, records};
 use crate::paths_of_groups::paths_of_groups;
 use acl_tree::{GroupIds, Path, Staged, Subject, Tree, UserChange};
-use acl_verdicts::{
-    ChangedRows, Grants, Judge, LabelRows, Numbered, UpdatedRows, UpdatedWays, Ways, is_covered,
-    reaches_after, updated_reaches,
-};
+use acl_verdicts::{ChangedRows, Grants, Judge, LabelRows, UpdatedWays, is_covered};
 use path_map::{Finder, PathMap};
 use std::alloc::{AllocError, Global};
 use std::rc::Rc;
@@ -66,41 +61,6 @@ fn count_within(numbers: &PathMap<usize>, paths: &[Rc<Path>]) -> u64
     count
 }
 
-/// What is reached by rows and steps of which the first are known.
-fn reached_on(
-    alloc: Global,
-    grants: &Grants,
-    rows: LabelRows,
-    ways: Ways,
-) -> Result<Grants, AllocError>
-    requires { AreFirst rows.cells ways.steps grants.now.reaches }
-    ensures rows { IfOk result (λ new. new.rows ≡ rows) }
-    ensures ways { IfOk result (λ new. new.ways ≡ ways) }
-    ensures reaches { IfOk result (λ new. new.reaches ≡ reaches_of rows.cells ways.steps) }
-{
-    let none = Numbered::new(alloc);
-    let reaches = reaches_after(alloc, &rows.cells, ways.steps(), &grants.reaches, &none)?;
-    Ok(Grants {
-        rows,
-        ways,
-        reaches,
-        max_numbers: grants.max_numbers,
-    })
-}
-
-/// What is reached by rows that are all new. Files keep their steps.
-fn reached_anew(alloc: Global, grants: &Grants, rows: LabelRows) -> Result<Grants, AllocError>
-    ensures rows { IfOk result (λ new. new.rows ≡ rows) }
-    ensures ways { IfOk result (λ new. new.ways ≡ grants.now.ways) }
-    ensures reaches { IfOk result (λ new. new.reaches ≡ reaches_of rows.cells grants.now.ways.steps) }
-{
-    let ways = grants.ways.share()?;
-    let none = Numbered::new(alloc);
-    let new = Grants::reached(alloc, rows, ways, &none, grants.max_numbers);
-    drop(none);
-    new
-}
-
 /// What is granted after a line by which files change and no user does: labels that no file had are asked for, and files
 /// that changed, and what is below them, are walked.
 fn after_files<J: Judge>(
@@ -110,14 +70,11 @@ fn after_files<J: Judge>(
     staged: &Staged,
 ) -> Result<After, AllocError>
     requires room { J.asked_of judge.old + most_asked staged.now < 2 ^ 64 }
-    requires counts { length staged.now.state.tree.files * length staged.now.state.people.users < 2 ^ 64 }
+    requires counts { all_pairs staged.now.state < 2 ^ 64 }
     requires goes { GoesOn J.verdict_of grants.now staged.now }
     requires moved { staged.now.user_change ≡ UserChange.Unchanged }
-    ensures grants { IfOk result (λ new. AreGrants staged.now.state.tree.files new.grants) }
-    ensures rows { IfOk result (λ new. rows_at new.grants ≡ rows_of J.verdict_of (persons staged.now.state.people) staged.now.state.tree.files) }
+    ensures made { IfOk result (IsAfter J.verdict_of staged.now) }
     ensures at_most { J.asked_of judge.new ≤ J.asked_of judge.old + most_asked staged.now }
-    ensures looked { IfOk result (λ new. new.looked ≡ 0) }
-    ensures refreshed { IfOk result (λ new. new.refreshed ≡ verdicts_refreshed staged.now) }
 {
     staged.tree().soundness_law();
     let old = &grants.rows;
@@ -132,7 +89,7 @@ fn after_files<J: Judge>(
         .updated(alloc, &old.numbers, &rows.numbers, &puts, gone)?;
     let UpdatedWays { ways, walked } = updated;
     Ok(After {
-        grants: reached_on(alloc, grants, rows, ways)?,
+        grants: grants.extended(alloc, rows, ways)?,
         looked: 0,
         refreshed: walked * staged.people().users() as u64,
     })
@@ -148,14 +105,11 @@ fn after_files_renumbered<J: Judge>(
     staged: &Staged,
 ) -> Result<After, AllocError>
     requires room { J.asked_of judge.old + most_asked staged.now < 2 ^ 64 }
-    requires counts { length staged.now.state.tree.files * length staged.now.state.people.users < 2 ^ 64 }
+    requires counts { all_pairs staged.now.state < 2 ^ 64 }
     requires goes { GoesOnFrom J.verdict_of tree.now.files grants.now staged.now }
     requires moved { staged.now.user_change ≡ UserChange.Unchanged }
-    ensures grants { IfOk result (λ new. AreGrants staged.now.state.tree.files new.grants) }
-    ensures rows { IfOk result (λ new. rows_at new.grants ≡ rows_of J.verdict_of (persons staged.now.state.people) staged.now.state.tree.files) }
+    ensures made { IfOk result (IsAfter J.verdict_of staged.now) }
     ensures at_most { J.asked_of judge.new ≤ J.asked_of judge.old + most_asked staged.now }
-    ensures looked { IfOk result (λ new. new.looked ≡ 0) }
-    ensures refreshed { IfOk result (λ new. new.refreshed ≡ verdicts_refreshed staged.now) }
 {
     if !grants.has_many_numbers() {
         return after_files(alloc, judge, grants, staged);
@@ -171,10 +125,7 @@ fn after_files_renumbered<J: Judge>(
 
 /// What is granted after users or groups were loaded: no file is there.
 fn after_load(alloc: Global) -> Result<After, AllocError>
-    ensures grants { IfOk result (λ new. AreGrants [] new.grants) }
-    ensures rows { IfOk result (λ new. rows_at new.grants ≡ []) }
-    ensures looked { IfOk result (λ new. new.looked ≡ 0) }
-    ensures refreshed { IfOk result (λ new. new.refreshed ≡ 0) }
+    ensures { IfOk result IsAfterLoad }
 {
     Ok(After {
         grants: Grants::of(alloc, LabelRows::none(alloc), 0)?,
@@ -200,26 +151,6 @@ fn moved_user<'a, J: Judge>(
     }
 }
 
-/// What is reached by rows of which some were asked for again. Files keep their steps.
-fn reached_again(alloc: Global, grants: &Grants, updated: UpdatedRows) -> Result<Grants, AllocError>
-    requires reached { grants.now.reaches ≡ reaches_of grants.now.rows.cells grants.now.ways.steps }
-    requires same { (n : ℕ) → get_or updated.marks.items n false ≡ false → get_or grants.now.rows.cells n [] ≡ get_or updated.rows.cells n [] }
-    ensures rows { IfOk result (λ new. new.rows ≡ updated.rows) }
-    ensures ways { IfOk result (λ new. new.ways ≡ grants.now.ways) }
-    ensures reaches { IfOk result (λ new. new.reaches ≡ reaches_of updated.rows.cells grants.now.ways.steps) }
-{
-    let UpdatedRows { rows, marks } = updated;
-    let steps = grants.ways.steps();
-    let reaches = updated_reaches(alloc, &rows.cells, steps, &grants.reaches, &marks);
-    drop(marks);
-    Ok(Grants {
-        rows,
-        reaches: reaches?,
-        ways: grants.ways.share()?,
-        max_numbers: grants.max_numbers,
-    })
-}
-
 /// What is granted after a line that moves a user: that user's verdict is asked for again on labels of files that mention
 /// a group that joined or left. Files keep their steps.
 fn after_move<J: Judge>(
@@ -235,13 +166,9 @@ fn after_move<J: Judge>(
     requires goes { GoesOn J.verdict_of grants.now staged.now }
     requires lists { AreLists staged.now.state.tree.files lists.now }
     requires moved { staged.now.user_change ≡ UserChange.Memberships at groups.now }
-    ensures grants { IfOk result (λ new. AreGrants staged.now.state.tree.files new.grants) }
-    ensures rows { IfOk result (λ new. rows_at new.grants ≡ rows_of J.verdict_of (persons staged.now.state.people) staged.now.state.tree.files) }
+    ensures made { IfOk result (IsAfter J.verdict_of staged.now) }
     ensures at_most { J.asked_of judge.new ≤ J.asked_of judge.old + most_asked staged.now }
-    ensures looked { IfOk result (λ new. new.looked ≡ moves_looked staged.now.user_change staged.now.state.tree.files) }
-    ensures looked_most { IfOk result (λ new. new.looked ≤ most_looked staged.now.user_change staged.now.state.tree.files) }
     ensures looked_least { IfOk result (λ new. J.asked_of judge.new ≤ J.asked_of judge.old + new.looked) }
-    ensures refreshed { IfOk result (λ new. new.refreshed ≡ verdicts_refreshed staged.now) }
 {
     staged.tree().soundness_law();
     grants.rows.numbers.order_law();
@@ -251,7 +178,7 @@ fn after_move<J: Judge>(
     let updated = grants
         .rows
         .with_user_updated(alloc, judge, paths, at, user)?;
-    let new = reached_again(alloc, grants, updated)?;
+    let new = grants.with_updated_rows(alloc, updated)?;
     Ok(After {
         refreshed: count_within(&new.rows.numbers, paths),
         grants: new,
@@ -282,18 +209,15 @@ fn after_join<J: Judge>(
     requires room { J.asked_of judge.old + most_asked staged.now < 2 ^ 64 }
     requires goes { GoesOn J.verdict_of grants.now staged.now }
     requires moved { staged.now.user_change ≡ UserChange.Added }
-    ensures grants { IfOk result (λ new. AreGrants staged.now.state.tree.files new.grants) }
-    ensures rows { IfOk result (λ new. rows_at new.grants ≡ rows_of J.verdict_of (persons staged.now.state.people) staged.now.state.tree.files) }
+    ensures made { IfOk result (IsAfter J.verdict_of staged.now) }
     ensures at_most { J.asked_of judge.new ≤ J.asked_of judge.old + most_asked staged.now }
-    ensures looked { IfOk result (λ new. new.looked ≡ 0) }
-    ensures refreshed { IfOk result (λ new. new.refreshed ≡ verdicts_refreshed staged.now) }
 {
     staged.tree().soundness_law();
     grants.rows.numbers.order_law();
     let user = joined_user::<J>(grants, staged);
     let rows = grants.rows.with_user(alloc, judge, user)?;
     let refreshed = rows.numbers.len() as u64;
-    let new = reached_anew(alloc, grants, rows)?;
+    let new = grants.with_rows(alloc, rows)?;
     Ok(After {
         grants: new,
         looked: 0,
@@ -310,15 +234,12 @@ fn after_leave<J: Judge>(
 ) -> Result<After, AllocError>
     requires goes { GoesOn J.verdict_of grants.now staged.now }
     requires moved { staged.now.user_change ≡ UserChange.Removed at }
-    ensures grants { IfOk result (λ new. AreGrants staged.now.state.tree.files new.grants) }
-    ensures rows { IfOk result (λ new. rows_at new.grants ≡ rows_of J.verdict_of (persons staged.now.state.people) staged.now.state.tree.files) }
-    ensures looked { IfOk result (λ new. new.looked ≡ 0) }
-    ensures refreshed { IfOk result (λ new. new.refreshed ≡ verdicts_refreshed staged.now) }
+    ensures { IfOk result (IsAfter J.verdict_of staged.now) }
 {
     staged.tree().soundness_law();
     grants.rows.numbers.order_law();
     let rows = grants.rows.without_user(alloc, at)?;
-    let new = reached_anew(alloc, grants, rows)?;
+    let new = grants.with_rows(alloc, rows)?;
     Ok(After {
         grants: new,
         looked: 0,
@@ -336,16 +257,12 @@ pub(crate) fn after_line<J: Judge>(
     staged: &Staged,
 ) -> Result<After, AllocError>
     requires room { J.asked_of judge.old + most_asked staged.now < 2 ^ 64 }
-    requires counts { length staged.now.state.tree.files * length staged.now.state.people.users < 2 ^ 64 }
+    requires counts { all_pairs staged.now.state < 2 ^ 64 }
     requires goes { GoesOnFrom J.verdict_of tree.now.files grants.now staged.now }
     requires lists { moves_groups staged.now.user_change ≡ true → AreLists staged.now.state.tree.files lists.now }
-    ensures grants { IfOk result (λ new. AreGrants staged.now.state.tree.files new.grants) }
-    ensures rows { IfOk result (λ new. rows_at new.grants ≡ rows_of J.verdict_of (persons staged.now.state.people) staged.now.state.tree.files) }
+    ensures made { IfOk result (IsAfter J.verdict_of staged.now) }
     ensures at_most { J.asked_of judge.new ≤ J.asked_of judge.old + most_asked staged.now }
-    ensures looked { IfOk result (λ new. new.looked ≡ moves_looked staged.now.user_change staged.now.state.tree.files) }
-    ensures looked_most { IfOk result (λ new. new.looked ≤ most_looked staged.now.user_change staged.now.state.tree.files) }
     ensures looked_least { IfOk result (λ new. moves_groups staged.now.user_change ≡ true → J.asked_of judge.new ≤ J.asked_of judge.old + new.looked) }
-    ensures refreshed { IfOk result (λ new. new.refreshed ≡ verdicts_refreshed staged.now) }
 {
     staged.tree().soundness_law();
     match staged.user_change() {

@@ -1,7 +1,8 @@
 -- For inner functions: entries in path order, the nearest above a path, and verdicts that are cut.
-use Rattle.std.specs.Prelude.{◌≡◌, ℕ, suc, Bool, true, List, [], ◌∷◌, Option, Some, None, if◌then◌else◌}
+use Rattle.std.specs.Prelude.{◌≡◌, ℕ, suc, Bool, true, false, List, [], ◌∷◌, Option, Some, None, if◌then◌else◌}
 use Rattle.std.specs.declared.cmp.Ordering.TheVariants.{Less}
 use Rattle.std.specs.List.{AllByRecursion}
+use Rattle.std.specs.Ordering.{is_gt}
 use Rattle.acl_files.specs.acl_names.Paths.{path_cmp}
 use Rattle.acl_files.specs.acl_names.Below.{is_above}
 use Rattle.path_map.specs.Entries.{PathOf}
@@ -22,6 +23,11 @@ last_from o (e ∷ es) = last_from (Some e.1) es
 
 abbrev pub last_of : {A : Type 0} → List (PathOf × A) → Option A
 last_of es = last_from None es
+
+-- what is left of a stack of entries once those that are not above a path are taken off its end
+pub record IsLeftAbove {A : Type 0} (p : PathOf) (stack rest : List (PathOf × A)) : Type 0 where
+  pub kept : (q : PathOf) → is_gt (path_cmp p q) ≡ false → nearest q rest ≡ nearest q stack
+  pub top : last_of rest ≡ nearest p stack
 
 -- whether the nearest row above lets a user search
 abbrev pub lets : Option (List ℕ) → ℕ → Bool

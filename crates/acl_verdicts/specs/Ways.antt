@@ -1,10 +1,15 @@
 -- The ways to files, by the numbers of rows: search along a path asks the rows of the recorded directories above it.
-use Rattle.std.specs.Prelude.{◌≡◌, ◌<◌, ℕ, suc, Bool, true, false, List, [], ◌∷◌, ◌++◌, map, filter, slice_get, get_or, Option, Some, None, option_and_then, if◌then◌else◌}
+use Rattle.std.specs.Prelude.{◌≡◌, ◌<◌, ℕ, suc, Bool, true, false, List, [], ◌∷◌, ◌++◌, map, filter, count_by, slice_get, get_or, Option, Some, None, option_and_then, if◌then◌else◌}
 use Rattle.std.specs.List.{list_all, list_any, AllByRecursion}
 use Rattle.std.specs.Option.{option_map_or}
+use Rattle.std.specs.FinMap.{find}
+use Rattle.acl_files.specs.acl_names.Paths.{path_cmp}
 use Rattle.acl_files.specs.acl_names.Below.{is_above}
 use Rattle.path_map.specs.Entries.{PathOf}
+use Rattle.path_map.specs.Below.{lies_in}
 use Rattle.acl_verdicts.specs.declared.steps.Step.{Step}
+use Rattle.acl_verdicts.specs.declared.ways.Ways.{Ways}
+use Rattle.acl_verdicts.specs.declared.ways.UpdatedWays.{UpdatedWays}
 use Rattle.acl_verdicts.specs.Rows.{Rows}
 use Rattle.acl_verdicts.specs.Reach.{can_search}
 use Rattle.acl_verdicts.specs.Walks.{cut_from, last_of}
@@ -14,6 +19,18 @@ use Rattle.acl_verdicts.specs.Subtrees.{IsNearest}
 -- for each path the number of its row
 abbrev pub Numbers : Type 0
 Numbers = List (PathOf × ℕ)
+
+-- the number of a path, if it has one
+abbrev pub number_at : PathOf → Numbers → Option ℕ
+number_at p ns = find path_cmp p ns
+
+-- a path has this number
+abbrev pub HasNumber : Numbers → PathOf → ℕ → Type 0
+HasNumber ns p n = number_at p ns ≡ Some n
+
+-- a file has this number
+abbrev pub IsUsed : Numbers → ℕ → Type 0
+IsUsed ns n = (p : PathOf) × HasNumber ns p n
 
 -- the rows of paths by their numbers
 abbrev pub rows_in : List (List ℕ) → Numbers → Rows
@@ -82,11 +99,15 @@ pub record AreFirst (cells : List (List ℕ)) (ss : List Step) (first : List (Li
   pub longer : IsLonger known ss
   pub reached : first ≡ reaches_of cells known
 
+-- rows without a mark are as they were
+abbrev pub KeepUnmarked : List Bool → List (List ℕ) → List (List ℕ) → Type 0
+KeepUnmarked marks old new = (n : ℕ) → get_or marks n false ≡ false → get_or old n [] ≡ get_or new n []
+
 -- this was reached at steps by rows of which those without a mark are as they were
 pub record WereReached (cells : List (List ℕ)) (ss : List Step) (marks : List Bool) (old : List (List ℕ)) : Type 0 where
   pub before : List (List ℕ)
   pub reached : old ≡ reaches_of before ss
-  pub same : (n : ℕ) → get_or marks n false ≡ false → get_or before n [] ≡ get_or cells n []
+  pub same : KeepUnmarked marks before cells
 
 -- each step's row is one of so many
 abbrev pub HaveRows : ℕ → List Step → Type 0
@@ -95,6 +116,10 @@ HaveRows count ss = AllByRecursion (λ s. s.row < count) ss
 -- so is each file's
 abbrev pub AreNumbers : ℕ → Numbers → Type 0
 AreNumbers count ns = AllByRecursion (λ e. e.1 < count) ns
+
+-- where the rows of some steps, and the numbers of files, are of so many, those of the steps after them are too
+abbrev pub KeepRows : Numbers → List Step → List Step → Type 0
+KeepRows ns old new = (count : ℕ) → HaveRows count old → AreNumbers count ns → HaveRows count new
 
 -- ---- files by their steps
 
@@ -113,6 +138,36 @@ AreBack ss = (n k : ℕ) (s : Step) → slice_get ss n ≡ Some s → s.above �
 pub record AreSteps (ss : List Step) (places ns : Numbers) : Type 0 where
   pub back : AreBack ss
   pub are : wayed ss places ≡ known (ways ns)
+
+-- files have their ways
+abbrev pub AreWays : Numbers → Ways → Type 0
+AreWays ns w = AreSteps w.steps w.places ns
+
+-- the ways of the files at some tops and below them
+abbrev pub ways_below : Numbers → Numbers → List (PathOf × Way)
+ways_below tops ns = filter (λ w. lies_in tops w.0) (ways ns)
+
+-- steps after a walk over files by their numbers: there may be more of them
+pub record AddsSteps (ns : Numbers) (old new : List Step) : Type 0 where
+  pub kept : IsLonger old new
+  pub back : AreBack new
+  pub rows : KeepRows ns old new
+
+-- whatever ways files have by their steps, after a walk these have them still, and more files theirs
+abbrev pub AddsWays : List (PathOf × Way) → List Step → Numbers → List Step → Numbers → Type 0
+AddsWays more ss es ss' es' = (ws : List (PathOf × Way)) → wayed ss es ≡ known ws → wayed ss' es' ≡ known (ws ++ more)
+
+-- the ways of all files, whose steps have their rows
+pub record AreWaysOf (ns : Numbers) (w : Ways) : Type 0 where
+  pub steps : AreWays ns w
+  pub rows : KeepRows ns [] w.steps
+
+-- the ways of files after a change, of which those at some tops and below them were walked
+pub record AreUpdatedWays (tops ns : Numbers) (old : Ways) (new : UpdatedWays) : Type 0 where
+  pub steps : AreWays ns new.ways
+  pub kept : IsLonger old.steps new.ways.steps
+  pub rows : KeepRows ns old.steps new.ways.steps
+  pub walked : new.walked ≡ count_by (λ e. lies_in tops e.0) ns
 
 -- the way of a step, with its own row, is this list of numbers; without a step it is empty
 abbrev pub LeadsTo : List Step → Option ℕ → List ℕ → Type 0

@@ -1,7 +1,8 @@
 //! The verdicts of all users on one file, and a row without those of users who cannot search above.
 
-ghost use Rattle.std.specs.Prelude.{◌≡◌, ◌↔◌, ◌+◌, ◌*◌, ◌++◌, ◌∷◌, [], ◌<◌, ◌≤◌, ◌^◌, true, length, map, IfOk, OnOk, slice_set, slice_get, Some, if◌then◌else◌};
+ghost use Rattle.std.specs.Prelude.{◌≡◌, ◌↔◌, ◌+◌, ◌*◌, ◌++◌, ◌∷◌, [], ◌<◌, ◌≤◌, ◌^◌, true, length, IfOk, slice_set, slice_get, Some, if◌then◌else◌, ℕ, List};
 ghost use Rattle.std.specs.List.{remove};
+ghost use Rattle.acl_verdicts.specs.Rows.{row_of, Asks};
 ghost use Rattle.acl_verdicts.specs.Reach.{execute};
 ghost use Rattle.acl_verdicts.specs.Walks.{lets, cut_from};
 
@@ -19,8 +20,6 @@ pub struct Cells {
 }
 
 impl Model for Cells {
-    ghost use Rattle.std.specs.Prelude.{ℕ, List};
-
     ghost Value = { List ℕ };
 
     ghost view = { λ c. c.requests.value.items };
@@ -116,9 +115,8 @@ pub(crate) fn judged<J: Judge>(
 ) -> Result<Cells, AllocError>
     requires room { J.asked_of judge.old + files * length users.now < 2 ^ 64 }
     requires some { 0 < files }
-    ensures cells { IfOk result (λ cells. cells ≡ map (λ u. J.verdict_of u label.now) users.now) }
-    ensures asked { OnOk result (J.asked_of judge.new ≡ J.asked_of judge.old + files * length users.now) }
-    ensures at_most { J.asked_of judge.new ≤ J.asked_of judge.old + files * length users.now }
+    ensures cells { IfOk result (λ cells. cells ≡ row_of J.verdict_of users.now label.now) }
+    ensures asked { Asks result (J.asked_of judge.old) (J.asked_of judge.new) (files * length users.now) }
 {
     let mut requests = vec![in alloc; Requests::none(); users.len()]?;
     judge.verdicts(users, label, files, &mut requests);

@@ -1,20 +1,20 @@
 //! What is granted on files, and what is reached: each label's row of verdicts, and those that are left at each step; and
 //! the rows of files, one after another.
 
-ghost use Rattle.std.specs.Prelude.{◌≡◌, map, option_and_then, slice_get, IfOk, get_or, []};
+ghost use Rattle.std.specs.Prelude.{◌≡◌, IfOk, get_or, [], option_map};
 ghost use Rattle.std.specs.Option.{option_copied};
-ghost use Rattle.std.specs.FinMap.{find};
-ghost use Rattle.path_map.specs.Entries.{IsInOrder};
-ghost use Rattle.acl_files.specs.acl_names.Paths.{path_cmp};
-ghost use Rattle.acl_files.specs.Files.{Files};
-ghost use Rattle.acl_verdicts.specs.Ways.{reaches_of};
-ghost use Rattle.acl_verdicts.specs.Labels.{AreLabelled, AreAsBefore};
-ghost use Rattle.acl_verdicts.specs.Grants.{AreGrants};
+ghost use Rattle.path_map.specs.Entries.{IsInOrder, first};
+ghost use Rattle.acl_verdicts.specs.Ways.{rows_in, reaches_of, AreFirst, KeepUnmarked};
+ghost use Rattle.acl_verdicts.specs.Grants.{IsReachedBy, AreGrantsBy, AreRenumbered, reach_found};
+ghost use Rattle.acl_verdicts.specs.Rows.{Rows, coded_rows};
+ghost use Rattle.std.specs.Iterator.{YieldsFirstBy, item_count};
+ghost use Rattle.acl_files.specs.acl_names.Made.{values};
 
 use crate::cells::Cells;
 use crate::label_rows::LabelRows;
 use crate::numbered::Numbered;
-use crate::reaches::reaches_after;
+use crate::reaches::{reaches_after, updated_reaches};
+use crate::user_rows::UpdatedRows;
 use crate::ways::Ways;
 use acl_files::{Path, Record, Requests};
 use path_map::{Entries, PathMap};
@@ -61,9 +61,7 @@ impl Grants {
         others: &Numbered<Cells>,
         max_numbers: MaxNumbers,
     ) -> Result<Grants, AllocError>
-        ensures rows { IfOk result (λ new. new.rows ≡ rows) }
-        ensures ways { IfOk result (λ new. new.ways ≡ ways) }
-        ensures reaches { IfOk result (λ new. new.reaches ≡ reaches_of rows.cells ways.steps) }
+        ensures { IfOk result (IsReachedBy rows ways) }
     {
         let none = Numbered::new(alloc);
         let reaches = reaches_after(alloc, &rows.cells, ways.steps(), &none, others)?;
@@ -75,10 +73,57 @@ impl Grants {
         })
     }
 
+    /// What is reached by more rows and ways, of which the first are these. Fails only if memory runs out.
+    pub fn extended(&self, alloc: Global, rows: LabelRows, ways: Ways) -> Result<Grants, AllocError>
+        requires { AreFirst rows.cells ways.steps self.now.reaches }
+        ensures { IfOk result (IsReachedBy rows ways) }
+    {
+        let none = Numbered::new(alloc);
+        let reaches = reaches_after(alloc, &rows.cells, ways.steps(), &self.reaches, &none)?;
+        Ok(Grants {
+            rows,
+            ways,
+            reaches,
+            max_numbers: self.max_numbers,
+        })
+    }
+
+    /// What is reached by rows that are all new. Files keep their steps. Fails only if memory runs out.
+    pub fn with_rows(&self, alloc: Global, rows: LabelRows) -> Result<Grants, AllocError>
+        ensures { IfOk result (IsReachedBy rows self.now.ways) }
+    {
+        let ways = self.ways.share()?;
+        let none = Numbered::new(alloc);
+        let new = Grants::reached(alloc, rows, ways, &none, self.max_numbers);
+        drop(none);
+        new
+    }
+
+    /// What is reached by rows of which some were asked for again. Files keep their steps. Fails only if memory runs out.
+    pub fn with_updated_rows(
+        &self,
+        alloc: Global,
+        updated: UpdatedRows,
+    ) -> Result<Grants, AllocError>
+        requires reached { self.now.reaches ≡ reaches_of self.now.rows.cells self.now.ways.steps }
+        requires same { KeepUnmarked updated.marks.items self.now.rows.cells updated.rows.cells }
+        ensures { IfOk result (IsReachedBy updated.rows self.now.ways) }
+    {
+        let UpdatedRows { rows, marks } = updated;
+        let steps = self.ways.steps();
+        let reaches = updated_reaches(alloc, &rows.cells, steps, &self.reaches, &marks);
+        drop(marks);
+        Ok(Grants {
+            rows,
+            reaches: reaches?,
+            ways: self.ways.share()?,
+            max_numbers: self.max_numbers,
+        })
+    }
+
     /// What is reached by these rows of so many files, where all steps are found again. Fails only if memory runs out.
     pub fn of(alloc: Global, rows: LabelRows, files: usize) -> Result<Grants, AllocError>
-        ensures rows { IfOk result (λ new. new.rows ≡ rows) }
-        ensures kept { IfOk result (λ new. (fs : Files) → AreLabelled fs rows → AreGrants fs new) }
+        ensures { IfOk result (λ new. AreGrantsBy rows new) }
     {
         let ways = Ways::of(alloc, &rows.numbers)?;
         let room = room_for_new(&rows, files);
@@ -99,9 +144,8 @@ impl Grants {
     /// What is granted on the same files, where only labels and steps that files have get numbers. Fails only if memory,
     /// or the numbers, run out.
     pub fn renumbered(&self, alloc: Global, files: &[Rc<Record>]) -> Result<Grants, AllocError>
-        requires { IsInOrder (map (λ f. f.value) files.now) }
-        ensures kept { IfOk result (λ new. AreGrants (map (λ f. f.value) files.now) new) }
-        ensures rows { IfOk result (λ new. AreAsBefore (map (λ f. f.value) files.now) self.now.rows new.rows) }
+        requires { IsInOrder (values files.now) }
+        ensures { IfOk result (λ new. AreRenumbered (values files.now) self.now new) }
     {
         let rows = self.rows.renumbered(alloc, files)?;
         let new = Grants::of(alloc, rows, files.len())?;
@@ -110,7 +154,7 @@ impl Grants {
 
     /// What is reached at a file, if it is there. Allocates nothing.
     pub fn reach(&self, path: &Path) -> Option<&Cells>
-        ensures { option_copied result ≡ option_and_then (slice_get self.now.reaches) (find path_cmp path.now self.now.ways.places) }
+        ensures { option_copied result ≡ reach_found self.now path.now }
     {
         match self.ways.get(path) {
             Some(step) => self.reaches.get(step),
@@ -134,9 +178,6 @@ pub struct FileRows<'a> {
 }
 
 impl<'a> Model for FileRows<'a> {
-    ghost use Rattle.acl_verdicts.specs.Rows.{Rows, coded_rows};
-    ghost use Rattle.acl_verdicts.specs.Ways.{rows_in};
-
     ghost Value = { Rows };
 
     ghost coded = { coded_rows };
@@ -155,8 +196,6 @@ fn row_of(cells: &Numbered<Cells>, number: usize) -> &[Requests]
 }
 
 impl<'a> Iterator for FileRows<'a> {
-    ghost use Rattle.std.specs.Iterator.{YieldsFirstBy, item_count};
-
     type Item = FileRow<'a>;
 
     ghost next_gives = { YieldsFirstBy (λ file. (file.path.now, file.requests.now)) (λ rows. rows) };
@@ -176,10 +215,6 @@ impl<'a> Iterator for FileRows<'a> {
 }
 
 impl<'a> FileRows<'a> {
-    ghost use Rattle.std.specs.Prelude.{option_map};
-    ghost use Rattle.acl_verdicts.specs.Ways.{rows_in};
-    ghost use Rattle.path_map.specs.Entries.{first};
-
     /// Files with their rows, by the numbers of these. Allocates nothing.
     pub fn of(numbers: &'a PathMap<usize>, cells: &'a Numbered<Cells>) -> FileRows<'a>
         ensures { result ≡ rows_in cells.now numbers.now }

@@ -1,10 +1,9 @@
 //! Who decides on a user and a file; and the access check of acl(5) as a judge.
 
-ghost use Rattle.std.specs.Prelude.{◌≡◌, ◌+◌, ◌*◌, ◌<◌, ◌^◌, ℕ, length, map};
-ghost use Rattle.acl_files.specs.acl_entry.Person.{Person};
-ghost use Rattle.acl_files.specs.acl_entry.declared.label.Label.{Label};
-ghost use Rattle.acl_files.specs.acl_entry.Mentions.{AgreeOnMentions, rights_local};
+ghost use Rattle.std.specs.Prelude.{◌≡◌, ◌+◌, ◌*◌, ◌<◌, ◌^◌, ℕ, length};
+ghost use Rattle.acl_files.specs.acl_entry.Mentions.{rights_local};
 ghost use Rattle.acl_files.specs.acl_entry.Check.{rights};
+ghost use Rattle.acl_verdicts.specs.Rows.{Verdict, row_of, IsLocal};
 
 use acl_files::{Label, Requests, Subject, granted};
 use acl_subjects::{Subjects, granted_to_all};
@@ -13,7 +12,7 @@ use acl_subjects::{Subjects, granted_to_all};
 /// verdicts.
 pub trait Judge {
     /// The verdict on a user and a label.
-    ghost verdict_of: { Person → Label → ℕ };
+    ghost verdict_of: { Verdict };
 
     /// How many verdicts were asked for.
     ghost asked_of: { Self → ℕ };
@@ -32,7 +31,7 @@ pub trait Judge {
         requires room { asked_of self.old + files * length users.now < 2 ^ 64 }
         requires some { 0 < files }
         requires length { length row.old ≡ length users.now }
-        ensures row { row.new ≡ map (λ u. verdict_of u label.now) users.now }
+        ensures row { row.new ≡ row_of verdict_of users.now label.now }
         ensures asked { asked_of self.new ≡ asked_of self.old + files * length users.now }
     {
         for _ in 0..files {
@@ -48,7 +47,7 @@ pub trait Judge {
 
     /// Locality: the verdicts on two users of one id are the same where their groups agree on those that the
     /// label mentions.
-    ghost local: { (u w : Person) (f : Label) → AgreeOnMentions u w f → verdict_of u f ≡ verdict_of w f };
+    ghost local: { IsLocal verdict_of };
 }
 
 /// The access check of acl(5).

@@ -1,15 +1,13 @@
 //! Rows of verdicts by labels.
 
-ghost use Rattle.std.specs.Prelude.{◌≡◌, ◌<◌, ◌≤◌, ◌+◌, ◌*◌, ◌^◌, ◌++◌, [], map, length, replicate, slice_get, option_and_then, IfOk, OnOk};
+ghost use Rattle.std.specs.Prelude.{◌≡◌, ◌<◌, ◌≤◌, ◌+◌, ◌*◌, ◌^◌, length, replicate, IfOk, OnOk};
 ghost use Rattle.std.specs.List.{AllByRecursion, sum_by};
 ghost use Rattle.std.specs.Option.{option_copied};
-ghost use Rattle.std.specs.FinMap.{find};
+ghost use Rattle.acl_files.specs.acl_names.Made.{values};
 ghost use Rattle.path_map.specs.Entries.{IsInOrder};
-ghost use Rattle.path_map.specs.Merged.{merged};
-ghost use Rattle.acl_files.specs.acl_names.Paths.{path_cmp};
 ghost use Rattle.acl_verdicts.specs.Ways.{rows_in};
-ghost use Rattle.acl_verdicts.specs.Rows.{rows_of};
-ghost use Rattle.acl_verdicts.specs.Labels.{labels_in, AreLabelled, row_of, row_at_path, AreChangedRows, AreAsBefore};
+ghost use Rattle.acl_verdicts.specs.Rows.{rows_of, rows_each, Asks};
+ghost use Rattle.acl_verdicts.specs.Labels.{labels_in, AreNone, AreLabelled, row_at_path, row_found, rows_for, rows_with, AreChangedRows, AreRenumberedRows};
 
 use crate::cells::{Cells, judged};
 use crate::judge::Judge;
@@ -47,9 +45,8 @@ fn judged_labels<J: Judge>(
     requires room { J.asked_of judge.old + sum_by (λ c. c) counts.now * length users.now < 2 ^ 64 }
     requires long { length counts.now ≡ length labels.now }
     requires some { AllByRecursion (λ c. 0 < c) counts.now }
-    ensures rows { IfOk result (λ rows. rows.items ≡ map (λ f. row_of J.verdict_of users.now f.1.label) labels.now) }
-    ensures asked { OnOk result (J.asked_of judge.new ≡ J.asked_of judge.old + sum_by (λ c. c) counts.now * length users.now) }
-    ensures at_most { J.asked_of judge.new ≤ J.asked_of judge.old + sum_by (λ c. c) counts.now * length users.now }
+    ensures rows { IfOk result (λ rows. rows.items ≡ rows_each J.verdict_of users.now labels.now) }
+    ensures asked { Asks result (J.asked_of judge.old) (J.asked_of judge.new) (sum_by (λ c. c) counts.now * length users.now) }
 {
     let mut rows: Vec<Cells> = Vec::with_capacity(alloc, labels.len())?;
     for at in 0..labels.len() {
@@ -75,7 +72,7 @@ fn judged_once<J: Judge>(
     labels: &[Labelled],
 ) -> Result<Vec<Cells>, AllocError>
     requires { J.asked_of judge.old + length labels.now * length users.now < 2 ^ 64 }
-    ensures rows { IfOk result (λ rows. rows.items ≡ map (λ f. row_of J.verdict_of users.now f.1.label) labels.now) }
+    ensures rows { IfOk result (λ rows. rows.items ≡ rows_each J.verdict_of users.now labels.now) }
     ensures at_most { J.asked_of judge.new ≤ J.asked_of judge.old + length labels.now * length users.now }
 {
     let ones = ones(alloc, labels.len())?;
@@ -85,9 +82,7 @@ fn judged_once<J: Judge>(
 impl LabelRows {
     /// No files.
     pub fn none(alloc: Global) -> LabelRows
-        ensures numbers { result.numbers ≡ [] }
-        ensures labels { result.labels ≡ [] }
-        ensures cells { result.cells ≡ [] }
+        ensures { AreNone result }
     {
         LabelRows {
             numbers: PathMap::new(alloc),
@@ -105,9 +100,9 @@ impl LabelRows {
         users: &Subjects,
     ) -> Result<LabelRows, AllocError>
         requires room { J.asked_of judge.old + length files.now * length users.now < 2 ^ 64 }
-        requires order { IsInOrder (map (λ f. f.value) files.now) }
-        ensures labelled { IfOk result (λ rows. AreLabelled (map (λ f. f.value) files.now) rows) }
-        ensures rows { IfOk result (λ rows. rows_in rows.cells rows.numbers ≡ rows_of J.verdict_of users.now (map (λ f. f.value) files.now)) }
+        requires order { IsInOrder (values files.now) }
+        ensures labelled { IfOk result (λ rows. AreLabelled (values files.now) rows) }
+        ensures rows { IfOk result (λ rows. rows_in rows.cells rows.numbers ≡ rows_of J.verdict_of users.now (values files.now)) }
         ensures asked { OnOk result (J.asked_of judge.new ≡ J.asked_of judge.old + length files.now * length users.now) }
         ensures at_most { J.asked_of judge.new ≤ J.asked_of judge.old + length files.now * length users.now }
     {
@@ -124,10 +119,8 @@ impl LabelRows {
         new: NumberedFiles,
         rows: Vec<Cells>,
     ) -> Result<LabelRows, AllocError>
-        requires { IsInOrder (map (λ e. e.value) new.entries.items) }
-        ensures numbers { IfOk result (λ all. all.numbers ≡ map (λ e. e.value) new.entries.items) }
-        ensures labels { IfOk result (λ all. all.labels ≡ labels_in new.labels) }
-        ensures cells { IfOk result (λ all. all.cells ≡ rows.items) }
+        requires { IsInOrder (values new.entries.items) }
+        ensures { IfOk result (λ all. all ≡ record { numbers = values new.entries.items; labels = labels_in new.labels; cells = rows.items }) }
     {
         let NumberedFiles { labels, entries } = new;
         let labels = labels.all(alloc)?;
@@ -152,7 +145,7 @@ impl LabelRows {
 
     /// Copies of the rows of files that stand for labels, which share them.
     fn rows_of_labels(&self, alloc: Global, labels: &[Labelled]) -> Result<Vec<Cells>, AllocError>
-        ensures { IfOk result (λ rows. rows.items ≡ map (λ f. row_at_path self.now.cells self.now.numbers f.0) labels.now) }
+        ensures { IfOk result (λ rows. rows.items ≡ rows_for self.now labels.now) }
     {
         let mut rows: Vec<Cells> = Vec::with_capacity(alloc, labels.len())?;
         for at in 0..labels.len() {
@@ -165,9 +158,8 @@ impl LabelRows {
     /// The same files with the rows that they have, where only labels that files have get numbers. Fails only if memory,
     /// or the numbers, run out.
     pub fn renumbered(&self, alloc: Global, files: &[Rc<Record>]) -> Result<LabelRows, AllocError>
-        requires { IsInOrder (map (λ f. f.value) files.now) }
-        ensures labelled { IfOk result (λ new. AreLabelled (map (λ f. f.value) files.now) new) }
-        ensures rows { IfOk result (λ new. AreAsBefore (map (λ f. f.value) files.now) self.now new) }
+        requires { IsInOrder (values files.now) }
+        ensures { IfOk result (λ new. AreRenumberedRows (values files.now) self.now new) }
     {
         let new = numbered_from_start(alloc, files)?;
         let rows = self.rows_of_labels(alloc, new.labels.more())?;
@@ -177,7 +169,7 @@ impl LabelRows {
 
     /// A file's row, if it is there. Allocates nothing.
     pub fn row(&self, path: &Path) -> Option<&Cells>
-        ensures { option_copied result ≡ option_and_then (slice_get self.now.cells) (find path_cmp path.now self.now.numbers) }
+        ensures { option_copied result ≡ row_found self.now path.now }
     {
         match self.numbers.get(path) {
             Some(number) => self.cells.get(*number),
@@ -196,10 +188,10 @@ impl LabelRows {
         gone: &[Rc<Record>],
     ) -> Result<ChangedRows, AllocError>
         requires room { J.asked_of judge.old + length changed.now * length users.now < 2 ^ 64 }
-        requires changed { IsInOrder (map (λ f. f.value) changed.now) }
-        requires gone { IsInOrder (map (λ f. f.value) gone.now) }
-        ensures rows { IfOk result (λ new. AreChangedRows J.verdict_of users.now (map (λ f. f.value) changed.now)
-            (map (λ f. f.value) gone.now) self.now new.rows (map (λ e. e.value) new.puts.items)) }
+        requires changed { IsInOrder (values changed.now) }
+        requires gone { IsInOrder (values gone.now) }
+        ensures rows { IfOk result (λ new. AreChangedRows J.verdict_of users.now (values changed.now)
+            (values gone.now) self.now new.rows (values new.puts.items)) }
         ensures at_most { J.asked_of judge.new ≤ J.asked_of judge.old + length changed.now * length users.now }
     {
         let new = numbered(alloc, &self.labels, &self.numbers, changed)?;
@@ -217,12 +209,10 @@ impl LabelRows {
         rows: Vec<Cells>,
         gone: &[Rc<Record>],
     ) -> Result<ChangedRows, AllocError>
-        requires puts { IsInOrder (map (λ e. e.value) new.entries.items) }
-        requires gone { IsInOrder (map (λ f. f.value) gone.now) }
+        requires puts { IsInOrder (values new.entries.items) }
+        requires gone { IsInOrder (values gone.now) }
         ensures puts { IfOk result (λ all. all.puts.items ≡ new.entries.items) }
-        ensures numbers { IfOk result (λ all. all.rows.numbers ≡ merged (map (λ e. e.value) new.entries.items) (map (λ f. f.value) gone.now) self.now.numbers) }
-        ensures labels { IfOk result (λ all. all.rows.labels ≡ labels_in new.labels) }
-        ensures cells { IfOk result (λ all. all.rows.cells ≡ self.now.cells ++ rows.items) }
+        ensures rows { IfOk result (λ all. all.rows ≡ rows_with self.now new.labels (values new.entries.items) (values gone.now) rows.items) }
     {
         let NumberedFiles {
             labels,

@@ -1,12 +1,9 @@
 //! The labels of files by numbers, so that files of one label share its row of verdicts.
 
-ghost use Rattle.std.specs.Prelude.{◌≡◌, ◌<◌, ◌+◌, ◌++◌, ◌∷◌, true, [], ℕ, List, map, length, slice_get, option_map, Some, IfOk, IfSome, OnOk};
-ghost use Rattle.std.specs.FinMap.{find};
-ghost use Rattle.acl_files.specs.acl_names.Paths.{path_cmp};
-ghost use Rattle.acl_files.specs.acl_entry.declared.label.Label.{Label};
-ghost use Rattle.acl_files.specs.Files.{Files};
-ghost use Rattle.acl_verdicts.specs.Ways.{Numbers};
-ghost use Rattle.acl_verdicts.specs.Labels.{labels_in, added_in, IsUsed, IsNumbered, AreNumbered, AreCounted};
+ghost use Rattle.std.specs.Prelude.{◌≡◌, ◌++◌, true, [], length, slice_get, option_map, IfOk, IfSome, OnOk};
+ghost use Rattle.acl_files.specs.acl_names.Made.{values};
+ghost use Rattle.acl_verdicts.specs.Rows.{labels_each};
+ghost use Rattle.acl_verdicts.specs.Labels.{labels_in, StandsFor, MayHave, CountsOneMore, IsNumbered, AreNumbered, NumbersOneMore};
 
 use crate::numbered::Numbered;
 use crate::steps::{Hints, mixed};
@@ -48,14 +45,11 @@ pub(crate) struct Labelled {
 }
 
 impl Model for Labelled {
-    ghost use Rattle.std.specs.Coded.{coded×, coded_list, coded_ℕ};
-    ghost use Rattle.acl_files.specs.acl_edit.declared.node.Node as node_types;
-    ghost use Rattle.acl_files.specs.acl_edit.contracts.node.Node as node_contracts;
-    ghost use Rattle.acl_files.specs.Files.{PathOf};
+    ghost use Rattle.acl_verdicts.specs.Rows.{File, coded_file};
 
-    ghost Value = { PathOf × node_types.Node };
+    ghost Value = { File };
 
-    ghost coded = { coded× (coded_list (coded_list coded_ℕ)) node_contracts.the_row.coded };
+    ghost coded = { coded_file };
 
     ghost view = { λ l. l.file.value };
 }
@@ -101,16 +95,13 @@ pub(crate) struct Labels {
 }
 
 impl Model for Labels {
-    ghost use Rattle.std.specs.Prelude.{List, map};
-    ghost use Rattle.std.specs.Coded.{coded_list};
-    ghost use Rattle.acl_files.specs.acl_entry.declared.label.Label.{Label};
-    ghost use Rattle.acl_files.specs.acl_entry.contracts.label.Label as label_contracts;
+    ghost use Rattle.acl_verdicts.specs.Rows.{NumberedLabels, coded_labels, labels_each};
 
-    ghost Value = { List Label };
+    ghost Value = { NumberedLabels };
 
-    ghost coded = { coded_list label_contracts.the_row.coded };
+    ghost coded = { coded_labels };
 
-    ghost view = { λ l. map (λ f. f.1.label) l.files };
+    ghost view = { λ l. labels_each l.files };
 }
 
 impl Labels {
@@ -155,7 +146,7 @@ impl Labels {
         more: Vec<Labelled>,
         met: &BTreeMap<u64, usize>,
     ) -> Result<Labels, AllocError>
-        ensures { IfOk result (λ all. all ≡ self.now ++ map (λ f. f.1.label) more.items) }
+        ensures { IfOk result (λ all. all ≡ self.now ++ labels_each more.items) }
     {
         Ok(Labels {
             files: self.files.pushed(alloc, more)?,
@@ -178,8 +169,7 @@ pub(crate) struct MoreLabels {
 /// Counts one more file of the label at a place, which may be the next. Fails where they are more than can be counted, as
 /// where memory runs out.
 fn count(counts: &mut Vec<u64>, at: usize) -> Result<(), AllocError>
-    ensures again { OnOk result ((labels files : ℕ) → at < labels → AreCounted labels counts.old.items files → AreCounted labels counts.new.items (files + 1)) }
-    ensures next { OnOk result ((files : ℕ) → AreCounted at counts.old.items files → AreCounted (at + 1) counts.new.items (files + 1)) }
+    ensures { OnOk result (CountsOneMore at counts.old.items counts.new.items) }
 {
     if at < counts.len() {
         let Some(sum) = counts[at].checked_add(1) else {
@@ -208,8 +198,7 @@ impl MoreLabels {
 
     /// Files with the labels that were added.
     pub fn more(&self) -> &[Labelled]
-        ensures labels { map (λ f. f.1.label) result.now ≡ added_in self.now }
-        ensures files { result.now ≡ self.now.more.items }
+        ensures { result.now ≡ self.now.more.items }
     {
         &self.more
     }
@@ -234,7 +223,7 @@ impl MoreLabels {
 
     /// Whether the file that stands for a number has it, or the number is a new one.
     fn is_in_use(&self, number: usize, file: &Record) -> bool
-        ensures { result ≡ true → number < length self.now.first → find path_cmp file.now.0 self.now.numbers ≡ Some number }
+        ensures { result ≡ true → StandsFor file.now self.now number }
     {
         if number >= self.first.len() {
             return true;
@@ -247,8 +236,7 @@ impl MoreLabels {
 
     /// A number, where it is that of a file's label and in use.
     fn checked(&self, number: usize, file: &Record) -> Option<usize>
-        ensures label { IfSome result (λ n. slice_get (labels_in self.now) n ≡ Some file.now.1.label) }
-        ensures used { IfSome result (λ n. n < length self.now.first → IsUsed self.now.numbers n) }
+        ensures { IfSome result (λ n. MayHave file.now self.now n) }
     {
         let other = self.get(number)?.file();
         if !other.value().same_label(file.value()) {
@@ -262,8 +250,7 @@ impl MoreLabels {
 
     /// The number that hints give for a file's label, where it is that label's and in use.
     fn met(&self, mark: u64, file: &Record) -> Option<usize>
-        ensures label { IfSome result (λ n. slice_get (labels_in self.now) n ≡ Some file.now.1.label) }
-        ensures used { IfSome result (λ n. n < length self.now.first → IsUsed self.now.numbers n) }
+        ensures { IfSome result (λ n. MayHave file.now self.now n) }
     {
         let hint = match self.met.get(&mark) {
             Some(number) => *number,
@@ -330,9 +317,7 @@ fn push_numbered(
     entries: &mut Vec<Rc<MapEntry<usize>>>,
     file: &Rc<Record>,
 ) -> Result<(), AllocError>
-    ensures { OnOk result ((old : List Label) (given : Numbers) (files : Files)
-        → AreNumbered old given files labels.old (map (λ e. e.value) entries.old.items)
-        → AreNumbered old given (files ++ file.now.value ∷ []) labels.new (map (λ e. e.value) entries.new.items)) }
+    ensures { OnOk result (NumbersOneMore file.now.value labels.old (values entries.old.items) labels.new (values entries.new.items)) }
 {
     let number = labels.number(file)?;
     entries.push(entry_of(alloc, file, number)?)?;
@@ -354,7 +339,7 @@ pub(crate) fn numbered(
     numbers: &PathMap<usize>,
     files: &[Rc<Record>],
 ) -> Result<NumberedFiles, AllocError>
-    ensures { IfOk result (λ new. AreNumbered old.now numbers.now (map (λ f. f.value) files.now) new.labels (map (λ e. e.value) new.entries.items)) }
+    ensures { IfOk result (λ new. AreNumbered old.now numbers.now (values files.now) new.labels (values new.entries.items)) }
 {
     let mut labels = MoreLabels::of(alloc, old, numbers)?;
     let mut entries = Vec::with_capacity(alloc, files.len())?;
@@ -369,7 +354,7 @@ pub(crate) fn numbered_from_start(
     alloc: Global,
     files: &[Rc<Record>],
 ) -> Result<NumberedFiles, AllocError>
-    ensures { IfOk result (λ new. AreNumbered [] [] (map (λ f. f.value) files.now) new.labels (map (λ e. e.value) new.entries.items)) }
+    ensures { IfOk result (λ new. AreNumbered [] [] (values files.now) new.labels (values new.entries.items)) }
 {
     let (labels, numbers) = (Labels::new(alloc), PathMap::new(alloc));
     let new = numbered(alloc, &labels, &numbers, files)?;

@@ -22,7 +22,6 @@ pub use grants::{FileRow, FileRows, Grants, MaxNumbers};
 pub use judge::{Judge, Posix};
 pub use label_rows::{ChangedRows, LabelRows};
 pub use numbered::Numbered;
-pub use reaches::{reaches_after, updated_reaches};
 pub use steps::Step;
 pub use user_rows::UpdatedRows;
 pub use ways::{UpdatedWays, Ways, is_covered};

@@ -1,6 +1,6 @@
 //! Lists whose items keep their numbers.
 
-ghost use Rattle.std.specs.Prelude.{◌≡◌, ◌++◌, ◌<◌, [], length, slice_get, IfOk};
+ghost use Rattle.std.specs.Prelude.{◌≡◌, ◌++◌, ◌<◌, [], length, slice_get, IfOk, List};
 ghost use Rattle.std.specs.Option.{option_copied};
 ghost use Rattle.std.specs.List.{flat_map};
 
@@ -18,9 +18,6 @@ pub struct Numbered<T> {
 }
 
 impl<T> Model for Numbered<T> {
-    ghost use Rattle.std.specs.Prelude.{◌≡◌, List, length};
-    ghost use Rattle.std.specs.List.{flat_map};
-
     ghost Value = { List T };
 
     ghost view = { λ n. flat_map (λ b. b.value.items) n.blocks.items };

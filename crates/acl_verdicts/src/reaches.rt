@@ -76,7 +76,7 @@ fn reach_of(
 
 /// What is reached at each step, where it is known for the first ones. What is as in another list is shared with it.
 /// Fails only if memory runs out.
-pub fn reaches_after(
+pub(crate) fn reaches_after(
     alloc: Global,
     cells: &Numbered<Cells>,
     steps: &Numbered<Step>,
@@ -135,7 +135,7 @@ fn updated_reach(
 
 /// What is reached at each step after the rows that are marked were replaced: where neither a step's row nor one above it is
 /// marked, what was reached there is shared. Fails only if memory runs out.
-pub fn updated_reaches(
+pub(crate) fn updated_reaches(
     alloc: Global,
     cells: &Numbered<Cells>,
     steps: &Numbered<Step>,

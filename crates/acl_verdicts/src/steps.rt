@@ -1,7 +1,8 @@
 //! Steps: how files are reached, by numbers, so that files of one label below one directory are one step; and numbers by
 //! marks, as hints where to look first.
 
-ghost use Rattle.std.specs.Prelude.{◌≡◌, ◌++◌, ◌∷◌, [], ◌⊎◌, Some, slice_get, length, IfSome, IfOk, OnOk};
+ghost use Rattle.std.specs.Prelude.{◌≡◌, ◌++◌, ◌∷◌, [], ◌⊎◌, Some, slice_get, length, IfSome, IfOk, OnOk, List};
+ghost use Rattle.acl_verdicts.specs.declared.steps.Step.{Step};
 
 use crate::numbered::Numbered;
 use std::alloc::{AllocError, Global};
@@ -33,9 +34,6 @@ pub(crate) struct Steps {
 }
 
 impl Model for Steps {
-    ghost use Rattle.std.specs.Prelude.{List};
-    ghost use Rattle.acl_verdicts.specs.declared.steps.Step.{Step};
-
     ghost Value = { List Step };
 
     ghost view = { λ s. s.list };
@@ -80,9 +78,6 @@ pub(crate) struct MoreSteps {
 }
 
 impl Model for MoreSteps {
-    ghost use Rattle.std.specs.Prelude.{◌≡◌, ◌++◌, List, length};
-    ghost use Rattle.acl_verdicts.specs.declared.steps.Step.{Step};
-
     ghost Value = { List Step };
 
     ghost view = { λ s. s.first ++ s.more.items };

@@ -1,7 +1,9 @@
 //! Rows of verdicts by labels after a user comes, goes, or moves between groups.
 
-ghost use Rattle.std.specs.Prelude.{◌≡◌, ◌<◌, ◌≤◌, ◌+◌, ◌^◌, false, ℕ, [], map, length, get_or, count_by, IfOk};
-ghost use Rattle.acl_verdicts.specs.Labels.{rows_by, longer_row, updated_row, shorter_row, mark_at, AreLonger, AreShorter, AreAgain};
+ghost use Rattle.std.specs.Prelude.{◌≡◌, ◌<◌, ◌≤◌, ◌+◌, ◌^◌, length, count_by, IfOk};
+ghost use Rattle.acl_files.specs.acl_names.Made.{values};
+ghost use Rattle.acl_verdicts.specs.Labels.{longer_row, longer_rows, updated_row, updated_rows, shorter_row, mark_at, AreLonger, AreShorter, AreAgain};
+ghost use Rattle.acl_verdicts.specs.Ways.{KeepUnmarked};
 
 use crate::cells::{Cells, judged_at, judged_last, without};
 use crate::judge::Judge;
@@ -38,9 +40,7 @@ fn shorter_row(
 impl LabelRows {
     /// The same files and labels with other rows.
     fn with_cells(&self, alloc: Global, rows: Vec<Cells>) -> Result<LabelRows, AllocError>
-        ensures numbers { IfOk result (λ new. new.numbers ≡ self.now.numbers) }
-        ensures labels { IfOk result (λ new. new.labels ≡ self.now.labels) }
-        ensures cells { IfOk result (λ new. new.cells ≡ rows.items) }
+        ensures { IfOk result (λ new. new ≡ record self.now { cells = rows.items }) }
     {
         Ok(LabelRows {
             numbers: self.numbers.share()?,
@@ -85,7 +85,7 @@ impl LabelRows {
         user: &Subject,
     ) -> Result<Vec<Cells>, AllocError>
         requires { J.asked_of judge.old + count_by (λ m. m) marks.now < 2 ^ 64 }
-        ensures rows { IfOk result (λ rows. rows.items ≡ rows_by (longer_row J.verdict_of user.now self.now.labels marks.now) 0 self.now.cells) }
+        ensures rows { IfOk result (λ rows. rows.items ≡ longer_rows J.verdict_of user.now self.now marks.now) }
         ensures at_most { J.asked_of judge.new ≤ J.asked_of judge.old + count_by (λ m. m) marks.now }
     {
         let mut rows: Vec<Cells> = Vec::with_capacity(alloc, self.cells.len())?;
@@ -170,7 +170,7 @@ impl LabelRows {
         user: &Subject,
     ) -> Result<Vec<Cells>, AllocError>
         requires { J.asked_of judge.old + count_by (λ m. m) marks.now < 2 ^ 64 }
-        ensures rows { IfOk result (λ rows. rows.items ≡ rows_by (updated_row J.verdict_of at user.now self.now.labels marks.now) 0 self.now.cells) }
+        ensures rows { IfOk result (λ rows. rows.items ≡ updated_rows J.verdict_of at user.now self.now marks.now) }
         ensures at_most { J.asked_of judge.new ≤ J.asked_of judge.old + count_by (λ m. m) marks.now }
     {
         let mut rows: Vec<Cells> = Vec::with_capacity(alloc, self.cells.len())?;
@@ -195,8 +195,8 @@ impl LabelRows {
         user: &Subject,
     ) -> Result<UpdatedRows, AllocError>
         requires { J.asked_of judge.old + length paths.now < 2 ^ 64 }
-        ensures rows { IfOk result (λ new. AreAgain J.verdict_of at user.now (map (λ p. p.value) paths.now) self.now new.rows) }
-        ensures same { IfOk result (λ new. (n : ℕ) → get_or new.marks.items n false ≡ false → get_or self.now.cells n [] ≡ get_or new.rows.cells n []) }
+        ensures rows { IfOk result (λ new. AreAgain J.verdict_of at user.now (values paths.now) self.now new.rows) }
+        ensures same { IfOk result (λ new. KeepUnmarked new.marks.items self.now.cells new.rows.cells) }
         ensures at_most { J.asked_of judge.new ≤ J.asked_of judge.old + length paths.now }
     {
         let marks = in_use_at(alloc, &self.numbers, paths, self.cells.len())?;

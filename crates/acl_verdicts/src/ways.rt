@@ -1,16 +1,14 @@
 //! The steps of files: a walk over files in path order, with the steps of the directories above at hand; after some files
 //! have other rows only those files and what is below them is walked again.
 
-ghost use Rattle.std.specs.Prelude.{◌≡◌, ℕ, map, filter, count_by, option_map, IfOk, OnOk, ◌≤◌, ◌++◌, false, [], List, length, take};
-ghost use Rattle.std.specs.FinMap.{find};
-ghost use Rattle.acl_files.specs.acl_names.Paths.{path_cmp};
-ghost use Rattle.path_map.specs.Entries.{IsInOrder, PathOf};
-ghost use Rattle.path_map.specs.Below.{lies_in, within};
+ghost use Rattle.std.specs.Prelude.{◌≡◌, ◌≤◌, option_map, IfOk, OnOk, [], length, take};
+ghost use Rattle.path_map.specs.Entries.{IsInOrder};
+ghost use Rattle.path_map.specs.Below.{within};
 ghost use Rattle.path_map.specs.Merged.{merged};
+ghost use Rattle.acl_files.specs.acl_names.Made.{values};
 ghost use Rattle.acl_verdicts.specs.Subtrees.{covers, IsApart};
-ghost use Rattle.acl_verdicts.specs.Ways.{ways, wayed, known, AreBack, AreSteps, IsLonger, AreAbove, HaveRows, AreNumbers, Way, IsAbove};
-ghost use Rattle.std.specs.Ordering.{is_gt};
-ghost use Rattle.acl_verdicts.specs.Walks.{nearest, last_of, AllBefore};
+ghost use Rattle.acl_verdicts.specs.Walks.{last_of, AllBefore, IsLeftAbove};
+ghost use Rattle.acl_verdicts.specs.Ways.{ways, ways_below, wayed, known, number_at, AreBack, AreSteps, AreWays, AreWaysOf, AreAbove, IsAbove, AddsSteps, AddsWays, AreUpdatedWays};
 
 use crate::numbered::Numbered;
 use crate::steps::{MoreSteps, Step, Steps};
@@ -51,14 +49,11 @@ fn steps_below(
     tops: &[Rc<MapEntry<usize>>],
     old: &PathMap<usize>,
 ) -> Result<Places, AllocError>
-    requires order { IsInOrder (map (λ e. e.value) tops.now) }
+    requires order { IsInOrder (values tops.now) }
     requires back { AreBack steps.old }
-    requires above { AreAbove (map (λ e. e.value) tops.now) numbers.now steps.old old.now }
-    ensures puts { IfOk result (λ puts. wayed steps.new (map (λ e. e.value) puts.items)
-        ≡ known (filter (λ w. lies_in (map (λ e. e.value) tops.now) w.0) (ways numbers.now))) }
-    ensures kept { OnOk result (IsLonger steps.old steps.new) }
-    ensures back { OnOk result (AreBack steps.new) }
-    ensures rows { OnOk result ((count : ℕ) → HaveRows count steps.old → AreNumbers count numbers.now → HaveRows count steps.new) }
+    requires above { AreAbove (values tops.now) numbers.now steps.old old.now }
+    ensures puts { IfOk result (λ puts. wayed steps.new (values puts.items) ≡ known (ways_below (values tops.now) numbers.now)) }
+    ensures added { OnOk result (AddsSteps numbers.now steps.old steps.new) }
 {
     numbers.order_law();
     let mut finder = numbers.finder();
@@ -81,8 +76,7 @@ fn steps_below(
 impl Ways {
     /// The steps of all files, by the numbers of their rows. Fails only if memory runs out.
     pub fn of(alloc: Global, numbers: &PathMap<usize>) -> Result<Ways, AllocError>
-        ensures steps { IfOk result (λ ways. AreSteps ways.steps ways.places numbers.now) }
-        ensures rows { IfOk result (λ ways. (count : ℕ) → AreNumbers count numbers.now → HaveRows count ways.steps) }
+        ensures { IfOk result (λ ways. AreWaysOf numbers.now ways) }
     {
         let mut steps = MoreSteps::new(alloc);
         let places = all_steps(alloc, &mut steps, numbers)?;
@@ -92,8 +86,7 @@ impl Ways {
 
     /// Files with their steps, after a walk that added to the steps. Fails only if memory runs out.
     fn stepped(alloc: Global, places: PathMap<usize>, steps: MoreSteps) -> Result<Ways, AllocError>
-        ensures places { IfOk result (λ ways. ways.places ≡ places) }
-        ensures steps { IfOk result (λ ways. ways.steps ≡ steps) }
+        ensures { IfOk result (λ ways. ways ≡ record { places = places; steps = steps }) }
     {
         let steps = steps.all(alloc)?;
         Ok(Ways { places, steps })
@@ -101,7 +94,7 @@ impl Ways {
 
     /// The step of a file, if it is there. Allocates nothing.
     pub fn get(&self, path: &Path) -> Option<usize>
-        ensures { result ≡ find path_cmp path.now self.now.places }
+        ensures { result ≡ number_at path.now self.now.places }
     {
         self.places.get(path).copied()
     }
@@ -139,15 +132,12 @@ impl Ways {
         tops: &[Rc<MapEntry<usize>>],
         gone: &[Rc<MapEntry<W>>],
     ) -> Result<UpdatedWays, AllocError>
-        requires tops { IsInOrder (map (λ e. e.value) tops.now) }
-        requires gone { IsInOrder (map (λ e. e.value) gone.now) }
-        requires change { numbers.now ≡ merged (map (λ e. e.value) tops.now) (map (λ e. e.value) gone.now) old.now }
-        requires apart { IsApart numbers.now (map (λ e. e.value) gone.now) }
-        requires steps { AreSteps self.now.steps self.now.places old.now }
-        ensures steps { IfOk result (λ new. AreSteps new.ways.steps new.ways.places numbers.now) }
-        ensures kept { IfOk result (λ new. IsLonger self.now.steps new.ways.steps) }
-        ensures rows { IfOk result (λ new. (count : ℕ) → HaveRows count self.now.steps → AreNumbers count numbers.now → HaveRows count new.ways.steps) }
-        ensures walked { IfOk result (λ new. new.walked ≡ count_by (λ e. lies_in (map (λ e. e.value) tops.now) e.0) numbers.now) }
+        requires tops { IsInOrder (values tops.now) }
+        requires gone { IsInOrder (values gone.now) }
+        requires change { numbers.now ≡ merged (values tops.now) (values gone.now) old.now }
+        requires apart { IsApart numbers.now (values gone.now) }
+        requires steps { AreWays old.now self.now }
+        ensures { IfOk result (λ new. AreUpdatedWays (values tops.now) numbers.now self.now new) }
     {
         old.order_law();
         numbers.order_law();
@@ -164,11 +154,9 @@ impl Ways {
 
 /// How many entries of a stack are left when those that are not above a path are taken off its end.
 fn depth_above<V>(stack: &[Rc<MapEntry<V>>], path: &Path) -> usize
-    requires before { AllBefore path.now (map (λ e. e.value) stack.now) }
+    requires before { AllBefore path.now (values stack.now) }
     ensures most { result ≤ length stack.now }
-    ensures kept { (p : PathOf) → is_gt (path_cmp path.now p) ≡ false
-        → nearest p (take result (map (λ e. e.value) stack.now)) ≡ nearest p (map (λ e. e.value) stack.now) }
-    ensures top { last_of (take result (map (λ e. e.value) stack.now)) ≡ nearest path.now (map (λ e. e.value) stack.now) }
+    ensures left { IsLeftAbove path.now (values stack.now) (take result (values stack.now)) }
 {
     let mut depth = stack.len();
     while 0 < depth {
@@ -182,7 +170,7 @@ fn depth_above<V>(stack: &[Rc<MapEntry<V>>], path: &Path) -> usize
 
 /// The number of the last entry of a stack.
 fn last_number(stack: &[Rc<MapEntry<usize>>]) -> Option<usize>
-    ensures { result ≡ last_of (map (λ e. e.value) stack.now) }
+    ensures { result ≡ last_of (values stack.now) }
 {
     if stack.is_empty() {
         return None;
@@ -204,13 +192,10 @@ pub(crate) fn add_steps(
     top: &Path,
 ) -> Result<(), AllocError>
     requires back { AreBack steps.old }
-    requires above { IsAbove top.now numbers.old steps.old (map (λ e. e.value) above.items) }
+    requires above { IsAbove top.now numbers.old steps.old (values above.items) }
     ensures same { numbers.new ≡ numbers.old }
-    ensures steps { OnOk result ((ws : List (PathOf × Way)) → wayed steps.old (map (λ e. e.value) places.old.items) ≡ known ws
-        → wayed steps.new (map (λ e. e.value) places.new.items) ≡ known (ws ++ within top.now (ways numbers.old))) }
-    ensures kept { OnOk result (IsLonger steps.old steps.new) }
-    ensures back { OnOk result (AreBack steps.new) }
-    ensures rows { OnOk result ((count : ℕ) → HaveRows count steps.old → AreNumbers count numbers.old → HaveRows count steps.new) }
+    ensures steps { OnOk result (AddsWays (within top.now (ways numbers.old)) steps.old (values places.old.items) steps.new (values places.new.items)) }
+    ensures added { OnOk result (AddsSteps numbers.old steps.old steps.new) }
 {
     numbers.order_law();
     let mut stack = above;
@@ -245,7 +230,7 @@ pub(crate) fn all_steps(
 ) -> Result<PathMap<usize>, AllocError>
     requires { AreBack steps.old }
     ensures steps { IfOk result (λ places. AreSteps steps.new places numbers.now) }
-    ensures rows { OnOk result ((count : ℕ) → HaveRows count steps.old → AreNumbers count numbers.now → HaveRows count steps.new) }
+    ensures added { OnOk result (AddsSteps numbers.now steps.old steps.new) }
 {
     numbers.order_law();
     let root = root_path(alloc);

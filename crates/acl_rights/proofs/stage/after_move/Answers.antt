@@ -8,10 +8,9 @@ use Rattle.std.specs.List.{count_by}
 use Rattle.path_map.specs.Below.{lies_in}
 use Rattle.acl_verdicts.specs.Ways.{rows_in}
 use Rattle.acl_verdicts.specs.declared.label_rows.LabelRows.{LabelRows}
-use Rattle.acl_rights.specs.Stages.{mentions_one, moves_looked, most_looked}
+use Rattle.acl_rights.specs.Stages.{mentions_one, moves_looked}
 use Rattle.acl_verdicts.proofs.Maps.{same_length}
 use Rattle.acl_rights.proofs.Costs.{moved_cost}
-use Rattle.acl_rights.proofs.Listed.{looked_le}
 use Rattle.acl_rights.proofs.After.{moved_labelled, moved_rows, moved_order, moved_refreshed, numbers_long, grants_kept}
 use Rattle.acl_rights.proofs.stage.after_move.Goals as goal
 
@@ -76,57 +75,27 @@ count_within-requires-clause-order g c =
     let paths = ap (map (λ p. p.value)) c.deref-paths.ensures.value ∙ c.in_ok-paths.ensures t.state.tree.files order c.requires.lists ∙ ap (λ (ids : List ℕ). map (λ (e : PathOf × Node). e.0) (filter (mentions_one ids) t.state.tree.files)) c.as_slice.ensures in
     moved_order V c.args.grants.now t c.requires.goes c.order_law.ensures order g.met.J.Judge.local c.args.at c.args.groups.now c.requires.moved c.moved_user-user.result.now c.moved_user-user.ensures (map (λ p. p.value) c.deref-paths.result.now) paths c.in_ok-updated.updated.rows c.in_ok-updated.ensures.rows (λ p. p.value) c.deref-paths.result.now paths
 
-pub returns-clause-grants : goal.returns-clause-grants
-returns-clause-grants g c =
+pub returns-clause-made : goal.returns-clause-made
+returns-clause-made g c =
     let V = g.J.Judge.verdict_of in
     let t = c.args.staged.now in
     let order = subst (λ (r : Recorded). IsInOrder r.files) c.tree.ensures c.soundness_law.ensures.order in
     let touched = filter (mentions_one c.args.groups.now) t.state.tree.files in
     let paths = ap (map (λ p. p.value)) c.deref-paths.ensures.value ∙ c.in_ok-paths.ensures t.state.tree.files order c.requires.lists ∙ ap (λ (ids : List ℕ). map (λ (e : PathOf × Node). e.0) (filter (mentions_one ids) t.state.tree.files)) c.as_slice.ensures in
     let rows = c.in_ok-updated.updated.rows in
-    grants_kept rows c.args.grants.now.ways c.args.grants.now c.in_ok-new.new c.in_ok-new.ensures.rows c.in_ok-new.ensures.ways c.in_ok-new.ensures.reaches refl
-    c.requires.goes.goes.state.tree.files t.state.tree.files c.requires.goes.kept (moved_labelled V c.args.grants.now t c.requires.goes c.order_law.ensures order g.met.J.Judge.local c.args.at c.args.groups.now c.requires.moved c.moved_user-user.result.now c.moved_user-user.ensures (map (λ p. p.value) c.deref-paths.result.now) paths rows c.in_ok-updated.ensures.rows) c.in_ok-updated.ensures.rows.numbers c.in_ok-updated.ensures.rows.labels
-
-pub returns-clause-rows : goal.returns-clause-rows
-returns-clause-rows g c =
-    let V = g.J.Judge.verdict_of in
-    let t = c.args.staged.now in
-    let order = subst (λ (r : Recorded). IsInOrder r.files) c.tree.ensures c.soundness_law.ensures.order in
-    let touched = filter (mentions_one c.args.groups.now) t.state.tree.files in
-    let paths = ap (map (λ p. p.value)) c.deref-paths.ensures.value ∙ c.in_ok-paths.ensures t.state.tree.files order c.requires.lists ∙ ap (λ (ids : List ℕ). map (λ (e : PathOf × Node). e.0) (filter (mentions_one ids) t.state.tree.files)) c.as_slice.ensures in
-    ap (λ (r : LabelRows). rows_in r.cells r.numbers) c.in_ok-new.ensures.rows
-    ∙ moved_rows V c.args.grants.now t c.requires.goes c.order_law.ensures order g.met.J.Judge.local c.args.at c.args.groups.now c.requires.moved c.moved_user-user.result.now c.moved_user-user.ensures (map (λ p. p.value) c.deref-paths.result.now) paths c.in_ok-updated.updated.rows c.in_ok-updated.ensures.rows (subst IsInOrder (sym c.in_ok-updated.ensures.rows.numbers) c.order_law.ensures)
-
-pub returns-clause-looked : goal.returns-clause-looked
-returns-clause-looked g c =
-    let V = g.J.Judge.verdict_of in
-    let t = c.args.staged.now in
-    let order = subst (λ (r : Recorded). IsInOrder r.files) c.tree.ensures c.soundness_law.ensures.order in
-    let touched = filter (mentions_one c.args.groups.now) t.state.tree.files in
-    let paths = ap (map (λ p. p.value)) c.deref-paths.ensures.value ∙ c.in_ok-paths.ensures t.state.tree.files order c.requires.lists ∙ ap (λ (ids : List ℕ). map (λ (e : PathOf × Node). e.0) (filter (mentions_one ids) t.state.tree.files)) c.as_slice.ensures in
     let long = same_length (λ p. p.value) (λ (e : PathOf × Node). e.0) c.deref-paths.result.now touched paths in
     let counted = length-filter (mentions_one c.args.groups.now) t.state.tree.files in
     let is = ap (λ (m : UserChange). moves_looked m t.state.tree.files) c.requires.moved in
-    omega (arith, long, counted, is)
-
-pub returns-clause-looked_most : goal.returns-clause-looked_most
-returns-clause-looked_most g c =
-    let V = g.J.Judge.verdict_of in
-    let t = c.args.staged.now in
-    let order = subst (λ (r : Recorded). IsInOrder r.files) c.tree.ensures c.soundness_law.ensures.order in
-    let touched = filter (mentions_one c.args.groups.now) t.state.tree.files in
-    let paths = ap (map (λ p. p.value)) c.deref-paths.ensures.value ∙ c.in_ok-paths.ensures t.state.tree.files order c.requires.lists ∙ ap (λ (ids : List ℕ). map (λ (e : PathOf × Node). e.0) (filter (mentions_one ids) t.state.tree.files)) c.as_slice.ensures in
-    let long = same_length (λ p. p.value) (λ (e : PathOf × Node). e.0) c.deref-paths.result.now touched paths in
-    let most = ap (λ (m : UserChange). most_looked m t.state.tree.files) c.requires.moved in
-    let fewer = looked_le c.args.groups.now t.state.tree.files in
-    omega (arith, long, most, fewer)
-
-pub returns-clause-refreshed : goal.returns-clause-refreshed
-returns-clause-refreshed g c =
-    let V = g.J.Judge.verdict_of in
-    let t = c.args.staged.now in
-    let order = subst (λ (r : Recorded). IsInOrder r.files) c.tree.ensures c.soundness_law.ensures.order in
-    let touched = filter (mentions_one c.args.groups.now) t.state.tree.files in
-    let paths = ap (map (λ p. p.value)) c.deref-paths.ensures.value ∙ c.in_ok-paths.ensures t.state.tree.files order c.requires.lists ∙ ap (λ (ids : List ℕ). map (λ (e : PathOf × Node). e.0) (filter (mentions_one ids) t.state.tree.files)) c.as_slice.ensures in
-    moved_refreshed V c.args.grants.now t c.requires.goes c.order_law.ensures order g.met.J.Judge.local c.args.at c.args.groups.now c.requires.moved c.moved_user-user.result.now c.moved_user-user.ensures (map (λ p. p.value) c.deref-paths.result.now) paths c.in_ok-updated.updated.rows c.in_ok-updated.ensures.rows (λ p. p.value) c.deref-paths.result.now paths c.count_within.result
-    (c.count_within.ensures ∙ ap (λ (r : LabelRows). count_by (λ (e : PathOf × ℕ). lies_in (map (λ p. (p.value, p.value)) c.deref-paths.result.now) e.0) r.numbers) c.in_ok-new.ensures.rows)
+    record {
+      grants =
+          grants_kept rows c.args.grants.now.ways c.args.grants.now c.in_ok-new.new c.in_ok-new.ensures.rows c.in_ok-new.ensures.ways c.in_ok-new.ensures.reaches refl
+          c.requires.goes.goes.state.tree.files t.state.tree.files c.requires.goes.kept (moved_labelled V c.args.grants.now t c.requires.goes c.order_law.ensures order g.met.J.Judge.local c.args.at c.args.groups.now c.requires.moved c.moved_user-user.result.now c.moved_user-user.ensures (map (λ p. p.value) c.deref-paths.result.now) paths rows c.in_ok-updated.ensures.rows) c.in_ok-updated.ensures.rows.numbers c.in_ok-updated.ensures.rows.labels;
+      rows =
+          ap (λ (r : LabelRows). rows_in r.cells r.numbers) c.in_ok-new.ensures.rows
+          ∙ moved_rows V c.args.grants.now t c.requires.goes c.order_law.ensures order g.met.J.Judge.local c.args.at c.args.groups.now c.requires.moved c.moved_user-user.result.now c.moved_user-user.ensures (map (λ p. p.value) c.deref-paths.result.now) paths c.in_ok-updated.updated.rows c.in_ok-updated.ensures.rows (subst IsInOrder (sym c.in_ok-updated.ensures.rows.numbers) c.order_law.ensures);
+      looked =
+          omega (arith, long, counted, is);
+      refreshed =
+          moved_refreshed V c.args.grants.now t c.requires.goes c.order_law.ensures order g.met.J.Judge.local c.args.at c.args.groups.now c.requires.moved c.moved_user-user.result.now c.moved_user-user.ensures (map (λ p. p.value) c.deref-paths.result.now) paths c.in_ok-updated.updated.rows c.in_ok-updated.ensures.rows (λ p. p.value) c.deref-paths.result.now paths c.count_within.result
+          (c.count_within.ensures ∙ ap (λ (r : LabelRows). count_by (λ (e : PathOf × ℕ). lies_in (map (λ p. (p.value, p.value)) c.deref-paths.result.now) e.0) r.numbers) c.in_ok-new.ensures.rows);
+    }

@@ -1,4 +1,4 @@
-use Rattle.std.proofs.Common.{◌<◌, ℕ, List, length, ap, ◌∙◌, arith}
+use Rattle.std.proofs.Common.{◌<◌, ℕ, List, length, ap, ◌∙◌, arith, rules}
 use Rattle.acl_files.specs.acl_edit.declared.node.Node.{Node}
 use Rattle.acl_files.specs.Files.{PathOf}
 use Rattle.acl_verdicts.specs.Labels.{row_of}
@@ -25,7 +25,7 @@ loop-at-preserved g c =
     let lt : at < length c.args.counts.now = omega (arith, c.requires.long, c.loop-at-test.true) in
     let left = asked_left c.args.counts.now at (length c.args.users.now) lt in
     let so_far = c.loop-at.invariant.asked in
-    let asked = c.in_ok-row.ensures.asked in
+    let asked = c.in_ok-row.ensures.asked.0 in
     record {
       rows = map_step row c.args.labels.now at c.index-labels-at.result c.loop-at.rows.items c.push.new.self.items _ c.in_ok-row.row c.loop-at-test.true c.index-labels-at.is (c.in_ok-row.ensures.cells ∙ ap (row_of g.J.Judge.verdict_of c.args.users.now) c.label-label.ensures) c.in_ok-push.ensures.items c.loop-at.invariant.rows;
       asked = omega (arith, left, so_far, asked);
@@ -40,28 +40,22 @@ pub returns-clause-asked : goal.returns-clause-asked
 returns-clause-asked g c =
     let none = none_left c.args.counts.now c.loop-at.at (length c.args.users.now) (omega (arith, c.requires.long, c.loop-at-test.false)) in
     let so_far = c.loop-at.invariant.asked in
-    omega (arith, none, so_far)
+    (omega (arith, none, so_far), omega (arith, none, so_far))
 
-pub returns-clause-at_most : goal.returns-clause-at_most
-returns-clause-at_most g c =
-    let none = none_left c.args.counts.now c.loop-at.at (length c.args.users.now) (omega (arith, c.requires.long, c.loop-at-test.false)) in
-    let so_far = c.loop-at.invariant.asked in
-    omega (arith, none, so_far)
-
-pub returns-in_err-row-clause-at_most : goal.returns-in_err-row-clause-at_most
-returns-in_err-row-clause-at_most g c =
+pub returns-in_err-row-clause-asked : goal.returns-in_err-row-clause-asked
+returns-in_err-row-clause-asked g c =
     let at = c.loop-at.at in
     let lt : at < length c.args.counts.now = omega (arith, c.requires.long, c.loop-at-test.true) in
     let left = asked_left c.args.counts.now at (length c.args.users.now) lt in
     let so_far = c.loop-at.invariant.asked in
-    let asked = c.judged.ensures.at_most in
-    omega (arith, left, so_far, asked)
+    let asked = c.judged.ensures.asked.1 in
+    (search rules, omega (arith, left, so_far, asked))
 
-pub returns-in_err-push-clause-at_most : goal.returns-in_err-push-clause-at_most
-returns-in_err-push-clause-at_most g c =
+pub returns-in_err-push-clause-asked : goal.returns-in_err-push-clause-asked
+returns-in_err-push-clause-asked g c =
     let at = c.loop-at.at in
     let lt : at < length c.args.counts.now = omega (arith, c.requires.long, c.loop-at-test.true) in
     let left = asked_left c.args.counts.now at (length c.args.users.now) lt in
     let so_far = c.loop-at.invariant.asked in
-    let asked = c.in_ok-row.ensures.asked in
-    omega (arith, left, so_far, asked)
+    let asked = c.in_ok-row.ensures.asked.0 in
+    (search rules, omega (arith, left, so_far, asked))

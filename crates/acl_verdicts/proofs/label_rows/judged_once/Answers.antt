@@ -21,4 +21,4 @@ judged_labels-requires-clause-some g c = subst (AllByRecursion (λ (n : ℕ). 0 
 pub returns-clause-at_most : goal.returns-clause-at_most
 returns-clause-at_most g c =
     let long = length c.args.labels.now in
-    ones_cost c.deref.result.now long long (length c.args.users.now) (g.J.Judge.asked_of c.args.judge.now) (g.J.Judge.asked_of c.judged_labels.new.judge) (c.deref.ensures.value ∙ c.in_ok-ones.ensures) (omega arith) c.judged_labels.ensures.at_most
+    ones_cost c.deref.result.now long long (length c.args.users.now) (g.J.Judge.asked_of c.args.judge.now) (g.J.Judge.asked_of c.judged_labels.new.judge) (c.deref.ensures.value ∙ c.in_ok-ones.ensures) (omega arith) c.judged_labels.ensures.asked.1

@@ -14,16 +14,20 @@ loop-path-preserved c =
     let same : c.deref.result.now ≡ c.path-item.result.value = c.deref.ensures in
     record {
       finder = c.mark_file.ensures.same ∙ c.loop-path.invariant.finder;
-      long = c.mark_file.ensures.long ∙ long;
+      long = c.mark_file.ensures.added.long ∙ long;
       used = all_more (λ p. (n : ℕ) → find path_cmp p.value c.args.numbers.now ≡ Some n → n < c.args.count → get_or c.mark_file.new.marks.items n false ≡ true) c.args.paths.now i c.path-item.result c.loop-path-test.true c.path-item.is
           (all_weaker (λ p. (n : ℕ) → find path_cmp p.value c.args.numbers.now ≡ Some n → n < c.args.count → get_or c.loop-path.marks.items n false ≡ true) (λ p. (n : ℕ) → find path_cmp p.value c.args.numbers.now ≡ Some n → n < c.args.count → get_or c.mark_file.new.marks.items n false ≡ true)
-          (λ p h n is lt. c.mark_file.ensures.kept n (h n is lt)) (take i c.args.paths.now) c.loop-path.invariant.used)
+          (λ p h n is lt. c.mark_file.ensures.added.kept n (h n is lt)) (take i c.args.paths.now) c.loop-path.invariant.used)
           (λ n is lt. c.mark_file.ensures.here n (ap (λ (ns : Numbers). find path_cmp c.deref.result.now ns) c.loop-path.invariant.finder ∙ ap (λ (p : PathOf). find path_cmp p c.args.numbers.now) same ∙ is) (omega (arith, lt, long)));
-      few = let one = c.mark_file.ensures.few in let few = c.loop-path.invariant.few in omega (arith, one, few);
+      few = let one = c.mark_file.ensures.added.few in let few = c.loop-path.invariant.few in omega (arith, one, few);
     }
 
 pub loop-path-init : goal.loop-path-init
 loop-path-init c = grind (arith, common_steps)
 
-pub returns-clause-used : goal.returns-clause-used
-returns-clause-used c = grind (arith, common_steps)
+pub returns : goal.returns
+returns c = record {
+  long = c.loop-path.invariant.long;
+  used = grind (arith, common_steps);
+  few = grind (arith, common_steps);
+}

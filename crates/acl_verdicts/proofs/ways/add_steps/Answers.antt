@@ -21,7 +21,7 @@ loop-file-preserved c =
     let entry = c.in_ok-place.ensures.ok ∙ c.new.ensures ∙ ap (λ (p : PathOf). (p, c.in_ok-number.number)) (c.in_ok-clone.ensures.cases ∙ c.shared_path.ensures ∙ ap (λ (e : PathOf × ℕ). e.0) c.deref-in-Some-4.ensures) in
     file_walked (λ e. e.value) c.args.top.now c.args.numbers.now c.order_law.ensures c.args.steps.now (map (λ e. e.value) c.args.places.now.items) file c.loop-file.rest c.next.new.self c.loop-file.steps c.number.new.self c.loop-file.places.items
     c.loop-file.stack.items c.deref.result.now c.truncate.new.self.items c.deref-in-Some-3.result.now c.push-in-Some.new.self.items c.push.new.self.items c.in_ok-place.place c.in_ok-clone-2.field-0 c.path.result.now c.depth_above-depth.result c.in_ok-number.number
-    (record { row = c.value.result.now; above = c.last_number.result }) c.in-Some.ensures c.loop-file.invariant path c.deref.ensures.value c.truncate.ensures.items c.deref-in-Some-3.ensures.value c.depth_above-depth.ensures.kept c.depth_above-depth.ensures.top
+    (record { row = c.value.result.now; above = c.last_number.result }) c.in-Some.ensures c.loop-file.invariant path c.deref.ensures.value c.truncate.ensures.items c.deref-in-Some-3.ensures.value c.depth_above-depth.ensures.left.kept c.depth_above-depth.ensures.left.top
     (c.value.ensures ∙ ap (λ (e : PathOf × ℕ). e.1) c.deref-in-Some-2.ensures) c.last_number.ensures (c.in_ok-number.ensures.step, c.in_ok-number.ensures.kept) entry c.in_ok-clone-2.ensures.cases c.in_ok-push-2.ensures.items c.in_ok-push.ensures.items
 
 pub returns-clause-steps : goal.returns-clause-steps

@@ -1,6 +1,6 @@
 use Rattle.std.proofs.Common.{[], map, sym, ap, subst, ◌∙◌}
 use Rattle.path_map.specs.Entries.{IsInOrder}
-use Rattle.acl_verdicts.specs.Ways.{ways, wayed, AreSteps, AreNumbers}
+use Rattle.acl_verdicts.specs.Ways.{Numbers, ways, wayed, AreSteps, AddsSteps}
 use Rattle.acl_verdicts.proofs.Along.{wayed_order}
 use Rattle.acl_verdicts.proofs.Walked.{is_above_root, all_walked, ways_order}
 use Rattle.acl_verdicts.proofs.ways.all_steps.Goals as goal
@@ -28,9 +28,9 @@ returns-clause-steps c =
     let none = ap (λ es. wayed c.args.steps.now (map (λ e. e.value) es)) c.new-places.ensures.items in
     let all = all_walked c.add_steps.new.steps ns made c.root_path-root.result c.root_path-root.ensures (c.in_ok-add_steps.ensures.steps [] none) in
     subst (AreSteps c.add_steps.new.steps c.in_ok-all.all) c.finder-finder.ensures (record {
-      back = c.in_ok-add_steps.ensures.back;
+      back = c.in_ok-add_steps.ensures.added.back;
       are = ap (wayed c.add_steps.new.steps) (c.in_ok-all.ensures ∙ ap (map (λ e. e.value)) c.deref.ensures.value) ∙ all;
     })
 
-pub returns-clause-rows : goal.returns-clause-rows
-returns-clause-rows c = λ count first have. c.in_ok-add_steps.ensures.rows count first (subst (AreNumbers count) (sym c.finder-finder.ensures) have)
+pub returns-clause-added : goal.returns-clause-added
+returns-clause-added c = subst (λ (ns : Numbers). AddsSteps ns c.args.steps.now c.add_steps.new.steps) c.finder-finder.ensures c.in_ok-add_steps.ensures.added

@@ -22,9 +22,7 @@ loop-top-init c =
     record {
       finder = c.finder-finder.ensures;
       walked = ([], (tops_begin tops c.requires.order (ways ns) (ways_order ns c.order_law.ensures) tops [] None refl refl refl, ap (λ l. wayed c.args.steps.now (map (λ e. e.value) l)) c.new-puts.ensures.items));
-      kept = longer_itself c.args.steps.now;
-      back = c.requires.back;
-      rows = λ count h k. h;
+      added = record { kept = longer_itself c.args.steps.now; back = c.requires.back; rows = λ count h k. h };
     }
 
 pub loop-top-preserved-then-is_covered : goal.loop-top-preserved-then-is_covered
@@ -44,9 +42,7 @@ loop-top-preserved-then-is_covered c =
           w.1.1,
         ),
       );
-      kept = c.loop-top.invariant.kept;
-      back = c.loop-top.invariant.back;
-      rows = c.loop-top.invariant.rows;
+      added = c.loop-top.invariant.added;
     }
 
 pub add_steps-requires-clause-above : goal.add_steps-requires-clause-above
@@ -65,7 +61,7 @@ add_steps-requires-clause-above c =
     let out : covers last t.0 ≡ false = ap (covers last) (sym same) ∙ sym c.is_covered.ensures ∙ c.if-is_covered.false in
     let near : IsNearest t.0 c.args.old.now above = found_is_nearest t.0 c.args.old.now above (c.in_ok-above.ensures ∙ ap (λ (p : PathOf). nearest_above p c.args.old.now) same) in
     let before = c.requires.above t.0 (top_there tops c.requires.order (ways ns) order t rest more w.0 last is w.1.0) (top_outermost tops c.requires.order (ways ns) order t rest more w.0 last is w.1.0 out) above near in
-    let now : IsAbove t.0 ns c.loop-top.steps above = record { below = before.below; leads = leads_kept _ _ _ _ c.loop-top.invariant.kept before.leads } in
+    let now : IsAbove t.0 ns c.loop-top.steps above = record { below = before.below; leads = leads_kept _ _ _ _ c.loop-top.invariant.added.kept before.leads } in
     subst (λ (ms : Numbers). IsAbove c.path-path.result.now ms c.loop-top.steps above) (sym c.loop-top.invariant.finder) (subst (λ p. IsAbove p ns c.loop-top.steps above) (sym same) now)
 
 pub loop-top-preserved : goal.loop-top-preserved
@@ -83,12 +79,16 @@ loop-top-preserved c =
     let out : covers last t.0 ≡ false = ap (covers last) (sym same) ∙ sym c.is_covered.ensures ∙ c.if-is_covered.false in
     let walked : AreWalked tops (ways ns) more (w.0 ++ within t.0 (ways ns)) (Some t.0) = tops_walk tops c.requires.order (ways ns) order t rest more w.0 last is w.1.0 (w.0 ++ within t.0 (ways ns)) out refl in
     let finder = c.loop-top.invariant.finder in
+    let before = c.loop-top.invariant.added in
+    let added = c.in_ok-add_steps.ensures.added in
     record {
       finder = c.add_steps.ensures.same ∙ finder;
       walked = (w.0 ++ within t.0 (ways ns), (subst (λ (p : PathOf). AreWalked tops (ways ns) more (w.0 ++ within t.0 (ways ns)) (Some p)) (sym same) walked, c.in_ok-add_steps.ensures.steps w.0 w.1.1 ∙ ap (λ (ms : Numbers). known (w.0 ++ within c.path-path.result.now (ways ms))) finder ∙ ap (λ (p : PathOf). known (w.0 ++ within p (ways ns))) same));
-      kept = longer_on _ _ _ c.loop-top.invariant.kept c.in_ok-add_steps.ensures.kept;
-      back = c.in_ok-add_steps.ensures.back;
-      rows = λ count h k. c.in_ok-add_steps.ensures.rows count (c.loop-top.invariant.rows count h k) (subst (AreNumbers count) (sym finder) k);
+      added = record {
+        kept = longer_on _ _ _ before.kept added.kept;
+        back = added.back;
+        rows = λ count h k. added.rows count (before.rows count h k) (subst (AreNumbers count) (sym finder) k);
+      };
     }
 
 pub returns-clause-puts : goal.returns-clause-puts

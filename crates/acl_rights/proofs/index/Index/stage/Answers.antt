@@ -8,6 +8,7 @@ use Rattle.acl_rights.specs.Kept.{GoesFrom}
 use Rattle.acl_rights.specs.Grants.{AreGrants}
 use Rattle.acl_verdicts.proofs.Orders.{in_order-values}
 use Rattle.acl_rights.proofs.Costs.{most_le}
+use Rattle.acl_rights.proofs.Listed.{moves_looked_le}
 use Rattle.acl_rights.proofs.Refreshed.{line_most}
 use Rattle.acl_rights.proofs.index.Index.stage.Goals as goal
 
@@ -60,8 +61,13 @@ returns-clause-refreshed_least g c =
     let rows = ap (λ (x : VerdictTable). x.rows) (c.now.view_is ∙ c.self.view_is) in
     let order : IsInOrder old = subst IsInOrder rows (in_order-values (λ (e : PathOf × ℕ). get_or c.now.inside.grants.rows.cells e.1 []) c.now.inside.grants.rows.numbers c.order_law.ensures) in
     let most = line_most V g.met.J.Judge.local old t goes order (subst (λ (r : Recorded). IsInOrder r.files) c.tree.ensures c.soundness_law.ensures.order) in
-    subst (λ (rs : Rows). unlike t.user_change old rs ≤ c.in_ok-new.new.refreshed) (sym (ap (λ (x : VerdictTable). x.rows) c.in_ok-table.ensures ∙ c.in_ok-new.ensures.rows))
-    (subst (λ n. unlike t.user_change old (rows_of V (persons t.state.people) t.state.tree.files) ≤ n) (sym c.in_ok-new.ensures.refreshed) most)
+    subst (λ (rs : Rows). unlike t.user_change old rs ≤ c.in_ok-new.new.refreshed) (sym (ap (λ (x : VerdictTable). x.rows) c.in_ok-table.ensures ∙ c.in_ok-new.ensures.made.rows))
+    (subst (λ n. unlike t.user_change old (rows_of V (persons t.state.people) t.state.tree.files) ≤ n) (sym c.in_ok-new.ensures.made.refreshed) most)
 
 pub returns-in_err-table-clause-at_most : goal.returns-in_err-table-clause-at_most
 returns-in_err-table-clause-at_most g c = c.after_line.ensures.at_most
+
+pub returns-clause-looked_most : goal.returns-clause-looked_most
+returns-clause-looked_most g c =
+    let t = c.args.staged.now in
+    omega (arith, c.in_ok-new.ensures.made.looked, moves_looked_le t.user_change t.state.tree.files)

@@ -5,6 +5,7 @@ use Rattle.std.proofs.lemmas.List.{length-map}
 use Rattle.acl_files.specs.acl_entry.declared.label.Label.{Label}
 use Rattle.acl_files.specs.acl_edit.declared.node.Node.{Node}
 use Rattle.acl_files.specs.Files.{PathOf}
+use Rattle.acl_verdicts.specs.declared.label_rows.LabelRows.{LabelRows}
 use Rattle.acl_verdicts.specs.Labels.{row_of, added_in, labels_in}
 use Rattle.acl_verdicts.proofs.RowLists.{map_twice}
 use Rattle.acl_verdicts.proofs.Orders.{same_order}
@@ -24,7 +25,7 @@ pub judged_labels-requires-clause-long : goal.judged_labels-requires-clause-long
 judged_labels-requires-clause-long g c =
     let label : PathOf × Node → Label = λ e. e.1.label in
     let counted = c.in_ok-new.ensures.counted refl in
-    ap length c.counts.ensures ∙ counted.long ∙ sym (ap length c.more.ensures.labels) ∙ length-map c.more.result.now label
+    ap length c.counts.ensures ∙ counted.long ∙ sym (ap length (ap (map label) c.more.ensures)) ∙ length-map c.more.result.now label
 
 pub judged_labels-requires-clause-some : goal.judged_labels-requires-clause-some
 judged_labels-requires-clause-some g c =
@@ -37,7 +38,7 @@ returns-in_err-rows-clause-at_most g c =
     let counted = c.in_ok-new.ensures.counted refl in
     let total : sum_by (λ (n : ℕ). n) c.counts.result.now ≡ length c.args.files.now = ap (sum_by (λ (n : ℕ). n)) c.counts.ensures ∙ counted.total ∙ length-map c.args.files.now f in
     let cost = ap (λ n. n * length c.args.users.now) total in
-    let asked = c.judged_labels.ensures.at_most in
+    let asked = c.judged_labels.ensures.asked.1 in
     omega (arith, asked, cost)
 
 pub returns-in_err-all-clause-at_most : goal.returns-in_err-all-clause-at_most
@@ -46,7 +47,7 @@ returns-in_err-all-clause-at_most g c =
     let counted = c.in_ok-new.ensures.counted refl in
     let total : sum_by (λ (n : ℕ). n) c.counts.result.now ≡ length c.args.files.now = ap (sum_by (λ (n : ℕ). n)) c.counts.ensures ∙ counted.total ∙ length-map c.args.files.now f in
     let cost = ap (λ n. n * length c.args.users.now) total in
-    let asked = c.judged_labels.ensures.at_most in
+    let asked = c.judged_labels.ensures.asked.1 in
     omega (arith, asked, cost)
 
 pub returns-clause-at_most : goal.returns-clause-at_most
@@ -55,7 +56,7 @@ returns-clause-at_most g c =
     let counted = c.in_ok-new.ensures.counted refl in
     let total : sum_by (λ (n : ℕ). n) c.counts.result.now ≡ length c.args.files.now = ap (sum_by (λ (n : ℕ). n)) c.counts.ensures ∙ counted.total ∙ length-map c.args.files.now f in
     let cost = ap (λ n. n * length c.args.users.now) total in
-    let asked = c.judged_labels.ensures.at_most in
+    let asked = c.judged_labels.ensures.asked.1 in
     omega (arith, asked, cost)
 
 pub returns-clause-asked : goal.returns-clause-asked
@@ -64,7 +65,7 @@ returns-clause-asked g c =
     let counted = c.in_ok-new.ensures.counted refl in
     let total : sum_by (λ (n : ℕ). n) c.counts.result.now ≡ length c.args.files.now = ap (sum_by (λ (n : ℕ). n)) c.counts.ensures ∙ counted.total ∙ length-map c.args.files.now f in
     let cost = ap (λ n. n * length c.args.users.now) total in
-    let asked = c.in_ok-rows.ensures.asked in
+    let asked = c.in_ok-rows.ensures.asked.0 in
     omega (arith, asked, cost)
 
 pub of_numbered-requires : goal.of_numbered-requires
@@ -80,10 +81,12 @@ returns-clause-labelled g c =
     let label : PathOf × Node → Label = λ e. e.1.label in
     let row : Label → List ℕ = row_of g.J.Judge.verdict_of c.args.users.now in
     let new = c.in_ok-new.new.labels in
-    let rows : c.in_ok-rows.rows.items ≡ map row (added_in new) = c.in_ok-rows.ensures.rows ∙ sym (map_twice label row c.more.result.now) ∙ ap (map row) c.more.ensures.labels in
-    let all = c.in_ok-all.ensures in
+    let rows : c.in_ok-rows.rows.items ≡ map row (added_in new) = c.in_ok-rows.ensures.rows ∙ sym (map_twice label row c.more.result.now) ∙ ap (map row) (ap (map label) c.more.ensures) in
+    let numbers = ap (λ (r : LabelRows). r.numbers) c.in_ok-all.ensures in
+    let labels = ap (λ (r : LabelRows). r.labels) c.in_ok-all.ensures in
+    let cells = ap (λ (r : LabelRows). r.cells) c.in_ok-all.ensures in
     all_labelled g.J.Judge.verdict_of c.args.users.now (map f c.args.files.now) [] [] new (map h c.in_ok-new.new.entries.items) c.in_ok-all.all refl c.in_ok-new.ensures
-    all.numbers all.labels (all.cells ∙ rows)
+    numbers labels (cells ∙ rows)
 
 pub returns-clause-rows : goal.returns-clause-rows
 returns-clause-rows g c =
@@ -92,7 +95,9 @@ returns-clause-rows g c =
     let label : PathOf × Node → Label = λ e. e.1.label in
     let row : Label → List ℕ = row_of g.J.Judge.verdict_of c.args.users.now in
     let new = c.in_ok-new.new.labels in
-    let rows : c.in_ok-rows.rows.items ≡ map row (added_in new) = c.in_ok-rows.ensures.rows ∙ sym (map_twice label row c.more.result.now) ∙ ap (map row) c.more.ensures.labels in
-    let all = c.in_ok-all.ensures in
+    let rows : c.in_ok-rows.rows.items ≡ map row (added_in new) = c.in_ok-rows.ensures.rows ∙ sym (map_twice label row c.more.result.now) ∙ ap (map row) (ap (map label) c.more.ensures) in
+    let numbers = ap (λ (r : LabelRows). r.numbers) c.in_ok-all.ensures in
+    let labels = ap (λ (r : LabelRows). r.labels) c.in_ok-all.ensures in
+    let cells = ap (λ (r : LabelRows). r.cells) c.in_ok-all.ensures in
     all_rows g.J.Judge.verdict_of c.args.users.now (map f c.args.files.now) [] [] new (map h c.in_ok-new.new.entries.items) c.in_ok-all.all refl c.in_ok-new.ensures
-    all.numbers all.labels (all.cells ∙ rows) c.requires.order
+    numbers labels (cells ∙ rows) c.requires.order

@@ -9,13 +9,9 @@ from_sorted-requires c =
     let h : Rc (PathOf × ℕ) Global → PathOf × ℕ = λ r. r.value in
     subst (λ (xs : List (Rc (PathOf × ℕ) Global)). IsInOrder (map h xs)) (sym c.deref.ensures.value) c.requires
 
-pub returns-clause-numbers : goal.returns-clause-numbers
-returns-clause-numbers c =
+pub returns : goal.returns
+returns c =
     let h : Rc (PathOf × ℕ) Global → PathOf × ℕ = λ r. r.value in
-    c.in_ok-numbers.ensures ∙ ap (map h) c.deref.ensures.value
-
-pub returns-clause-labels : goal.returns-clause-labels
-returns-clause-labels c = c.in_ok-labels.ensures
-
-pub returns-clause-cells : goal.returns-clause-cells
-returns-clause-cells c = c.in_ok-cells.ensures (λ x y same. same) ∙ ap (λ l. l ++ c.args.rows.items) c.new.ensures
+    let numbers = c.in_ok-numbers.ensures ∙ ap (map h) c.deref.ensures.value in
+    let cells = c.in_ok-cells.ensures (λ x y same. same) ∙ ap (λ l. l ++ c.args.rows.items) c.new.ensures in
+    λ i. record { numbers = numbers i; labels = c.in_ok-labels.ensures i; cells = cells i }

@@ -1,5 +1,6 @@
 use Rattle.std.proofs.Common.{ap, sym, ◌∙◌, arith}
 use Rattle.std.specs.Option.{option_copied}
+use Rattle.acl_verdicts.specs.declared.label_rows.LabelRows.{LabelRows}
 use Rattle.acl_verdicts.specs.Labels.{shorter_row}
 use Rattle.acl_verdicts.proofs.RowLists.{map_got, map_done}
 use Rattle.acl_verdicts.proofs.label_rows.LabelRows.without_user.Goals as goal
@@ -11,7 +12,7 @@ loop-number-preserved c =
 
 pub returns : goal.returns
 returns c = record {
-  numbers = c.in_ok-new.ensures.numbers;
-  labels = c.in_ok-new.ensures.labels;
-  cells = c.in_ok-new.ensures.cells ∙ map_done (shorter_row c.args.at) c.args.self.now.cells c.loop-number.number c.loop-number.rows.items _ (omega (arith, c.loop-number-test.false)) c.loop-number.invariant;
+  numbers = ap (λ (r : LabelRows). r.numbers) c.in_ok-new.ensures;
+  labels = ap (λ (r : LabelRows). r.labels) c.in_ok-new.ensures;
+  cells = ap (λ (r : LabelRows). r.cells) c.in_ok-new.ensures ∙ map_done (shorter_row c.args.at) c.args.self.now.cells c.loop-number.number c.loop-number.rows.items _ (omega (arith, c.loop-number-test.false)) c.loop-number.invariant;
 }

@@ -1,6 +1,6 @@
 use Rattle.std.proofs.Common.{arith}
 use Rattle.std.proofs.lemmas.Grind.{common_steps}
-use Rattle.acl_rights.proofs.indexed_states.IndexedStates.new.Goals as goal
+use Rattle.acl_rights.proofs.indexed.IndexedStates.new.Goals as goal
 
 pub returns-in_err-state-clause-few : goal.returns-in_err-state-clause-few
 returns-in_err-state-clause-few g c = grind (arith, common_steps)

@@ -1,6 +1,6 @@
 use Rattle.std.proofs.Common.{arith}
 use Rattle.std.proofs.lemmas.Grind.{common_steps}
-use Rattle.acl_rights.proofs.indexed_states.IndexedStates.accept.Goals as goal
+use Rattle.acl_rights.proofs.indexed.IndexedStates.accept.Goals as goal
 
 pub returns-in_err-state-clause-asked : goal.returns-in_err-state-clause-asked
 returns-in_err-state-clause-asked g c = grind (arith, common_steps)
