@@ -11,7 +11,7 @@ use Rattle.facl_output.specs.Faults.{run_fault_of_script}
 use Rattle.facl_output.specs.declared.fault.RunFault.{RunFault}
 use Rattle.facl.specs.Tools.{Verdict}
 use Rattle.acl_rights.specs.Costs.{all_pairs}
-use Rattle.acl_rights.specs.declared.indexed_states.States.{States}
+use Rattle.acl_rights.specs.declared.indexed.States.{States}
 use Rattle.acl_rights.specs.States.{from_start}
 use Rattle.facl.specs.Units.{answered}
 use Rattle.facl.specs.Runs.{Devices, EndsBy}

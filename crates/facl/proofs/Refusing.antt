@@ -1,7 +1,7 @@
 -- Lines that are refused, and units that are not silent.
-use Rattle.std.proofs.Common.{◌≡◌, ◌≢◌, ◌∙◌, ◌+◌, ◌≤◌, ℕ, List, Bool, true, false, [], Err, ap, sym, subst, refl, arith, true≢false}
+use Rattle.std.proofs.Common.{◌≡◌, ◌≢◌, ◌+◌, ◌≤◌, ℕ, List, Bool, true, false, [], Err, ap, sym, subst, refl, arith, true≢false}
 use Rattle.acl_rights.specs.Tables.{Verdict}
-use Rattle.acl_rights.specs.declared.indexed_states.States.{States}
+use Rattle.acl_rights.specs.declared.indexed.States.{States}
 use Rattle.facl_output.specs.facl_script.Play.{Answer}
 use Rattle.facl_output.specs.facl_script.Run.{IsAnswer}
 use Rattle.facl_output.specs.facl_script.Units.{ScriptUnit}

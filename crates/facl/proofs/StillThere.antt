@@ -15,7 +15,7 @@ use Rattle.acl_rights.proofs.of_acl_names.Below.{within_itself}
 use Rattle.acl_rights.specs.acl_tree.EditCommand.{edit_one, edited_tree}
 use Rattle.acl_rights.specs.acl_files.Edits.{edit_all, unless_missing}
 use Rattle.acl_rights.specs.acl_tree.Files.{PathOf, Recorded, IsInOrder}
-use Rattle.acl_rights.specs.acl_tree.Laws.{EditsEach}
+use Rattle.acl_rights.specs.acl_tree.Laws.{EditsEach, EachFileIsEdited, EachFileIsRestored}
 use Rattle.acl_rights.specs.acl_tree.Operands.{means, is_file, first_missing}
 use Rattle.acl_rights.specs.acl_tree.Restoring.{restore_one, paths_of, restored_tree}
 use Rattle.acl_rights.specs.acl_tree.Step.{State, step, with_tree}
@@ -88,20 +88,13 @@ tree_after : (s new : State) (r : Result Recorded TreeFault) → with_tree s r �
 tree_after s new (Ok t) h = ap (λ (r : Result State TreeFault). Ok (tree_in t r)) h
 tree_after s new (Err fault) h = absurd (err_is_not_ok _ _ h)
 
--- what each_file_is_edited ensures of edits and of restores
-abbrev pub EditsFiles : Type 0
-EditsFiles = (recursive : Bool) (paths : List PathOf) (e : Edit) (old new : Recorded) → IsInOrder old.files → edited_tree recursive paths e old ≡ Ok new → EditsEach (edit_one e recursive) recursive paths old new
-
-abbrev pub RestoresFiles : Type 0
-RestoresFiles = (records : List DumpRecord) (old new : Recorded) → IsInOrder old.files → restored_tree records old ≡ Ok new → EditsEach (restore_one records) false (paths_of records) old new
-
-pub edited_are_there : EditsFiles → (s new : State) (recursive : Bool) (paths : List PathOf) (e : Edit) → IsInOrder s.tree.files → step s (EditFiles paths e recursive) ≡ Ok new → first_missing paths new.tree.files ≡ None
+pub edited_are_there : EachFileIsEdited → (s new : State) (recursive : Bool) (paths : List PathOf) (e : Edit) → IsInOrder s.tree.files → step s (EditFiles paths e recursive) ≡ Ok new → first_missing paths new.tree.files ≡ None
 edited_are_there law s new recursive paths e order h =
     let edited = tree_after s new (edited_tree recursive paths e s.tree) h in
     still_there (edit_one e recursive) recursive paths s.tree new.tree (law recursive paths e s.tree new.tree order edited)
     (none_missing (first_missing paths s.tree.files) (edit_one e recursive) recursive paths s.tree new.tree edited)
 
-pub restored_are_there : RestoresFiles → (s new : State) (records : List DumpRecord) → IsInOrder s.tree.files → step s (Restore records) ≡ Ok new → first_missing (paths_of records) new.tree.files ≡ None
+pub restored_are_there : EachFileIsRestored → (s new : State) (records : List DumpRecord) → IsInOrder s.tree.files → step s (Restore records) ≡ Ok new → first_missing (paths_of records) new.tree.files ≡ None
 restored_are_there law s new records order h =
     let restored = tree_after s new (restored_tree records s.tree) h in
     still_there (restore_one records) false (paths_of records) s.tree new.tree (law records s.tree new.tree order restored)

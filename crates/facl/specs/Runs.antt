@@ -15,7 +15,7 @@ use Rattle.facl.specs.declared.status.Status.{Status}
 use Rattle.facl.specs.declared.status.Status.TheVariants.{Accepted, Refused}
 use Rattle.facl.specs.Tools.{Verdict}
 use Rattle.acl_rights.specs.Costs.{all_pairs}
-use Rattle.acl_rights.specs.declared.indexed_states.States.{States}
+use Rattle.acl_rights.specs.declared.indexed.States.{States}
 use Rattle.acl_rights.specs.States.{from_start}
 use Rattle.facl.specs.Units.{answered}
 

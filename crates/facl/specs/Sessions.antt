@@ -3,7 +3,7 @@ use Rattle.std.specs.Prelude.{◌≡◌, ℕ, Bool, false, if◌then◌else◌, 
 use Rattle.facl_output.specs.facl_script.Play.{Answer}
 use Rattle.facl_output.specs.facl_script.Run.{IsAnswer}
 use Rattle.facl.specs.declared.session.FaclSession.{FaclSession}
-use Rattle.acl_rights.specs.declared.indexed_states.States.{States}
+use Rattle.acl_rights.specs.declared.indexed.States.{States}
 use Rattle.acl_rights.specs.States.{states_in}
 use Rattle.facl.specs.Units.{unless_out_of_memory}
 

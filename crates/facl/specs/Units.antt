@@ -14,7 +14,7 @@ use Rattle.facl_output.specs.declared.fault.LineFault.TheVariants.{LineTooLong, 
 use Rattle.facl.specs.Replies.{Reply, after, or_fault, printed}
 use Rattle.facl.specs.Tools.{Verdict, loads, tool_line, tool_named}
 use Rattle.facl.specs.declared.tools.Tool.{Tool}
-use Rattle.acl_rights.specs.declared.indexed_states.States.{States}
+use Rattle.acl_rights.specs.declared.indexed.States.{States}
 use Rattle.acl_rights.specs.Costs.{most_between}
 use Rattle.acl_rights.specs.States.{states_after}
 

@@ -4,7 +4,7 @@ ghost use Rattle.std.specs.Prelude.{◌≡◌, false};
 ghost use Rattle.facl_output.specs.facl_script.Units.{ScriptUnit};
 ghost use Rattle.facl.specs.Tools.{Verdict};
 ghost use Rattle.facl.specs.FirstFault.{IsAnsweredByFirst};
-ghost use Rattle.acl_rights.specs.declared.indexed_states.States.{States};
+ghost use Rattle.acl_rights.specs.declared.indexed.States.{States};
 ghost use Rattle.facl.specs.Units.{is_silent};
 
 /// Proof only: which parts of a line are at fault is defined for each part by itself, without an order: its length, its

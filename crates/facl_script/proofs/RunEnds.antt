@@ -11,7 +11,7 @@ use Rattle.facl_script.specs.declared.source.ByteSource.{ByteSource}
 use Rattle.facl_script.specs.Limits.{script_limit, chunk_limit}
 use Rattle.facl_script.specs.declared.unit.Script.{Script}
 use Rattle.facl_script.specs.ByteSource.{pending, taken_count, StopsAfter}
-use Rattle.facl_script.specs.Script.{script_left, script_taken, ScriptStopsAfter}
+use Rattle.facl_script.specs.Script.{script_left, script_taken}
 use Rattle.facl_script.specs.Lines.{lines_of}
 use Rattle.facl_script.specs.Units.{ScriptUnit, outside, cut, units_of, full_units, HasNoUnit}
 use Rattle.facl_script.specs.ReadUnit.{IsNextUnit}
@@ -66,7 +66,7 @@ stops_known asks answered old new Write script r s failed taken number answer_so
 -- the source stopped: what was written is the answer to the units done
 pub stops_reading : {S : Type 0} (asks : List ℕ → Bool) (answered : Bool → ScriptUnit → S → Answer S) (old new : Moment S) (fault : ScriptFault) (a mid r : Option (List ℕ)) (s : Script) (failed : Bool)
     (taken : List ℕ) (number : ℕ) (answer_so_far : Answer S) → Progress asks answered old.state taken number false answer_so_far → (tail : List ℕ) → HasNoUnit asks tail
-    → Consumes a mid taken → ScriptStopsAfter fault mid s r failed tail → script_taken s ≡ length taken + length tail → IsGiven answer_so_far old new → IfSome a (λ script. StopsWith asks fault answered script r old new)
+    → Consumes a mid taken → StopsAfter fault mid s.source r failed tail → script_taken s ≡ length taken + length tail → IsGiven answer_so_far old new → IfSome a (λ script. StopsWith asks fault answered script r old new)
 stops_reading asks answered old new fault None mid r s failed taken number answer_so_far p tail none c stop count g = tt
 stops_reading asks answered old new fault (Some script) mid r s failed taken number answer_so_far p tail none c stop count g =
     stops_known asks answered old new fault script r s.source failed taken number answer_so_far p tail none (stops_later fault s.source (Some script) mid r failed taken tail c stop) (omega (arith, count, length-append taken tail)) g
@@ -144,6 +144,10 @@ reader_ended (b ∷ more) (Some x) h = absurd (omega (arith, ap length h))
 pub not_over : (over : Bool) → (over ≡ true → ⊥) → over ≡ false
 not_over true h = absurd (h refl)
 not_over false h = refl
+
+pub either_way : {P : Type 0} (over : Bool) → (over ≡ true → P) → (over ≡ false → P) → P
+either_way true h k = h refl
+either_way false h k = k refl
 
 pub none_of : {A : Type 0} (o : Option A) → ((x : A) → o ≡ Some x → ⊥) → o ≡ None
 none_of None h = refl

@@ -1,5 +1,5 @@
 -- What a source has read and returned.
-use Rattle.std.specs.Prelude.{◌≡◌, ◌<◌, ◌+◌, ℕ, Bool, true, false, List, [], ◌++◌, length, slice_range, Option, None, Some}
+use Rattle.std.specs.Prelude.{◌≡◌, ◌<◌, ◌+◌, ℕ, Bool, true, false, List, [], ◌++◌, length, slice_range, Option, None, Some, Result, MatchResult}
 use Rattle.std.specs.Io.KnownBytes.{Keeps, Consumes, IsAtEnd, prepend_known}
 use Rattle.facl_script.specs.declared.fault.ScriptFault.{ScriptFault}
 use Rattle.facl_script.specs.declared.fault.ScriptFault.TheVariants.{Read, Write, TooLong, NoMemory}
@@ -38,3 +38,22 @@ pub record IsNextLine (found : LineRead) (before after : Option (List ℕ)) (kep
 abbrev pub FindsLine : Option LineRead → Option (List ℕ) → Option (List ℕ) → List ℕ → ℕ → ℕ → Type 0
 FindsLine None before after held old new = Keeps before after × IsAtEnd after × (new ≡ old)
 FindsLine (Some found) before after held old new = (text : List ℕ) × IsNextLine found before after held old new text
+
+-- The source returned a text that has no LF, or no unit to its end, and then stopped with this fault (for inner functions).
+abbrev pub Stops : ScriptFault → (List ℕ → Type 0) → (old new : ByteSource) (before after : Option (List ℕ)) (failed : Bool) → Type 0
+Stops fault HasNone old new before after failed =
+    (text : List ℕ) × HasNone text × StopsAfter fault (unread old before) new after failed text × (taken_count new ≡ taken_count old + length text)
+
+-- Some bytes are there to be returned, unless the reader is at its end. Or the source stopped.
+abbrev pub Fills : {A : Type 0} → Result A ScriptFault → (old new : ByteSource) (before after : Option (List ℕ)) (failed : Bool) → Type 0
+Fills result old new before after failed =
+    MatchResult result
+    (λ _. Keeps (unread old before) (unread new after) × (failed ≡ false) × (pending new ≡ [] → IsAtEnd after))
+    (λ fault. StopsAfter fault (unread old before) new after failed [])
+
+-- The next line was read, or the end was met. Or the source stopped within a line.
+abbrev pub ReadsLine : Result (Option LineRead) ScriptFault → (held : List ℕ) (old new : ByteSource) (before after : Option (List ℕ)) (failed : Bool) → Type 0
+ReadsLine result held old new before after failed =
+    MatchResult result
+    (λ found. FindsLine found (unread old before) (unread new after) held (taken_count old) (taken_count new) × (failed ≡ false))
+    (λ fault. Stops fault HasNoLineFeed old new before after failed)

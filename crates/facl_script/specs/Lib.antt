@@ -16,3 +16,4 @@ pub mod Streams
 pub mod Write
 pub mod Play
 pub mod Run
+pub mod Laws

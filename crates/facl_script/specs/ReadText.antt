@@ -1,8 +1,11 @@
 -- What reading a text finds.
-use Rattle.std.specs.Prelude.{◌≡◌, ◌≤◌, ◌+◌, ℕ, Bool, false, List, [], ◌∷◌, ◌++◌, length, Option, None, Some}
+use Rattle.std.specs.Prelude.{◌≡◌, ◌≤◌, ◌+◌, ℕ, Bool, false, List, [], ◌∷◌, ◌++◌, length, Option, None, Some, Result, MatchResult}
 use Rattle.std.specs.Io.KnownBytes.{Consumes, IsAtEnd}
 use Rattle.facl_script.specs.Lines.{lines_of}
-use Rattle.facl_script.specs.Units.{opened, UnitText, none, whole, too_long, unended, outside, within, cut, closed}
+use Rattle.facl_script.specs.ByteSource.{unread, taken_count, Stops}
+use Rattle.facl_script.specs.Units.{opened, UnitText, none, whole, too_long, unended, outside, within, cut, closed, HasNoUnitWithin}
+use Rattle.facl_script.specs.declared.fault.ScriptFault.{ScriptFault}
+use Rattle.facl_script.specs.declared.source.ByteSource.{ByteSource}
 use Rattle.facl_script.specs.declared.text.TextRead.{TextRead}
 use Rattle.facl_script.specs.declared.text.TextFound.{TextFound}
 use Rattle.facl_script.specs.declared.text.TextFound.TheVariants.{Absent, Whole, TooLong, Unended, Lost}
@@ -35,3 +38,10 @@ pub record IsText (found : TextRead) (before after : Option (List ℕ)) (held : 
 
 abbrev pub FindsText : TextRead → Option (List ℕ) → Option (List ℕ) → List ℕ → ℕ → ℕ → Type 0
 FindsText found before after held old new = (piece : List ℕ) × (text : UnitText) × IsText found before after held old new piece text
+
+-- A text was read to its end. Or the source stopped within it.
+abbrev pub ReadsText : Result TextRead ScriptFault → (held : List ℕ) (old new : ByteSource) (before after : Option (List ℕ)) (failed : Bool) → Type 0
+ReadsText result held old new before after failed =
+    MatchResult result
+    (λ found. FindsText found (unread old before) (unread new after) held (taken_count old) (taken_count new) × (failed ≡ false))
+    (λ fault. Stops fault HasNoUnitWithin old new before after failed)

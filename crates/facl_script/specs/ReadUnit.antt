@@ -1,12 +1,13 @@
 -- What reading a unit finds.
-use Rattle.std.specs.Prelude.{◌≡◌, ◌<◌, ◌≤◌, ◌+◌, ℕ, Bool, true, false, not, List, ◌∷◌, ◌++◌, [], length, Option, None, Some}
+use Rattle.std.specs.Prelude.{◌≡◌, ◌<◌, ◌≤◌, ◌+◌, ℕ, Bool, true, false, not, List, ◌∷◌, ◌++◌, [], length, Option, None, Some, Result, Ok, Err}
 use Rattle.std.specs.Io.KnownBytes.{Keeps, Consumes, IsAtEnd}
 use Rattle.facl_script.specs.Lines.{lines_of}
 use Rattle.facl_script.specs.Units.{ScriptUnit, takes_text, outside, cut}
 use Rattle.facl_script.specs.ReadText.{IsTextFound}
 use Rattle.facl_script.specs.Words.{has_no_words}
-use Rattle.facl_script.specs.declared.line.LineFound.{LineFound}
-use Rattle.facl_script.specs.declared.line.LineFound.TheVariants.{TooLong, Silent, WithWords}
+use Rattle.facl_script.specs.declared.fault.ScriptFault.{ScriptFault}
+use Rattle.facl_script.specs.declared.held.LineFound.{LineFound}
+use Rattle.facl_script.specs.declared.held.LineFound.TheVariants.{TooLong, Silent, WithWords}
 use Rattle.facl_script.specs.declared.unit.UnitFound.{UnitFound}
 use Rattle.facl_script.specs.declared.text.TextFound.TheVariants.{Lost}
 
@@ -39,7 +40,8 @@ FindsUnit asks None line text before after taken taken' number number' = Keeps b
 FindsUnit asks (Some found) line text before after taken taken' number number' =
     (piece : List ℕ) × (unit : ScriptUnit) × IsNextUnit asks before after taken taken' number number' piece unit × IsUnitFound asks found line text unit
 
--- nothing comes after this
-abbrev pub is_last : Option UnitFound → Bool
-is_last None = true
-is_last (Some found) = not found.is_full
+-- nothing is read after this
+abbrev pub is_last : Result (Option UnitFound) ScriptFault → Bool
+is_last (Ok None) = true
+is_last (Ok (Some found)) = not found.is_full
+is_last (Err fault) = true

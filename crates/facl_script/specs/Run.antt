@@ -1,8 +1,10 @@
 -- How a run over a script ends.
-use Rattle.std.specs.Prelude.{◌≡◌, ◌<◌, ◌≤◌, ◌+◌, ℕ, Bool, List, [], ◌∷◌, ◌++◌, length, take, Option, Some}
+use Rattle.std.specs.Prelude.{◌≡◌, ◌<◌, ◌≤◌, ◌+◌, ℕ, Bool, List, [], ◌∷◌, ◌++◌, length, take, Option, Some, Result, IfSome, MatchResult}
 use Rattle.std.specs.Io.KnownBytes.{Consumes}
 use Rattle.facl_script.specs.declared.fault.ScriptFault.{ScriptFault}
 use Rattle.facl_script.specs.declared.fault.ScriptFault.TheVariants.{Read, Write, TooLong, NoMemory}
+use Rattle.facl_script.specs.declared.held.HeldUnit.{HeldUnit}
+use Rattle.facl_script.specs.Held.{IsUnitHeld}
 use Rattle.facl_script.specs.Limits.{script_limit, chunk_limit}
 use Rattle.facl_script.specs.Units.{ScriptUnit, units_of, full_units}
 use Rattle.facl_script.specs.Play.{Answer, play, session}
@@ -28,6 +30,14 @@ pub record Breaks {S : Type 0} (a : Answer S) (old new : Moment S) : Type 0 wher
   pub writes : WritesPart old.streams new.streams a.out a.err
   pub state_is : new.state ≡ a.state
   pub spends : new.spent ≤ old.spent + a.cost
+
+-- The unit that is held was answered, as one for which memory ran out or not. Or a writer failed in the midst of its answer.
+abbrev pub AnswersUnit : {S : Type 0} → Result Bool ScriptFault → (List ℕ → Bool) → (Bool → ScriptUnit → S → Answer S) → HeldUnit → (old new : Moment S) → Type 0
+AnswersUnit result asks answered held old new =
+    MatchResult result
+    (λ refused. (u : ScriptUnit) → IsUnitHeld asks held u
+    → (ran_out : Bool) × IsGiven (answered ran_out u old.state) old new × (refused ≡ (answered ran_out u old.state).refused))
+    (λ fault. ((u : ScriptUnit) → IsUnitHeld asks held u → (ran_out : Bool) × Breaks (answered ran_out u old.state) old new) × (fault ≡ Write))
 
 -- The whole script was answered. It was within the limit.
 pub record Ends {S : Type 0} (asks : List ℕ → Bool) (answered : Bool → ScriptUnit → S → Answer S) (script : List ℕ) (refused : Bool) (old new : Moment S) : Type 0 where
@@ -69,3 +79,10 @@ StopsWith asks TooLong answered script remaining old new =
 StopsWith asks NoMemory answered script remaining old new =
     (read : List ℕ) × (pending : List ℕ) × Consumes (Some script) remaining (read ++ pending) × (length pending ≤ chunk_limit) × IsAnswered answered (full_units (units_of asks read)) old new
 StopsWith asks Write answered script remaining old new = FailsAt asks answered script remaining old new
+
+-- A run over a script, where its bytes are known: all of it was answered, or the run stopped with its fault.
+abbrev pub Runs : {S : Type 0} → Result Bool ScriptFault → (List ℕ → Bool) → (Bool → ScriptUnit → S → Answer S) → (before after : Option (List ℕ)) (old new : Moment S) → Type 0
+Runs result asks answered before after old new =
+    MatchResult result
+    (λ refused. IfSome before (λ script. Ends asks answered script refused old new))
+    (λ fault. IfSome before (λ script. StopsWith asks fault answered script after old new))

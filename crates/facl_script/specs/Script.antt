@@ -1,8 +1,11 @@
 -- What a contract sees of a script that is read unit by unit.
-use Rattle.std.specs.Prelude.{ℕ, Bool, List, Option}
-use Rattle.facl_script.specs.ByteSource.{unread, taken_count, StopsAfter}
+use Rattle.std.specs.Prelude.{◌≡◌, ℕ, Bool, false, List, Option, Result, MatchResult}
+use Rattle.facl_script.specs.ByteSource.{unread, taken_count, Stops}
+use Rattle.facl_script.specs.ReadUnit.{FindsUnit}
+use Rattle.facl_script.specs.Units.{HasNoUnit}
 use Rattle.facl_script.specs.declared.fault.ScriptFault.{ScriptFault}
 use Rattle.facl_script.specs.declared.unit.Script.{Script}
+use Rattle.facl_script.specs.declared.unit.UnitFound.{UnitFound}
 
 -- what is still to be returned, over what the reader has left
 abbrev pub script_left : Script → Option (List ℕ) → Option (List ℕ)
@@ -28,6 +31,10 @@ line_held s = s.line.items
 abbrev pub text_held : Script → List ℕ
 text_held s = s.text.items
 
--- The script returned this text, which has no unit to its end, and then stopped with this fault.
-abbrev pub ScriptStopsAfter : ScriptFault → Option (List ℕ) → Script → Option (List ℕ) → Bool → List ℕ → Type 0
-ScriptStopsAfter fault before s remaining failed text = StopsAfter fault before s.source remaining failed text
+-- The next unit was read, or the end was met. Or the script stopped within a unit.
+abbrev pub ReadsUnit : Result (Option UnitFound) ScriptFault → (List ℕ → Bool) → (old new : Script) (before after : Option (List ℕ)) (failed : Bool) → Type 0
+ReadsUnit result asks old new before after failed =
+    MatchResult result
+    (λ found. FindsUnit asks found (line_held new) (text_held new) (script_left old before) (script_left new after)
+    (script_taken old) (script_taken new) (next_number old) (next_number new) × (failed ≡ false))
+    (λ fault. Stops fault (HasNoUnit asks) old.source new.source before after failed)

@@ -1,7 +1,15 @@
--- What is written of a unit's answer.
-use Rattle.std.specs.Prelude.{◌≡◌, ◌<◌, ℕ, List, [], ◌⊎◌, length, take}
+-- What is written of some bytes, and of a unit's answer.
+use Rattle.std.specs.Prelude.{◌≡◌, ◌<◌, ℕ, List, [], ◌⊎◌, length, take, Option, Result, OnOk, OnErr, IfErr, MatchResult}
 use Rattle.std.specs.Io.KnownBytes.{Appends}
+use Rattle.facl_script.specs.declared.fault.ScriptFault.{ScriptFault}
+use Rattle.facl_script.specs.declared.fault.ScriptFault.TheVariants.{Write}
+use Rattle.facl_script.specs.Devices.{AppendsPart}
 use Rattle.facl_script.specs.Streams.{Streams}
+
+-- A writer grows by all of the bytes. Or it fails, and grows by a proper beginning of them.
+abbrev pub WritesWhole : {A : Type 0} → Result A ScriptFault → (old new : Option (List ℕ)) → List ℕ → Type 0
+WritesWhole result old new bs =
+    OnOk result (Appends old new bs) × OnErr result (AppendsPart old new bs) × IfErr result (λ fault. fault ≡ Write)
 
 -- both writers grow by their part
 pub record Writes (old new : Streams) (to_out to_err : List ℕ) : Type 0 where
@@ -20,3 +28,8 @@ pub record WritesPart (old new : Streams) (to_out to_err : List ℕ) : Type 0 wh
   pub part_err : List ℕ
   pub part : IsPartOfBoth part_out part_err to_out to_err
   pub writes : Writes old new part_out part_err
+
+-- Both writers grow by their part. Or one fails, and both grow by a proper beginning of what was to be written.
+abbrev pub WritesAnswer : {A : Type 0} → Result A ScriptFault → (old new : Streams) (to_out to_err : List ℕ) → Type 0
+WritesAnswer result old new to_out to_err =
+    MatchResult result (λ _. Writes old new to_out to_err) (λ fault. WritesPart old new to_out to_err × (fault ≡ Write))

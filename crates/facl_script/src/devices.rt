@@ -1,11 +1,12 @@
 //! What a run reads from and writes to, and writing pieces whole.
 
-ghost use Rattle.std.specs.Prelude.{◌≡◌, ◌||◌, Bool, false, List, ℕ, Option, is_err, ◌⊎◌, true, IfErr, OnOk, OnErr};
+ghost use Rattle.std.specs.Prelude.{◌≡◌, ◌||◌, Bool, false, List, ℕ, Option, is_err};
 ghost use Rattle.std.specs.Io.{ReadsAtMost, WritesAtMost};
-ghost use Rattle.std.specs.Io.KnownBytes.{ReadConsumes, WriteAppends, Appends};
-ghost use Rattle.facl_script.specs.Devices.{write_fails, AppendsPart};
+ghost use Rattle.std.specs.Io.KnownBytes.{ReadConsumes, WriteAppends};
+ghost use Rattle.facl_script.specs.Devices.{write_fails};
+ghost use Rattle.facl_script.specs.StdDevices.{fed_by, feed_failed, sunk_in, sink_failed};
 ghost use Rattle.facl_script.specs.Streams.{streams};
-ghost use Rattle.facl_script.specs.Write.{Writes, WritesPart};
+ghost use Rattle.facl_script.specs.Write.{WritesWhole, WritesAnswer};
 
 use crate::fault::ScriptFault;
 use std::io;
@@ -61,8 +62,6 @@ pub struct StdFeed<R> {
 }
 
 impl<R: Read> StdFeed<R> {
-    ghost use Rattle.facl_script.specs.StdDevices.{fed_by, feed_failed};
-
     /// A feed that has not failed. Its bytes are known where the reader's are.
     pub fn new(reader: R) -> StdFeed<R>
         ensures reader { fed_by result ≡ reader }
@@ -76,8 +75,6 @@ impl<R: Read> StdFeed<R> {
 }
 
 impl<R: Read> Feed for StdFeed<R> {
-    ghost use Rattle.facl_script.specs.StdDevices.{fed_by, feed_failed};
-
     ghost remaining = { λ f. R.remaining (fed_by f) };
 
     ghost has_failed = { feed_failed };
@@ -104,8 +101,6 @@ pub struct StdSink<W> {
 }
 
 impl<W: Write> StdSink<W> {
-    ghost use Rattle.facl_script.specs.StdDevices.{sunk_in, sink_failed};
-
     /// A sink that has not failed. Its bytes are known where the writer's are.
     pub fn new(writer: W) -> StdSink<W>
         ensures writer { sunk_in result ≡ writer }
@@ -119,8 +114,6 @@ impl<W: Write> StdSink<W> {
 }
 
 impl<W: Write> Sink for StdSink<W> {
-    ghost use Rattle.facl_script.specs.StdDevices.{sunk_in, sink_failed};
-
     ghost contents = { λ s. W.contents (sunk_in s) };
 
     ghost has_failed = { sink_failed };
@@ -144,11 +137,8 @@ impl<W: Write> Sink for StdSink<W> {
 /// nor after one that takes nothing.
 pub fn write_whole<W: Sink>(sink: &mut W, bytes: &[u8]) -> Result<(), ScriptFault>
     requires { W.has_failed sink.old ≡ false }
-    ensures whole { OnOk result (Appends (W.contents sink.old) (W.contents sink.new) bytes.now) }
-    ensures works { OnOk result (W.has_failed sink.new ≡ false) }
-    ensures part { OnErr result (AppendsPart (W.contents sink.old) (W.contents sink.new) bytes.now) }
-    ensures which { IfErr result (λ e. e ≡ ScriptFault.Write) }
-    ensures failed { OnErr result (W.has_failed sink.new ≡ true) }
+    ensures writes { WritesWhole result (W.contents sink.old) (W.contents sink.new) bytes.now }
+    ensures failed { W.has_failed sink.new ≡ is_err result }
 {
     let mut done = 0;
     while done < bytes.len() {
@@ -170,15 +160,10 @@ pub fn write_answer<O: Sink, E: Sink>(
 ) -> Result<(), ScriptFault>
     requires out_works { O.has_failed out.old ≡ false }
     requires err_works { E.has_failed err.old ≡ false }
-    ensures ok { OnOk result (Writes
+    ensures writes { WritesAnswer result
         (streams (O.contents out.old) (E.contents err.old)) (streams (O.contents out.new) (E.contents err.new))
-        to_out.now to_err.now) }
-    ensures works { OnOk result ((O.has_failed out.new ≡ false) × (E.has_failed err.new ≡ false)) }
-    ensures part { OnErr result (WritesPart
-        (streams (O.contents out.old) (E.contents err.old)) (streams (O.contents out.new) (E.contents err.new))
-        to_out.now to_err.now) }
-    ensures failed { OnErr result ((O.has_failed out.new ≡ true) ⊎ (E.has_failed err.new ≡ true)) }
-    ensures which { IfErr result (λ e. e ≡ ScriptFault.Write) }
+        to_out.now to_err.now }
+    ensures failed { (O.has_failed out.new || E.has_failed err.new) ≡ is_err result }
 {
     write_whole(out, to_out)?;
     write_whole(err, to_err)?;

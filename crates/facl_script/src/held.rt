@@ -1,12 +1,53 @@
-//! A unit as a session answers it: its line and its text, borrowed from what was read.
+//! What a line is, as it was read: too long, silent, or one with words, for which each is looked at once; and a unit as
+//! a session answers it: its line and its text, borrowed from what was read.
 ghost use Rattle.std.specs.Prelude.{◌≡◌, ℕ, List, Option, Some};
 ghost use Rattle.facl_script.specs.Held.{IsLineHeld, IsTextHeld};
 ghost use Rattle.facl_script.specs.ReadText.{IsTextFound};
+ghost use Rattle.facl_script.specs.Lines.{Held};
 ghost use Rattle.facl_script.specs.ReadUnit.{IsLineFound};
-ghost use Rattle.facl_script.specs.Units.{UnitText};
+ghost use Rattle.facl_script.specs.Units.{UnitText, within_limit};
+ghost use Rattle.facl_script.specs.Words.{has_no_words as is_silent};
 
-use crate::line::{LineFound, has_no_words};
 use crate::text::TextFound;
+
+/// What a line is, as it was read.
+#[derive(Clone, Copy, Debug, PartialEq, Eq)]
+pub enum LineFound {
+    /// It is over the limit.
+    TooLong,
+    /// It is blank or a comment.
+    Silent,
+    /// It has words, as far as they can be split.
+    WithWords,
+}
+
+/// Whether a line is blank or a comment: whether its first byte after spaces and tabs is `#`, or there is none.
+pub fn has_no_words(line: &[u8]) -> bool
+    ensures { result ≡ is_silent line.now }
+{
+    for b in line {
+        match b {
+            b' ' | b'\t' => {}
+            _ => return *b == b'#',
+        }
+    }
+    true
+}
+
+impl LineFound {
+    /// What the line is that is held.
+    pub(crate) fn of(is_too_long: bool, line: &[u8]) -> LineFound
+        ensures { (text : List ℕ) → Held is_too_long line.now text → IsLineFound result line.now (within_limit text) }
+    {
+        if is_too_long {
+            LineFound::TooLong
+        } else if has_no_words(line) {
+            LineFound::Silent
+        } else {
+            LineFound::WithWords
+        }
+    }
+}
 
 /// A line without its LF, and whether it has words, for which it was looked at once.
 #[derive(Clone, Copy, Debug)]

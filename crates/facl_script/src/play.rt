@@ -1,12 +1,12 @@
 //! A run over a whole script: each unit is answered, and its answer is written before the next is read.
-ghost use Rattle.std.specs.Prelude.{◌≡◌, ◌⊎◌, ◌<◌, ◌≤◌, ◌+◌, ℕ, Bool, List, Option, true, false, IfOk, IfErr, IfSome, OnOk, OnErr};
+ghost use Rattle.std.specs.Prelude.{◌≡◌, ◌⊎◌, ◌<◌, ◌≤◌, ◌+◌, ◌||◌, ℕ, Bool, List, Option, true, false, OnOk, Err, is_err};
 ghost use Rattle.std.specs.Io.KnownBytes.{IsAtEnd};
 ghost use Rattle.facl_script.specs.Units.{ScriptUnit, line_takes};
 ghost use Rattle.facl_script.specs.Held.{IsLineHeld, IsUnitHeld};
 ghost use Rattle.facl_script.specs.Play.{Answer};
 ghost use Rattle.facl_script.specs.Limits.{script_limit};
 ghost use Rattle.facl_script.specs.Streams.{streams, moment};
-ghost use Rattle.facl_script.specs.Run.{IsAnswer, IsGiven, Breaks, Ends, StopsWith};
+ghost use Rattle.facl_script.specs.Run.{IsAnswer, AnswersUnit, Runs};
 
 use crate::devices::{Feed, Sink, write_answer};
 use crate::fault::ScriptFault;
@@ -78,22 +78,10 @@ fn answer_unit<S: Session, O: Sink, E: Sink>(
     requires ready { S.is_ready unit.now.number session.old }
     requires out_works { O.has_failed out.old ≡ false }
     requires err_works { E.has_failed err.old ≡ false }
-    ensures ok { IfOk result (λ refused. (u : ScriptUnit)
-        → IsUnitHeld S.asks unit.now u
-        → (ran_out : Bool)
-        × IsGiven (S.answered ran_out u (S.state session.old))
+    ensures answers { AnswersUnit result S.asks S.answered unit.now
         (moment (S.state session.old) (S.spent session.old) (streams (O.contents out.old) (E.contents err.old)))
-        (moment (S.state session.new) (S.spent session.new) (streams (O.contents out.new) (E.contents err.new)))
-        × (refused ≡ (S.answered ran_out u (S.state session.old)).refused)) }
-    ensures works { OnOk result ((O.has_failed out.new ≡ false) × (E.has_failed err.new ≡ false)) }
-    ensures part { OnErr result ((u : ScriptUnit)
-        → IsUnitHeld S.asks unit.now u
-        → (ran_out : Bool)
-        × Breaks (S.answered ran_out u (S.state session.old))
-        (moment (S.state session.old) (S.spent session.old) (streams (O.contents out.old) (E.contents err.old)))
-        (moment (S.state session.new) (S.spent session.new) (streams (O.contents out.new) (E.contents err.new)))) }
-    ensures failed { OnErr result ((O.has_failed out.new ≡ true) ⊎ (E.has_failed err.new ≡ true)) }
-    ensures which { IfErr result (λ e. e ≡ ScriptFault.Write) }
+        (moment (S.state session.new) (S.spent session.new) (streams (O.contents out.new) (E.contents err.new))) }
+    ensures failed { (O.has_failed out.new || E.has_failed err.new) ≡ is_err result }
     ensures ready { (n : ℕ) → unit.now.number < n → n ≤ script_limit + 1 → S.is_ready n session.new }
     ensures held { S.held session.new ≡ S.held session.old }
 {
@@ -119,14 +107,9 @@ pub fn run_session<S: Session, R: Feed, O: Sink, E: Sink>(
     requires out { O.has_failed out.old ≡ false }
     requires err { E.has_failed err.old ≡ false }
 
-    ensures ok { IfOk result (λ refused. IfSome (R.remaining reader.old) (λ script.
-        Ends S.asks S.answered script refused
+    ensures answers { Runs result S.asks S.answered (R.remaining reader.old) (R.remaining reader.new)
         (moment (S.state session.old) (S.spent session.old) (streams (O.contents out.old) (E.contents err.old)))
-        (moment (S.state session.new) (S.spent session.new) (streams (O.contents out.new) (E.contents err.new))))) }
-    ensures fault { IfErr result (λ fault. IfSome (R.remaining reader.old) (λ script.
-        StopsWith S.asks fault S.answered script (R.remaining reader.new)
-        (moment (S.state session.old) (S.spent session.old) (streams (O.contents out.old) (E.contents err.old)))
-        (moment (S.state session.new) (S.spent session.new) (streams (O.contents out.new) (E.contents err.new))))) }
+        (moment (S.state session.new) (S.spent session.new) (streams (O.contents out.new) (E.contents err.new))) }
 
     // An answer comes only once the reader is at its end.
     ensures end { OnOk result (IsAtEnd (R.remaining reader.new)) }

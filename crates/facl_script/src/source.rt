@@ -1,8 +1,8 @@
 //! The script's bytes, read in chunks and returned by lines.
-ghost use Rattle.std.specs.Prelude.{◌≡◌, ◌≤◌, ◌<◌, ◌+◌, ◌-◌, ℕ, true, false, List, [], ◌∷◌, ◌++◌, take, drop, length, IfOk, IfErr, OnOk, OnErr, MatchOption};
-ghost use Rattle.std.specs.Io.KnownBytes.{Keeps, Consumes, IsAtEnd};
+ghost use Rattle.std.specs.Prelude.{◌≡◌, ◌≤◌, ◌<◌, ◌+◌, ◌-◌, ℕ, false, List, [], ◌∷◌, ◌++◌, take, drop, length, is_err, IfOk, MatchOption};
 ghost use Rattle.facl_script.specs.Lines.{HasNoLineFeed, Held};
 ghost use Rattle.facl_script.specs.Limits.{chunk_limit, script_limit};
+ghost use Rattle.facl_script.specs.Devices.{ReadsSome};
 
 use crate::devices::Feed;
 use crate::fault::ScriptFault;
@@ -54,13 +54,8 @@ fn read_some<R: Feed>(reader: &mut R, chunk: &mut [u8], room: usize) -> Result<u
     requires works { R.has_failed reader.old ≡ false }
     requires room { 0 < room }
     requires fits { room ≤ length chunk.old }
-    ensures within { IfOk result (λ n. n ≤ room) }
-    ensures bytes { IfOk result (λ n. Consumes (R.remaining reader.old) (R.remaining reader.new) (take n chunk.new)) }
-    ensures end { IfOk result (λ n. n ≡ 0 → IsAtEnd (R.remaining reader.new)) }
-    ensures works { OnOk result (R.has_failed reader.new ≡ false) }
-    ensures err { IfErr result (λ e. e ≡ ScriptFault.Read) }
-    ensures keeps { OnErr result (Keeps (R.remaining reader.old) (R.remaining reader.new)) }
-    ensures failed { OnErr result (R.has_failed reader.new ≡ true) }
+    ensures reads { ReadsSome result (R.remaining reader.old) (R.remaining reader.new) chunk.new room }
+    ensures failed { R.has_failed reader.new ≡ is_err result }
 {
     match reader.read(&mut chunk[..room]) {
         Ok(n) => Ok(n),
@@ -81,7 +76,7 @@ pub(crate) struct ByteSource {
 }
 
 impl ByteSource {
-    ghost use Rattle.facl_script.specs.ByteSource.{pending, unread, StopsAfter, FindsLine, taken_count};
+    ghost use Rattle.facl_script.specs.ByteSource.{pending, taken_count, Fills, ReadsLine};
 
     /// No bytes are read yet.
     pub fn new() -> ByteSource
@@ -116,13 +111,8 @@ impl ByteSource {
     /// Reads a chunk where nothing is pending. At the limit of the script it reads one byte more, which is to be the end.
     fn fill<R: Feed>(&mut self, reader: &mut R) -> Result<(), ScriptFault>
         requires { R.has_failed reader.old ≡ false }
-        ensures same { OnOk result (Keeps
-            (unread self.old (R.remaining reader.old)) (unread self.new (R.remaining reader.new))) }
-        ensures works { OnOk result (R.has_failed reader.new ≡ false) }
-        ensures end { OnOk result (pending self.new ≡ [] → IsAtEnd (R.remaining reader.new)) }
-        ensures err { IfErr result (λ e.
-            StopsAfter e (unread self.old (R.remaining reader.old)) self.new
-            (R.remaining reader.new) (R.has_failed reader.new) []) }
+        ensures fills { Fills result self.old self.new
+            (R.remaining reader.old) (R.remaining reader.new) (R.has_failed reader.new) }
         ensures count { taken_count self.new ≡ taken_count self.old }
     {
         if self.start < self.end {
@@ -151,14 +141,8 @@ impl ByteSource {
         line: &mut Vec<u8>,
     ) -> Result<Option<LineRead>, ScriptFault>
         requires { R.has_failed reader.old ≡ false }
-        ensures ok { IfOk result (λ found. FindsLine found
-            (unread self.old (R.remaining reader.old)) (unread self.new (R.remaining reader.new))
-            line.new.items (taken_count self.old) (taken_count self.new)) }
-        ensures works { OnOk result (R.has_failed reader.new ≡ false) }
-        ensures err { IfErr result (λ e. (text : List ℕ) × HasNoLineFeed text
-            × StopsAfter e (unread self.old (R.remaining reader.old)) self.new
-            (R.remaining reader.new) (R.has_failed reader.new) text
-            × (taken_count self.new ≡ taken_count self.old + length text)) }
+        ensures reads { ReadsLine result line.new.items self.old self.new
+            (R.remaining reader.old) (R.remaining reader.new) (R.has_failed reader.new) }
         ensures grows { taken_count self.old ≤ taken_count self.new }
     {
         line.clear();

@@ -1,9 +1,9 @@
 //! The text of a unit: the lines up to a line `.`.
-ghost use Rattle.std.specs.Prelude.{◌≡◌, ◌≤◌, ◌+◌, ℕ, List, [], ◌∷◌, ◌++◌, false, OnOk, IfOk, IfErr, Option, length};
-ghost use Rattle.facl_script.specs.ByteSource.{unread, StopsAfter, taken_count};
-ghost use Rattle.facl_script.specs.Units.{is_end as ends_text, more_text, HasNoUnitWithin};
+ghost use Rattle.std.specs.Prelude.{◌≡◌, ◌≤◌, ℕ, List, [], ◌∷◌, ◌++◌, false, OnOk, Option};
+ghost use Rattle.facl_script.specs.ByteSource.{taken_count};
+ghost use Rattle.facl_script.specs.Units.{is_end as ends_text, more_text};
 ghost use Rattle.facl_script.specs.Lines.{Held};
-ghost use Rattle.facl_script.specs.ReadText.{FindsText, HoldsText};
+ghost use Rattle.facl_script.specs.ReadText.{HoldsText, ReadsText};
 
 use crate::devices::Feed;
 use crate::fault::ScriptFault;
@@ -83,14 +83,8 @@ pub(crate) fn read_text<R: Feed>(
     text: &mut Vec<u8>,
 ) -> Result<TextRead, ScriptFault>
     requires { R.has_failed reader.old ≡ false }
-    ensures ok { IfOk result (λ found. FindsText found
-        (unread source.old (R.remaining reader.old)) (unread source.new (R.remaining reader.new))
-        text.new.items (taken_count source.old) (taken_count source.new)) }
-    ensures works { OnOk result (R.has_failed reader.new ≡ false) }
-    ensures err { IfErr result (λ e. (tail : List ℕ) × HasNoUnitWithin tail
-        × StopsAfter e (unread source.old (R.remaining reader.old)) source.new
-        (R.remaining reader.new) (R.has_failed reader.new) tail
-        × (taken_count source.new ≡ taken_count source.old + length tail)) }
+    ensures reads { ReadsText result text.new.items source.old source.new
+        (R.remaining reader.old) (R.remaining reader.new) (R.has_failed reader.new) }
     ensures grows { taken_count source.old ≤ taken_count source.new }
 {
     text.clear();

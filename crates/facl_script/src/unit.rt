@@ -1,15 +1,14 @@
 //! A script, read unit by unit: each line with its text, if it takes one.
-ghost use Rattle.std.specs.Prelude.{◌≡◌, ◌≤◌, ◌+◌, ℕ, Bool, List, true, false, OnOk, OnErr, IfOk, IfErr, Option, length};
+ghost use Rattle.std.specs.Prelude.{◌≡◌, ◌≤◌, ◌+◌, ℕ, Bool, List, true, false, Option};
 ghost use Rattle.facl_script.specs.Held.{IsUnitHeld};
-ghost use Rattle.facl_script.specs.ReadUnit.{IsLineFound, IsUnitFound};
-ghost use Rattle.facl_script.specs.Units.{HasNoUnit, ScriptUnit, line_takes};
+ghost use Rattle.facl_script.specs.ReadUnit.{IsLineFound, IsUnitFound, is_last};
+ghost use Rattle.facl_script.specs.Units.{ScriptUnit, line_takes};
 ghost use Rattle.facl_script.specs.ByteSource.{taken_count};
 ghost use Rattle.facl_script.specs.Limits.{script_limit};
 
 use crate::devices::Feed;
 use crate::fault::ScriptFault;
-use crate::held::{HeldLine, HeldText, HeldUnit};
-use crate::line::LineFound;
+use crate::held::{HeldLine, HeldText, HeldUnit, LineFound};
 use crate::play::Session;
 use crate::source::ByteSource;
 use crate::text::{TextFound, read_text};
@@ -48,8 +47,7 @@ pub struct Script {
 }
 
 impl Script {
-    ghost use Rattle.facl_script.specs.Script.{script_left, script_taken, next_number, is_over, line_held, text_held, ScriptStopsAfter};
-    ghost use Rattle.facl_script.specs.ReadUnit.{FindsUnit, is_last};
+    ghost use Rattle.facl_script.specs.Script.{script_left, script_taken, next_number, is_over, line_held, text_held, ReadsUnit};
 
     /// A script of which nothing is read. It takes no memory.
     pub fn new(alloc: Global) -> Script
@@ -88,14 +86,8 @@ impl Script {
         reader: &mut R,
     ) -> Result<Option<UnitFound>, ScriptFault>
         requires { R.has_failed reader.old ≡ false }
-        ensures ok { IfOk result (λ found. FindsUnit S.asks found (line_held self.new) (text_held self.new)
-            (script_left self.old (R.remaining reader.old)) (script_left self.new (R.remaining reader.new))
-            (script_taken self.old) (script_taken self.new) (next_number self.old) (next_number self.new)) }
-        ensures works { OnOk result (R.has_failed reader.new ≡ false) }
-        ensures err { IfErr result (λ e. (tail : List ℕ) × HasNoUnit S.asks tail
-            × ScriptStopsAfter e (script_left self.old (R.remaining reader.old)) self.new
-            (R.remaining reader.new) (R.has_failed reader.new) tail
-            × (script_taken self.new ≡ script_taken self.old + length tail)) }
+        ensures { ReadsUnit result S.asks self.old self.new
+            (R.remaining reader.old) (R.remaining reader.new) (R.has_failed reader.new) }
     {
         let number = self.number;
         let Some(found) = self.source.next_line(reader, &mut self.line)? else {
@@ -146,17 +138,9 @@ impl Script {
         reader: &mut R,
     ) -> Result<Option<UnitFound>, ScriptFault>
         requires { R.has_failed reader.old ≡ false }
-        ensures ok { IfOk result (λ found. is_over self.old ≡ false
-            → FindsUnit S.asks found (line_held self.new) (text_held self.new)
-            (script_left self.old (R.remaining reader.old)) (script_left self.new (R.remaining reader.new))
-            (script_taken self.old) (script_taken self.new) (next_number self.old) (next_number self.new)) }
-        ensures ends { IfOk result (λ found. is_over self.new ≡ is_last found) }
-        ensures broken { OnErr result (is_over self.new ≡ true) }
-        ensures works { OnOk result (R.has_failed reader.new ≡ false) }
-        ensures err { IfErr result (λ e. (tail : List ℕ) × HasNoUnit S.asks tail
-            × ScriptStopsAfter e (script_left self.old (R.remaining reader.old)) self.new
-            (R.remaining reader.new) (R.has_failed reader.new) tail
-            × (script_taken self.new ≡ script_taken self.old + length tail)) }
+        ensures reads { is_over self.old ≡ false → ReadsUnit result S.asks self.old self.new
+            (R.remaining reader.old) (R.remaining reader.new) (R.has_failed reader.new) }
+        ensures ends { is_over self.new ≡ is_last result }
         ensures over { is_over self.old ≡ true → (result ≡ Ok None) × (self.new ≡ self.old) × (reader.new ≡ reader.old) }
         ensures within { script_taken self.new ≤ script_limit }
     {

@@ -19,5 +19,5 @@ loop-done-preserved g c =
       works = still_works _ _ c.in-Ok.taken _ c.in-Ok.ensures.failed c.loop-done.invariant.works c.in-Ok.taken-test.1;
     }
 
-pub returns-clause-whole : goal.returns-clause-whole
-returns-clause-whole g c = grind (arith, common_steps)
+pub returns-clause-writes : goal.returns-clause-writes
+returns-clause-writes g c = grind (arith, common_steps)

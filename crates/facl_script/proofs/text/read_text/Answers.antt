@@ -9,43 +9,46 @@ use Rattle.facl_script.proofs.SourceLemmas.{stops_later}
 use Rattle.facl_script.proofs.TextLemmas.{so_far, text_line, text_end, text_breaks, no_unit, spelled_some, of_not, of_not_not, holds_ended}
 use Rattle.facl_script.proofs.text.read_text.Goals as goal
 
-pub returns-in_err-found-clause-err : goal.returns-in_err-found-clause-err
-returns-in_err-found-clause-err g c =
+pub returns-in_err-found-clause-reads : goal.returns-in_err-found-clause-reads
+returns-in_err-found-clause-reads g c =
     let inv = c.loop-found.invariant in
-    let h = c.in_err-found.ensures.err in
+    let h = c.in_err-found.ensures.reads in
     let p = err_from_is_err_and c.from_residual.result c.from_residual.ensures.1 in
     let stop = stops_later c.in_err-found.field-0.0 _ _ _ _ _ inv.piece h.0 inv.consumes h.2 in
     rw (p.1, p.2)
     (inv.piece ++ h.0, λ asks number line n. ap full_units (inv.splits asks number line n h.0) ∙ no_unit asks h.0 h.1 (so_far number line inv.content) (n + c.loop-found.lines), stop, omega (arith, h.3, inv.count, length-append inv.piece h.0))
 
-pub returns-then-ends_here-clause-ok : goal.returns-then-ends_here-clause-ok
-returns-then-ends_here-clause-ok g c =
+pub returns-then-ends_here-clause-reads : goal.returns-then-ends_here-clause-reads
+returns-then-ends_here-clause-reads g c =
     let inv = c.loop-found.invariant in
-    let nl = rw c.in-Some.is at c.in_ok-found.ensures.ok in
+    let nl = rw c.in-Some.is at c.in_ok-found.ensures.reads.0 in
     let t : List ℕ = nl.0 in
     let line = nl.1 in
     let e = c.in-Some.found.is_ended in
     let held = subst (λ (l : List ℕ). Held c.in-Some.found.is_too_long l t) (sym c.deref.ensures.value) line.held in
     let ends : is_end t ≡ true = sym (c.ends_here.ensures t held) ∙ c.if-ends_here.true in
     let some = spelled_some t e (λ h. (line.last h).0) in (
-      inv.piece ++ spelled t e,
-      ended_text inv.content,
-      record {
-        consumes = Consumes-trans _ _ _ _ _ inv.consumes line.consumes;
-        splits = λ asks number l n rest last. ap (λ bs. cut asks (within (opened number l)) n (lines_of bs)) (append_assoc inv.piece (spelled t e) rest) ∙ inv.splits asks number l n (spelled t e ++ rest)
-            ∙ text_end asks (so_far number l inv.content) (n + c.loop-found.lines) e t rest line.no_line_feed ends (λ h. ((line.last h).0, last h))
-            ∙ ap (λ k. closed (opened number l) (ended_text inv.content) e ∷ cut asks outside k (lines_of rest)) (add_assoc n c.loop-found.lines 1);
-        last = λ h. (line.last h).1;
-        holds = holds_ended c.loop-found.held _ inv.content inv.holds;
-        count = omega (arith, line.count, inv.count, length-append inv.piece (spelled t e));
-        lines = omega (arith, inv.lines, some, length-append inv.piece (spelled t e));
-      },
+      (
+        inv.piece ++ spelled t e,
+        ended_text inv.content,
+        record {
+          consumes = Consumes-trans _ _ _ _ _ inv.consumes line.consumes;
+          splits = λ asks number l n rest last. ap (λ bs. cut asks (within (opened number l)) n (lines_of bs)) (append_assoc inv.piece (spelled t e) rest) ∙ inv.splits asks number l n (spelled t e ++ rest)
+              ∙ text_end asks (so_far number l inv.content) (n + c.loop-found.lines) e t rest line.no_line_feed ends (λ h. ((line.last h).0, last h))
+              ∙ ap (λ k. closed (opened number l) (ended_text inv.content) e ∷ cut asks outside k (lines_of rest)) (add_assoc n c.loop-found.lines 1);
+          last = λ h. (line.last h).1;
+          holds = holds_ended c.loop-found.held _ inv.content inv.holds;
+          count = omega (arith, line.count, inv.count, length-append inv.piece (spelled t e));
+          lines = omega (arith, inv.lines, some, length-append inv.piece (spelled t e));
+        },
+      ),
+      c.in_ok-found.ensures.reads.1,
     )
 
-pub returns-then-not-found-clause-ok : goal.returns-then-not-found-clause-ok
-returns-then-not-found-clause-ok g c =
+pub returns-then-not-found-clause-reads : goal.returns-then-not-found-clause-reads
+returns-then-not-found-clause-reads g c =
     let inv = c.loop-found.invariant in
-    let nl = rw c.in-Some.is at c.in_ok-found.ensures.ok in
+    let nl = rw c.in-Some.is at c.in_ok-found.ensures.reads.0 in
     let t : List ℕ = nl.0 in
     let line = nl.1 in
     let e = c.in-Some.found.is_ended in
@@ -54,22 +57,25 @@ returns-then-not-found-clause-ok g c =
     let goes : is_end t ≡ false = sym (c.ends_here.ensures t held) ∙ c.if-ends_here.false in
     let some = (line.last no_end).0 in
     let count = subst (λ (b : Bool). taken_count c.next_line.new.self ≡ taken_count c.loop-found.source + length (spelled t b)) no_end line.count in (
-      inv.piece ++ t,
-      unended,
-      record {
-        consumes = Consumes-trans _ _ _ _ _ inv.consumes (subst (λ (b : Bool). Consumes (unread c.loop-found.source (g.R.Feed.remaining c.loop-found.reader)) (unread c.next_line.new.self (g.R.Feed.remaining c.next_line.new.reader)) (spelled t b)) no_end line.consumes);
-        splits = λ asks number l n rest last. rw (last refl, append-nil (inv.piece ++ t)) (inv.splits asks number l n t ∙ text_breaks asks (so_far number l inv.content) (n + c.loop-found.lines) t line.no_line_feed goes some);
-        last = λ h. (line.last no_end).1;
-        holds = refl;
-        count = omega (arith, count, inv.count, length-append inv.piece t);
-        lines = omega (arith, inv.lines, some, length-append inv.piece t);
-      },
+      (
+        inv.piece ++ t,
+        unended,
+        record {
+          consumes = Consumes-trans _ _ _ _ _ inv.consumes (subst (λ (b : Bool). Consumes (unread c.loop-found.source (g.R.Feed.remaining c.loop-found.reader)) (unread c.next_line.new.self (g.R.Feed.remaining c.next_line.new.reader)) (spelled t b)) no_end line.consumes);
+          splits = λ asks number l n rest last. rw (last refl, append-nil (inv.piece ++ t)) (inv.splits asks number l n t ∙ text_breaks asks (so_far number l inv.content) (n + c.loop-found.lines) t line.no_line_feed goes some);
+          last = λ h. (line.last no_end).1;
+          holds = refl;
+          count = omega (arith, count, inv.count, length-append inv.piece t);
+          lines = omega (arith, inv.lines, some, length-append inv.piece t);
+        },
+      ),
+      c.in_ok-found.ensures.reads.1,
     )
 
 pub loop-found-preserved : goal.loop-found-preserved
 loop-found-preserved g c =
     let inv = c.loop-found.invariant in
-    let nl = rw c.in-Some.is at c.in_ok-found.ensures.ok in
+    let nl = rw c.in-Some.is at c.in_ok-found.ensures.reads.0 in
     let t : List ℕ = nl.0 in
     let line = nl.1 in
     let e = c.in-Some.found.is_ended in
@@ -80,7 +86,7 @@ loop-found-preserved g c =
     let more = t ++ 10 ∷ [] in
     let count = subst (λ (b : Bool). taken_count c.next_line.new.self ≡ taken_count c.loop-found.source + length (spelled t b)) ended line.count in
     record {
-      works = c.in_ok-found.ensures.works;
+      works = c.in_ok-found.ensures.reads.1;
       piece = inv.piece ++ more;
       content = more_text inv.content t;
       consumes = Consumes-trans _ _ _ _ _ inv.consumes (subst (λ (b : Bool). Consumes (unread c.loop-found.source (g.R.Feed.remaining c.loop-found.reader)) (unread c.next_line.new.self (g.R.Feed.remaining c.next_line.new.reader)) (spelled t b)) ended line.consumes);

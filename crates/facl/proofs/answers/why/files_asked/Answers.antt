@@ -15,9 +15,9 @@ returns-in_err-files-clause-reported c =
 pub returns-clause-all : goal.returns-clause-all
 returns-clause-all c =
     let t = c.args.tree.now.files in
-    c.in_ok-files.ensures.all ∙ ap (λ ps. files_found false ps t) c.in_ok-asked.ensures ∙ all_asked t c.args.along c.args.paths
+    c.in_ok-files.ensures.0 ∙ ap (λ ps. files_found false ps t) c.in_ok-asked.ensures ∙ all_asked t c.args.along c.args.paths
 
 pub returns-clause-there : goal.returns-clause-there
 returns-clause-there c =
     let t = c.args.tree.now.files in
-    sym (ap (λ ps. first_missing ps t) c.in_ok-asked.ensures ∙ first_asked t c.args.along c.args.paths) ∙ c.in_ok-files.ensures.there
+    sym (ap (λ ps. first_missing ps t) c.in_ok-asked.ensures ∙ first_asked t c.args.along c.args.paths) ∙ c.in_ok-files.ensures.1

@@ -8,21 +8,21 @@ consumes_after none None b bs e h = tt
 consumes_after none (Some x) None bs e h = absurd h
 consumes_after none (Some x) (Some y) bs e h = rw e h
 
-pub returns-else-n-eq0-clause-err : goal.returns-else-n-eq0-clause-err
-returns-else-n-eq0-clause-err g c =
+pub returns-else-n-eq0-clause-fills : goal.returns-else-n-eq0-clause-fills
+returns-else-n-eq0-clause-fills g c =
     let s = c.args.self.now in
-    let h = c.in_ok-n.ensures in
+    let h = c.in_ok-n.ensures.reads in
     let n : ℕ = c.in_ok-n.n in
     let len = c.read_some.auto.chunk in
     let none : s.end - s.start ≡ 0 = omega arith in (
       (
         take n c.read_some.new.chunk,
         omega (arith, len, length-take n c.read_some.new.chunk),
-        consumes_after (take (s.end - s.start) (drop s.start s.chunk)) _ _ _ (rw none refl) h.bytes,
+        consumes_after (take (s.end - s.start) (drop s.start s.chunk)) _ _ _ (rw none refl) h.1,
       ),
       refl,
       omega (arith, s.within),
     )
 
-pub returns-then-self-clause-end : goal.returns-then-self-clause-end
-returns-then-self-clause-end g c = grind (arith, common_steps)
+pub returns-then-self-clause-fills : goal.returns-then-self-clause-fills
+returns-then-self-clause-fills g c = grind (arith, common_steps)

@@ -7,8 +7,8 @@ use Rattle.facl_script.proofs.LineLemmas.{HasNoLineFeed-append}
 use Rattle.facl_script.proofs.SourceLemmas.{handed, stops_later}
 use Rattle.facl_script.proofs.source.ByteSource.next_line.Goals as goal
 
-pub returns-in-Some-clause-ok : goal.returns-in-Some-clause-ok
-returns-in-Some-clause-ok g c =
+pub returns-in-Some-clause-reads : goal.returns-in-Some-clause-reads
+returns-in-Some-clause-reads g c =
     let inv = c.loop-self.invariant in
     let found = c.in-Some.ensures in
     let piece = c.pending-piece.result.now in
@@ -16,14 +16,17 @@ returns-in-Some-clause-ok g c =
     let front = take n piece in
     let cut : pending c.fill.new.self ≡ (front ++ 10 ∷ []) ++ pending c.skip.new.self =
     sym c.pending-piece.ensures ∙ found.2 ∙ sym (append_assoc front (10 ∷ []) (drop (n + 1) piece)) ∙ ap (λ l. (front ++ 10 ∷ []) ++ l) (ap (drop (n + 1)) c.pending-piece.ensures ∙ sym c.skip.ensures.pending) in (
-      inv.text ++ front,
-      record {
-        no_line_feed = HasNoLineFeed-append _ _ inv.no_line_feed found.1;
-        consumes = rw (append_assoc inv.text front (10 ∷ [])) (handed _ _ (g.R.Feed.remaining c.fill.new.reader) _ _ _ _ inv.consumes c.in_ok-fill.ensures.same cut);
-        last = λ e. absurd (true≢false e);
-        held = c.in_ok-is_too_long-in-Some.ensures inv.text inv.held;
-        count = omega (arith, c.skip.ensures.count, c.in_ok-fill.ensures.count, inv.count, found.0, length-append (inv.text ++ front) (10 ∷ []), length-append inv.text front, length-take n piece);
-      },
+      (
+        inv.text ++ front,
+        record {
+          no_line_feed = HasNoLineFeed-append _ _ inv.no_line_feed found.1;
+          consumes = rw (append_assoc inv.text front (10 ∷ [])) (handed _ _ (g.R.Feed.remaining c.fill.new.reader) _ _ _ _ inv.consumes c.in_ok-fill.ensures.fills.0 cut);
+          last = λ e. absurd (true≢false e);
+          held = c.in_ok-is_too_long-in-Some.ensures inv.text inv.held;
+          count = omega (arith, c.skip.ensures.count, c.in_ok-fill.ensures.count, inv.count, found.0, length-append (inv.text ++ front) (10 ∷ []), length-append inv.text front, length-take n piece);
+        },
+      ),
+      c.in_ok-fill.ensures.fills.1,
     )
 
 pub loop-self-preserved : goal.loop-self-preserved
@@ -36,25 +39,25 @@ loop-self-preserved g c =
     sym c.pending-piece.ensures ∙ sym (take-append-drop n piece) ∙ ap (λ l. l ++ drop n piece) all
     ∙ ap (λ l. piece ++ l) (ap (drop n) c.pending-piece.ensures ∙ sym c.skip-in-None.ensures.pending) in
     record {
-      works = c.in_ok-fill.ensures.works;
+      works = c.in_ok-fill.ensures.fills.1;
       text = inv.text ++ piece;
       no_line_feed = HasNoLineFeed-append _ _ inv.no_line_feed c.in-None.ensures;
-      consumes = handed _ _ (g.R.Feed.remaining c.fill.new.reader) _ _ _ _ inv.consumes c.in_ok-fill.ensures.same cut;
+      consumes = handed _ _ (g.R.Feed.remaining c.fill.new.reader) _ _ _ _ inv.consumes c.in_ok-fill.ensures.fills.0 cut;
       held = c.in_ok-is_too_long-in-None.ensures inv.text inv.held;
       count = omega (arith, c.skip-in-None.ensures.count, c.in_ok-fill.ensures.count, inv.count, length-append inv.text piece);
       empty = omega (arith, length-append inv.text piece);
     }
 
-pub returns-in_err-fill-clause-err : goal.returns-in_err-fill-clause-err
-returns-in_err-fill-clause-err g c =
+pub returns-in_err-fill-clause-reads : goal.returns-in_err-fill-clause-reads
+returns-in_err-fill-clause-reads g c =
     let inv = c.loop-self.invariant in
     let h = c.in_err-fill.ensures in
     let p = err_from_is_err_and c.from_residual.result c.from_residual.ensures.1 in
-    let stop = rw append-nil at (stops_later c.in_err-fill.field-0.0 _ _ _ _ _ inv.text [] inv.consumes h.err) in
+    let stop = rw append-nil at (stops_later c.in_err-fill.field-0.0 _ _ _ _ _ inv.text [] inv.consumes h.fills) in
     rw (p.1, p.2) (inv.text, inv.no_line_feed, stop, omega (arith, inv.count, h.count))
 
-pub returns-then-is_empty-clause-ok : goal.returns-then-is_empty-clause-ok
-returns-then-is_empty-clause-ok g c = grind (arith, common_steps)
+pub returns-then-is_empty-clause-reads : goal.returns-then-is_empty-clause-reads
+returns-then-is_empty-clause-reads g c = grind (arith, common_steps)
 
-pub returns-then-n-eq0-clause-ok : goal.returns-then-n-eq0-clause-ok
-returns-then-n-eq0-clause-ok g c = grind (arith, common_steps)
+pub returns-then-n-eq0-clause-reads : goal.returns-then-n-eq0-clause-reads
+returns-then-n-eq0-clause-reads g c = grind (arith, common_steps)
