@@ -16,7 +16,7 @@ stage-requires-clause-room c =
     omega (arith, times, users, c.if-before-gt1000000.false, c.asked-before.ensures)
 
 pub stage-requires-clause-goes : goal.stage-requires-clause-goes
-stage-requires-clause-goes c = record { state = c.args.world.now.state; whole = c.requires; reports = c.in-Ok.ensures.reports }
+stage-requires-clause-goes c = record { state = c.args.world.now.state; whole = c.requires; reports = c.in-Ok.ensures.prepares.reports }
 
 pub returns-in_err-asked : goal.returns-in_err-asked
 returns-in_err-asked c =
