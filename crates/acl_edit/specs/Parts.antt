@@ -15,8 +15,8 @@ is_for as_default Access s = not (as_default || s.dflt)
 is_for as_default Default s = if as_default then not s.dflt else s.dflt
 
 -- the entries that are for a list
-abbrev pub entries_for : Scope → List Spec → List Spec
-entries_for scope specs = filter (is_for scope.as_default scope.which) specs
+abbrev pub specs_for : Scope → List Spec → List Spec
+specs_for scope specs = filter (is_for scope.as_default scope.which) specs
 
 -- what a line asks of one list
 pub record Part : Type 0 where

@@ -3,7 +3,7 @@
 ghost use Rattle.std.specs.Prelude.{◌≡◌, ◌≢◌, ◌+◌, Err, IfOk};
 ghost use Rattle.std.specs.List.{list_any};
 ghost use Rattle.acl_edit.specs.Parts as parts;
-ghost use Rattle.acl_edit.specs.Parts.{part, is_mask, is_given, is_for, is_of_mask, entries_for};
+ghost use Rattle.acl_edit.specs.Parts.{part, is_mask, is_given, is_for, is_of_mask, specs_for};
 ghost use Rattle.acl_edit.specs.Masks.{takes_mask};
 ghost use Rattle.acl_edit.specs.Steps as steps;
 ghost use Rattle.acl_edit.specs.Edits as edits;
@@ -233,7 +233,7 @@ impl Scope {
 
     /// Whether an entry is for the list.
     pub fn takes_some(self, specs: &[Spec]) -> bool
-        ensures { result ≡ is_given (entries_for self specs.now) }
+        ensures { result ≡ is_given (specs_for self specs.now) }
     {
         for spec in specs {
             if self.takes(spec) {
@@ -245,7 +245,7 @@ impl Scope {
 
     /// Whether an entry is the list's mask.
     pub fn takes_mask(self, specs: &[Spec]) -> bool
-        ensures { result ≡ list_any is_of_mask (entries_for self specs.now) }
+        ensures { result ≡ list_any is_of_mask (specs_for self specs.now) }
     {
         for spec in specs {
             if self.takes(spec) && is_mask(&spec.key) {

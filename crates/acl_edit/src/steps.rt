@@ -2,7 +2,7 @@
 
 ghost use Rattle.std.specs.Prelude.{◌≡◌, ◌+◌, length, IfOk, IsOk, OnOk};
 ghost use Rattle.std.specs.List.{list_any};
-ghost use Rattle.acl_edit.specs.Parts.{entries_for, part};
+ghost use Rattle.acl_edit.specs.Parts.{specs_for, part};
 ghost use Rattle.acl_edit.specs.Rooms.{Fits, LeavesIn, size};
 ghost use Rattle.acl_edit.specs.Steps as steps;
 ghost use Rattle.acl_edit.specs.Steps.{execute, gives_execute, perms_of, may_execute};
@@ -83,7 +83,7 @@ pub(crate) fn strip(alloc: Global, acl: &Acl) -> Result<Draft, AllocError>
 
 /// Takes the keys out of a list.
 pub(crate) fn remove(draft: &mut Draft, scope: Scope, specs: &[Spec])
-    ensures { draft.new ≡ steps.remove (entries_for scope specs.now) draft.old }
+    ensures { draft.new ≡ steps.remove (specs_for scope specs.now) draft.old }
 {
     for spec in specs {
         if scope.takes(spec) {
@@ -99,7 +99,7 @@ pub(crate) fn modify(
     x: bool,
     specs: &[Spec],
 ) -> Result<(), AllocError>
-    ensures { LeavesIn (Fits (size draft.old + length (entries_for scope specs.now))) result draft.new (steps.modify x (entries_for scope specs.now) draft.old) }
+    ensures { LeavesIn (Fits (size draft.old + length (specs_for scope specs.now))) result draft.new (steps.modify x (specs_for scope specs.now) draft.old) }
 {
     for spec in specs {
         if scope.takes(spec) {
@@ -117,7 +117,7 @@ pub(crate) fn replace(
     x: bool,
     specs: &[Spec],
 ) -> Result<(), AllocError>
-    ensures { LeavesIn (Fits (size draft.old + length (entries_for scope specs.now))) result draft.new (steps.replace x (entries_for scope specs.now) draft.old) }
+    ensures { LeavesIn (Fits (size draft.old + length (specs_for scope specs.now))) result draft.new (steps.replace x (specs_for scope specs.now) draft.old) }
 {
     if scope.takes_some(specs) {
         *draft = Draft::new(alloc);

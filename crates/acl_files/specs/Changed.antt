@@ -43,5 +43,5 @@ abbrev pub Adds : {Z : Type 0} → List (Rc (PathOf × Node) Z) → Files → Li
 Adds before more after = values after ≡ values before ++ more
 
 -- the files that changed were added to those noted before, and none is gone
-abbrev pub Notes : {Z : Type 0} → Files → Files → List (Rc (PathOf × Node) Z) → List (Rc (PathOf × Node) Z) → Type 0
-Notes old new before after = Adds before (changed_between old new) after × (gone_between old new ≡ [])
+abbrev pub NotesChanged : {Z : Type 0} → Files → Files → List (Rc (PathOf × Node) Z) → List (Rc (PathOf × Node) Z) → Type 0
+NotesChanged old new before after = Adds before (changed_between old new) after × (gone_between old new ≡ [])

@@ -4,7 +4,7 @@ ghost use Rattle.std.specs.Prelude.{◌≡◌, ◌∷◌, [], true, map, IfOk, O
 ghost use Rattle.acl_names.specs.Made.{values};
 ghost use Rattle.acl_dump.specs.acl_syntax.InTurn.{GivesUnless};
 ghost use Rattle.acl_edit.specs.Edits.{Gives};
-ghost use Rattle.acl_files.specs.Changed.{Adds, Notes, same_label};
+ghost use Rattle.acl_files.specs.Changed.{Adds, NotesChanged, same_label};
 ghost use Rattle.acl_files.specs.Edits.{FileEdit, KeepsPlaces, edit_each, edit_all, file_fault};
 ghost use Rattle.acl_files.specs.Inner.{EditsOne, file_of, changed_one, changed_each};
 ghost use Rattle.acl_files.specs.declared.edit.FileFault.{FileFault};
@@ -141,7 +141,7 @@ pub fn edit_files<E: NodeEdit>(
     edit: &E,
 ) -> Result<Files, FileFault>
     ensures made { GivesUnless FileFault.NoMemory (λ t. t) result (edit_all (E.edited edit.now) selection.now.recursive selection.now.operands.now tree.now) }
-    ensures noted { IfOk result (λ new. Notes tree.now.files new.files changed.old.items changed.new.items) }
+    ensures noted { IfOk result (λ new. NotesChanged tree.now.files new.files changed.old.items changed.new.items) }
 {
     edit.keeps_place();
     let files = select(alloc, tree, selection)?;

@@ -8,7 +8,7 @@ ghost use Rattle.acl_dump.specs.acl_syntax.InTurn.{GivesUnless};
 ghost use Rattle.acl_dump.specs.OwnPaths.{have_own_paths};
 ghost use Rattle.acl_edit.specs.Edits.{Gives, allowed};
 ghost use Rattle.acl_files.specs.Loading.{in_path_order};
-ghost use Rattle.acl_files.specs.Changed.{Adds, Notes};
+ghost use Rattle.acl_files.specs.Changed.{Adds, NotesChanged};
 ghost use Rattle.acl_files.specs.Inner.{AreFilesOf, FindsAt, restore_each, changed_by_records, RestoredFile, coded_restored, restored_by};
 ghost use Rattle.acl_files.specs.Operands.{LooksUp, first_missing};
 ghost use Rattle.acl_files.specs.Restoring.{paths_of, restored_tree};
@@ -194,7 +194,7 @@ pub fn restore_files(
     records: &DumpRecords,
 ) -> Result<Files, TreeFault>
     ensures made { GivesUnless TreeFault.NoMemory (λ t. t) result (restored_tree records.now tree.now) }
-    ensures noted { IfOk result (λ new. Notes tree.now.files new.files changed.old.items changed.new.items) }
+    ensures noted { IfOk result (λ new. NotesChanged tree.now.files new.files changed.old.items changed.new.items) }
 {
     tree.soundness_law();
     let found = files_of(alloc, tree, records.as_slice())?;

@@ -10,15 +10,15 @@ abbrev pub named_in : {Z : Type 0} → List (Vec ℕ Z × ℕ) → List Named
 named_in entries = map (λ e. (e.0.items, e.1)) entries
 
 -- for each id the first place of a name that passes
-abbrev pub AreFirst : (ℕ → Named → Bool) → BTreeMap ℕ ℕ → List Named → Type 0
-AreFirst test places es = (id : ℕ) → get nat_cmp places id ≡ position (test id) es
+abbrev pub AreFirstPlaces : (ℕ → Named → Bool) → BTreeMap ℕ ℕ → List Named → Type 0
+AreFirstPlaces test places es = (id : ℕ) → get nat_cmp places id ≡ position (test id) es
 
 -- a place is kept for the ids that pass, unless they have one
-abbrev pub Keeps : BTreeMap ℕ ℕ → BTreeMap ℕ ℕ → (ℕ → Bool) → ℕ → Type 0
-Keeps old new test place = (id : ℕ) → get nat_cmp new id ≡ option_or (get nat_cmp old id) (if test id then Some place else None)
+abbrev pub KeepsFirst : BTreeMap ℕ ℕ → BTreeMap ℕ ℕ → (ℕ → Bool) → ℕ → Type 0
+KeepsFirst old new test place = (id : ℕ) → get nat_cmp new id ≡ option_or (get nat_cmp old id) (if test id then Some place else None)
 
 -- a name goes last, and its place is kept for its id, as the first one and as the first that is printed, unless there is one
 pub record AddsName {Z : Type 0} (old new : List (Vec ℕ Z × ℕ)) (first_old first_new shown_old shown_new : BTreeMap ℕ ℕ) (e : Named) : Type 0 where
   pub added : named_in new ≡ named_in old ++ e ∷ []
-  pub first : Keeps first_old first_new (λ q. is_id q e) (length old)
-  pub shown : Keeps shown_old shown_new (λ q. prints q e) (length old)
+  pub first : KeepsFirst first_old first_new (λ q. is_id q e) (length old)
+  pub shown : KeepsFirst shown_old shown_new (λ q. prints q e) (length old)

@@ -5,7 +5,7 @@ ghost use Rattle.std.specs.Prelude.{◌≡◌, ◌++◌, ◌∷◌, [], ℕ, ◌
 ghost use Rattle.std.specs.Option.{option_copied};
 ghost use Rattle.acl_people.specs.NameTables.{is_name, is_id, prints, id_named, name_shown, place_of_word, AreNames, IsPlaceIn};
 ghost use Rattle.acl_people.specs.Hashes.{keyed};
-ghost use Rattle.acl_people.specs.Kept.{named_in, AreFirst, Keeps, AddsName};
+ghost use Rattle.acl_people.specs.Kept.{named_in, AreFirstPlaces, KeepsFirst, AddsName};
 ghost use Rattle.acl_names.specs.Made.{Makes, MakesOne};
 
 use acl_entry::Id;
@@ -33,12 +33,12 @@ impl Model for NameTable {
     ghost view = { λ r. named_in r.ids.entries };
 
     ghost invariant = { λ r.
-        AreFirst is_id r.first (named_in r.ids.entries) × AreFirst prints r.shown (named_in r.ids.entries) };
+        AreFirstPlaces is_id r.first (named_in r.ids.entries) × AreFirstPlaces prints r.shown (named_in r.ids.entries) };
 }
 
 /// Keeps the place for the id, unless it has one. Fails only if memory runs out.
 fn note(places: &mut BTreeMap<u32, usize>, id: u32, place: usize) -> Result<(), AllocError>
-    ensures { OnOk result (Keeps places.old places.new (λ q. id == q) place) }
+    ensures { OnOk result (KeepsFirst places.old places.new (λ q. id == q) place) }
 {
     places.entry(id)?.or_insert(place);
     Ok(())

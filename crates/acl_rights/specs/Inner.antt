@@ -52,19 +52,19 @@ abbrev pub noted_at : ByGroups → ℕ → PathSet
 noted_at noted g = option_map_or (λ entries. values entries.items) (get nat_cmp noted g) []
 
 -- a path is noted, after the others, for the groups that pass a test
-abbrev pub Notes : (old new : ByGroups) → PathOf → (test : ℕ → Bool) → Type 0
-Notes old new p test = (g : ℕ) → noted_at new g ≡ noted_at old g ++ (if test g then (p, tt) ∷ [] else [])
+abbrev pub NotesPath : (old new : ByGroups) → PathOf → (test : ℕ → Bool) → Type 0
+NotesPath old new p test = (g : ℕ) → noted_at new g ≡ noted_at old g ++ (if test g then (p, tt) ∷ [] else [])
 
 -- for each group the noted paths are those of the files that pass its test
-abbrev pub AreNoted : (test : ℕ → PathOf × Node → Bool) → Files → ByGroups → Type 0
-AreNoted test fs noted = (g : ℕ) → noted_at noted g ≡ set_of (filter (test g) fs)
+abbrev pub AreNotedBy : (test : ℕ → PathOf × Node → Bool) → Files → ByGroups → Type 0
+AreNotedBy test fs noted = (g : ℕ) → noted_at noted g ≡ set_of (filter (test g) fs)
 
 -- by groups what is noted: of changed files that mention other groups than before, those that mention a group now, and those
 -- that did before; of files that are gone, those that mentioned it
 pub record AreNotedOf (old changed left : Files) (noted : ListChanges) : Type 0 where
-  pub puts : AreNoted mentions_group (regrouped old changed) noted.puts
-  pub before : AreNoted (mentioned_group old) (regrouped old changed) noted.before
-  pub gone : AreNoted mentions_group left noted.gone
+  pub puts : AreNotedBy mentions_group (regrouped old changed) noted.puts
+  pub before : AreNotedBy (mentioned_group old) (regrouped old changed) noted.before
+  pub gone : AreNotedBy mentions_group left noted.gone
 
 -- a group's list with the noted paths put and removed
 abbrev pub list_with : ListChanges → ℕ → PathSet → PathSet

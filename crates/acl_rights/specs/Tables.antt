@@ -47,12 +47,12 @@ abbrev pub cell_at : VerdictTable → ℕ → PathOf → Option ℕ
 cell_at t user p = option_and_then (λ cells. slice_get cells user) (find path_cmp p t.rows)
 
 -- the users to whom rows grant a request on a file, if it is there
-abbrev pub who_at : Rows → PathOf → Perms → Option (List ℕ)
-who_at rows p q = option_map (who_in q) (find path_cmp p rows)
+abbrev pub users_at : Rows → PathOf → Perms → Option (List ℕ)
+users_at rows p q = option_map (who_in q) (find path_cmp p rows)
 
 -- the files on which rows of so many users grant a request to a user, if the user is there
-abbrev pub may_at : (users : ℕ) → Rows → ℕ → Perms → Option (List PathOf)
-may_at users rows user q = if nat_lt user users then Some (may_in q user rows) else None
+abbrev pub files_at : (users : ℕ) → Rows → ℕ → Perms → Option (List PathOf)
+files_at users rows user q = if nat_lt user users then Some (may_in q user rows) else None
 
 -- the places of users, or the paths of files, that a call returns unless memory runs out
 abbrev pub FindsUsers : {E : Type 0} → Result (Option (Vec ℕ Global)) E → Option (List ℕ) → Type 0

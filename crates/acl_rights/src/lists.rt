@@ -6,7 +6,7 @@ ghost use Rattle.path_map.specs.Entries.{IsInOrder};
 ghost use Rattle.path_map.specs.Merged.{merged, without_all};
 ghost use Rattle.acl_tree.specs.Changed.{changed_between, gone_between};
 ghost use Rattle.acl_rights.specs.Groups.{AreLists, list_at, mentions_group};
-ghost use Rattle.acl_rights.specs.Inner.{AreInOrder, kept_at, list_with, noted_at, mentioned_group, Notes, AreNoted, AreNotedOf, AreNone};
+ghost use Rattle.acl_rights.specs.Inner.{AreInOrder, kept_at, list_with, noted_at, mentioned_group, NotesPath, AreNotedBy, AreNotedOf, AreNone};
 ghost use Rattle.acl_tree.specs.acl_entry.Mentions.{mentions, is_one_of};
 ghost use Rattle.std.specs.BTreeMap.{keys};
 ghost use Rattle.acl_tree.specs.acl_names.Made.{values};
@@ -212,7 +212,7 @@ fn note_label(
     path: &Rc<Path>,
     label: &Label,
 ) -> Result<(), AllocError>
-    ensures { OnOk result (Notes noted.old noted.new path.now.value (λ g. is_one_of g (mentions label.now))) }
+    ensures { OnOk result (NotesPath noted.old noted.new path.now.value (λ g. is_one_of g (mentions label.now))) }
 {
     let entry = Rc::new(alloc, MapEntry::new(path.clone()?, ()))?;
     let groups = rising_ids(label.mentions(alloc)?)?;
@@ -228,7 +228,7 @@ fn note_file(
     noted: &mut BTreeMap<Id, Vec<Rc<MapEntry<()>>>>,
     file: &Record,
 ) -> Result<(), AllocError>
-    ensures { OnOk result (Notes noted.old noted.new file.now.0 (λ g. mentions_group g file.now)) }
+    ensures { OnOk result (NotesPath noted.old noted.new file.now.0 (λ g. mentions_group g file.now)) }
 {
     note_label(alloc, noted, file.shared_path(), &file.value().label)
 }
@@ -238,7 +238,7 @@ pub(crate) fn noted_of(
     alloc: Global,
     files: &[Rc<Record>],
 ) -> Result<BTreeMap<Id, Vec<Rc<MapEntry<()>>>>, AllocError>
-    ensures { IfOk result (AreNoted mentions_group (values files.now)) }
+    ensures { IfOk result (AreNotedBy mentions_group (values files.now)) }
 {
     let mut noted = BTreeMap::new(alloc);
     for file in files {
@@ -255,7 +255,7 @@ fn note_before(
     file: &Record,
 ) -> Result<(), AllocError>
     ensures same { old.new ≡ old.old }
-    ensures noted { OnOk result (Notes noted.old noted.new file.now.0 (λ g. mentioned_group old.old g file.now)) }
+    ensures noted { OnOk result (NotesPath noted.old noted.new file.now.0 (λ g. mentioned_group old.old g file.now)) }
 {
     if let Some(node) = old.get(file.path()) {
         note_label(alloc, noted, file.shared_path(), &node.label)?;
@@ -269,7 +269,7 @@ pub(crate) fn noted_before(
     old: &Tree,
     files: &[Rc<Record>],
 ) -> Result<BTreeMap<Id, Vec<Rc<MapEntry<()>>>>, AllocError>
-    ensures { IfOk result (AreNoted (mentioned_group old.now.files) (values files.now)) }
+    ensures { IfOk result (AreNotedBy (mentioned_group old.now.files) (values files.now)) }
 {
     let mut noted = BTreeMap::new(alloc);
     let mut finder = old.finder();

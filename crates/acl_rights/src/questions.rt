@@ -13,7 +13,7 @@ use std::alloc::Global;
 use std::rc::Rc;
 
 impl<J: Judge> Index<J> {
-    ghost use Rattle.acl_rights.specs.Tables.{IsWhole, FindsUsers, FindsFiles, cell_at, who_at, may_at, verdict_at, row_at, users_granted, files_granted};
+    ghost use Rattle.acl_rights.specs.Tables.{IsWhole, FindsUsers, FindsFiles, cell_at, users_at, files_at, verdict_at, row_at, users_granted, files_granted};
     ghost use Rattle.acl_rights.specs.Reach.{rows_along, reached_rows, reached_at, reach_at, users_reaching, files_reached};
 
     /// The verdict on a user and a file.
@@ -42,7 +42,7 @@ impl<J: Judge> Index<J> {
         path: &Path,
         request: Perm,
     ) -> Result<Option<Vec<usize>>, NoMemory>
-        ensures { FindsUsers result (who_at self.now.rows path.now request) }
+        ensures { FindsUsers result (users_at self.now.rows path.now request) }
     {
         let Some(cells) = self.cells(path) else {
             return Ok(None);
@@ -59,7 +59,7 @@ impl<J: Judge> Index<J> {
         path: &Path,
         request: Perm,
     ) -> Result<Option<Vec<usize>>, NoMemory>
-        ensures reported { FindsUsers result (who_at self.now.rows path.now request) }
+        ensures reported { FindsUsers result (users_at self.now.rows path.now request) }
         ensures whole { (s : step.State) → IsWhole J.verdict_of s self.now → FindsUsers result (users_granted J.verdict_of s path.now request) }
     {
         self.users(alloc, path, request)
@@ -72,7 +72,7 @@ impl<J: Judge> Index<J> {
         user: usize,
         request: Perm,
     ) -> Result<Option<Vec<Rc<Path>>>, NoMemory>
-        ensures { FindsFiles result (may_at self.now.users self.now.rows user request) }
+        ensures { FindsFiles result (files_at self.now.users self.now.rows user request) }
     {
         if user >= self.table.users {
             return Ok(None);
@@ -90,7 +90,7 @@ impl<J: Judge> Index<J> {
         user: usize,
         request: Perm,
     ) -> Result<Option<Vec<Rc<Path>>>, NoMemory>
-        ensures reported { FindsFiles result (may_at self.now.users self.now.rows user request) }
+        ensures reported { FindsFiles result (files_at self.now.users self.now.rows user request) }
         ensures whole { (s : step.State) → IsWhole J.verdict_of s self.now → FindsFiles result (files_granted J.verdict_of s user request) }
     {
         self.paths(alloc, user, request)
@@ -123,7 +123,7 @@ impl<J: Judge> Index<J> {
         path: &Path,
         request: Perm,
     ) -> Result<Option<Vec<usize>>, NoMemory>
-        ensures { FindsUsers result (who_at (reached_rows self.now.rows) path.now request) }
+        ensures { FindsUsers result (users_at (reached_rows self.now.rows) path.now request) }
     {
         let now = &self.table;
         let Some(cells) = now.grants.reach(path) else {
@@ -141,7 +141,7 @@ impl<J: Judge> Index<J> {
         path: &Path,
         request: Perm,
     ) -> Result<Option<Vec<usize>>, NoMemory>
-        ensures reported { FindsUsers result (who_at (reached_rows self.now.rows) path.now request) }
+        ensures reported { FindsUsers result (users_at (reached_rows self.now.rows) path.now request) }
         ensures whole { (s : step.State) → IsWhole J.verdict_of s self.now → FindsUsers result (users_reaching J.verdict_of s path.now request) }
     {
         self.reaching(alloc, path, request)
@@ -154,7 +154,7 @@ impl<J: Judge> Index<J> {
         user: usize,
         request: Perm,
     ) -> Result<Option<Vec<Rc<Path>>>, NoMemory>
-        ensures { FindsFiles result (may_at self.now.users (reached_rows self.now.rows) user request) }
+        ensures { FindsFiles result (files_at self.now.users (reached_rows self.now.rows) user request) }
     {
         let now = &self.table;
         if user >= now.users {
@@ -173,7 +173,7 @@ impl<J: Judge> Index<J> {
         user: usize,
         request: Perm,
     ) -> Result<Option<Vec<Rc<Path>>>, NoMemory>
-        ensures reported { FindsFiles result (may_at self.now.users (reached_rows self.now.rows) user request) }
+        ensures reported { FindsFiles result (files_at self.now.users (reached_rows self.now.rows) user request) }
         ensures whole { (s : step.State) → IsWhole J.verdict_of s self.now → FindsFiles result (files_reached J.verdict_of s user request) }
     {
         self.reached_paths(alloc, user, request)

@@ -33,7 +33,7 @@ abbrev pub AreJudged : Verdict → List Person → LabelRows → Type 0
 AreJudged V us rows = (n : ℕ) (l : Label) → IsUsed rows.numbers n → slice_get rows.labels n ≡ Some l → slice_get rows.cells n ≡ Some (row_of V us l)
 
 -- there are no files
-pub record AreNone (rows : LabelRows) : Type 0 where
+pub record AreEmpty (rows : LabelRows) : Type 0 where
   pub numbers : rows.numbers ≡ []
   pub labels : rows.labels ≡ []
   pub cells : rows.cells ≡ []

@@ -7,7 +7,7 @@ ghost use Rattle.acl_files.specs.acl_names.Made.{values};
 ghost use Rattle.path_map.specs.Entries.{IsInOrder};
 ghost use Rattle.acl_verdicts.specs.Ways.{rows_in};
 ghost use Rattle.acl_verdicts.specs.Rows.{rows_of, rows_each, Asks};
-ghost use Rattle.acl_verdicts.specs.Labels.{labels_in, AreNone, AreLabelled, row_at_path, row_found, rows_for, rows_with, AreChangedRows, AreRenumberedRows};
+ghost use Rattle.acl_verdicts.specs.Labels.{labels_in, AreEmpty, AreLabelled, row_at_path, row_found, rows_for, rows_with, AreChangedRows, AreRenumberedRows};
 
 use crate::cells::{Cells, judged};
 use crate::judge::Judge;
@@ -82,7 +82,7 @@ fn judged_once<J: Judge>(
 impl LabelRows {
     /// No files.
     pub fn none(alloc: Global) -> LabelRows
-        ensures { AreNone result }
+        ensures { AreEmpty result }
     {
         LabelRows {
             numbers: PathMap::new(alloc),

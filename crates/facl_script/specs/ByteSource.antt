@@ -40,8 +40,8 @@ FindsLine None before after held old new = Keeps before after × IsAtEnd after �
 FindsLine (Some found) before after held old new = (text : List ℕ) × IsNextLine found before after held old new text
 
 -- The source returned a text that has no LF, or no unit to its end, and then stopped with this fault (for inner functions).
-abbrev pub Stops : ScriptFault → (List ℕ → Type 0) → (old new : ByteSource) (before after : Option (List ℕ)) (failed : Bool) → Type 0
-Stops fault HasNone old new before after failed =
+abbrev pub StopsReading : ScriptFault → (List ℕ → Type 0) → (old new : ByteSource) (before after : Option (List ℕ)) (failed : Bool) → Type 0
+StopsReading fault HasNone old new before after failed =
     (text : List ℕ) × HasNone text × StopsAfter fault (unread old before) new after failed text × (taken_count new ≡ taken_count old + length text)
 
 -- Some bytes are there to be returned, unless the reader is at its end. Or the source stopped.
@@ -56,4 +56,4 @@ abbrev pub ReadsLine : Result (Option LineRead) ScriptFault → (held : List ℕ
 ReadsLine result held old new before after failed =
     MatchResult result
     (λ found. FindsLine found (unread old before) (unread new after) held (taken_count old) (taken_count new) × (failed ≡ false))
-    (λ fault. Stops fault HasNoLineFeed old new before after failed)
+    (λ fault. StopsReading fault HasNoLineFeed old new before after failed)

@@ -2,7 +2,7 @@
 use Rattle.std.specs.Prelude.{◌≡◌, ◌≤◌, ◌+◌, ℕ, Bool, false, List, [], ◌∷◌, ◌++◌, length, Option, None, Some, Result, MatchResult}
 use Rattle.std.specs.Io.KnownBytes.{Consumes, IsAtEnd}
 use Rattle.facl_script.specs.Lines.{lines_of}
-use Rattle.facl_script.specs.ByteSource.{unread, taken_count, Stops}
+use Rattle.facl_script.specs.ByteSource.{unread, taken_count, StopsReading}
 use Rattle.facl_script.specs.Units.{opened, UnitText, none, whole, too_long, unended, outside, within, cut, closed, HasNoUnitWithin}
 use Rattle.facl_script.specs.declared.fault.ScriptFault.{ScriptFault}
 use Rattle.facl_script.specs.declared.source.ByteSource.{ByteSource}
@@ -44,4 +44,4 @@ abbrev pub ReadsText : Result TextRead ScriptFault → (held : List ℕ) (old ne
 ReadsText result held old new before after failed =
     MatchResult result
     (λ found. FindsText found (unread old before) (unread new after) held (taken_count old) (taken_count new) × (failed ≡ false))
-    (λ fault. Stops fault HasNoUnitWithin old new before after failed)
+    (λ fault. StopsReading fault HasNoUnitWithin old new before after failed)

@@ -1,6 +1,6 @@
 -- What a contract sees of a script that is read unit by unit.
 use Rattle.std.specs.Prelude.{◌≡◌, ℕ, Bool, false, List, Option, Result, MatchResult}
-use Rattle.facl_script.specs.ByteSource.{unread, taken_count, Stops}
+use Rattle.facl_script.specs.ByteSource.{unread, taken_count, StopsReading}
 use Rattle.facl_script.specs.ReadUnit.{FindsUnit}
 use Rattle.facl_script.specs.Units.{HasNoUnit}
 use Rattle.facl_script.specs.declared.fault.ScriptFault.{ScriptFault}
@@ -37,4 +37,4 @@ ReadsUnit result asks old new before after failed =
     MatchResult result
     (λ found. FindsUnit asks found (line_held new) (text_held new) (script_left old before) (script_left new after)
     (script_taken old) (script_taken new) (next_number old) (next_number new) × (failed ≡ false))
-    (λ fault. Stops fault (HasNoUnit asks) old.source new.source before after failed)
+    (λ fault. StopsReading fault (HasNoUnit asks) old.source new.source before after failed)
