@@ -14,6 +14,7 @@ from .desk import WORDS_OF_PROMPT, Desk, refuse_early_end
 from .messages import Command, Failure, reason
 from .program import Session, find_program
 from .scripts import Unit, read_script
+from .snapshot import check_texts
 
 ANSWERED, REFUSED = 0, 1
 HELP = """\
@@ -101,11 +102,11 @@ def answer_scripts(command: Command, program: str, folder: bytes, names: List[st
                 messages = answer.messages
                 for piece in answer.output.pieces():
                     command.write(piece)
-            command.out.flush()
+            command.flush()
             for message in messages:
-                command.messages.write(unit.place() + b": " + message + b"\n")
+                command.put(command.messages, unit.place() + b": " + message + b"\n")
                 status = status if b": warning: " in message else REFUSED
-            command.messages.flush()
+            command.put(command.messages)
     return status
 
 
@@ -116,7 +117,7 @@ def prompt(command: Command, program: str, folder: bytes) -> int:
 
     def out(text: bytes) -> None:
         command.write(text)
-        command.out.flush()
+        command.flush()
 
     desk = Desk(lambda: Session(program, folder), completer.page, completer, out)
     with contextlib.closing(desk):
@@ -135,7 +136,7 @@ def body(command: Command, words: List[str]) -> int:
     if given.each:
         return each.body(command, [given.snapshot, *given.scripts], given.program)
     folder = os.fsencode(given.snapshot)
-    overview.check_texts(folder)
+    os.close(check_texts(folder))
     program = find_program(given.program)
     if given.part:
         return part.write_part(command, program, folder, sys.stdin.buffer.read())

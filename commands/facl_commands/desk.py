@@ -8,7 +8,7 @@ from . import causes
 from .completion import Completer
 from .manual import Page
 from .messages import Failure
-from .names import json_text, read_path
+from .names import json_text, read_path, shown
 from .program import Answer, Region, Session
 from .scripts import LINE_LIMIT, Unit, is_empty, read_script, takes_text, words_of
 
@@ -17,17 +17,10 @@ HELP_WORDS, END_WORDS = (b"help", b"?"), (b"quit", b"exit")
 WORDS_OF_PROMPT = ["help", "quit"]
 EMPTY_ANSWERS = {b"who": b"(nobody)\n", **dict.fromkeys((b"may", b"index", b"changes", b"getfacl"), b"(nothing)\n")}
 QUESTIONS = (*EMPTY_ANSWERS, b"can", b"why", b"attr")
-CONTROLS = {code: "\\%03o" % code for code in [*range(32), 127] if chr(code) not in "\t\n"}
-CONTROLS.update({code: "".join("\\%03o" % byte for byte in chr(code).encode()) for code in range(128, 160)})
 KEYS = """\
 A line is a tool and its words: `help TOOL` has its options, and `help TOPIC` another section of the manual page.
 Tab completes a word. Control-C ends a line, a text or an answer; control-D or `quit` ends the prompt.
 """
-
-
-def shown(text: bytes) -> bytes:
-    """What is printed at a terminal: bytes that are no UTF-8, and characters that could control the terminal, are escapes."""
-    return json_text(text).translate(CONTROLS).encode()
 
 
 class Desk:

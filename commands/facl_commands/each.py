@@ -297,9 +297,9 @@ def write(command: Command, units: List[Unit], joined: Dict[int, Joined]) -> int
     for unit in units:
         for text in joined[unit.number].output:
             command.write(text)
-        command.out.flush()
+        command.flush()
         for message in joined[unit.number].messages:
-            command.messages.write(b"line %d: %s\n" % (unit.number, message))
+            command.put(command.messages, b"line %d: %s\n" % (unit.number, message))
             status = status if b": warning: " in message else REFUSED
-        command.messages.flush()
+        command.put(command.messages)
     return status

@@ -1,13 +1,18 @@
-"""How a command ends: messages that name it, its exit status, and what it does when it is interrupted."""
+"""How a command ends: messages that name it, its exit status, its streams, and what it does when it is interrupted."""
 from __future__ import annotations
 
+import errno
 import os
 import signal
 import sys
 from types import FrameType
-from typing import Callable, List, NoReturn, Optional
+from typing import IO, Callable, List, NoReturn, Optional
+
+from .names import shown
 
 UNUSABLE = 2  # The status where the words, the input or the system do not allow it.
+NOT_SAID = 5  # The status where all is done, and what was to be printed could not be written.
+SIGNALS = (signal.SIGHUP, signal.SIGINT, signal.SIGQUIT, signal.SIGTERM)  # Each ends a command, and leaves nothing behind.
 
 
 class Failure(Exception):
@@ -46,56 +51,113 @@ def named(error: OSError) -> bytes:
 
 
 class Command:
-    """A command by its name, with its two streams."""
+    """A command by its name, with its two streams.
 
-    def __init__(self, name: str) -> None:
+    Where what it prints is not all of its work, it goes on when nothing can be written: the first fault of a stream is
+    kept until its end. Else a fault ends it.
+    """
+
+    def __init__(self, name: str, goes_on: bool = False) -> None:
         self.name = name.encode()
+        self.goes_on = goes_on
+        self.fault: Optional[OSError] = None
         # Buffers of our own: where Python has none (PYTHONUNBUFFERED), a write may be cut short.
-        self.out = open(sys.stdout.fileno(), "wb", closefd=False)
-        self.messages = open(sys.stderr.fileno(), "wb", closefd=False)
+        self.out = open(1, "wb", closefd=False)
+        self.messages = open(2, "wb", closefd=False)
 
     def say(self, text: bytes) -> None:
-        """A message, after what was printed so far."""
-        self.out.flush()
-        self.messages.write(self.name + b": " + text + b"\n")
-        self.messages.flush()
+        """A message for a person, after what was printed so far."""
+        self.flush()
+        self.put(self.messages, self.name + b": " + shown(text) + b"\n")
+        self.put(self.messages)
 
     def write(self, text: bytes) -> None:
-        """A part of the report."""
-        self.out.write(text)
+        """A part of the report, as it is."""
+        self.put(self.out, text)
+
+    def tell(self, line: bytes) -> None:
+        """A line of the report that a person reads."""
+        self.write(shown(line) + b"\n")
+
+    def flush(self) -> None:
+        self.put(self.out)
+
+    def put(self, stream: IO[bytes], text: Optional[bytes] = None) -> None:
+        """Writes a text; without one, what is kept of a stream's texts."""
+        try:
+            if text is None:
+                stream.flush()
+            else:
+                stream.write(text)
+        except OSError as error:
+            drop(stream)
+            if not self.goes_on:
+                raise
+            self.fault = self.fault or error
 
     def status_of(self, body: Callable[[Command, List[str]], int], words: List[str]) -> int:
         """Runs the command, and returns its exit status."""
         try:
+            status = self.result_of(body, words)
+        except BrokenPipeError:
+            return 128 + signal.SIGPIPE
+        except OSError as error:
+            self.goes_on = True
+            self.say(named(error))
+            return UNUSABLE
+        except (Interrupted, KeyboardInterrupt) as error:
+            return 128 + (error.number if isinstance(error, Interrupted) else signal.SIGINT)
+        return NOT_SAID if status == 0 and self.fault is not None else status
+
+    def result_of(self, body: Callable[[Command, List[str]], int], words: List[str]) -> int:
+        try:
             status = body(self, words)
-            self.out.flush()
+            self.flush()
             return status
         except Failure as failure:
             self.say(failure.text)
             return failure.status
-        except BrokenPipeError:
-            return drop_output(128 + signal.SIGPIPE)
-        except OSError as error:
-            drop_output(UNUSABLE)
-            self.say(named(error))
-            return UNUSABLE
-        except (Interrupted, KeyboardInterrupt) as error:
-            return drop_output(128 + (error.number if isinstance(error, Interrupted) else signal.SIGINT))
+        except SystemExit as ended:  # By argparse, which has printed its help or a usage line.
+            sys.stdout.flush()
+            return ended.code if isinstance(ended.code, int) else UNUSABLE
 
 
-def drop_output(status: int) -> int:
-    """Makes sure that Python writes nothing more at its end, and returns the status."""
-    os.dup2(os.open(os.devnull, os.O_WRONLY), sys.stdout.fileno())
-    return status
+def drop(stream: IO[bytes]) -> None:
+    """Lets go of what a stream has kept: it could not be written, and all that follows is dropped too."""
+    os.dup2(os.open(os.devnull, os.O_WRONLY), stream.fileno())
 
 
 def interrupt(number: int, _frame: Optional[FrameType]) -> None:
     raise Interrupted(number)
 
 
-def run(name: str, body: Callable[[Command, List[str]], int]) -> NoReturn:
+def open_streams() -> None:
+    """Opens the standard streams that are closed, so that no other file gets their numbers: writing to them fails."""
+    for number in range(3):
+        try:
+            os.fstat(number)
+        except OSError as error:
+            if error.errno != errno.EBADF:
+                raise
+            os.dup2(os.open(os.devnull, os.O_RDONLY), number)
+    sys.stdout = sys.stdout or open(1, "w", closefd=False)
+    sys.stderr = sys.stderr or open(2, "w", closefd=False)
+
+
+def end(status: int) -> NoReturn:
+    """Ends without a word of Python on streams that cannot be written."""
+    for stream in (sys.stdout, sys.stderr):
+        try:
+            stream.flush()
+        except OSError:
+            pass
+    os._exit(status)
+
+
+def run(name: str, body: Callable[[Command, List[str]], int], goes_on: bool = False) -> NoReturn:
     """Runs the command of this name, and ends with its status."""
-    for number in (signal.SIGHUP, signal.SIGTERM):
+    open_streams()
+    for number in SIGNALS:
         if signal.getsignal(number) != signal.SIG_IGN:
             signal.signal(number, interrupt)
-    sys.exit(Command(name).status_of(body, sys.argv[1:]))
+    end(Command(name, goes_on).status_of(body, sys.argv[1:]))

@@ -9,6 +9,10 @@ import re
 from typing import List, Tuple
 
 ESCAPE = re.compile(rb"\\([0-3][0-7][0-7]|\\)")
+SAFE = re.compile(rb"[\x20-\x7e\t]*\Z")
+# Characters that a terminal obeys, and those that change the direction of a text; a tab is between the fields of a row.
+CONTROL_CODES = (*range(9), *range(10, 32), *range(127, 160), 0x61C, 0x200E, 0x200F, *range(0x2028, 0x202F), *range(0x2066, 0x206A))
+CONTROLS = {code: "".join("\\%03o" % byte for byte in chr(code).encode()) for code in CONTROL_CODES}
 PLAIN_SHELL_WORD = re.compile(rb"[A-Za-z0-9_./:=@%+,-]+\Z")
 
 
@@ -46,6 +50,11 @@ def live_path(path: bytes) -> bytes:
     return b"/" + path
 
 
+def live_name(path: bytes) -> bytes:
+    """A path on the live system, as messages name it."""
+    return b"/" + write_name(path)
+
+
 def script_word(text: bytes) -> bytes:
     """The word of a script that has this text; a byte that is not printable ASCII is an escape."""
     return b"'" + re.sub(rb"[^\x20-\x26\x28-\x7e]", lambda found: b"\\%03o" % found[0][0], text) + b"'"
@@ -68,3 +77,9 @@ codecs.register_error("facl-escapes", escaped_bytes)
 def json_text(text: bytes) -> str:
     """A text that the program prints, for JSON: bytes that are no UTF-8 are escapes there."""
     return text.decode("utf-8", "facl-escapes")
+
+
+def shown(text: bytes) -> bytes:
+    """What a person reads of a text: bytes that are no UTF-8, and characters that control a terminal or change the direction
+    of a text, are escapes."""
+    return text if SAFE.match(text) else json_text(text).translate(CONTROLS).encode()

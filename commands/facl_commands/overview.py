@@ -8,11 +8,12 @@ import os
 import re
 from typing import Iterator, List, NamedTuple, Set
 
-from .messages import Failure, counted
+from .messages import counted
 from .names import read_path
 from .people import rows_of
 from .records import EMPTY_MASK, OTHERS_WITH_SOMETHING
-from .snapshot import read_file, read_links
+from .snapshot import NEEDED, read_links
+from .trusted import read_trusted
 
 FILE_NAME = re.compile(rb"^# file: (.*)$", re.MULTILINE)
 GROUP_IDS = re.compile(rb"^(?:# group: |(?:default:)?group:)([0-9]+)(?:$|:)", re.MULTILINE)
@@ -29,19 +30,10 @@ class Texts(NamedTuple):
     links: bytes
 
 
-def check_texts(folder: bytes) -> None:
-    """Fails where the program would not find its texts."""
-    if not os.path.isdir(folder):
-        raise Failure(folder + b": no such folder: make a snapshot by facl-snapshot")
-    for name in (b"passwd", b"group", b"dump"):
-        if not os.path.exists(os.path.join(folder, name)):
-            raise Failure(folder + b": is no snapshot: " + name + b" is not in it")
-
-
 def read_texts(folder: bytes) -> Texts:
-    passwd, group, dump = (read_file(os.path.join(folder, name)) for name in (b"passwd", b"group", b"dump"))
+    passwd, group, dump = (read_trusted(os.path.join(folder, name)) for name in NEEDED)
     links = os.path.join(folder, b"links")
-    return Texts(folder, passwd, group, dump, read_file(links) if os.path.exists(links) else b"")
+    return Texts(folder, passwd, group, dump, read_trusted(links) if os.path.exists(links) else b"")
 
 
 def summary(texts: Texts) -> bytes:

@@ -9,7 +9,7 @@ from typing import Dict, NamedTuple
 
 from .messages import Failure, reason
 from .records import Files, read_exactly
-from .snapshot import read_file
+from .trusted import read_trusted as read_file
 
 VERSION = b"facl-plan 1\n"
 NAMES = {b"plan", b"edits", b"old", b"new", b"by_hand", b"state"}

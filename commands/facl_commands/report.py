@@ -17,9 +17,9 @@ from collections import Counter
 from typing import Dict, Iterator, List, NamedTuple, Tuple
 
 from . import plan, reasons, rights
-from .desk import CONTROLS
 from .messages import Command, counted
-from .names import json_text, path_order, read_path
+from .names import path_order, read_path
+from .names import shown as shown_bytes
 from .people import rows_of
 from .program import Region, Session, find_program
 from .records import Files, read_listing
@@ -87,8 +87,8 @@ def parse(words: List[str]) -> argparse.Namespace:
 
 
 def shown(text: bytes) -> str:
-    """What the program prints, with escapes for bytes that are no UTF-8 and for characters that control."""
-    return json_text(text).translate(CONTROLS).translate({code: "\\u%04x" % code for code in (*range(0x202A, 0x202F), *range(0x2066, 0x206A))})
+    """What is shown of a text."""
+    return shown_bytes(text).decode()
 
 
 def unused_ids(passwd: bytes, files: Files) -> Iterator[int]:

@@ -2,10 +2,21 @@
 from __future__ import annotations
 
 import os
-from typing import List, NamedTuple
+from typing import Dict, List, NamedTuple
 
-from .messages import Failure, named
+from . import trusted
+from .messages import Failure
 from .names import read_path
+
+NEEDED = (b"passwd", b"group", b"dump")
+
+
+class Identity(NamedTuple):
+    """Which file a name is of; birth is when it was made, in nanoseconds since 1970, or 0 where that is not known."""
+
+    device: int
+    inode: int
+    birth: int
 
 
 class Snapshot(NamedTuple):
@@ -13,27 +24,66 @@ class Snapshot(NamedTuple):
     passwd: bytes
     group: bytes
     links: List[List[bytes]]  # Sets of paths that are one file.
-
-
-def read_file(name: bytes) -> bytes:
-    try:
-        with open(name, "rb") as file:
-            return file.read()
-    except OSError as error:
-        raise Failure(named(error)) from error
+    boot: str  # The start of the system in which devices had their numbers.
+    inodes: Dict[bytes, Identity]  # By path; none where the snapshot does not have them.
 
 
 def read_links(text: bytes) -> List[List[bytes]]:
     return [[read_path(name) for name in names.splitlines()] for names in text.split(b"\n\n") if names]
 
 
-def read_snapshot(folder: bytes) -> Snapshot:
+def read_inodes(text: bytes) -> Dict[bytes, Identity]:
+    """The records after the first one, `DEVICE INODE BIRTH NAME`, each of which ends in a NUL byte."""
+    found = {}
+    for record in text.split(b"\0")[1:-1]:
+        device, inode, birth, name = record.split(b" ", 3)
+        found[name.strip(b"/")] = Identity(int(device), int(inode), nanoseconds(birth))
+    return found
+
+
+def nanoseconds(text: bytes) -> int:
+    """A number of seconds with nine digits after its point, or 0."""
+    seconds, _, rest = text.partition(b".")
+    return int(seconds) * 1_000_000_000 + int(rest.ljust(9, b"0")) if seconds.isdigit() else 0
+
+
+def boot_of(text: bytes) -> str:
+    """What the first record has after its word."""
+    return text.partition(b"\0")[0].partition(b" ")[2].decode("ascii", "replace") or "-"
+
+
+def check_texts(folder: bytes) -> int:
+    """Opens the folder; fails where the program would not find its texts, or somebody else can have written them."""
     if not os.path.isdir(folder):
         raise Failure(folder + b": no such folder: make a snapshot by facl-snapshot")
-    for name in (b"passwd", b"group", b"dump"):
-        if not os.path.exists(os.path.join(folder, name)):
+    descriptor = trusted.open_folder(folder)
+    for name in NEEDED:
+        if not has(descriptor, name):
             raise Failure(folder + b": is no snapshot: " + name + b" is not in it")
-    if not os.path.exists(os.path.join(folder, b"links")):
+        os.close(trusted.open_trusted(os.path.join(folder, name), os.O_RDONLY))
+    return descriptor
+
+
+def has(folder: int, name: bytes) -> bool:
+    try:
+        os.stat(name, dir_fd=folder)
+    except FileNotFoundError:
+        return False
+    return True
+
+
+def read_optional(folder: int, shown: bytes, name: bytes) -> bytes:
+    return trusted.read_trusted(os.path.join(shown, name)) if has(folder, name) else b""
+
+
+def read_snapshot(folder: bytes) -> Snapshot:
+    descriptor = check_texts(folder)
+    if not has(descriptor, b"links"):
         raise Failure(folder + b": is no snapshot: links is not in it: make one by facl-snapshot")
-    passwd, group, links = (read_file(os.path.join(folder, name)) for name in (b"passwd", b"group", b"links"))
-    return Snapshot(folder, passwd, group, read_links(links))
+    passwd, group, links = (trusted.read_trusted(os.path.join(folder, name)) for name in (b"passwd", b"group", b"links"))
+    inodes = read_optional(descriptor, folder, b"inodes")
+    os.close(descriptor)
+    try:
+        return Snapshot(folder, passwd, group, read_links(links), boot_of(inodes), read_inodes(inodes))
+    except ValueError as error:
+        raise Failure(folder + b"/inodes: is not as facl-snapshot wrote it: make the snapshot again") from error
