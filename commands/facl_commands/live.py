@@ -1,200 +1,248 @@
-"""The files of a plan on the live system: looked at by the system's getfacl, and restored by its setfacl."""
+"""Files of the live system: each is opened once by its path, and then known by its descriptor alone.
+
+A path is followed component by component from the root, and never through a symbolic link. What is asked and changed of a
+file goes by /proc/self/fd, so it is of the very file that was opened, whatever becomes of its name.
+"""
 from __future__ import annotations
 
 import errno
 import os
-import shutil
 import stat
-import subprocess
-from collections import Counter
-from typing import Dict, Iterator, List, NamedTuple, Optional
+from typing import Dict, List, NamedTuple, Optional
 
+from . import lists, system
+from .lists import Record
 from .messages import Failure, reason
-from .names import live_path
-from .records import File, Files, read_listing, write_records
+from .snapshot import Identity
 
-WORDS_LIMIT = 100_000  # Bytes of names in one call of getfacl.
-PERMISSIONS = 3  # Bytes at the end of an entry's line.
+OPEN_LIMIT = 200  # Directories of one path that are open at once.
+CAPABILITY = b"security.capability"
+FLAGS = stat.S_ISUID | stat.S_ISGID | stat.S_ISVTX
+PATH = os.O_PATH | os.O_NOFOLLOW | os.O_CLOEXEC
+
+
+class NotFound(Exception):
+    """A path no longer leads to a file of its own; the text says why."""
+
+    def __init__(self, text: bytes) -> None:
+        super().__init__(text)
+        self.text = text
 
 
 class Seen(NamedTuple):
-    """Files as they are, and why others cannot be compared."""
+    """A file as it is."""
 
-    files: Files
-    faults: Dict[bytes, bytes]
-
-
-class Parts(NamedTuple):
-    """What a record has; the entries of a list by their keys."""
-
-    owner: bytes
-    group: bytes
-    flags: bytes
-    access: Dict[bytes, bytes]
-    default: Dict[bytes, bytes]
+    identity: Identity
+    is_directory: bool
+    names: int  # How many names it has.
+    record: Record
 
 
-def parts_of(file: File) -> Parts:
-    owner = group = b""
-    flags = b"---"
-    lists: List[Dict[bytes, bytes]] = [{}, {}]
-    for line in file.lines():
-        if line.startswith(b"# "):
-            head, value = line[2:].split(b": ")
-            owner, group = value if head == b"owner" else owner, value if head == b"group" else group
-            flags = value if head == b"flags" else flags
+class Memory:
+    """Lists that were met before, as they are compared."""
+
+    def __init__(self) -> None:
+        self.lists: Dict[bytes, bytes] = {}
+        self.minimal = [lists.minimal(mode) for mode in range(0o1000)]
+
+    def canonical(self, data: bytes) -> bytes:
+        found = self.lists.get(data)
+        if found is None:
+            found = self.lists[data] = lists.canonical(data)
+        return found
+
+
+MEMORY = Memory()
+
+
+class OpenFile:
+    """A file by its descriptor: the calls of the system that look at it and change it."""
+
+    def __init__(self, descriptor: int) -> None:
+        self.descriptor = descriptor
+        self.name = b"/proc/self/fd/%d" % descriptor
+
+    def close(self) -> None:
+        os.close(self.descriptor)
+
+    def status(self) -> os.stat_result:
+        return os.fstat(self.descriptor)
+
+    def attribute(self, name: bytes) -> Optional[bytes]:
+        """An extended attribute; None where the file or its file system has none."""
+        try:
+            return os.getxattr(self.name, name)
+        except OSError as error:
+            if error.errno not in (errno.ENODATA, errno.ENOTSUP):
+                raise
+            return None
+
+    def look(self) -> Seen:
+        status = self.status()
+        is_directory = stat.S_ISDIR(status.st_mode)
+        access = self.attribute(lists.ACCESS)
+        default = self.attribute(lists.DEFAULT) if is_directory else None
+        record = Record(
+            status.st_uid, status.st_gid, status.st_mode & FLAGS,
+            MEMORY.minimal[status.st_mode & 0o777] if access is None else MEMORY.canonical(access),
+            b"" if default is None else MEMORY.canonical(default),
+        )
+        identity = Identity(status.st_dev, status.st_ino, system.birth_of(self.descriptor) or 0)
+        return Seen(identity, is_directory, status.st_nlink, record)
+
+    def takes_lists(self) -> bool:
+        """Whether its file system has lists."""
+        try:
+            os.getxattr(self.name, lists.ACCESS)
+        except OSError as error:
+            return error.errno != errno.ENOTSUP
+        return True
+
+    def set_access(self, data: bytes) -> None:
+        try:
+            os.setxattr(self.name, lists.ACCESS, data)
+        except OSError as error:
+            if error.errno != errno.ENOTSUP or not lists.is_minimal(data):
+                raise
+            os.chmod(self.name, self.status().st_mode & FLAGS | lists.mode_of(data))
+
+    def set_default(self, data: bytes) -> None:
+        if data:
+            os.setxattr(self.name, lists.DEFAULT, data)
         else:
-            is_default = line.startswith(b"default:")
-            lists[is_default][line[: -PERMISSIONS - 1]] = line[-PERMISSIONS:]
-    return Parts(owner, group, flags, lists[0], lists[1])
+            os.removexattr(self.name, lists.DEFAULT)
+
+    def set_owner(self, owner: int, group: int) -> None:
+        os.chown(self.name, owner, group)
+
+    def set_flags(self, flags: int) -> None:
+        """The mode has the permissions of the list, and keeps them."""
+        os.chmod(self.name, self.status().st_mode & 0o777 | flags)
 
 
-def difference(one: File, other: File) -> bytes:
-    """What two records of a file do not have in common."""
-    names = {"owner": b"owner", "group": b"group", "flags": b"flags", "access": b"access list", "default": b"default list"}
-    first, second = parts_of(one)._asdict(), parts_of(other)._asdict()
-    return b", ".join(name for key, name in names.items() if first[key] != second[key])
+def flags_meanwhile(now: int, end: int, is_directory: bool) -> int:
+    """The flags while owner and list change: a plain file runs as nobody else, and names in a directory stay protected."""
+    if is_directory:
+        return now | end & stat.S_ISVTX
+    return now & ~(stat.S_ISUID | stat.S_ISGID) if (now | end) & (stat.S_ISUID | stat.S_ISGID) else now
 
 
-def is_between(live: File, old: File, new: File) -> bool:
-    """Whether a restore that was ended within a record can have left this: each part is old or new; flags may be cleared
-    meanwhile, and an entry may have what the other list's entry, or its mask or owning group, has."""
-    now, before, after = parts_of(live), parts_of(old), parts_of(new)
-    flags = (now.flags[k : k + 1] in (b"-", before.flags[k : k + 1], after.flags[k : k + 1]) for k in range(3))
+def change(file: OpenFile, now: Record, end: Record, is_directory: bool) -> None:
+    """Gives a file its new record; at no moment is anybody granted by it what neither the present nor the new record grants.
+
+    One call changes a list, and one owner and group. Between two of them there is a list that grants no more than both.
+    """
+    is_moved = now.ids() != end.ids()
+    if is_moved or now.access != end.access or now.default != end.default:
+        meanwhile = flags_meanwhile(now.flags, end.flags, is_directory)
+        if meanwhile != now.flags and (is_moved or now.flags != end.flags):
+            file.set_flags(meanwhile)
+    access = now.access
+    if is_moved:
+        access = lists.common(now.access, end.access)
+        if access != now.access:
+            file.set_access(access)
+        file.set_owner(end.owner, end.group)
+    if access != end.access:
+        file.set_access(end.access)
+    if now.default != end.default:
+        file.set_default(end.default)
+    if file.status().st_mode & FLAGS != end.flags:
+        file.set_flags(end.flags)
+
+
+def is_between(now: Record, old: Record, new: Record) -> bool:
+    """Whether a change that was cut off can have left this: each part is of one of the two, or what it is meanwhile."""
     return (
-        now.owner in (before.owner, after.owner)
-        and now.group in (before.group, after.group)
-        and all(flags)
-        and now.default in (before.default, after.default)
-        and is_list_between(now.access, before.access, after.access)
+        now.ids() in (old.ids(), new.ids())
+        and now.access in (old.access, new.access, lists.common(old.access, new.access))
+        and now.default in (old.default, new.default)
+        and now.flags & ~(old.flags | new.flags) == 0
     )
 
 
-def is_list_between(now: Dict[bytes, bytes], before: Dict[bytes, bytes], after: Dict[bytes, bytes]) -> bool:
-    if now.keys() not in (before.keys(), after.keys()):
-        return False
-    class_digits = {entries.get(b"mask:", entries[b"group:"]) for entries in (before, after)}
-    for key, permissions in now.items():
-        possible = {entries[key] for entries in (before, after) if key in entries}
-        if permissions not in possible | (class_digits if key in (b"mask:", b"group:") else set()):
-            return False
-    return True
+class Opener:
+    """Opens files by their paths. The directories of the last path are kept open, so in path order each is opened once; of a
+    long path the last ones alone."""
+
+    def __init__(self) -> None:
+        self.root = os.open(b"/", PATH | os.O_DIRECTORY)
+        self.parts: List[bytes] = []  # The directories from the root on,
+        self.open_ones: List[int] = []  # and the descriptors of the last of them.
+
+    def __enter__(self) -> Opener:
+        return self
+
+    def __exit__(self, *_error: object) -> None:
+        self.close_to(0)
+        os.close(self.root)
+
+    def close_to(self, depth: int) -> None:
+        """Closes the directories below this depth."""
+        while len(self.parts) > depth:
+            self.parts.pop()
+            if self.open_ones:
+                os.close(self.open_ones.pop())
+
+    def last(self) -> int:
+        return self.open_ones[-1] if self.open_ones else self.root
+
+    def push(self, part: bytes) -> None:
+        descriptor = open_part(self.last(), part)
+        self.parts.append(part)
+        self.open_ones.append(descriptor)
+        if len(self.open_ones) > OPEN_LIMIT:
+            os.close(self.open_ones.pop(0))
+
+    def folder(self, parts: List[bytes]) -> int:
+        """Opens a directory."""
+        if self.parts != parts:
+            depth = 0
+            for one, other in zip(self.parts, parts):
+                if one != other:
+                    break
+                depth += 1
+            self.close_to(depth)
+            if self.parts and not self.open_ones:  # It is too far from the directories that are open.
+                self.parts = []
+            for part in parts[len(self.parts) :]:
+                self.push(part)
+        return self.last()
+
+    def open(self, path: bytes) -> OpenFile:
+        """Opens a file; NotFound where the path leads to no file, or through a link."""
+        try:
+            if not path:
+                return OpenFile(os.open(b"/", PATH))
+            *above, name = path.split(b"/")
+            descriptor = os.open(name, PATH, dir_fd=self.folder(above))
+        except (FileNotFoundError, NotADirectoryError):
+            raise NotFound(b"is gone") from None
+        except OSError as error:
+            raise NotFound(reason(error)) from error
+        if stat.S_ISLNK(os.fstat(descriptor).st_mode):
+            os.close(descriptor)
+            raise NotFound(b"is a symbolic link now")
+        return OpenFile(descriptor)
 
 
-def tool(name: str) -> str:
-    found = shutil.which(name)
-    if found is None:
-        raise Failure(name.encode() + b" is not installed (package acl)")
-    return found
-
-
-def call(words: List[bytes], text: bytes = b"") -> "subprocess.CompletedProcess[bytes]":
-    """Runs a tool at the root, in a session of its own: a signal at a terminal does not end it halfway."""
-    environment = {**os.environb, b"LC_ALL": b"C"}
-    return subprocess.run(words, input=text, capture_output=True, cwd="/", env=environment, start_new_session=True, check=False)
-
-
-def fault_of(path: bytes, is_directory: bool) -> Optional[bytes]:
-    """Why a name is no longer that of the planned file."""
-    name = live_path(path)
+def open_part(folder: int, part: bytes) -> int:
+    """Opens a directory in another one."""
     try:
-        mode = os.lstat(name).st_mode
-    except (FileNotFoundError, NotADirectoryError):
-        return b"is gone"
-    except OSError as error:
-        return reason(error)
-    if stat.S_ISLNK(mode):
-        return b"is a symbolic link now"
-    if os.path.realpath(name) != name:
-        return b"is reached by a symbolic link now"
-    if stat.S_ISDIR(mode) != is_directory:
-        return b"is no directory now" if is_directory else b"is a directory now"
-    return None
+        return os.open(part, PATH | os.O_DIRECTORY, dir_fd=folder)
+    except NotADirectoryError:
+        if stat.S_ISLNK(os.stat(part, dir_fd=folder, follow_symlinks=False).st_mode):
+            raise NotFound(b"is reached by a symbolic link now") from None
+        raise
 
 
-def portions(names: List[bytes]) -> Iterator[List[bytes]]:
-    """The names in portions that one call takes."""
-    portion: List[bytes] = []
-    size = 0
-    for name in names:
-        if portion and size + len(name) > WORDS_LIMIT:
-            yield portion
-            portion, size = [], 0
-        portion.append(name)
-        size += len(name) + 1
-    if portion:
-        yield portion
-
-
-def look(wanted: Files) -> Seen:
-    """The files of a plan as they are on the live system."""
-    faults = {path: fault_of(path, file.is_directory) for path, file in wanted.items()}
-    names = [live_path(path) + b"/" * (wanted[path].is_directory and path != b"") for path in wanted if faults[path] is None]
-    found: Files = {}
-    messages = b""
-    for portion in portions(names):
-        done = call([os.fsencode(tool("getfacl")), b"-n", b"-p", b"-E", b"--", *portion])
-        found.update(read_listing(done.stdout))
-        messages += done.stderr
-    unread = (messages.splitlines() or [b"cannot be read"])[0]
-    known = {path: fault or unread for path, fault in faults.items() if path not in found}
-    return Seen({path: File(wanted[path].is_directory, file.body) for path, file in found.items()}, known)
-
-
-def is_same(one: File, other: File) -> bool:
-    return one.lines() == other.lines()
-
-
-def restore(files: Files) -> List[bytes]:
-    """Restores these records; returns what setfacl complained of. Where a list grants nothing and flags change, setfacl
-    leaves the permissions as they were, without a complaint, so files that are not as they have to be are restored again."""
-    messages = restore_once(files)
-    if messages:
-        return messages
-    seen = look(files)
-    return restore_once({path: file for path, file in files.items() if path in seen.files and not is_same(seen.files[path], file)})
-
-
-def restore_once(files: Files) -> List[bytes]:
-    if not files:
-        return []
-    done = call([os.fsencode(tool("setfacl")), b"--restore=-"], write_records(files, files))
-    messages = done.stderr.splitlines()
-    return messages if messages or done.returncode == 0 else [b"setfacl ended with status %d" % done.returncode]
-
-
-def has_named_entries(file: File) -> bool:
-    """Whether a file system has to know lists for it."""
-    parts = parts_of(file)
-    return bool(parts.default) or len(parts.access) > 3
-
-
-def takes_lists(name: bytes) -> bool:
+def check_proc() -> None:
+    """Fails where files cannot be reached by their descriptors."""
+    descriptor = os.open(b"/", PATH)
     try:
-        os.getxattr(name, b"system.posix_acl_access", follow_symlinks=False)
+        if os.stat(b"/proc/self/fd/%d" % descriptor).st_ino != os.fstat(descriptor).st_ino:
+            raise FileNotFoundError
     except OSError as error:
-        return error.errno != errno.ENOTSUP
-    return True
-
-
-def obstacle(path: bytes, old: File, new: File) -> Optional[bytes]:
-    """Why a file cannot be given its new record, as far as that is known before."""
-    name = live_path(path)
-    before, after = parts_of(old), parts_of(new)
-    if os.geteuid() != 0:
-        if os.lstat(name).st_uid != os.geteuid():
-            return b"is not yours: run facl-apply as root"
-        if (before.owner, before.group) != (after.owner, after.group):
-            return b"would get another owner or group: run facl-apply as root"
-    if os.statvfs(name).f_flag & os.ST_RDONLY:
-        return b"is on a file system that is mounted read-only"
-    if has_named_entries(new) and not takes_lists(name):
-        return b"is on a file system without access control lists"
-    return None
-
-
-def with_other_names(files: Files) -> List[bytes]:
-    """The files that have names beside those in the plan, which change too."""
-    looks = {path: os.lstat(live_path(path)) for path, file in files.items() if not file.is_directory}
-    names = Counter((look.st_dev, look.st_ino) for look in looks.values())
-    return [path for path, look in looks.items() if look.st_nlink > names[look.st_dev, look.st_ino]]
+        raise Failure(b"/proc is not mounted, by which files are reached") from error
+    finally:
+        os.close(descriptor)

@@ -2,12 +2,13 @@
 from __future__ import annotations
 
 import argparse
+import grp
 import json
 import os
 import sys
 from typing import Dict, Iterator, List, NamedTuple, Optional
 
-from . import by_hand, people, plan_folder, rights
+from . import by_hand, people, plan_folder, planned, rights
 from .links import EDITS, Links
 from .messages import Command, Failure, counted, named
 from .names import json_text, live_path, shell_word
@@ -27,8 +28,9 @@ changes nothing on the live system. The SCRIPT - is standard input.
 What facl-apply needs is written to a folder, SNAPSHOT.plan:
 
   edits      the lines, as they were given
-  old, new   the records of the files whose owner, group, flags or lists change, as they are and as they would be
-  by_hand    what a restore cannot do, as a script of sh: users and memberships, files that go, files that are made
+  files      the files whose owner, group, flags or lists change, with their inodes and the bytes of both lists
+  old, new   their records, as they are and as they would be, for a person and for setfacl --restore
+  by_hand    what facl-apply does not do, as a script of sh: users and memberships, files that go, files that are made
 
 Questions in a SCRIPT are answered, and are no part of the plan. An edit of a file that has other names in the snapshot
 is planned for all of them.
@@ -85,6 +87,7 @@ def parse(words: List[str]) -> argparse.Namespace:
     parser.add_argument("--reach", action="store_true", help="with search on the directories above each file")
     parser.add_argument("--json", action="store_true", help="print one JSON object; bytes that are no UTF-8 are escapes")
     parser.add_argument("--keep-going", action="store_true", help="plan the other lines where some were refused")
+    parser.add_argument("--group", metavar="GROUP", help="let the members of a group read the plan")
     parser.add_argument("--program", metavar="FILE", help="the program facl; without it $FACL, or facl on the path")
     parser.add_argument("snapshot", metavar="SNAPSHOT")
     parser.add_argument("scripts", metavar="SCRIPT", nargs="+")
@@ -252,6 +255,20 @@ def warn_of_empty_masks(command: Command, changes: Changes, new: Files) -> None:
                     b"groups too, and facl does not: %d, first: %s" % (len(found), live_path(found[0])))
 
 
+def warn_of_inodes(command: Command, snapshot: Snapshot, changes: Changes) -> None:
+    if changes.changed and not snapshot.inodes:
+        command.say(b"warning: " + snapshot.folder + b": has no inodes, so facl-apply will not know a file that was replaced by one "
+                    b"of the same owner, group, flags and lists")
+
+
+def group_of(word: str) -> int:
+    """The id of a group; digits are an id."""
+    try:
+        return int(word) if word.isdigit() else grp.getgrnam(word).gr_gid
+    except KeyError as error:
+        raise Failure(os.fsencode(word) + b": no such group") from error
+
+
 def say_refused(command: Command, outcome: Outcome, keep_going: bool) -> bool:
     """Whether lines were refused, so that there is no plan."""
     count = len(outcome.refusals())
@@ -283,8 +300,9 @@ def beside(folder: bytes) -> bytes:
 def body(command: Command, words: List[str]) -> int:
     given = parse(words)
     snapshot = read_snapshot(os.fsencode(given.snapshot))
-    target = os.fsencode(given.plan) if given.plan else beside(snapshot.folder)
-    plan_folder.check_target(target)
+    name = os.fsencode(given.plan) if given.plan else beside(snapshot.folder)
+    group = None if given.group is None else group_of(given.group)
+    target = plan_folder.open_target(name)
     scripts = read_scripts(given.scripts)
     units = [unit for name, text in scripts for unit in read_script(name, text)]
     outcome = answer_scripts(given, snapshot, units)
@@ -297,16 +315,20 @@ def body(command: Command, words: List[str]) -> int:
     is_written = not say_refused(command, outcome, given.keep_going) and has_work
     if is_written:
         warn_of_empty_masks(command, changes, outcome.new)
-        plan_folder.write_plan(target, {
+        warn_of_inodes(command, snapshot, changes)
+        kept = plan_folder.write_plan(target, {
             b"edits": b"".join(script.text for script in scripts),
             b"old": write_records(outcome.old, changes.changed),
             b"new": write_records(outcome.new, changes.changed),
+            b"files": planned.work_text(find_program(given.program), snapshot, changes, outcome.old, outcome.new),
             b"by_hand": by_hand.script_of(commands, changes, outcome.new),
-        })
+        }, group)
+        if kept is not None:
+            command.say(b"the plan that was there is " + kept + b" now")
     if given.json:
-        command.write(json_report(outcome, given, changes, commands, target if is_written else None))
+        command.write(json_report(outcome, given, changes, commands, name if is_written else None))
     elif is_written:
-        for part in text_report(given, outcome, changes, commands, target):
+        for part in text_report(given, outcome, changes, commands, name):
             command.write(part)
     if outcome.refusals():
         return REFUSED

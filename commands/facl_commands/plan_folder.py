@@ -1,116 +1,277 @@
-"""A plan: the folder that facl-plan writes, and facl-apply reads."""
+"""A plan: the folder that facl-plan writes, and facl-apply reads.
+
+It is locked from the first look at it to the last change, and reached by its descriptor. A plan that facl-apply has used is
+never removed.
+"""
 from __future__ import annotations
 
+import errno
+import fcntl
 import os
-import shutil
+import secrets
 import signal
-import tempfile
-from typing import Dict, NamedTuple
+import stat
+from contextlib import contextmanager
+from typing import Dict, Iterator, NamedTuple, Optional, Tuple
 
-from .messages import Failure, reason
-from .records import Files, read_exactly
-from .trusted import read_trusted as read_file
+from . import system, trusted
+from .messages import SIGNALS, Failure, reason
 
-VERSION = b"facl-plan 1\n"
-NAMES = {b"plan", b"edits", b"old", b"new", b"by_hand", b"state"}
+VERSION = b"facl-plan 2\n"
+NAMES = (b"plan", b"edits", b"old", b"new", b"files", b"by_hand", b"by_hand_undo", b"by_hand_made", b"journal", b"state")
+NEW = b".new"  # At the end of a name while the file is written.
 # What facl-apply has done, in the file `state`; without it nothing was done.
 APPLYING, APPLIED, UNDOING, UNDONE = b"applying\n", b"applied\n", b"undoing\n", b"undone\n"
-IN_USE = (APPLYING, APPLIED, UNDOING)
+CREATE = os.O_WRONLY | os.O_CREAT | os.O_EXCL | os.O_NOFOLLOW | os.O_CLOEXEC
 
 
-class Plan(NamedTuple):
-    folder: bytes
-    old: Files
-    new: Files
-    by_hand: bytes
-    state: bytes
+class Folder(NamedTuple):
+    """A folder by its descriptor, with its name in messages."""
 
-    def file(self, name: bytes) -> bytes:
-        return os.path.join(self.folder, name)
+    descriptor: int
+    name: bytes
+
+    def has(self, name: bytes) -> bool:
+        try:
+            os.stat(name, dir_fd=self.descriptor, follow_symlinks=False)
+        except FileNotFoundError:
+            return False
+        return True
+
+    def read(self, name: bytes) -> bytes:
+        return trusted.read_in(self.descriptor, self.name, name)
+
+    def state(self) -> bytes:
+        return self.read(b"state") if self.has(b"state") else b""
+
+    def write(self, name: bytes, text: bytes) -> None:
+        """Makes a new file, which is on the disk then."""
+        descriptor = os.open(name, CREATE, 0o600, dir_fd=self.descriptor)
+        with open(descriptor, "wb") as file:
+            file.write(text)
+            file.flush()
+            os.fsync(descriptor)
+
+    def replace(self, name: bytes, text: bytes) -> None:
+        """Writes a file of a plan by one rename; on the disk it is the old one or the new one."""
+        if self.has(name + NEW):  # Of a run that was killed.
+            os.unlink(name + NEW, dir_fd=self.descriptor)
+        try:
+            self.write(name + NEW, text)
+            os.rename(name + NEW, name, src_dir_fd=self.descriptor, dst_dir_fd=self.descriptor)
+        except BaseException:
+            if self.has(name + NEW):
+                os.unlink(name + NEW, dir_fd=self.descriptor)
+            raise
+        os.fsync(self.descriptor)
+
+    def others(self) -> Optional[bytes]:
+        """A file in it that is none of a plan."""
+        known = {*NAMES, *(name + NEW for name in NAMES)}
+        return next((it for it in sorted(map(os.fsencode, os.listdir(self.descriptor))) if it not in known), None)
+
+    def lock(self) -> None:
+        try:
+            fcntl.flock(self.descriptor, fcntl.LOCK_EX | fcntl.LOCK_NB)
+        except BlockingIOError as error:
+            raise Failure(self.name + b": another facl-plan or facl-apply is at work on it") from error
+
+    def is_of(self, place: "Place") -> bool:
+        """Whether a name leads to this folder."""
+        try:
+            status = os.stat(place.name, dir_fd=place.above, follow_symlinks=False)
+        except FileNotFoundError:
+            return False
+        own = os.fstat(self.descriptor)
+        return (status.st_dev, status.st_ino) == (own.st_dev, own.st_ino)
 
 
-def state_of(folder: bytes) -> bytes:
-    name = os.path.join(folder, b"state")
-    return read_file(name) if os.path.exists(name) else b""
+class Place(NamedTuple):
+    """Where a plan is or is to be: a name in a folder that is open; shown is what messages call it."""
+
+    above: int
+    name: bytes
+    shown: bytes
+
+    def open(self) -> Folder:
+        """Opens and locks the plan that is there."""
+        try:
+            descriptor = os.open(self.name, os.O_RDONLY | os.O_DIRECTORY | os.O_NOFOLLOW | os.O_CLOEXEC, dir_fd=self.above)
+        except OSError as error:
+            raise Failure(self.shown + b": " + reason(error)) from error
+        fault = trusted.fault_of(descriptor, os.fstat(descriptor))
+        if fault is not None:
+            raise Failure(self.shown + b": " + fault + b", so it is not trusted")
+        folder = Folder(descriptor, self.shown)
+        folder.lock()
+        if not folder.is_of(self):
+            raise Failure(self.shown + b": was replaced at this moment: run the command again")
+        return folder
+
+    def has(self) -> bool:
+        return Folder(self.above, b"").has(self.name)
+
+    def numbered(self) -> Iterator["Place"]:
+        number = 1
+        while True:
+            yield Place(self.above, self.name + b".%d" % number, self.shown + b".%d" % number)
+            number += 1
 
 
-def check_target(folder: bytes) -> None:
-    """Fails where the folder cannot be written or replaced by a plan without a loss."""
-    if not os.path.isdir(os.path.dirname(os.path.abspath(folder))):
-        raise Failure(folder + b": the folder that it is to be in is not there")
-    if not os.path.lexists(folder):
-        return
-    if os.path.islink(folder) or not os.path.isdir(folder) or not set(os.listdir(folder)) <= NAMES:
-        raise Failure(folder + b": is there, and is no plan, or has other files too: give another name by --plan")
-    if state_of(folder) in IN_USE:
-        raise Failure(folder + b": was applied, and is the way back: give another name by --plan, or remove it")
+def place_of(name: bytes) -> Place:
+    """The place of a name; the folder that it is in has to be there, and to be trusted."""
+    above, last = os.path.split(os.path.abspath(name))
+    if not last:
+        raise Failure(name + b": is no name of a plan")
+    if not os.path.isdir(above):
+        raise Failure(name + b": the folder that it is to be in is not there")
+    return Place(trusted.open_folder(above), last, name)
 
 
-def write_plan(folder: bytes, files: Dict[bytes, bytes]) -> None:
-    """Writes a plan whole beside its place, and puts it there."""
-    whole = os.path.abspath(folder)
-    work = None
+# --- for facl-apply
+
+
+def open_plan(name: bytes) -> Folder:
+    """Opens and locks a plan."""
+    if not os.path.isdir(name):
+        raise Failure(os.path.abspath(name) + b": is no plan: make one by facl-plan")
+    os.close(trusted.open_folder(name))
+    place = place_of(os.path.realpath(name))
+    folder = place.open()._replace(name=os.path.abspath(name))
+    if not folder.has(b"plan"):
+        raise Failure(folder.name + b": is no plan: make one by facl-plan")
+    if folder.read(b"plan") != VERSION:
+        raise Failure(folder.name + b": is a plan of another version: make it again by facl-plan")
+    return folder
+
+
+def set_state(folder: Folder, state: bytes) -> None:
+    """On the disk before anything else is done."""
+    folder.replace(b"state", state)
+
+
+# --- for facl-plan
+
+
+class Target(NamedTuple):
+    """Where a plan is to be, with the one that is there, which is locked."""
+
+    place: Place
+    old: Optional[Folder]
+
+
+def open_target(name: bytes) -> Target:
+    """Locks the plan that is there; fails where the place cannot be written or has something else."""
+    place = place_of(name)
+    if not place.has():
+        return Target(place, None)
+    status = os.stat(place.name, dir_fd=place.above, follow_symlinks=False)
+    if not stat.S_ISDIR(status.st_mode):
+        raise Failure(name + b": is there, and is no plan: give another name by --plan")
+    old = place.open()
+    if old.others() is not None:
+        raise Failure(name + b": is there, and is no plan, or has other files too: give another name by --plan")
+    return Target(place, old)
+
+
+def new_folder(place: Place) -> Tuple[bytes, Folder]:
+    """Makes a folder beside a place, which nobody else can enter."""
+    name = place.name + b"." + secrets.token_hex(4).encode()
+    os.mkdir(name, 0o700, dir_fd=place.above)
+    descriptor = os.open(name, os.O_RDONLY | os.O_DIRECTORY | os.O_NOFOLLOW | os.O_CLOEXEC, dir_fd=place.above)
+    return name, Folder(descriptor, place.shown)
+
+
+@contextmanager
+def signals_wait() -> Iterator[None]:
+    """No signal comes between the calls within."""
+    before = signal.pthread_sigmask(signal.SIG_BLOCK, SIGNALS)
     try:
-        work = tempfile.mkdtemp(prefix=os.path.basename(whole) + b".", dir=os.path.dirname(whole))
-        made = os.path.join(work, b"made")
-        os.mkdir(made, 0o700)
+        yield
+    finally:
+        signal.pthread_sigmask(signal.SIG_SETMASK, before)
+
+
+def write_plan(target: Target, files: Dict[bytes, bytes], group: Optional[int]) -> Optional[bytes]:
+    """Writes a plan whole beside its place, and puts it there; with a group, its members can read it. Returns the name of the
+    one that was there where that is kept."""
+    place = target.place
+    made: Optional[Tuple[bytes, Folder]] = None
+    try:
+        with signals_wait():
+            made = new_folder(place)
+        made[1].lock()
         for name, text in {b"plan": VERSION, **files}.items():
-            write_durably(os.path.join(made, name), text)
-        put_in_place(made, whole, os.path.join(work, b"old"))
+            made[1].write(name, text)
+        share(made[1], group)
+        os.fsync(made[1].descriptor)
+        with signals_wait():
+            kept = put_in_place(target, made[0])
+            made = None
+        os.fsync(place.above)
+        return kept
     except OSError as error:
-        raise Failure(folder + b": cannot be written: " + reason(error)) from error
+        raise Failure(place.shown + b": cannot be written: " + reason(error)) from error
     finally:
-        if work is not None:
-            shutil.rmtree(work)
+        if made is not None:
+            remove(place, made[0], made[1])
 
 
-def put_in_place(made: bytes, target: bytes, aside: bytes) -> None:
-    """Two renames where a plan is replaced; no signal comes between them."""
-    signals = {signal.SIGHUP, signal.SIGINT, signal.SIGTERM}
-    signal.pthread_sigmask(signal.SIG_BLOCK, signals)
-    try:
-        if os.path.lexists(target):
-            os.rename(target, aside)
-        os.rename(made, target)
-    except OSError:
-        if os.path.lexists(aside) and not os.path.lexists(target):
-            os.rename(aside, target)
-        raise
-    finally:
-        signal.pthread_sigmask(signal.SIG_UNBLOCK, signals)
-
-
-def write_durably(name: bytes, text: bytes) -> None:
-    descriptor = os.open(name, os.O_WRONLY | os.O_CREAT | os.O_TRUNC, 0o600)
-    with open(descriptor, "wb") as file:
-        file.write(text)
-        file.flush()
-        os.fsync(descriptor)
-
-
-def set_state(plan: Plan, state: bytes) -> None:
-    """By one rename, and on the disk before anything else is done."""
-    name = plan.file(b"state")
-    try:
-        write_durably(name + b".new", state)
-        os.rename(name + b".new", name)
-    finally:
-        if os.path.lexists(name + b".new"):
-            os.unlink(name + b".new")
-    descriptor = os.open(plan.folder, os.O_RDONLY)
-    try:
-        os.fsync(descriptor)
-    finally:
+def share(folder: Folder, group: Optional[int]) -> None:
+    """Lets the members of a group read it."""
+    if group is None:
+        return
+    for name in os.listdir(folder.descriptor):
+        descriptor = os.open(name, os.O_RDONLY | os.O_NOFOLLOW | os.O_CLOEXEC, dir_fd=folder.descriptor)
+        os.fchown(descriptor, -1, group)
+        os.fchmod(descriptor, 0o640)
         os.close(descriptor)
+    os.fchown(folder.descriptor, -1, group)
+    os.fchmod(folder.descriptor, 0o750)
 
 
-def read_plan(folder: bytes) -> Plan:
-    if not os.path.isdir(folder) or not os.path.exists(os.path.join(folder, b"plan")):
-        raise Failure(folder + b": is no plan: make one by facl-plan")
-    if read_file(os.path.join(folder, b"plan")) != VERSION:
-        raise Failure(folder + b": is a plan of another version: make it again by facl-plan")
-    texts = {name: read_file(os.path.join(folder, name)) for name in (b"old", b"new", b"by_hand")}
-    old, new = (read_exactly(os.path.join(folder, name), texts[name]) for name in (b"old", b"new"))
-    if {path: file.is_directory for path, file in old.items()} != {path: file.is_directory for path, file in new.items()}:
-        raise Failure(folder + b": its old and its new records are not of the same files: make it again by facl-plan")
-    return Plan(folder, old, new, texts[b"by_hand"], state_of(folder))
+def remove(place: Place, name: bytes, folder: Folder) -> bool:
+    """Removes the files of a plan, and its folder where nothing else is in it; whether that is so."""
+    for known in os.listdir(folder.descriptor):
+        if os.fsencode(known) in NAMES or known.endswith(os.fsdecode(NEW)):
+            os.unlink(known, dir_fd=folder.descriptor)
+    try:
+        os.rmdir(name, dir_fd=place.above)
+    except OSError as error:
+        if error.errno not in (errno.ENOTEMPTY, errno.EEXIST):
+            raise
+        return False
+    return True
+
+
+def put_in_place(target: Target, made: bytes) -> Optional[bytes]:
+    """By one rename, and one before it where a plan is there; returns the name of that one where it is kept."""
+    place, old = target
+    if old is None:
+        system.rename_new(made, place.name, place.above)
+        return None
+    if not old.is_of(place):
+        raise Failure(place.shown + b": was replaced meanwhile, so nothing is written: run facl-plan again")
+    is_kept = old.has(b"state") or old.others() is not None
+    aside = keep(place) if is_kept else Place(place.above, made + b".old", place.shown)
+    if not is_kept:
+        system.rename_new(place.name, aside.name, place.above)
+    try:
+        system.rename_new(made, place.name, place.above)
+    except OSError:
+        system.rename_new(aside.name, place.name, place.above)
+        raise
+    if not is_kept and not remove(place, aside.name, old):
+        aside, is_kept = keep(Place(place.above, aside.name, aside.shown), place), True
+    return aside.shown if is_kept else None
+
+
+def keep(place: Place, beside: Optional[Place] = None) -> Place:
+    """Gives what is at a place the first name with a number that is free."""
+    for numbered in (beside or place).numbered():
+        try:
+            system.rename_new(place.name, numbered.name, place.above)
+        except FileExistsError:
+            continue
+        return numbered
+    raise AssertionError

@@ -2,6 +2,7 @@
 from __future__ import annotations
 
 import ctypes
+import errno
 import os
 from typing import Optional
 
@@ -27,11 +28,15 @@ def birth_of(descriptor: int) -> Optional[int]:
 
 def rename_new(old: bytes, new: bytes, folder: int) -> None:
     """Renames within a folder, by its descriptor; fails where there is something of the new name."""
-    if not hasattr(LIBRARY, "renameat2"):
-        raise OSError(38, os.strerror(38))
-    if LIBRARY.renameat2(folder, old, folder, new, RENAME_NOREPLACE) != 0:
+    if hasattr(LIBRARY, "renameat2"):
+        if LIBRARY.renameat2(folder, old, folder, new, RENAME_NOREPLACE) == 0:
+            return
         number = ctypes.get_errno()
-        raise OSError(number, os.strerror(number), os.fsdecode(new))
+        if number not in (errno.EINVAL, errno.ENOSYS):  # Which say that the file system does not have it.
+            raise OSError(number, os.strerror(number), os.fsdecode(new))
+    if new in map(os.fsencode, os.listdir(folder)):
+        raise FileExistsError(errno.EEXIST, os.strerror(errno.EEXIST), os.fsdecode(new))
+    os.rename(old, new, src_dir_fd=folder, dst_dir_fd=folder)
 
 
 def write_out(descriptor: int) -> None:

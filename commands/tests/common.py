@@ -58,7 +58,7 @@ class Case(unittest.TestCase):
             return file.read()
 
     def run_command(self, name: str, words: List[str], text: bytes = b"", environment: Optional[Dict[str, str]] = None) -> Done:
-        words = [sys.executable, os.path.join(COMMANDS, name), *words]
+        words = [sys.executable, "-I", os.path.join(COMMANDS, name), *words]
         done = subprocess.run(
             words, input=text, capture_output=True, cwd=self.folder, env={**os.environ, **(environment or {})}, check=False
         )

@@ -1,51 +1,62 @@
-"""facl-apply, as far as it needs no real lists: plans that it does not take."""
+"""facl-apply over real files whose lists are those of their modes, which needs neither root nor a file system with lists."""
 from __future__ import annotations
 
+import json
 import os
+import signal
 import unittest
+import unittest.mock
+from typing import Callable, Dict
 
 from common import Case, Done
+from real import RealCase
+
+from facl_commands import carrying, live, plan_folder, way  # noqa: E402
 
 
 class Plans(Case):
+    """Plans that are not taken."""
+
     def setUp(self) -> None:
         super().setUp()
-        os.mkdir(self.path("bin"))
-        for name in ("getfacl", "setfacl"):
-            self.write("bin/" + name, b"#!/bin/sh\n: >\"%s\"\n" % os.fsencode(self.path("called")))
-            os.chmod(self.path("bin/" + name), 0o755)
         self.assertEqual(self.plan(b"chmod 600 srv/share/one\n").status, 0)
 
     def apply(self, *words: str) -> Done:
-        path = self.path("bin") + ":" + os.environ["PATH"]
-        done = self.run_command("facl-apply", list(words), environment={"PATH": path})
-        self.assertFalse(os.path.exists(self.path("called")))
-        return done
+        return self.run_command("facl-apply", list(words))
 
     def expect_unusable(self, message: bytes, *words: str) -> None:
         self.expect(self.apply(*words), 2, b"", b"facl-apply: " + message + b"\n")
 
     def whole(self, name: str) -> bytes:
-        return os.fsencode(os.path.realpath(self.path(name)))
+        return os.fsencode(os.path.join(os.path.realpath(self.folder), name))
 
     def test_no_plan(self) -> None:
         self.expect_unusable(self.whole("before") + b": is no plan: make one by facl-plan", "before")
         self.expect_unusable(self.whole("absent") + b": is no plan: make one by facl-plan", "absent")
 
     def test_another_version(self) -> None:
-        self.write("before.plan/plan", b"facl-plan 2\n")
+        self.write("before.plan/plan", b"facl-plan 1\n")
         self.expect_unusable(self.whole("before.plan") + b": is a plan of another version: make it again by facl-plan", "before.plan")
 
-    def test_damaged_records(self) -> None:
-        new = self.read("before.plan/new")
-        for text in (new[:-1], b"ines\n\n" + new, new.replace(b"\n\n# file", b"\n# file"), new[:40]):
-            self.write("before.plan/new", text)
-            self.expect_unusable(self.whole("before.plan/new") + b": is not as facl-plan wrote it: make the plan again", "before.plan")
-        self.write("before.plan/new", new.replace(b"/one", b"/other"))
-        self.expect_unusable(self.whole("before.plan") + b": its old and its new records are not of the same files: make it again by "
-                                                         b"facl-plan", "before.plan")
-        os.unlink(self.path("before.plan/old"))
-        self.expect_unusable(self.whole("before.plan/old") + b": No such file or directory", "before.plan")
+    def test_damaged_files(self) -> None:
+        text = self.read("before.plan/files")
+        fields = json.loads(text)
+        changes: Dict[str, Callable[[], object]] = {
+            "a path twice": lambda: fields["files"].append(fields["files"][0]),
+            "a way out": lambda: fields["files"][0].__setitem__(0, "srv/../etc/shadow"),
+            "no such record": lambda: fields["files"][0].__setitem__(6, 77),
+            "too few fields": lambda: fields["files"][0].pop(),
+        }
+        damaged = [text[:-10], b"", b"[]\n"]
+        for change in changes.values():
+            fields = json.loads(text)
+            change()
+            damaged.append(json.dumps(fields).encode())
+        for it in damaged:
+            self.write("before.plan/files", it)
+            self.expect_unusable(self.whole("before.plan/files") + b": is not as facl-plan wrote it: make the plan again", "before.plan")
+        os.unlink(self.path("before.plan/files"))
+        self.expect_unusable(self.whole("before.plan/files") + b": No such file or directory", "before.plan")
 
     def test_nothing_to_do(self) -> None:
         folder = self.whole("before.plan")
@@ -54,7 +65,7 @@ class Plans(Case):
         self.expect(self.apply("before.plan"), 3, b"", b"facl-apply: " + folder + b": is applied already; --undo takes it back\n")
         self.assertEqual(self.plan(b"gpasswd -a guest audit\n", "--plan", "other").status, 0)
         self.expect(self.apply("other"), 3, b"still to be done by hand: sh " + self.whole("other/by_hand") + b"\n",
-                    b"facl-apply: " + self.whole("other") + b": has no records to restore\n")
+                    b"facl-apply: " + self.whole("other") + b": has no records to change\n")
 
     def test_files_that_are_not_there(self) -> None:
         done = self.apply("before.plan")
@@ -66,6 +77,156 @@ class Plans(Case):
         done = self.apply("--leave-changed", "before.plan")
         self.assertEqual(done.status, 2)
         self.assertTrue(done.messages.endswith(b"facl-apply: error: --leave-changed is for --undo\n"), done.messages)
+
+
+class ThereAndBack(RealCase):
+    def setUp(self) -> None:
+        super().setUp()
+        for name in ("a", "b", "c"):
+            self.make(name)
+        self.make("d/", 0o755)
+        self.make("d/e")
+
+    def modes(self) -> Dict[str, int]:
+        return {name: self.mode(name) for name in ("a", "b", "c", "d", "d/e")}
+
+    def test_applied_and_undone(self) -> None:
+        before = self.modes()
+        self.planned(b"chmod 4711 " + self.word("a"), b"chmod 1777 " + self.word("d"), b"chmod 604 " + self.word("d/e"))
+        done = self.apply("--dry-run")
+        out = b"".join(b"would change %s: %s\n" % (self.live(name), what) for name, what in (
+            ("a", b"flags, access list"), ("d", b"flags, access list"), ("d/e", b"access list")))
+        self.expect(done, 0, out)
+        self.assertEqual(self.modes(), before)
+        self.expect(self.apply(), 0, b"3 files are as planned\n")
+        self.assertEqual(self.modes(), {**before, "a": 0o4711, "d": 0o1777, "d/e": 0o604})
+        self.assertEqual(self.read("before.plan/state"), b"applied\n")
+        self.expect(self.apply("--undo"), 0, b"3 files are as before\n")
+        self.assertEqual(self.modes(), before)
+        self.assertEqual(self.read("before.plan/state"), b"undone\n")
+
+    def test_a_changed_file(self) -> None:
+        self.planned(b"chmod 600 " + self.word("a") + b" " + self.word("b"))
+        os.chmod(os.path.join(self.tree, "b"), 0o644)
+        before = self.modes()
+        self.expect(self.apply(), 1, b"", b"facl-apply: " + self.live("b") + b": was changed: access list\nfacl-apply: 1 file is not as in "
+                                          b"the snapshot, so nothing is touched: make a new snapshot and a new plan\n")
+        self.assertEqual(self.modes(), before)
+
+    def expect_not_taken(self, what: bytes) -> None:
+        done = self.apply()
+        self.assertEqual((done.status, done.messages.splitlines()[0]), (1, b"facl-apply: " + self.live("a") + what))
+        self.assertFalse(os.path.exists(self.path("before.plan/state")))
+
+    def test_a_file_that_was_replaced_by_one_of_the_same_record(self) -> None:
+        self.planned(b"chmod 600 " + self.word("a"))
+        os.rename(self.make("other"), os.path.join(self.tree, "a"))
+        self.expect_not_taken(b": was replaced by another file")
+
+    def test_links_on_the_way(self) -> None:
+        self.planned(b"chmod 600 " + self.word("a"))
+        os.rename(os.path.join(self.tree, "a"), os.path.join(self.tree, "away"))
+        os.symlink("away", os.path.join(self.tree, "a"))
+        self.expect_not_taken(b": is a symbolic link now")
+        os.rename(self.tree, self.tree + ".away")
+        os.symlink(self.tree + ".away", self.tree)
+        self.expect_not_taken(b": is reached by a symbolic link now")
+
+    def test_other_kinds(self) -> None:
+        self.planned(b"chmod 600 " + self.word("a"))
+        os.unlink(os.path.join(self.tree, "a"))
+        self.expect_not_taken(b": is gone")
+        self.make("a/", 0o640)
+        self.expect_not_taken(b": is a directory now")
+
+    def test_after_an_owner_closed_a_directory(self) -> None:
+        # as the owner, who is not root; for root it is the same
+        self.planned(b"chmod 600 " + self.word("d") + b" " + self.word("d/e"))
+        self.expect(self.apply(), 0, b"2 files are as planned\n")
+        self.assertEqual(self.mode("d"), 0o600)
+        self.expect(self.apply("--undo"), 0, b"2 files are as before\n")
+        self.assertEqual((self.mode("d"), self.mode("d/e")), (0o755, 0o640))
+
+    def test_names_that_a_terminal_would_obey(self) -> None:
+        self.make("x\n\x1b[31mfacl-apply: all is well\u202e")
+        self.planned(b"chmod 600 " + self.word("x\n\x1b[31mfacl-apply: all is well\u202e"))
+        os.chmod(os.path.join(self.tree, "x\n\x1b[31mfacl-apply: all is well\u202e"), 0o777)
+        done = self.apply()
+        self.assertIn(b"/x\\012\\033[31mfacl-apply: all is well\\342\\200\\256: was changed: access list\n", done.messages)
+        self.assertNotIn(b"\x1b", done.messages)
+
+
+class Meanwhile(ThereAndBack):
+    """What others do between the comparison and the change."""
+
+    def carrier(self, *lines: bytes) -> carrying.Carrier:
+        self.planned(*lines)
+        folder = plan_folder.open_plan(os.fsencode(self.path("before.plan")))
+        self.addCleanup(os.close, folder.descriptor)
+        taken = way.read_way(folder, False)
+        look = way.look_at(taken, taken.work.files)
+        self.assertEqual(way.unexpected(taken, look), {})
+        carrier = carrying.Carrier(taken, look)
+        carrier.begin()
+        return carrier
+
+    def exchange(self, one: str, other: str) -> None:
+        for old, new in ((one, "third"), (other, one), ("third", other)):
+            os.rename(os.path.join(self.tree, old), os.path.join(self.tree, new))
+
+    def test_an_exchanged_file_is_not_changed(self) -> None:
+        secret = self.make("secret", 0o640)
+        carrier = self.carrier(b"chmod 604 " + self.word("a") + b" " + self.word("b"))
+        self.exchange("b", "secret")
+        self.assertEqual(carrier.run(), {os.fsencode(os.path.join(self.tree, "b")).strip(b"/"): b"was replaced by another file"})
+        self.assertEqual(carrier.put_back(), {})
+        self.assertEqual([self.mode(name) for name in ("a", "b", "secret")], [0o640, 0o640, 0o640])
+        self.assertEqual(os.path.basename(secret), "secret")
+
+    def test_a_link_in_its_place_is_not_followed(self) -> None:
+        self.make("secret", 0o640)
+        carrier = self.carrier(b"chmod 604 " + self.word("b"))
+        os.unlink(os.path.join(self.tree, "b"))
+        os.symlink("secret", os.path.join(self.tree, "b"))
+        self.assertEqual(list(carrier.run().values()), [b"is a symbolic link now"])
+        self.assertEqual(self.mode("secret"), 0o640)
+
+    def test_an_exchange_while_it_is_open_changes_the_file_that_was_compared(self) -> None:
+        secret = self.make("secret", 0o640)
+        carrier = self.carrier(b"chmod 604 " + self.word("b"))
+        look = live.OpenFile.look
+
+        def look_and_exchange(file: live.OpenFile) -> live.Seen:
+            found = look(file)
+            if not os.path.exists(self.path("exchanged")):
+                self.write("exchanged", b"")
+                self.exchange("b", "secret")
+            return found
+
+        with unittest.mock.patch.object(live.OpenFile, "look", look_and_exchange):
+            self.assertEqual(carrier.run(), {})
+        self.assertEqual((self.mode("b"), self.mode("secret")), (0o640, 0o604))
+        self.assertTrue(os.path.exists(secret))
+
+    def test_put_back_finds_the_files_that_were_changed(self) -> None:
+        self.make("secret", 0o604)
+        carrier = self.carrier(b"chmod 604 " + self.word("a") + b" " + self.word("b"))
+        self.assertEqual(carrier.run(), {})
+        self.exchange("b", "secret")
+        self.assertEqual(list(carrier.put_back().values()), [b"was replaced by another file"])
+        self.assertEqual([self.mode(name) for name in ("a", "b", "secret")], [0o640, 0o604, 0o604])
+
+    def test_a_waiting_signal_ends_it(self) -> None:
+        carrier = self.carrier(b"chmod 604 " + self.word("a"))
+        before = signal.pthread_sigmask(signal.SIG_BLOCK, {signal.SIGQUIT})
+        os.kill(os.getpid(), signal.SIGQUIT)
+        try:
+            self.assertEqual(carrier.run(), {})
+            self.assertTrue(carrier.is_interrupted())
+            self.assertEqual(self.mode("a"), 0o640)
+        finally:
+            signal.sigwait({signal.SIGQUIT})
+            signal.pthread_sigmask(signal.SIG_SETMASK, before)
 
 
 if __name__ == "__main__":

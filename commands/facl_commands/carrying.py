@@ -1,0 +1,149 @@
+"""Carries a plan out: each file gets its new record, or all that were changed get their old ones back."""
+from __future__ import annotations
+
+import os
+import signal
+from typing import Dict, List, Optional, Set
+
+from . import live, plan_folder, planned, system
+from .lists import Record
+from .live import NotFound, OpenFile, Opener
+from .messages import SIGNALS, reason
+from .names import path_order
+from .snapshot import Identity
+from .way import Look, Way, closes, difference, is_expected, look_at, opens, unexpected
+
+OFTEN = 64  # Files between two looks at the signals that wait.
+
+
+class Mismatch(Exception):
+    """A file is not as it has to be; the text says how."""
+
+    def __init__(self, text: bytes) -> None:
+        super().__init__(text)
+        self.text = text
+
+
+class Carrier:
+    """A plan that is carried out, with what was found of its files."""
+
+    def __init__(self, way: Way, look: Look) -> None:
+        self.way = way
+        self.later = look.later
+        self.identities = {path: seen.identity for path, seen in look.files.items()}
+        # What has to be given back; after a run that was cut off, what that run has changed too.
+        self.changed = [path for path, seen in look.files.items() if seen.record != way.start(path)]
+        self.finished: Set[Identity] = set()
+        self.folders: Dict[int, int] = {}  # A directory of each file system that was changed.
+
+    def begin(self) -> None:
+        """Keeps in the plan what is about to be done, before anything is touched."""
+        self.write_journal()
+        plan_folder.set_state(self.way.folder, plan_folder.UNDOING if self.way.is_undo else plan_folder.APPLYING)
+
+    def write_journal(self) -> None:
+        known = {} if self.way.journal is None else self.way.journal.files
+        self.way.folder.replace(b"journal", planned.journal_text(system.boot(), {**known, **self.identities}))
+
+    def run(self) -> Dict[bytes, bytes]:
+        """Gives the files their new records; returns those that did not get them, with the reason. A plan that is taken back
+        goes on after the first of these; one that is applied ends there, or at a signal, which is no reason."""
+        first = [path for path in self.identities if opens(self.way, path)]
+        last = sorted((path for path in self.identities if closes(self.way, path)), key=path_order, reverse=True)
+        apart = {*first, *last}
+        left = self.give(first)
+        if self.later and not left:
+            left = self.look_later()
+        if left and not self.way.is_undo:
+            return left
+        left.update(self.give([path for path in sorted(self.identities, key=path_order) if path not in apart]))
+        if left and not self.way.is_undo:
+            return left
+        left.update(self.give(last))
+        return left
+
+    def look_later(self) -> Dict[bytes, bytes]:
+        """Looks at the files that nobody could look at before."""
+        look = look_at(self.way, self.later, is_open=True)
+        self.identities.update({path: seen.identity for path, seen in look.files.items()})
+        self.changed += [path for path, seen in look.files.items() if seen.record != self.way.start(path)]
+        self.write_journal()
+        return unexpected(self.way, look)
+
+    def give(self, paths: List[bytes]) -> Dict[bytes, bytes]:
+        left: Dict[bytes, bytes] = {}
+        with Opener() as opener:
+            for number, path in enumerate(paths):
+                if not self.way.is_undo and (left or number % OFTEN == 0 and self.is_interrupted()):
+                    break
+                fault = self.fault_of_giving(opener, path)
+                if fault is not None:
+                    left[path] = fault
+        return left
+
+    def fault_of_giving(self, opener: Opener, path: bytes) -> Optional[bytes]:
+        """Gives a file its new record; returns why it did not get it."""
+        try:
+            self.give_one(opener, path)
+        except (NotFound, Mismatch) as error:
+            return error.text
+        except OSError as error:
+            return reason(error)
+        return None
+
+    def give_one(self, opener: Opener, path: bytes) -> None:
+        file = opener.open(path)
+        try:
+            seen = file.look()
+            if seen.identity != self.identities[path]:
+                raise Mismatch(b"was replaced by another file")
+            if seen.identity in self.finished:
+                return
+            if not is_expected(self.way, path, seen.record):
+                raise Mismatch(b"was changed: " + difference(seen.record, self.way.start(path)))
+            self.changed.append(path)
+            self.remember_folder(opener, seen.identity.device)
+            change(file, seen.record, self.way.end(path), seen.is_directory)
+            self.finished.add(seen.identity)
+        finally:
+            file.close()
+
+    def remember_folder(self, opener: Opener, device: int) -> None:
+        """Keeps a directory of the file system open, to write out what it has in memory."""
+        if device not in self.folders:
+            self.folders[device] = os.open(b"/proc/self/fd/%d" % opener.last(), os.O_RDONLY | os.O_CLOEXEC)
+
+    def is_interrupted(self) -> bool:
+        return bool(signal.sigpending() & set(SIGNALS))
+
+    def put_back(self) -> Dict[bytes, bytes]:
+        """Gives back the old records, the last first; returns the files that did not get them."""
+        left: Dict[bytes, bytes] = {}
+        with Opener() as opener:
+            for path in reversed(list(dict.fromkeys(self.changed))):
+                try:
+                    file = opener.open(path)
+                    seen = file.look()
+                    if seen.identity != self.identities[path]:
+                        raise Mismatch(b"was replaced by another file")
+                    change(file, seen.record, self.way.start(path), seen.is_directory)
+                    file.close()
+                except (NotFound, Mismatch) as error:
+                    left[path] = error.text
+                except OSError as error:
+                    left[path] = reason(error)
+        return left
+
+    def end(self, state: bytes) -> None:
+        """Keeps in the plan what was done, when that is on the disk."""
+        for folder in self.folders.values():
+            system.write_out(folder)
+        plan_folder.set_state(self.way.folder, state)
+
+
+def change(file: OpenFile, now: Record, end: Record, is_directory: bool) -> None:
+    """Gives a file its new record, and compares."""
+    live.change(file, now, end, is_directory)
+    record = file.look().record
+    if record != end:
+        raise Mismatch(b"is not as it should be: " + difference(record, end))

@@ -1,0 +1,153 @@
+"""What facl-apply does, as facl-plan writes it: the files of a plan, each with the file that it has to be, its old record and
+its new one. And what it found when it began, the journal."""
+from __future__ import annotations
+
+import json
+import os
+import re
+import tempfile
+from typing import Dict, Iterable, List, NamedTuple, Optional, Tuple
+
+from .lists import Record
+from .messages import Failure
+from .names import path_order
+from .program import Session
+from .records import Changes, Files
+from .snapshot import Identity, Snapshot
+
+HEAD_OF_RECORD = re.compile(rb"# owner: ([0-9]+)\n# group: ([0-9]+)\n(?:# flags: ([s-])([s-])([t-])\n)?")
+ATTRIBUTES = re.compile(rb"system\.posix_acl_access=0x([0-9a-f]+)\n(?:system\.posix_acl_default=0x([0-9a-f]+)\n)?\n")
+PORTION = 10_000  # Questions that are sent at once.
+NOWHERE = Identity(0, 0, 0)  # Of a file of a snapshot without inodes.
+
+
+class PlannedFile(NamedTuple):
+    is_directory: bool
+    identity: Identity
+    same: int  # Files with one number are names of one file; 0 is of a file without other names.
+    old: Record
+    new: Record
+
+
+class Work(NamedTuple):
+    boot: str  # The start of the system in which devices had their numbers.
+    files: Dict[bytes, PlannedFile]  # By path, in path order.
+
+
+# --- made by facl-plan
+
+
+def ask_records(program: str, bodies: Iterable[bytes]) -> Dict[bytes, Record]:
+    """The records that bodies of listings are; their lists as the program prints their bytes. Each is asked of once."""
+    known = list(dict.fromkeys(bodies))
+    with tempfile.TemporaryDirectory(prefix="facl-plan.") as folder:
+        for name, text in (("passwd", b""), ("group", b""), ("dump", dump_of(known))):
+            with open(os.path.join(folder, name), "wb") as file:
+                file.write(text)
+        with Session(program, os.fsencode(folder)) as session:
+            found: List[Tuple[bytes, bytes]] = []
+            for place in range(0, len(known), PORTION):
+                lines = b"\n".join(b"attr %d" % number for number in range(place, min(place + PORTION, len(known))))
+                found += ATTRIBUTES.findall(session.ask_surely(lines).read())
+    assert len(found) == len(known)
+    return {body: record_of(body, *lists) for body, lists in zip(known, found)}
+
+
+def dump_of(bodies: List[bytes]) -> bytes:
+    """A dump of directories that have these bodies; their names are their numbers."""
+    return b"".join(b"# file: %d/\n%s\n" % (number, body) for number, body in enumerate(bodies))
+
+
+def record_of(body: bytes, access: bytes, default: bytes) -> Record:
+    head = HEAD_OF_RECORD.match(body)
+    assert head is not None
+    flags = sum(bit for bit, letter in zip((0o4000, 0o2000, 0o1000), head.groups()[2:]) if letter not in (None, b"-"))
+    return Record(int(head[1]), int(head[2]), flags, bytes.fromhex(access.decode()), bytes.fromhex(default.decode()))
+
+
+def work_text(program: str, snapshot: Snapshot, changes: Changes, old: Files, new: Files) -> bytes:
+    """The file `files` of a plan: an object with the records, each once, and the files, by the numbers of theirs."""
+    records = ask_records(program, [files[path].body for path in changes.changed for files in (old, new)])
+    numbers = {body: number for number, body in enumerate(records)}
+    same = {path: number for number, names in enumerate(snapshot.links, 1) for path in names}
+    files = [
+        [path.decode("latin-1"), int(old[path].is_directory), *snapshot.inodes.get(path, NOWHERE), same.get(path, 0),
+         numbers[old[path].body], numbers[new[path].body]]
+        for path in changes.changed
+    ]
+    rows = [[*record[:3], record.access.hex(), record.default.hex()] for record in records.values()]
+    return json.dumps({"boot": snapshot.boot, "records": rows, "files": files}, separators=(",", ":")).encode() + b"\n"
+
+
+# --- read by facl-apply
+
+
+def read_work(name: bytes, text: bytes) -> Work:
+    """What work_text wrote; each path once, in path order."""
+    try:
+        fields = json.loads(text)
+        records = [Record(int(a), int(b), int(c), bytes.fromhex(d), bytes.fromhex(e)) for a, b, c, d, e in fields["records"]]
+        files = {
+            path.encode("latin-1"): PlannedFile(bool(kind), Identity(device, inode, birth), same, records[old], records[new])
+            for path, kind, device, inode, birth, same, old, new in fields["files"]
+        }
+        paths = list(files)
+        if len(paths) != len(fields["files"]) or paths != sorted(paths, key=path_order) or not all(map(is_path, paths)):
+            raise ValueError
+        return Work(str(fields["boot"]), files)
+    except (ValueError, KeyError, TypeError, IndexError, AttributeError) as error:
+        raise Failure(name + b": is not as facl-plan wrote it: make the plan again") from error
+
+
+def is_path(path: bytes) -> bool:
+    """Whether no component is empty or leads elsewhere."""
+    return path == b"" or not {b"", b".", b".."} & set(path.split(b"/")) and b"\0" not in path
+
+
+# --- the journal
+
+
+class Journal(NamedTuple):
+    boot: str
+    files: Dict[bytes, Identity]
+
+
+def journal_text(boot: str, files: Dict[bytes, Identity]) -> bytes:
+    rows = [[path.decode("latin-1"), *identity] for path, identity in files.items()]
+    return json.dumps({"boot": boot, "files": rows}, separators=(",", ":")).encode() + b"\n"
+
+
+def read_journal(name: bytes, text: bytes) -> Journal:
+    try:
+        fields = json.loads(text)
+        files = {path.encode("latin-1"): Identity(device, inode, birth) for path, device, inode, birth in fields["files"]}
+        return Journal(str(fields["boot"]), files)
+    except (ValueError, KeyError, TypeError, AttributeError) as error:
+        raise Failure(name + b": is not as facl-apply wrote it") from error
+
+
+class Devices:
+    """Whether files are those that were recorded. After another start of the system a device can have another number: then
+    each recorded one is one of the present ones."""
+
+    def __init__(self, boot: str, present_boot: str) -> None:
+        self.is_same_start = boot == present_boot and boot != "-"
+        self.present: Dict[int, int] = {}
+
+    def is_same(self, recorded: Identity, seen: Identity) -> bool:
+        if recorded == NOWHERE:
+            return True
+        births = {recorded.birth, seen.birth} - {0}
+        return self.is_same_device(recorded.device, seen.device) and recorded.inode == seen.inode and len(births) < 2
+
+    def is_same_device(self, recorded: int, seen: int) -> bool:
+        if self.is_same_start:
+            return recorded == seen
+        if recorded not in self.present and seen in self.present.values():
+            return False
+        return self.present.setdefault(recorded, seen) == seen
+
+
+def recorded_identity(path: bytes, file: PlannedFile, journal: Optional[Journal]) -> Identity:
+    """Which file a path has to be of: that of the journal, else that of the snapshot."""
+    return file.identity if journal is None else journal.files.get(path, file.identity)

@@ -1,0 +1,192 @@
+"""A plan on its way to the live system or back: its files are looked at, and what keeps one from its new record is found."""
+from __future__ import annotations
+
+import os
+from typing import Dict, Iterable, List, NamedTuple, Optional
+
+from . import live, plan_folder, planned, system
+from .lists import Record, is_minimal, owner_permissions
+from .live import NotFound, OpenFile, Opener, Seen
+from .messages import reason
+from .plan_folder import Folder
+from .planned import Devices, Journal, Work
+from .snapshot import Identity
+
+
+class Way(NamedTuple):
+    """A plan to be applied or taken back: the files, with the record of each before and after."""
+
+    folder: Folder
+    state: bytes
+    work: Work
+    journal: Optional[Journal]
+    is_undo: bool
+
+    def start(self, path: bytes) -> Record:
+        file = self.work.files[path]
+        return file.new if self.is_undo else file.old
+
+    def end(self, path: bytes) -> Record:
+        file = self.work.files[path]
+        return file.old if self.is_undo else file.new
+
+    def was_cut_off(self) -> bool:
+        return self.state in (plan_folder.APPLYING, plan_folder.UNDOING)
+
+    def boot(self) -> str:
+        return self.work.boot if self.journal is None else self.journal.boot
+
+    def file(self, name: bytes) -> bytes:
+        return os.path.join(self.folder.name, name)
+
+
+class Look(NamedTuple):
+    """The files of a plan as they are; why others cannot be compared; and those that can only be looked at later."""
+
+    files: Dict[bytes, Seen]
+    faults: Dict[bytes, bytes]
+    later: List[bytes]
+
+    def without(self, left: Dict[bytes, bytes]) -> Look:
+        return Look({path: seen for path, seen in self.files.items() if path not in left}, {}, self.later)
+
+
+def read_way(folder: Folder, is_undo: bool) -> Way:
+    state = folder.state()
+    work = planned.read_work(os.path.join(folder.name, b"files"), folder.read(b"files"))
+    journal = None
+    if state and folder.has(b"journal"):
+        journal = planned.read_journal(os.path.join(folder.name, b"journal"), folder.read(b"journal"))
+    return Way(folder, state, work, journal, is_undo)
+
+
+def difference(one: Record, other: Record) -> bytes:
+    """What two records of a file do not have in common."""
+    names = (b"owner", b"group", b"flags", b"access list", b"default list")
+    return b", ".join(name for name, first, second in zip(names, one, other) if first != second)
+
+
+def opens(way: Way, path: bytes) -> bool:
+    """Whether the caller, who is not root, gets search on a directory by the plan."""
+    start, end = owner_permissions(way.start(path).access), owner_permissions(way.end(path).access)
+    return os.geteuid() != 0 and way.work.files[path].is_directory and not start & 1 and bool(end & 1)
+
+
+def closes(way: Way, path: bytes) -> bool:
+    """Whether the caller, who is not root, loses search on a directory by the plan."""
+    start, end = owner_permissions(way.start(path).access), owner_permissions(way.end(path).access)
+    return os.geteuid() != 0 and way.work.files[path].is_directory and bool(start & 1) and not end & 1
+
+
+def fault_of(way: Way, devices: Devices, path: bytes, seen: Seen) -> Optional[bytes]:
+    """Why a file is not the one that the plan is about."""
+    file = way.work.files[path]
+    if seen.is_directory != file.is_directory:
+        return b"is no directory now" if file.is_directory else b"is a directory now"
+    if not devices.is_same(planned.recorded_identity(path, file, way.journal), seen.identity):
+        return b"was replaced by another file"
+    return None
+
+
+def look_at(way: Way, paths: Iterable[bytes], is_open: bool = False) -> Look:
+    """The files of a plan as they are on the live system; those below a directory that the plan opens to the caller are left
+    for later, until it is open."""
+    look = Look({}, {}, [])
+    devices = Devices(way.boot(), system.boot())
+    opened: List[bytes] = []  # The directories that the plan opens to the caller.
+    with Opener() as opener:
+        for path in paths:
+            if any(path.startswith(it + b"/") for it in opened):
+                look.later.append(path)
+                continue
+            try:
+                file = opener.open(path)
+                seen = file.look()
+                file.close()
+                fault = fault_of(way, devices, path, seen)
+            except NotFound as error:
+                fault = error.text
+            except OSError as error:
+                fault = reason(error)
+            if fault is None:
+                look.files[path] = seen
+                if not is_open and opens(way, path) and seen.record != way.end(path):
+                    opened.append(path)
+            else:
+                look.faults[path] = fault
+    return look
+
+
+def is_expected(way: Way, path: bytes, now: Record) -> bool:
+    """Whether a file is as it was; after a run that was cut off it may be as planned too, or between the two."""
+    start, end = way.start(path), way.end(path)
+    return now == start or way.was_cut_off() and (now == end or live.is_between(now, start, end))
+
+
+def unexpected(way: Way, look: Look) -> Dict[bytes, bytes]:
+    """The files that are not as they were, each with what is another."""
+    found = dict(look.faults)
+    for path, seen in look.files.items():
+        if not is_expected(way, path, seen.record):
+            found[path] = b"was changed: " + difference(seen.record, way.start(path))
+    return {**found, **no_longer_one_file(way, look)}
+
+
+def no_longer_one_file(way: Way, look: Look) -> Dict[bytes, bytes]:
+    """Names that were those of one file, and are not now."""
+    first: Dict[int, Identity] = {}
+    found = {}
+    for path, seen in look.files.items():
+        same = way.work.files[path].same
+        if same and first.setdefault(same, seen.identity) != seen.identity:
+            found[path] = b"is another file than the other name that it had in the snapshot"
+    return found
+
+
+class Obstacles:
+    """Looks for what is known before, with each file system looked at once."""
+
+    def __init__(self, way: Way, drops_capabilities: bool) -> None:
+        self.way = way
+        self.drops_capabilities = drops_capabilities
+        self.read_only: Dict[int, bool] = {}
+        self.has_lists: Dict[int, bool] = {}
+
+    def of_right(self, path: bytes, seen: Seen) -> Optional[bytes]:
+        if os.geteuid() == 0:
+            return None
+        if seen.record.owner != os.geteuid():
+            return b"is not yours: run facl-apply as root"
+        if seen.record.ids() != self.way.end(path).ids():
+            return b"would get another owner or group: run facl-apply as root"
+        return None
+
+    def of_system(self, file: OpenFile, path: bytes, seen: Seen) -> Optional[bytes]:
+        device, end = seen.identity.device, self.way.end(path)
+        if device not in self.read_only:
+            self.read_only[device] = bool(os.fstatvfs(file.descriptor).f_flag & os.ST_RDONLY)
+            self.has_lists[device] = file.takes_lists()
+        if self.read_only[device]:
+            return b"is on a file system that is mounted read-only"
+        if not self.has_lists[device] and (end.default or not is_minimal(end.access)):
+            return b"is on a file system without access control lists"
+        if self.drops_capabilities or seen.is_directory or seen.record.ids() == end.ids():
+            return None
+        if file.attribute(live.CAPABILITY) is not None:
+            return b"has capabilities, which it would lose by its new owner or group: --drop-capabilities allows that"
+        return None
+
+    def all(self, look: Look) -> Dict[bytes, bytes]:
+        """The obstacles of files; a file system without an owner's change is looked at by one file."""
+        found = {}
+        with Opener() as opener:
+            for path, seen in look.files.items():
+                fault = self.of_right(path, seen)
+                if fault is None and (seen.identity.device not in self.read_only or seen.record.ids() != self.way.end(path).ids()
+                                      or not self.has_lists[seen.identity.device] or self.read_only[seen.identity.device]):
+                    file = opener.open(path)
+                    fault = self.of_system(file, path, seen)
+                    file.close()
+                if fault is not None:
+                    found[path] = fault
+        return found

@@ -1,0 +1,147 @@
+"""What the commands trust: folders and files that nobody else can have written."""
+from __future__ import annotations
+
+import os
+import unittest
+
+from common import Case
+from real import RealCase
+
+from facl_commands import trusted  # noqa: E402
+from facl_commands.messages import Failure  # noqa: E402
+
+as_root = unittest.skipUnless(os.geteuid() == 0, "only for root, who can give files away")
+EVERYBODY = b": can be written by everybody, so it is not trusted\n"
+STRANGER = 54321
+
+
+class Folders(Case):
+    def setUp(self) -> None:
+        super().setUp()
+        self.whole = os.fsencode(os.path.realpath(self.folder))
+        self.assertEqual(self.plan(b"chmod 600 srv/share/one\n").status, 0)
+
+    def expect_refused(self, message: bytes, command: str, *words: str) -> None:
+        done = self.run_command(command, list(words))
+        self.expect(done, 2, b"", command.encode() + b": " + message)
+
+    def expect_all_refuse(self, message: bytes, snapshot: str = "before") -> None:
+        self.expect_refused(message, "facl-plan", "--plan", "other", snapshot, "edits")
+        self.expect_refused(message, "facl-ask", snapshot, "edits")
+        self.expect_refused(message, "facl-report", snapshot)
+        self.assertFalse(os.path.exists(self.path("other")))
+
+    def test_a_snapshot_that_everybody_can_write(self) -> None:
+        os.chmod(self.path("before"), 0o777)
+        self.expect_all_refuse(b"before: " + self.whole + b"/before" + EVERYBODY)
+        os.chmod(self.path("before"), 0o1777)  # But what is in it belongs to the caller.
+        self.assertEqual(self.run_command("facl-ask", ["before", "edits"]).status, 0)
+
+    def test_a_file_of_it_that_everybody_can_write(self) -> None:
+        for name in ("dump", "passwd", "group"):
+            os.chmod(self.path("before/" + name), 0o666)
+            place = b"before/" + name.encode()
+            self.expect_all_refuse(place + b": " + self.whole + b"/" + place + EVERYBODY)
+            os.chmod(self.path("before/" + name), 0o600)
+
+    def test_a_folder_above(self) -> None:
+        os.makedirs(self.path("open/inner"))
+        os.rename(self.path("before"), self.path("open/inner/before"))
+        os.chmod(self.path("open"), 0o777)
+        self.expect_all_refuse(b"open/inner/before: " + self.whole + b"/open" + EVERYBODY, "open/inner/before")
+
+    def test_a_link_to_it(self) -> None:
+        os.symlink("before", self.path("link"))
+        self.assertEqual(self.run_command("facl-ask", ["link", "edits"]).status, 0)
+        os.mkdir(self.path("open"))
+        os.chmod(self.path("open"), 0o777)
+        os.symlink("../before", self.path("open/link"))
+        self.expect_all_refuse(b"open/link: " + self.whole + b"/open" + EVERYBODY, "open/link")
+        os.symlink("loop", self.path("loop"))
+        with self.assertRaises(Failure):
+            trusted.open_folder(os.fsencode(self.path("loop")))
+
+    def test_a_plan(self) -> None:
+        for name in ("before.plan", "before.plan/files", "before.plan/plan"):
+            mode = os.stat(self.path(name)).st_mode & 0o777
+            os.chmod(self.path(name), 0o777)
+            done = self.run_command("facl-apply", ["before.plan"])
+            self.assertEqual((done.status, done.out), (2, b""))
+            self.assertTrue(done.messages.endswith(name.encode() + EVERYBODY), done.messages)
+            os.chmod(self.path(name), mode)
+
+    def test_a_link_in_a_plan_is_not_followed(self) -> None:
+        os.rename(self.path("before.plan/files"), self.path("files"))
+        os.symlink(self.path("files"), self.path("before.plan/files"))
+        self.assertEqual(self.run_command("facl-apply", ["before.plan"]).status, 2)
+
+    @as_root
+    def test_what_belongs_to_others(self) -> None:
+        for name in ("dump", ""):
+            os.chown(self.path("before/" + name), STRANGER, -1)
+            place = b"/before" + (b"/" + name.encode() if name else b"")
+            beside = b"before/dump: " if name else b"before: "
+            self.expect_all_refuse(beside + self.whole + place + b": belongs to user 54321, so it is not trusted\n")
+            os.chown(self.path("before/" + name), 0, -1)
+        os.chown(self.path("before.plan"), STRANGER, -1)
+        done = self.run_command("facl-apply", ["before.plan"])
+        self.assertEqual(done.status, 2)
+        self.assertIn(b"belongs to user 54321", done.messages)
+
+    @as_root
+    def test_a_group_of_others(self) -> None:
+        os.chown(self.path("before"), 0, STRANGER)
+        os.chmod(self.path("before"), 0o770)
+        self.expect_all_refuse(b"before: " + self.whole + b"/before: can be written by others (its group, or users and groups of its "
+                                                         b"access list), so it is not trusted\n")
+        os.chmod(self.path("before"), 0o750)
+        self.assertEqual(self.run_command("facl-ask", ["before", "edits"]).status, 0)
+
+
+class PlansInTheirPlace(RealCase):
+    """A plan that was used is the way back, and is never removed; nor is what others have put there."""
+
+    def setUp(self) -> None:
+        super().setUp()
+        self.make("a")
+        self.planned(b"chmod 600 " + self.word("a"))
+
+    def again(self) -> bytes:
+        self.take_snapshot()
+        done = self.plan(b"chmod 644 " + self.word("a") + b"\n")
+        self.assertEqual(done.status, 0, done.messages)
+        return done.messages
+
+    def test_a_used_plan_gets_a_number(self) -> None:
+        self.assertEqual(self.apply().status, 0)
+        self.assertEqual(self.again(), b"facl-plan: the plan that was there is before.plan.1 now\n")
+        self.assertEqual((self.read("before.plan.1/state"), os.path.exists(self.path("before.plan/state"))), (b"applied\n", False))
+        self.assertEqual(self.apply().status, 0)
+        self.assertEqual(self.again(), b"facl-plan: the plan that was there is before.plan.2 now\n")
+        for name, mode in (("before.plan.2", 0o600), ("before.plan.1", 0o640)):
+            self.assertEqual(self.run_command("facl-apply", ["--undo", name]).status, 0)
+            self.assertEqual(self.mode("a"), mode)
+
+    def test_one_that_was_not_used_is_replaced(self) -> None:
+        self.assertEqual(self.again(), b"")
+        self.assertEqual([name for name in os.listdir(self.folder) if "plan" in name], ["before.plan"])
+
+    def test_files_of_others(self) -> None:
+        self.write("before.plan/notes", b"mine")
+        done = self.plan(b"chmod 644 " + self.word("a") + b"\n")
+        self.expect(done, 2, b"", b"facl-plan: before.plan: is there, and is no plan, or has other files too: give another name by --plan\n")
+        self.assertEqual(self.read("before.plan/notes"), b"mine")
+
+    def test_one_lock(self) -> None:
+        from facl_commands import plan_folder
+
+        folder = plan_folder.open_plan(os.fsencode(self.path("before.plan")))
+        self.addCleanup(os.close, folder.descriptor)
+        message = b"before.plan: another facl-plan or facl-apply is at work on it\n"
+        for done in (self.plan(b"chmod 644 " + self.word("a") + b"\n"), self.apply()):
+            self.assertEqual((done.status, done.out), (2, b""))
+            self.assertTrue(done.messages.endswith(message), done.messages)
+
+
+if __name__ == "__main__":
+    unittest.main()
