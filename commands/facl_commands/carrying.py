@@ -34,7 +34,7 @@ class Carrier:
         # What has to be given back; after a run that was cut off, what that run has changed too.
         self.changed = [path for path, seen in look.files.items() if seen.record != way.start(path)]
         self.finished: Set[Identity] = set()
-        self.folders: Dict[int, int] = {}  # A directory of each file system that was changed.
+        self.folders: Dict[int, Optional[int]] = {}  # A directory of each file system that was changed, where it can be opened.
 
     def begin(self) -> None:
         """Keeps in the plan what is about to be done, before anything is touched."""
@@ -56,7 +56,8 @@ class Carrier:
             left = self.look_later()
         if left and not self.way.is_undo:
             return left
-        left.update(self.give([path for path in sorted(self.identities, key=path_order) if path not in apart]))
+        order = sorted(self.identities, key=path_order) if self.later else self.identities
+        left.update(self.give([path for path in order if path not in apart]))
         if left and not self.way.is_undo:
             return left
         left.update(self.give(last))
@@ -110,8 +111,12 @@ class Carrier:
 
     def remember_folder(self, opener: Opener, device: int) -> None:
         """Keeps a directory of the file system open, to write out what it has in memory."""
-        if device not in self.folders:
+        if device in self.folders:
+            return
+        try:
             self.folders[device] = os.open(b"/proc/self/fd/%d" % opener.last(), os.O_RDONLY | os.O_CLOEXEC)
+        except OSError:
+            self.folders[device] = None
 
     def is_interrupted(self) -> bool:
         return bool(signal.sigpending() & set(SIGNALS))
@@ -122,22 +127,30 @@ class Carrier:
         with Opener() as opener:
             for path in reversed(list(dict.fromkeys(self.changed))):
                 try:
-                    file = opener.open(path)
-                    seen = file.look()
-                    if seen.identity != self.identities[path]:
-                        raise Mismatch(b"was replaced by another file")
-                    change(file, seen.record, self.way.start(path), seen.is_directory)
-                    file.close()
+                    self.put_one_back(opener, path)
                 except (NotFound, Mismatch) as error:
                     left[path] = error.text
                 except OSError as error:
                     left[path] = reason(error)
         return left
 
+    def put_one_back(self, opener: Opener, path: bytes) -> None:
+        file = opener.open(path)
+        try:
+            seen = file.look()
+            if seen.identity != self.identities[path]:
+                raise Mismatch(b"was replaced by another file")
+            change(file, seen.record, self.way.start(path), seen.is_directory)
+        finally:
+            file.close()
+
     def end(self, state: bytes) -> None:
         """Keeps in the plan what was done, when that is on the disk."""
         for folder in self.folders.values():
-            system.write_out(folder)
+            if folder is None:
+                os.sync()
+            else:
+                system.write_out(folder)
         plan_folder.set_state(self.way.folder, state)
 
 

@@ -219,7 +219,7 @@ class Opener:
         except (FileNotFoundError, NotADirectoryError):
             raise NotFound(b"is gone") from None
         except OSError as error:
-            raise NotFound(reason(error)) from error
+            raise NotFound(b"cannot be opened: " + reason(error)) from error
         if stat.S_ISLNK(os.fstat(descriptor).st_mode):
             os.close(descriptor)
             raise NotFound(b"is a symbolic link now")

@@ -2,7 +2,7 @@
 from __future__ import annotations
 
 import os
-from typing import Dict, Iterable, List, NamedTuple, Optional
+from typing import Dict, Iterable, List, NamedTuple, Optional, Tuple
 
 from . import live, plan_folder, planned, system
 from .lists import Record, is_minimal, owner_permissions
@@ -66,16 +66,22 @@ def difference(one: Record, other: Record) -> bytes:
     return b", ".join(name for name, first, second in zip(names, one, other) if first != second)
 
 
+def search_of(way: Way, path: bytes) -> Tuple[bool, bool]:
+    """Whether the caller, who owns a directory, has search on it before and after; root always has."""
+    if os.geteuid() == 0 or not way.work.files[path].is_directory:
+        return True, True
+    start, end = (owner_permissions(record.access) & 1 for record in (way.start(path), way.end(path)))
+    return bool(start), bool(end)
+
+
 def opens(way: Way, path: bytes) -> bool:
-    """Whether the caller, who is not root, gets search on a directory by the plan."""
-    start, end = owner_permissions(way.start(path).access), owner_permissions(way.end(path).access)
-    return os.geteuid() != 0 and way.work.files[path].is_directory and not start & 1 and bool(end & 1)
+    """Whether the caller gets search on a directory by the plan."""
+    return search_of(way, path) == (False, True)
 
 
 def closes(way: Way, path: bytes) -> bool:
-    """Whether the caller, who is not root, loses search on a directory by the plan."""
-    start, end = owner_permissions(way.start(path).access), owner_permissions(way.end(path).access)
-    return os.geteuid() != 0 and way.work.files[path].is_directory and bool(start & 1) and not end & 1
+    """Whether the caller loses search on a directory by the plan."""
+    return search_of(way, path) == (True, False)
 
 
 def fault_of(way: Way, devices: Devices, path: bytes, seen: Seen) -> Optional[bytes]:
