@@ -184,8 +184,9 @@ def new_folder(place: Place) -> Tuple[bytes, Folder]:
 
 @contextmanager
 def signals_wait() -> Iterator[None]:
-    """No signal comes between the calls within."""
-    before = signal.pthread_sigmask(signal.SIG_BLOCK, SIGNALS)
+    """No signal comes between the calls within. One that is ignored is not blocked: it would be kept, and look like one that waits."""
+    heeded = {number for number in SIGNALS if signal.getsignal(number) != signal.SIG_IGN}
+    before = signal.pthread_sigmask(signal.SIG_BLOCK, heeded)
     try:
         yield
     finally:
