@@ -109,9 +109,14 @@ class Carrier:
             file.close()
 
     def remember_folder(self, opener: Opener, device: int) -> None:
-        """Keeps a directory of the file system open, to write out what it has in memory."""
-        if device not in self.folders:
+        """Keeps a directory of the file system open, to write out what it has in memory; where the caller may not read it, all
+        file systems are written out."""
+        if device in self.folders:
+            return
+        try:
             self.folders[device] = os.open(b"/proc/self/fd/%d" % opener.last(), os.O_RDONLY | os.O_CLOEXEC)
+        except PermissionError:
+            self.folders[device] = system.NO_DESCRIPTOR
 
     def is_interrupted(self) -> bool:
         return bool(signal.sigpending() & set(SIGNALS))
