@@ -127,17 +127,22 @@ class Carrier:
         with Opener() as opener:
             for path in reversed(list(dict.fromkeys(self.changed))):
                 try:
-                    file = opener.open(path)
-                    seen = file.look()
-                    if seen.identity != self.identities[path]:
-                        raise Mismatch(b"was replaced by another file")
-                    change(file, seen.record, self.way.start(path), seen.is_directory)
-                    file.close()
+                    self.put_one_back(opener, path)
                 except (NotFound, Mismatch) as error:
                     left[path] = error.text
                 except OSError as error:
                     left[path] = reason(error)
         return left
+
+    def put_one_back(self, opener: Opener, path: bytes) -> None:
+        file = opener.open(path)
+        try:
+            seen = file.look()
+            if seen.identity != self.identities[path]:
+                raise Mismatch(b"was replaced by another file")
+            change(file, seen.record, self.way.start(path), seen.is_directory)
+        finally:
+            file.close()
 
     def end(self, state: bytes) -> None:
         """Keeps in the plan what was done, when that is on the disk."""

@@ -100,9 +100,7 @@ def look_at(way: Way, paths: Iterable[bytes], is_open: bool = False) -> Look:
                 look.later.append(path)
                 continue
             try:
-                file = opener.open(path)
-                seen = file.look()
-                file.close()
+                seen = live.look_of(opener, path)
                 fault = fault_of(way, devices, path, seen)
             except NotFound as error:
                 fault = error.text
@@ -161,7 +159,18 @@ class Obstacles:
             return b"would get another owner or group: run facl-apply as root"
         return None
 
-    def of_system(self, file: OpenFile, path: bytes, seen: Seen) -> Optional[bytes]:
+    def of_system(self, opener: Opener, path: bytes, seen: Seen) -> Optional[bytes]:
+        """What keeps the file that was looked at; where another one is there now, that is for the next look at it."""
+        try:
+            file = opener.open(path)
+        except NotFound as error:
+            return error.text
+        try:
+            return b"was replaced by another file" if file.look().identity != seen.identity else self.of_file(file, path, seen)
+        finally:
+            file.close()
+
+    def of_file(self, file: OpenFile, path: bytes, seen: Seen) -> Optional[bytes]:
         device, end = seen.identity.device, self.way.end(path)
         if device not in self.read_only:
             self.read_only[device] = bool(os.fstatvfs(file.descriptor).f_flag & os.ST_RDONLY)
@@ -184,9 +193,7 @@ class Obstacles:
                 fault = self.of_right(path, seen)
                 if fault is None and (seen.identity.device not in self.read_only or seen.record.ids() != self.way.end(path).ids()
                                       or not self.has_lists[seen.identity.device] or self.read_only[seen.identity.device]):
-                    file = opener.open(path)
-                    fault = self.of_system(file, path, seen)
-                    file.close()
+                    fault = self.of_system(opener, path, seen)
                 if fault is not None:
                     found[path] = fault
         return found
