@@ -48,27 +48,36 @@ class Carrier:
     def run(self) -> Dict[bytes, bytes]:
         """Gives the files their new records; returns those that did not get them, with the reason. A plan that is taken back
         goes on after the first of these; one that is applied ends there, or at a signal, which is no reason."""
-        first = [path for path in self.identities if opens(self.way, path)]
-        last = sorted((path for path in self.identities if closes(self.way, path)), key=path_order, reverse=True)
-        apart = {*first, *last}
-        left = self.give(first)
-        if self.later and not left:
-            left = self.look_later()
+        left = self.give([path for path in self.identities if opens(self.way, path)])
+        while self.later and (self.way.is_undo or not left):
+            left.update(self.open_later())
         if left and not self.way.is_undo:
             return left
-        left.update(self.give([path for path in sorted(self.identities, key=path_order) if path not in apart]))
+        paths = sorted(self.identities, key=path_order)
+        last = [path for path in reversed(paths) if closes(self.way, path)]
+        apart = set(last)
+        left.update(self.give([path for path in paths if path not in apart]))
         if left and not self.way.is_undo:
             return left
         left.update(self.give(last))
         return left
 
-    def look_later(self) -> Dict[bytes, bytes]:
-        """Looks at the files that nobody could look at before."""
-        look = look_at(self.way, self.later, is_open=True)
-        self.identities.update({path: seen.identity for path, seen in look.files.items()})
-        self.changed += [path for path, seen in look.files.items() if seen.record != self.way.start(path)]
-        self.write_journal()
-        return unexpected(self.way, look)
+    def open_later(self) -> Dict[bytes, bytes]:
+        """Looks at the files that nobody could look at before, and opens the next directories; returns the files that cannot
+        be changed."""
+        look = look_at(self.way, self.later)
+        self.later = look.later
+        left = unexpected(self.way, look)
+        seen_ones = look.without(left).files
+        self.identities.update({path: seen.identity for path, seen in seen_ones.items()})
+        self.changed += [path for path, seen in seen_ones.items() if seen.record != self.way.start(path)]
+        try:
+            self.write_journal()
+        except OSError as error:
+            left.update({path: b"is not in the journal, which cannot be written: " + reason(error) for path in seen_ones})
+        if self.way.is_undo or not left:
+            left.update(self.give([path for path in seen_ones if opens(self.way, path)]))
+        return left
 
     def give(self, paths: List[bytes]) -> Dict[bytes, bytes]:
         left: Dict[bytes, bytes] = {}

@@ -88,7 +88,7 @@ def fault_of(way: Way, devices: Devices, path: bytes, seen: Seen) -> Optional[by
     return None
 
 
-def look_at(way: Way, paths: Iterable[bytes], is_open: bool = False) -> Look:
+def look_at(way: Way, paths: Iterable[bytes]) -> Look:
     """The files of a plan as they are on the live system; those below a directory that the plan opens to the caller are left
     for later, until it is open."""
     look = Look({}, {}, [])
@@ -108,7 +108,7 @@ def look_at(way: Way, paths: Iterable[bytes], is_open: bool = False) -> Look:
                 fault = reason(error)
             if fault is None:
                 look.files[path] = seen
-                if not is_open and opens(way, path) and seen.record != way.end(path):
+                if opens(way, path) and seen.record != way.end(path):
                     opened.append(path)
             else:
                 look.faults[path] = fault
