@@ -2,6 +2,7 @@
 from __future__ import annotations
 
 import os
+import stat
 from typing import Dict, Iterable, List, NamedTuple, Optional
 
 from . import live, plan_folder, planned, system
@@ -141,6 +142,15 @@ def no_longer_one_file(way: Way, look: Look) -> Dict[bytes, bytes]:
     return found
 
 
+def loses_group_flag(start: Record, end: Record) -> bool:
+    """Whether the system takes set-group-ID away on this way or back: who is not root and not in the file's group loses it by
+    a new list or mode."""
+    return (
+        bool((start.flags | end.flags) & stat.S_ISGID) and (start.access, start.flags) != (end.access, end.flags)
+        and end.group not in {os.getegid(), *os.getgroups()}
+    )
+
+
 class Obstacles:
     """Looks for what is known before, with each file system looked at once."""
 
@@ -157,6 +167,8 @@ class Obstacles:
             return b"is not yours: run facl-apply as root"
         if seen.record.ids() != self.way.end(path).ids():
             return b"would get another owner or group: run facl-apply as root"
+        if loses_group_flag(self.way.start(path), self.way.end(path)):
+            return b"would lose set-group-ID, since you are not in its group: run facl-apply as root"
         return None
 
     def of_system(self, opener: Opener, path: bytes, seen: Seen) -> Optional[bytes]:
