@@ -193,6 +193,12 @@ def signals_wait() -> Iterator[None]:
         signal.pthread_sigmask(signal.SIG_SETMASK, before)
 
 
+def drop_signals() -> None:
+    """Drops the signals that wait."""
+    while signal.sigtimedwait(SIGNALS, 0) is not None:
+        pass
+
+
 def write_plan(target: Target, files: Dict[bytes, bytes], group: Optional[int]) -> Optional[bytes]:
     """Writes a plan whole beside its place, and puts it there; with a group, its members can read it. Returns the name of the
     one that was there where that is kept."""
