@@ -141,17 +141,25 @@ def begin(way: Way, carrier: Carrier) -> None:
 
 
 def carry_out(command: Command, way: Way, carrier: Carrier, is_whole: bool) -> int:
-    """Gives the files their new records, or the old ones back; a signal waits until one of these is done."""
+    """Gives the files their new records, or the old ones back. A signal waits until one of these is done; it is the status
+    only where the files are as they were, since else 0 or 4 says more."""
     with plan_folder.signals_wait():
         begin(way, carrier)
-        left = carrier.run()
-        if way.is_undo and left:
-            return say_in_part(command, way, left)
-        if left or carrier.is_interrupted() and not way.is_undo:
-            say_list(command, left)
-            return put_back(command, way, carrier)
-        if is_whole:
-            end(command, way, carrier, plan_folder.UNDONE if way.is_undo else plan_folder.APPLIED)
+        status = give_all(command, way, carrier, is_whole)
+        if status != NOT_DONE:
+            plan_folder.drop_signals()
+    return status
+
+
+def give_all(command: Command, way: Way, carrier: Carrier, is_whole: bool) -> int:
+    left = carrier.run()
+    if way.is_undo and left:
+        return say_in_part(command, way, left)
+    if left or carrier.is_interrupted() and not way.is_undo:
+        say_list(command, left)
+        return put_back(command, way, carrier)
+    if is_whole:
+        end(command, way, carrier, plan_folder.UNDONE if way.is_undo else plan_folder.APPLIED)
     command.tell(counted(len(carrier.identities), "file is", "files are") + (b" as before" if way.is_undo else b" as planned"))
     return DONE
 

@@ -34,7 +34,7 @@ class Carrier:
         # What has to be given back; after a run that was cut off, what that run has changed too.
         self.changed = [path for path, seen in look.files.items() if seen.record != way.start(path)]
         self.finished: Set[Identity] = set()
-        self.folders: Dict[int, Optional[int]] = {}  # A directory of each file system that was changed, where it can be opened.
+        self.folders: Dict[int, int] = {}  # A directory of each file system that was changed.
 
     def begin(self) -> None:
         """Keeps in the plan what is about to be done, before anything is touched."""
@@ -48,28 +48,36 @@ class Carrier:
     def run(self) -> Dict[bytes, bytes]:
         """Gives the files their new records; returns those that did not get them, with the reason. A plan that is taken back
         goes on after the first of these; one that is applied ends there, or at a signal, which is no reason."""
-        first = [path for path in self.identities if opens(self.way, path)]
-        last = sorted((path for path in self.identities if closes(self.way, path)), key=path_order, reverse=True)
-        apart = {*first, *last}
-        left = self.give(first)
-        if self.later and not left:
-            left = self.look_later()
+        left = self.give([path for path in self.identities if opens(self.way, path)])
+        while self.later and (self.way.is_undo or not left):
+            left.update(self.open_later())
         if left and not self.way.is_undo:
             return left
-        order = sorted(self.identities, key=path_order) if self.later else self.identities
-        left.update(self.give([path for path in order if path not in apart]))
+        paths = sorted(self.identities, key=path_order)
+        last = [path for path in reversed(paths) if closes(self.way, path)]
+        apart = set(last)
+        left.update(self.give([path for path in paths if path not in apart]))
         if left and not self.way.is_undo:
             return left
         left.update(self.give(last))
         return left
 
-    def look_later(self) -> Dict[bytes, bytes]:
-        """Looks at the files that nobody could look at before."""
-        look = look_at(self.way, self.later, is_open=True)
-        self.identities.update({path: seen.identity for path, seen in look.files.items()})
-        self.changed += [path for path, seen in look.files.items() if seen.record != self.way.start(path)]
-        self.write_journal()
-        return unexpected(self.way, look)
+    def open_later(self) -> Dict[bytes, bytes]:
+        """Looks at the files that nobody could look at before, and opens the next directories; returns the files that cannot
+        be changed."""
+        look = look_at(self.way, self.later)
+        self.later = look.later
+        left = unexpected(self.way, look)
+        seen_ones = look.without(left).files
+        self.identities.update({path: seen.identity for path, seen in seen_ones.items()})
+        self.changed += [path for path, seen in seen_ones.items() if seen.record != self.way.start(path)]
+        try:
+            self.write_journal()
+        except OSError as error:
+            left.update({path: b"is not in the journal, which cannot be written: " + reason(error) for path in seen_ones})
+        if self.way.is_undo or not left:
+            left.update(self.give([path for path in seen_ones if opens(self.way, path)]))
+        return left
 
     def give(self, paths: List[bytes]) -> Dict[bytes, bytes]:
         left: Dict[bytes, bytes] = {}
@@ -110,13 +118,14 @@ class Carrier:
             file.close()
 
     def remember_folder(self, opener: Opener, device: int) -> None:
-        """Keeps a directory of the file system open, to write out what it has in memory."""
+        """Keeps a directory of the file system open, to write out what it has in memory; where the caller may not read it, all
+        file systems are written out."""
         if device in self.folders:
             return
         try:
             self.folders[device] = os.open(b"/proc/self/fd/%d" % opener.last(), os.O_RDONLY | os.O_CLOEXEC)
-        except OSError:
-            self.folders[device] = None
+        except PermissionError:
+            self.folders[device] = system.NO_DESCRIPTOR
 
     def is_interrupted(self) -> bool:
         return bool(signal.sigpending() & set(SIGNALS))
@@ -147,10 +156,7 @@ class Carrier:
     def end(self, state: bytes) -> None:
         """Keeps in the plan what was done, when that is on the disk."""
         for folder in self.folders.values():
-            if folder is None:
-                os.sync()
-            else:
-                system.write_out(folder)
+            system.write_out(folder)
         plan_folder.set_state(self.way.folder, state)
 
 

@@ -161,6 +161,15 @@ def is_between(now: Record, old: Record, new: Record) -> bool:
     )
 
 
+def look_of(opener: Opener, path: bytes) -> Seen:
+    """A file as it is, by its path."""
+    file = opener.open(path)
+    try:
+        return file.look()
+    finally:
+        file.close()
+
+
 class Opener:
     """Opens files by their paths. The directories of the last path are kept open, so in path order each is opened once; of a
     long path the last ones alone."""

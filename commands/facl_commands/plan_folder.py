@@ -184,12 +184,19 @@ def new_folder(place: Place) -> Tuple[bytes, Folder]:
 
 @contextmanager
 def signals_wait() -> Iterator[None]:
-    """No signal comes between the calls within."""
-    before = signal.pthread_sigmask(signal.SIG_BLOCK, SIGNALS)
+    """No signal comes between the calls within. One that is ignored is not blocked: it would be kept, and look like one that waits."""
+    heeded = {number for number in SIGNALS if signal.getsignal(number) != signal.SIG_IGN}
+    before = signal.pthread_sigmask(signal.SIG_BLOCK, heeded)
     try:
         yield
     finally:
         signal.pthread_sigmask(signal.SIG_SETMASK, before)
+
+
+def drop_signals() -> None:
+    """Drops the signals that wait."""
+    while signal.sigtimedwait(SIGNALS, 0) is not None:
+        pass
 
 
 def write_plan(target: Target, files: Dict[bytes, bytes], group: Optional[int]) -> Optional[bytes]:

@@ -13,6 +13,7 @@ RENAME_NOREPLACE = 1
 # struct statx: the mask of what is known is at its start; seconds and nanoseconds of the birth are after nine numbers.
 STATX_SIZE, MASK_PLACE, BIRTH_PLACE = 256, 0, 80
 BUFFER = ctypes.create_string_buffer(STATX_SIZE)
+NO_DESCRIPTOR = -1
 BOOT_FILE = "/proc/sys/kernel/random/boot_id"
 
 
@@ -40,9 +41,11 @@ def rename_new(old: bytes, new: bytes, folder: int) -> None:
 
 
 def write_out(descriptor: int) -> None:
-    """Writes all that the file system of a descriptor has in memory to its disk."""
-    if LIBRARY.syncfs(descriptor) != 0:
+    """Writes all that the file system of a descriptor has in memory to its disk; without one, all that all have."""
+    if descriptor == NO_DESCRIPTOR or not hasattr(LIBRARY, "syncfs"):
         os.sync()
+    elif LIBRARY.syncfs(descriptor) != 0:
+        raise OSError(ctypes.get_errno(), os.strerror(ctypes.get_errno()))
 
 
 def boot() -> str:

@@ -2,6 +2,7 @@
 from __future__ import annotations
 
 import os
+import stat
 from typing import Dict, Iterable, List, NamedTuple, Optional, Tuple
 
 from . import live, plan_folder, planned, system
@@ -94,7 +95,7 @@ def fault_of(way: Way, devices: Devices, path: bytes, seen: Seen) -> Optional[by
     return None
 
 
-def look_at(way: Way, paths: Iterable[bytes], is_open: bool = False) -> Look:
+def look_at(way: Way, paths: Iterable[bytes]) -> Look:
     """The files of a plan as they are on the live system; those below a directory that the plan opens to the caller are left
     for later, until it is open."""
     look = Look({}, {}, [])
@@ -106,9 +107,7 @@ def look_at(way: Way, paths: Iterable[bytes], is_open: bool = False) -> Look:
                 look.later.append(path)
                 continue
             try:
-                file = opener.open(path)
-                seen = file.look()
-                file.close()
+                seen = live.look_of(opener, path)
                 fault = fault_of(way, devices, path, seen)
             except NotFound as error:
                 fault = error.text
@@ -116,7 +115,7 @@ def look_at(way: Way, paths: Iterable[bytes], is_open: bool = False) -> Look:
                 fault = reason(error)
             if fault is None:
                 look.files[path] = seen
-                if not is_open and opens(way, path) and seen.record != way.end(path):
+                if opens(way, path) and seen.record != way.end(path):
                     opened.append(path)
             else:
                 look.faults[path] = fault
@@ -149,6 +148,15 @@ def no_longer_one_file(way: Way, look: Look) -> Dict[bytes, bytes]:
     return found
 
 
+def loses_group_flag(start: Record, end: Record) -> bool:
+    """Whether the system takes set-group-ID away on this way or back: who is not root and not in the file's group loses it by
+    a new list or mode."""
+    return (
+        bool((start.flags | end.flags) & stat.S_ISGID) and (start.access, start.flags) != (end.access, end.flags)
+        and end.group not in {os.getegid(), *os.getgroups()}
+    )
+
+
 class Obstacles:
     """Looks for what is known before, with each file system looked at once."""
 
@@ -165,9 +173,22 @@ class Obstacles:
             return b"is not yours: run facl-apply as root"
         if seen.record.ids() != self.way.end(path).ids():
             return b"would get another owner or group: run facl-apply as root"
+        if loses_group_flag(self.way.start(path), self.way.end(path)):
+            return b"would lose set-group-ID, since you are not in its group: run facl-apply as root"
         return None
 
-    def of_system(self, file: OpenFile, path: bytes, seen: Seen) -> Optional[bytes]:
+    def of_system(self, opener: Opener, path: bytes, seen: Seen) -> Optional[bytes]:
+        """What keeps the file that was looked at; where another one is there now, that is for the next look at it."""
+        try:
+            file = opener.open(path)
+        except NotFound as error:
+            return error.text
+        try:
+            return b"was replaced by another file" if file.look().identity != seen.identity else self.of_file(file, path, seen)
+        finally:
+            file.close()
+
+    def of_file(self, file: OpenFile, path: bytes, seen: Seen) -> Optional[bytes]:
         device, end = seen.identity.device, self.way.end(path)
         if device not in self.read_only:
             self.read_only[device] = bool(os.fstatvfs(file.descriptor).f_flag & os.ST_RDONLY)
@@ -190,9 +211,7 @@ class Obstacles:
                 fault = self.of_right(path, seen)
                 if fault is None and (seen.identity.device not in self.read_only or seen.record.ids() != self.way.end(path).ids()
                                       or not self.has_lists[seen.identity.device] or self.read_only[seen.identity.device]):
-                    file = opener.open(path)
-                    fault = self.of_system(file, path, seen)
-                    file.close()
+                    fault = self.of_system(opener, path, seen)
                 if fault is not None:
                     found[path] = fault
         return found
