@@ -14,10 +14,13 @@ from . import lists, system
 from .lists import Record
 from .messages import Failure, reason
 from .snapshot import Identity
+from .system import Status
 
 OPEN_LIMIT = 200  # Directories of one path that are open at once.
 CAPABILITY = b"security.capability"
 FLAGS = stat.S_ISUID | stat.S_ISGID | stat.S_ISVTX
+NO_ATTRIBUTE = (errno.ENODATA, errno.ENOTSUP)
+IS_LINK = b"is a symbolic link now"
 PATH = os.O_PATH | os.O_NOFOLLOW | os.O_CLOEXEC
 
 
@@ -55,6 +58,29 @@ class Memory:
 MEMORY = Memory()
 
 
+def attribute(name: bytes, attribute_name: bytes, follow: bool = True) -> Optional[bytes]:
+    """An extended attribute; None where the file or its file system has none."""
+    try:
+        return os.getxattr(name, attribute_name, follow_symlinks=follow)
+    except OSError as error:
+        if error.errno not in NO_ATTRIBUTE:
+            raise
+        return None
+
+
+def seen_of(status: Status, name: bytes, follow: bool = True) -> Seen:
+    """A file as it is, of its status and of a name for its attributes."""
+    mode = status.mode
+    access = attribute(name, lists.ACCESS, follow)
+    default = attribute(name, lists.DEFAULT, follow) if stat.S_ISDIR(mode) else None
+    record = Record(
+        status.owner, status.group, mode & FLAGS,
+        MEMORY.minimal[mode & 0o777] if access is None else MEMORY.canonical(access),
+        b"" if default is None else MEMORY.canonical(default),
+    )
+    return Seen(Identity(status.device, status.inode, status.birth), stat.S_ISDIR(mode), status.names, record)
+
+
 class OpenFile:
     """A file by its descriptor: the calls of the system that look at it and change it."""
 
@@ -65,30 +91,11 @@ class OpenFile:
     def close(self) -> None:
         os.close(self.descriptor)
 
-    def status(self) -> os.stat_result:
-        return os.fstat(self.descriptor)
-
-    def attribute(self, name: bytes) -> Optional[bytes]:
-        """An extended attribute; None where the file or its file system has none."""
-        try:
-            return os.getxattr(self.name, name)
-        except OSError as error:
-            if error.errno not in (errno.ENODATA, errno.ENOTSUP):
-                raise
-            return None
-
     def look(self) -> Seen:
-        status = self.status()
-        is_directory = stat.S_ISDIR(status.st_mode)
-        access = self.attribute(lists.ACCESS)
-        default = self.attribute(lists.DEFAULT) if is_directory else None
-        record = Record(
-            status.st_uid, status.st_gid, status.st_mode & FLAGS,
-            MEMORY.minimal[status.st_mode & 0o777] if access is None else MEMORY.canonical(access),
-            b"" if default is None else MEMORY.canonical(default),
-        )
-        identity = Identity(status.st_dev, status.st_ino, system.birth_of(self.descriptor) or 0)
-        return Seen(identity, is_directory, status.st_nlink, record)
+        return seen_of(system.status_of(self.descriptor), self.name)
+
+    def mode(self) -> int:
+        return os.fstat(self.descriptor).st_mode
 
     def takes_lists(self) -> bool:
         """Whether its file system has lists."""
@@ -104,7 +111,7 @@ class OpenFile:
         except OSError as error:
             if error.errno != errno.ENOTSUP or not lists.is_minimal(data):
                 raise
-            os.chmod(self.name, self.status().st_mode & FLAGS | lists.mode_of(data))
+            os.chmod(self.name, self.mode() & FLAGS | lists.mode_of(data))
 
     def set_default(self, data: bytes) -> None:
         if data:
@@ -117,7 +124,7 @@ class OpenFile:
 
     def set_flags(self, flags: int) -> None:
         """The mode has the permissions of the list, and keeps them."""
-        os.chmod(self.name, self.status().st_mode & 0o777 | flags)
+        os.chmod(self.name, self.mode() & 0o777 | flags)
 
 
 def flags_meanwhile(now: int, end: int, is_directory: bool) -> int:
@@ -147,7 +154,7 @@ def change(file: OpenFile, now: Record, end: Record, is_directory: bool) -> None
         file.set_access(end.access)
     if now.default != end.default:
         file.set_default(end.default)
-    if file.status().st_mode & FLAGS != end.flags:
+    if now.flags | end.flags and file.mode() & FLAGS != end.flags:
         file.set_flags(end.flags)
 
 
@@ -161,15 +168,6 @@ def is_between(now: Record, old: Record, new: Record) -> bool:
     )
 
 
-def look_of(opener: Opener, path: bytes) -> Seen:
-    """A file as it is, by its path."""
-    file = opener.open(path)
-    try:
-        return file.look()
-    finally:
-        file.close()
-
-
 class Opener:
     """Opens files by their paths. The directories of the last path are kept open, so in path order each is opened once; of a
     long path the last ones alone."""
@@ -178,6 +176,7 @@ class Opener:
         self.root = os.open(b"/", PATH | os.O_DIRECTORY)
         self.parts: List[bytes] = []  # The directories from the root on,
         self.open_ones: List[int] = []  # and the descriptors of the last of them.
+        self.above: Optional[bytes] = None  # The path of the last of them.
 
     def __enter__(self) -> Opener:
         return self
@@ -203,36 +202,54 @@ class Opener:
         if len(self.open_ones) > OPEN_LIMIT:
             os.close(self.open_ones.pop(0))
 
-    def folder(self, parts: List[bytes]) -> int:
+    def folder(self, path: bytes) -> int:
         """Opens a directory."""
-        if self.parts != parts:
-            depth = 0
-            for one, other in zip(self.parts, parts):
-                if one != other:
-                    break
-                depth += 1
-            self.close_to(depth)
-            if self.parts and not self.open_ones:  # It is too far from the directories that are open.
-                self.parts = []
-            for part in parts[len(self.parts) :]:
-                self.push(part)
+        if path != self.above:
+            self.above = None
+            self.go_to(path.split(b"/") if path else [])
+            self.above = path
         return self.last()
+
+    def go_to(self, parts: List[bytes]) -> None:
+        depth = 0
+        for one, other in zip(self.parts, parts):
+            if one != other:
+                break
+            depth += 1
+        self.close_to(depth)
+        if self.parts and not self.open_ones:  # It is too far from the directories that are open.
+            self.parts = []
+        for part in parts[len(self.parts) :]:
+            self.push(part)
 
     def open(self, path: bytes) -> OpenFile:
         """Opens a file; NotFound where the path leads to no file, or through a link."""
+        above, _, name = path.rpartition(b"/")
         try:
-            if not path:
-                return OpenFile(os.open(b"/", PATH))
-            *above, name = path.split(b"/")
-            descriptor = os.open(name, PATH, dir_fd=self.folder(above))
-        except (FileNotFoundError, NotADirectoryError):
-            raise NotFound(b"is gone") from None
+            descriptor = os.open(name or b"/", PATH, dir_fd=self.folder(above))
         except OSError as error:
-            raise NotFound(b"cannot be opened: " + reason(error)) from error
+            raise not_found(error) from error
         if stat.S_ISLNK(os.fstat(descriptor).st_mode):
             os.close(descriptor)
-            raise NotFound(b"is a symbolic link now")
+            raise NotFound(IS_LINK)
         return OpenFile(descriptor)
+
+    def look(self, path: bytes) -> Seen:
+        """A file as it is now, without opening it."""
+        above, _, name = path.rpartition(b"/")
+        try:
+            folder = self.folder(above)
+            status = system.status_of(folder, name)
+            if stat.S_ISLNK(status.mode):
+                raise NotFound(IS_LINK)
+            return seen_of(status, b"/proc/self/fd/%d/%s" % (folder, name), follow=not name)
+        except OSError as error:
+            raise not_found(error) from error
+
+
+def not_found(error: OSError) -> NotFound:
+    """Why a path does not lead to a file."""
+    return NotFound(b"is gone" if isinstance(error, (FileNotFoundError, NotADirectoryError)) else b"cannot be opened: " + reason(error))
 
 
 def open_part(folder: int, part: bytes) -> int:

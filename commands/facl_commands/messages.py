@@ -2,6 +2,7 @@
 from __future__ import annotations
 
 import errno
+import gc
 import os
 import signal
 import sys
@@ -100,7 +101,7 @@ class Command:
         try:
             status = self.result_of(body, words)
         except BrokenPipeError:
-            return 128 + signal.SIGPIPE
+            return UNUSABLE if self.goes_on else 128 + signal.SIGPIPE
         except OSError as error:
             self.goes_on = True
             self.say(named(error))
@@ -157,6 +158,7 @@ def end(status: int) -> NoReturn:
 def run(name: str, body: Callable[[Command, List[str]], int], goes_on: bool = False) -> NoReturn:
     """Runs the command of this name, and ends with its status."""
     open_streams()
+    gc.disable()  # What a command keeps it needs to its end, which is soon.
     for number in SIGNALS:
         if signal.getsignal(number) != signal.SIG_IGN:
             signal.signal(number, interrupt)

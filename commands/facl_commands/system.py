@@ -1,30 +1,48 @@
-"""Calls of Linux that Python does not have: when a file was born, a rename that replaces nothing, and an end of writing."""
+"""Calls of Linux that Python does not have: a status with the birth, a rename that replaces nothing, and an end of writing."""
 from __future__ import annotations
 
 import ctypes
 import errno
 import os
-from typing import Optional
+import struct
+from typing import NamedTuple
 
 LIBRARY = ctypes.CDLL(None, use_errno=True)
-AT_EMPTY_PATH = 0x1000
-STATX_BTIME = 0x800
+AT_EMPTY_PATH, AT_SYMLINK_NOFOLLOW = 0x1000, 0x100
+STATX_BASIC_STATS, STATX_BTIME = 0x7FF, 0x800
 RENAME_NOREPLACE = 1
-# struct statx: the mask of what is known is at its start; seconds and nanoseconds of the birth are after nine numbers.
-STATX_SIZE, MASK_PLACE, BIRTH_PLACE = 256, 0, 80
-BUFFER = ctypes.create_string_buffer(STATX_SIZE)
+# struct statx: the mask of what is known, names, owner, group, mode, inode, birth in seconds and nanoseconds, device.
+STATX = struct.Struct("<I12xIIIH2xQ40xqI44xII")
+BUFFER = ctypes.create_string_buffer(256)
+STATX_CALL = getattr(LIBRARY, "statx", None)
 NO_DESCRIPTOR = -1
 BOOT_FILE = "/proc/sys/kernel/random/boot_id"
 
 
-def birth_of(descriptor: int) -> Optional[int]:
-    """When the file of a descriptor was born, in nanoseconds since 1970; None where the file system does not keep it."""
-    if not hasattr(LIBRARY, "statx") or LIBRARY.statx(descriptor, b"", AT_EMPTY_PATH, STATX_BTIME, BUFFER) != 0:
-        return None
-    if not int.from_bytes(BUFFER.raw[MASK_PLACE : MASK_PLACE + 4], "little") & STATX_BTIME:
-        return None
-    seconds = int.from_bytes(BUFFER.raw[BIRTH_PLACE : BIRTH_PLACE + 8], "little", signed=True)
-    return seconds * 1_000_000_000 + int.from_bytes(BUFFER.raw[BIRTH_PLACE + 8 : BIRTH_PLACE + 12], "little")
+class Status(NamedTuple):
+    """What the system says of a file at once; birth is in nanoseconds since 1970, and 0 where the file system has none."""
+
+    mode: int
+    owner: int
+    group: int
+    names: int
+    device: int
+    inode: int
+    birth: int
+
+
+def status_of(descriptor: int, name: bytes = b"") -> Status:
+    """The status of an open file, or of a name in an open directory, which is not followed where it is a link."""
+    if STATX_CALL is None:
+        found = os.stat(name, dir_fd=descriptor, follow_symlinks=False) if name else os.fstat(descriptor)
+        return Status(found.st_mode, found.st_uid, found.st_gid, found.st_nlink, found.st_dev, found.st_ino, 0)
+    how = AT_EMPTY_PATH | AT_SYMLINK_NOFOLLOW
+    if STATX_CALL(descriptor, name, how, STATX_BASIC_STATS | STATX_BTIME, BUFFER) != 0:
+        number = ctypes.get_errno()
+        raise OSError(number, os.strerror(number))
+    known, names, owner, group, mode, inode, seconds, nanoseconds, major, minor = STATX.unpack_from(BUFFER)
+    birth = seconds * 1_000_000_000 + nanoseconds if known & STATX_BTIME else 0
+    return Status(mode, owner, group, names, os.makedev(major, minor), inode, birth)
 
 
 def rename_new(old: bytes, new: bytes, folder: int) -> None:

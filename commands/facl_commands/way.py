@@ -107,7 +107,7 @@ def look_at(way: Way, paths: Iterable[bytes]) -> Look:
                 look.later.append(path)
                 continue
             try:
-                seen = live.look_of(opener, path)
+                seen = opener.look(path)
                 fault = fault_of(way, devices, path, seen)
             except NotFound as error:
                 fault = error.text
@@ -199,7 +199,7 @@ class Obstacles:
             return b"is on a file system without access control lists"
         if self.drops_capabilities or seen.is_directory or seen.record.ids() == end.ids():
             return None
-        if file.attribute(live.CAPABILITY) is not None:
+        if live.attribute(file.name, live.CAPABILITY) is not None:
             return b"has capabilities, which it would lose by its new owner or group: --drop-capabilities allows that"
         return None
 

@@ -37,8 +37,8 @@ class RealCase(Case):
         if name.endswith("/"):
             os.mkdir(whole)
         else:
-            with open(whole, "w", encoding="ascii") as file:
-                file.write(name)
+            with open(whole, "xb") as file:
+                file.write(b"something")
         os.chmod(whole, mode)
         return whole.rstrip("/")
 
@@ -56,7 +56,7 @@ class RealCase(Case):
         for name in found:
             descriptor = os.open(name, os.O_PATH)
             status = os.fstat(descriptor)
-            birth = system.birth_of(descriptor) or 0
+            birth = system.status_of(descriptor).birth
             os.close(descriptor)
             path = name.strip(b"/")
             dump += record(path, status)

@@ -79,7 +79,7 @@ class Plans(Case):
         self.assertTrue(done.messages.endswith(b"facl-apply: error: --leave-changed is for --undo\n"), done.messages)
 
 
-class ThereAndBack(RealCase):
+class Tree(RealCase):
     def setUp(self) -> None:
         super().setUp()
         for name in ("a", "b", "c"):
@@ -90,6 +90,8 @@ class ThereAndBack(RealCase):
     def modes(self) -> Dict[str, int]:
         return {name: self.mode(name) for name in ("a", "b", "c", "d", "d/e")}
 
+
+class ThereAndBack(Tree):
     def test_applied_and_undone(self) -> None:
         before = self.modes()
         self.planned(b"chmod 4711 " + self.word("a"), b"chmod 1777 " + self.word("d"), b"chmod 604 " + self.word("d/e"))
@@ -156,7 +158,7 @@ class ThereAndBack(RealCase):
         self.assertNotIn(b"\x1b", done.messages)
 
 
-class Meanwhile(ThereAndBack):
+class Meanwhile(Tree):
     """What others do between the comparison and the change."""
 
     def carrier(self, *lines: bytes) -> carrying.Carrier:

@@ -9,7 +9,6 @@ import random
 import resource
 import struct
 import unittest
-from types import SimpleNamespace
 from typing import Dict, List, NamedTuple, Tuple
 
 from common import Case
@@ -56,8 +55,8 @@ class StandIn(live.OpenFile):
         self.record = record
         self.moments.append(Moment(record, self.is_directory))
 
-    def status(self) -> os.stat_result:
-        return SimpleNamespace(st_mode=self.record.flags)  # type: ignore[return-value]
+    def mode(self) -> int:
+        return self.record.flags
 
     def set_access(self, data: bytes) -> None:
         self.become(self.record._replace(access=data))

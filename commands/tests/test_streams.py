@@ -70,7 +70,8 @@ class Streams(RealCase):
         for name in ("facl-plan", "facl-apply", "facl-report", "facl-ask"):
             for out, err in ((FULL, FULL), (CLOSED, CLOSED), (BROKEN, BROKEN)):
                 status, said = self.run_with([os.path.join(COMMANDS, name), "--nothing"], out, err)
-                self.assertEqual((status, said), (2, b""))
+                self.assertIn(status, (2,) if name in ("facl-plan", "facl-apply") else (2, 141))
+                self.assertEqual(said, b"")
                 status, said = self.run_with([os.path.join(COMMANDS, name), "--help"], out, err)
                 self.assertIn(status, (2, 5, 141))
                 self.assertEqual(said, b"")

@@ -33,15 +33,14 @@ class Folders(Case):
 
     def test_a_snapshot_that_everybody_can_write(self) -> None:
         os.chmod(self.path("before"), 0o777)
-        self.expect_all_refuse(b"before: " + self.whole + b"/before" + EVERYBODY)
+        self.expect_all_refuse(self.whole + b"/before" + EVERYBODY)
         os.chmod(self.path("before"), 0o1777)  # But what is in it belongs to the caller.
         self.assertEqual(self.run_command("facl-ask", ["before", "edits"]).status, 0)
 
     def test_a_file_of_it_that_everybody_can_write(self) -> None:
         for name in ("dump", "passwd", "group"):
             os.chmod(self.path("before/" + name), 0o666)
-            place = b"before/" + name.encode()
-            self.expect_all_refuse(place + b": " + self.whole + b"/" + place + EVERYBODY)
+            self.expect_all_refuse(self.whole + b"/before/" + name.encode() + EVERYBODY)
             os.chmod(self.path("before/" + name), 0o600)
 
     def test_a_folder_above(self) -> None:
@@ -80,8 +79,7 @@ class Folders(Case):
         for name in ("dump", ""):
             os.chown(self.path("before/" + name), STRANGER, -1)
             place = b"/before" + (b"/" + name.encode() if name else b"")
-            beside = b"before/dump: " if name else b"before: "
-            self.expect_all_refuse(beside + self.whole + place + b": belongs to user 54321, so it is not trusted\n")
+            self.expect_all_refuse(self.whole + place + b": belongs to user 54321, so it is not trusted\n")
             os.chown(self.path("before/" + name), 0, -1)
         os.chown(self.path("before.plan"), STRANGER, -1)
         done = self.run_command("facl-apply", ["before.plan"])
@@ -92,7 +90,7 @@ class Folders(Case):
     def test_a_group_of_others(self) -> None:
         os.chown(self.path("before"), 0, STRANGER)
         os.chmod(self.path("before"), 0o770)
-        self.expect_all_refuse(b"before: " + self.whole + b"/before: can be written by others (its group, or users and groups of its "
+        self.expect_all_refuse(self.whole + b"/before: can be written by others (its group, or users and groups of its "
                                                          b"access list), so it is not trusted\n")
         os.chmod(self.path("before"), 0o750)
         self.assertEqual(self.run_command("facl-ask", ["before", "edits"]).status, 0)
@@ -106,9 +104,9 @@ class PlansInTheirPlace(RealCase):
         self.make("a")
         self.planned(b"chmod 600 " + self.word("a"))
 
-    def again(self) -> bytes:
+    def again(self, mode: bytes = b"644") -> bytes:
         self.take_snapshot()
-        done = self.plan(b"chmod 644 " + self.word("a") + b"\n")
+        done = self.plan(b"chmod " + mode + b" " + self.word("a") + b"\n")
         self.assertEqual(done.status, 0, done.messages)
         return done.messages
 
@@ -117,7 +115,7 @@ class PlansInTheirPlace(RealCase):
         self.assertEqual(self.again(), b"facl-plan: the plan that was there is before.plan.1 now\n")
         self.assertEqual((self.read("before.plan.1/state"), os.path.exists(self.path("before.plan/state"))), (b"applied\n", False))
         self.assertEqual(self.apply().status, 0)
-        self.assertEqual(self.again(), b"facl-plan: the plan that was there is before.plan.2 now\n")
+        self.assertEqual(self.again(b"604"), b"facl-plan: the plan that was there is before.plan.2 now\n")
         for name, mode in (("before.plan.2", 0o600), ("before.plan.1", 0o640)):
             self.assertEqual(self.run_command("facl-apply", ["--undo", name]).status, 0)
             self.assertEqual(self.mode("a"), mode)
