@@ -96,7 +96,7 @@ def check_obstacles(command: Command, way: Way, look: Look, drops_capabilities: 
 
 
 def warn_of_names(command: Command, look: Look) -> None:
-    plain = {path: seen for path, seen in look.files.items() if not seen.is_directory}
+    plain = {path: seen for path, seen in look.files.items() if seen.names > 1 and not seen.is_directory}
     names = Counter(seen.identity for seen in plain.values())
     found = [path for path, seen in plain.items() if seen.names > names[seen.identity]]
     if found:
@@ -160,7 +160,7 @@ def give_all(command: Command, way: Way, carrier: Carrier, is_whole: bool) -> in
         return put_back(command, way, carrier)
     if is_whole:
         end(command, way, carrier, plan_folder.UNDONE if way.is_undo else plan_folder.APPLIED)
-    command.tell(counted(len(carrier.identities), "file is", "files are") + (b" as before" if way.is_undo else b" as planned"))
+    command.tell(counted(len(carrier.seen), "file is", "files are") + (b" as before" if way.is_undo else b" as planned"))
     return DONE
 
 

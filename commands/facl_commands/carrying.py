@@ -3,11 +3,11 @@ from __future__ import annotations
 
 import os
 import signal
-from typing import Dict, List, Optional, Set
+from typing import Dict, Iterable, List, Optional, Set
 
 from . import live, plan_folder, planned, system
 from .lists import Record
-from .live import NotFound, OpenFile, Opener
+from .live import NotFound, OpenFile, Opener, Seen
 from .messages import SIGNALS, reason
 from .names import path_order
 from .snapshot import Identity
@@ -30,36 +30,45 @@ class Carrier:
     def __init__(self, way: Way, look: Look) -> None:
         self.way = way
         self.later = look.later
-        self.identities = {path: seen.identity for path, seen in look.files.items()}
+        self.seen = dict(look.files)
         # What has to be given back; after a run that was cut off, what that run has changed too.
-        self.changed = [path for path, seen in look.files.items() if seen.record != way.start(path)]
-        self.finished: Set[Identity] = set()
+        self.changed: List[bytes] = []
+        self.add_changed(look.files)
+        self.finished: Set[Identity] = set()  # Files of several names.
         self.folders: Dict[int, int] = {}  # A directory of each file system that was changed.
+
+    def add_changed(self, seen: Dict[bytes, Seen]) -> None:
+        if self.way.was_cut_off():
+            self.changed += [path for path, it in seen.items() if it.record != self.way.start(path)]
 
     def begin(self) -> None:
         """Keeps in the plan what is about to be done, before anything is touched."""
         self.write_journal()
         plan_folder.set_state(self.way.folder, plan_folder.UNDOING if self.way.is_undo else plan_folder.APPLYING)
 
+    def identities(self) -> Dict[bytes, Identity]:
+        return {path: seen.identity for path, seen in self.seen.items()}
+
     def write_journal(self) -> None:
         known = {} if self.way.journal is None else self.way.journal.files
-        self.way.folder.replace(b"journal", planned.journal_text(system.boot(), {**known, **self.identities}))
+        self.way.folder.replace(b"journal", planned.journal_text(system.boot(), {**known, **self.identities()}))
 
     def run(self) -> Dict[bytes, bytes]:
         """Gives the files their new records; returns those that did not get them, with the reason. A plan that is taken back
         goes on after the first of these; one that is applied ends there, or at a signal, which is no reason."""
-        left = self.give([path for path in self.identities if opens(self.way, path)])
+        left = self.give([path for path in self.seen if opens(self.way, path)] if os.geteuid() != 0 else [])
         while self.later and (self.way.is_undo or not left):
             left.update(self.open_later())
         if left and not self.way.is_undo:
             return left
-        paths = sorted(self.identities, key=path_order)
+        if os.geteuid() == 0:
+            return {**left, **self.give(self.seen)}
+        paths = sorted(self.seen, key=path_order)
         last = [path for path in reversed(paths) if closes(self.way, path)]
         apart = set(last)
         left.update(self.give([path for path in paths if path not in apart]))
-        if left and not self.way.is_undo:
-            return left
-        left.update(self.give(last))
+        if self.way.is_undo or not left:
+            left.update(self.give(last))
         return left
 
     def open_later(self) -> Dict[bytes, bytes]:
@@ -69,8 +78,8 @@ class Carrier:
         self.later = look.later
         left = unexpected(self.way, look)
         seen_ones = look.without(left).files
-        self.identities.update({path: seen.identity for path, seen in seen_ones.items()})
-        self.changed += [path for path, seen in seen_ones.items() if seen.record != self.way.start(path)]
+        self.seen.update(seen_ones)
+        self.add_changed(seen_ones)
         try:
             self.write_journal()
         except OSError as error:
@@ -79,7 +88,7 @@ class Carrier:
             left.update(self.give([path for path in seen_ones if opens(self.way, path)]))
         return left
 
-    def give(self, paths: List[bytes]) -> Dict[bytes, bytes]:
+    def give(self, paths: Iterable[bytes]) -> Dict[bytes, bytes]:
         left: Dict[bytes, bytes] = {}
         with Opener() as opener:
             for number, path in enumerate(paths):
@@ -103,25 +112,25 @@ class Carrier:
     def give_one(self, opener: Opener, path: bytes) -> None:
         file = opener.open(path)
         try:
-            seen = file.look()
-            if seen.identity != self.identities[path]:
+            seen, before = file.look(), self.seen[path]
+            if seen.identity != before.identity:
                 raise Mismatch(b"was replaced by another file")
             if seen.identity in self.finished:
                 return
             if not is_expected(self.way, path, seen.record):
                 raise Mismatch(b"was changed: " + difference(seen.record, self.way.start(path)))
             self.changed.append(path)
-            self.remember_folder(opener, seen.identity.device)
+            if seen.identity.device not in self.folders:
+                self.remember_folder(opener, seen.identity.device)
             change(file, seen.record, self.way.end(path), seen.is_directory)
-            self.finished.add(seen.identity)
+            if seen.names > 1:
+                self.finished.add(seen.identity)
         finally:
             file.close()
 
     def remember_folder(self, opener: Opener, device: int) -> None:
         """Keeps a directory of the file system open, to write out what it has in memory; where the caller may not read it, all
         file systems are written out."""
-        if device in self.folders:
-            return
         try:
             self.folders[device] = os.open(b"/proc/self/fd/%d" % opener.last(), os.O_RDONLY | os.O_CLOEXEC)
         except PermissionError:
@@ -147,7 +156,7 @@ class Carrier:
         file = opener.open(path)
         try:
             seen = file.look()
-            if seen.identity != self.identities[path]:
+            if seen.identity != self.seen[path].identity:
                 raise Mismatch(b"was replaced by another file")
             change(file, seen.record, self.way.start(path), seen.is_directory)
         finally:
@@ -163,6 +172,6 @@ class Carrier:
 def change(file: OpenFile, now: Record, end: Record, is_directory: bool) -> None:
     """Gives a file its new record, and compares."""
     live.change(file, now, end, is_directory)
-    record = file.look().record
+    record = file.record()
     if record != end:
         raise Mismatch(b"is not as it should be: " + difference(record, end))

@@ -20,7 +20,6 @@ OPEN_LIMIT = 200  # Directories of one path that are open at once.
 CAPABILITY = b"security.capability"
 FLAGS = stat.S_ISUID | stat.S_ISGID | stat.S_ISVTX
 NO_ATTRIBUTE = (errno.ENODATA, errno.ENOTSUP)
-IS_LINK = b"is a symbolic link now"
 PATH = os.O_PATH | os.O_NOFOLLOW | os.O_CLOEXEC
 
 
@@ -41,21 +40,16 @@ class Seen(NamedTuple):
     record: Record
 
 
-class Memory:
-    """Lists that were met before, as they are compared."""
+class KnownLists(Dict[bytes, bytes]):
+    """Lists of the system, as they are compared."""
 
-    def __init__(self) -> None:
-        self.lists: Dict[bytes, bytes] = {}
-        self.minimal = [lists.minimal(mode) for mode in range(0o1000)]
-
-    def canonical(self, data: bytes) -> bytes:
-        found = self.lists.get(data)
-        if found is None:
-            found = self.lists[data] = lists.canonical(data)
-        return found
+    def __missing__(self, data: bytes) -> bytes:
+        self[data] = lists.canonical(data)
+        return self[data]
 
 
-MEMORY = Memory()
+LISTS = KnownLists()
+MINIMAL = [lists.minimal(mode) for mode in range(0o1000)]
 
 
 def attribute(name: bytes, attribute_name: bytes, follow: bool = True) -> Optional[bytes]:
@@ -68,17 +62,22 @@ def attribute(name: bytes, attribute_name: bytes, follow: bool = True) -> Option
         return None
 
 
-def seen_of(status: Status, name: bytes, follow: bool = True) -> Seen:
-    """A file as it is, of its status and of a name for its attributes."""
-    mode = status.mode
+def record_of(mode: int, owner: int, group: int, name: bytes, follow: bool = True) -> Record:
+    """A record, of a status and of a name for the attributes."""
     access = attribute(name, lists.ACCESS, follow)
     default = attribute(name, lists.DEFAULT, follow) if stat.S_ISDIR(mode) else None
-    record = Record(
-        status.owner, status.group, mode & FLAGS,
-        MEMORY.minimal[mode & 0o777] if access is None else MEMORY.canonical(access),
-        b"" if default is None else MEMORY.canonical(default),
+    return Record(
+        owner, group, mode & FLAGS, MINIMAL[mode & 0o777] if access is None else LISTS[access],
+        b"" if default is None else LISTS[default],
     )
-    return Seen(Identity(status.device, status.inode, status.birth), stat.S_ISDIR(mode), status.names, record)
+
+
+def seen_of(status: Status, name: bytes, follow: bool = True) -> Seen:
+    """A file as it is; NotFound where it is a link."""
+    mode, owner, group, names, device, inode, birth = status
+    if stat.S_ISLNK(mode):
+        raise NotFound(b"is a symbolic link now")
+    return Seen(Identity(device, inode, birth), stat.S_ISDIR(mode), names, record_of(mode, owner, group, name, follow))
 
 
 class OpenFile:
@@ -93,6 +92,10 @@ class OpenFile:
 
     def look(self) -> Seen:
         return seen_of(system.status_of(self.descriptor), self.name)
+
+    def record(self) -> Record:
+        status = os.fstat(self.descriptor)
+        return record_of(status.st_mode, status.st_uid, status.st_gid, self.name)
 
     def mode(self) -> int:
         return os.fstat(self.descriptor).st_mode
@@ -139,7 +142,7 @@ def change(file: OpenFile, now: Record, end: Record, is_directory: bool) -> None
 
     One call changes a list, and one owner and group. Between two of them there is a list that grants no more than both.
     """
-    is_moved = now.ids() != end.ids()
+    is_moved = now.owner != end.owner or now.group != end.group
     if is_moved or now.access != end.access or now.default != end.default:
         meanwhile = flags_meanwhile(now.flags, end.flags, is_directory)
         if meanwhile != now.flags and (is_moved or now.flags != end.flags):
@@ -223,26 +226,19 @@ class Opener:
             self.push(part)
 
     def open(self, path: bytes) -> OpenFile:
-        """Opens a file; NotFound where the path leads to no file, or through a link."""
+        """Opens a file, or the link that is there; NotFound where the path leads to none, or through a link."""
         above, _, name = path.rpartition(b"/")
         try:
-            descriptor = os.open(name or b"/", PATH, dir_fd=self.folder(above))
+            return OpenFile(os.open(name or b"/", PATH, dir_fd=self.folder(above)))
         except OSError as error:
             raise not_found(error) from error
-        if stat.S_ISLNK(os.fstat(descriptor).st_mode):
-            os.close(descriptor)
-            raise NotFound(IS_LINK)
-        return OpenFile(descriptor)
 
     def look(self, path: bytes) -> Seen:
         """A file as it is now, without opening it."""
         above, _, name = path.rpartition(b"/")
         try:
             folder = self.folder(above)
-            status = system.status_of(folder, name)
-            if stat.S_ISLNK(status.mode):
-                raise NotFound(IS_LINK)
-            return seen_of(status, b"/proc/self/fd/%d/%s" % (folder, name), follow=not name)
+            return seen_of(system.status_of(folder, name), b"/proc/self/fd/%d/%s" % (folder, name), follow=not name)
         except OSError as error:
             raise not_found(error) from error
 

@@ -135,7 +135,7 @@ class Devices:
         self.present: Dict[int, int] = {}
 
     def is_same(self, recorded: Identity, seen: Identity) -> bool:
-        if recorded == NOWHERE:
+        if recorded == seen and self.is_same_start or recorded == NOWHERE:
             return True
         births = {recorded.birth, seen.birth} - {0}
         return self.is_same_device(recorded.device, seen.device) and recorded.inode == seen.inode and len(births) < 2

@@ -5,7 +5,7 @@ import ctypes
 import errno
 import os
 import struct
-from typing import NamedTuple
+from typing import Dict, Tuple
 
 LIBRARY = ctypes.CDLL(None, use_errno=True)
 AT_EMPTY_PATH, AT_SYMLINK_NOFOLLOW = 0x1000, 0x100
@@ -19,30 +19,32 @@ NO_DESCRIPTOR = -1
 BOOT_FILE = "/proc/sys/kernel/random/boot_id"
 
 
-class Status(NamedTuple):
-    """What the system says of a file at once; birth is in nanoseconds since 1970, and 0 where the file system has none."""
+# Of a file: mode, owner, group, names, device, inode, and birth in nanoseconds since 1970, 0 where the file system has none.
+Status = Tuple[int, int, int, int, int, int, int]
 
-    mode: int
-    owner: int
-    group: int
-    names: int
-    device: int
-    inode: int
-    birth: int
+
+class DeviceNumbers(Dict[Tuple[int, int], int]):
+    """Device numbers by their two parts."""
+
+    def __missing__(self, parts: Tuple[int, int]) -> int:
+        self[parts] = os.makedev(*parts)
+        return self[parts]
+
+
+DEVICES = DeviceNumbers()
 
 
 def status_of(descriptor: int, name: bytes = b"") -> Status:
     """The status of an open file, or of a name in an open directory, which is not followed where it is a link."""
     if STATX_CALL is None:
         found = os.stat(name, dir_fd=descriptor, follow_symlinks=False) if name else os.fstat(descriptor)
-        return Status(found.st_mode, found.st_uid, found.st_gid, found.st_nlink, found.st_dev, found.st_ino, 0)
-    how = AT_EMPTY_PATH | AT_SYMLINK_NOFOLLOW
-    if STATX_CALL(descriptor, name, how, STATX_BASIC_STATS | STATX_BTIME, BUFFER) != 0:
+        return found.st_mode, found.st_uid, found.st_gid, found.st_nlink, found.st_dev, found.st_ino, 0
+    if STATX_CALL(descriptor, name, AT_EMPTY_PATH | AT_SYMLINK_NOFOLLOW, STATX_BASIC_STATS | STATX_BTIME, BUFFER) != 0:
         number = ctypes.get_errno()
         raise OSError(number, os.strerror(number))
     known, names, owner, group, mode, inode, seconds, nanoseconds, major, minor = STATX.unpack_from(BUFFER)
     birth = seconds * 1_000_000_000 + nanoseconds if known & STATX_BTIME else 0
-    return Status(mode, owner, group, names, os.makedev(major, minor), inode, birth)
+    return mode, owner, group, names, DEVICES[major, minor], inode, birth
 
 
 def rename_new(old: bytes, new: bytes, folder: int) -> None:

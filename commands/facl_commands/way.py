@@ -101,9 +101,10 @@ def look_at(way: Way, paths: Iterable[bytes]) -> Look:
     look = Look({}, {}, [])
     devices = Devices(way.boot(), system.boot())
     opened: List[bytes] = []  # The directories that the plan opens to the caller.
+    is_root = os.geteuid() == 0
     with Opener() as opener:
         for path in paths:
-            if any(path.startswith(it + b"/") for it in opened):
+            if opened and any(path.startswith(it + b"/") for it in opened):
                 look.later.append(path)
                 continue
             try:
@@ -115,7 +116,7 @@ def look_at(way: Way, paths: Iterable[bytes]) -> Look:
                 fault = reason(error)
             if fault is None:
                 look.files[path] = seen
-                if opens(way, path) and seen.record != way.end(path):
+                if not is_root and opens(way, path) and seen.record != way.end(path):
                     opened.append(path)
             else:
                 look.faults[path] = fault

@@ -56,7 +56,7 @@ class RealCase(Case):
         for name in found:
             descriptor = os.open(name, os.O_PATH)
             status = os.fstat(descriptor)
-            birth = system.status_of(descriptor).birth
+            birth = system.status_of(descriptor)[6]
             os.close(descriptor)
             path = name.strip(b"/")
             dump += record(path, status)

@@ -47,29 +47,29 @@ class StandIn(live.OpenFile):
     """A file that is a record; the kernel's changes of its own are those of chown(2)."""
 
     def __init__(self, record: Record, is_directory: bool) -> None:
-        self.record = record
+        self.present = record
         self.is_directory = is_directory
         self.moments = [Moment(record, is_directory)]
 
     def become(self, record: Record) -> None:
-        self.record = record
+        self.present = record
         self.moments.append(Moment(record, self.is_directory))
 
     def mode(self) -> int:
-        return self.record.flags
+        return self.present.flags
 
     def set_access(self, data: bytes) -> None:
-        self.become(self.record._replace(access=data))
+        self.become(self.present._replace(access=data))
 
     def set_default(self, data: bytes) -> None:
-        self.become(self.record._replace(default=data))
+        self.become(self.present._replace(default=data))
 
     def set_owner(self, owner: int, group: int) -> None:
-        flags = self.record.flags if self.is_directory else self.record.flags & 0o1000
-        self.become(self.record._replace(owner=owner, group=group, flags=flags))
+        flags = self.present.flags if self.is_directory else self.present.flags & 0o1000
+        self.become(self.present._replace(owner=owner, group=group, flags=flags))
 
     def set_flags(self, flags: int) -> None:
-        self.become(self.record._replace(flags=flags))
+        self.become(self.present._replace(flags=flags))
 
 
 class Pairs:
@@ -126,13 +126,13 @@ class Moments(Case):
             is_directory, old, new = pairs.pair()
             file = StandIn(old, is_directory)
             live.change(file, old, new, is_directory)
-            self.assertEqual(file.record, new)
+            self.assertEqual(file.present, new)
             found.append(file.moments)
             cut = pairs.chance.choice(file.moments).record
             for end in (old, new):
                 again = StandIn(cut, is_directory)
                 live.change(again, cut, end, is_directory)
-                self.assertEqual(again.record, end)
+                self.assertEqual(again.present, end)
                 self.assertTrue(all(live.is_between(it.record, old, new) for it in [*file.moments, *again.moments]))
                 found.append([Moment(old, is_directory), *again.moments, Moment(new, is_directory)])
         return found
