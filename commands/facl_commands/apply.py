@@ -6,7 +6,7 @@ import os
 from collections import Counter
 from typing import Dict, List
 
-from . import live, plan_folder
+from . import live, plan_folder, planned
 from .carrying import Carrier
 from .messages import Command, Failure, counted, reason
 from .names import live_name, path_order, shell_word
@@ -93,6 +93,12 @@ def check_obstacles(command: Command, way: Way, look: Look, drops_capabilities: 
     if found:
         say_list(command, found)
         raise Failure(b"nothing is touched")
+
+
+def warn_of_inodes(command: Command, way: Way) -> None:
+    if way.journal is None and planned.NOWHERE in (file.identity for file in way.work.files.values()):
+        command.say(b"warning: the snapshot has no inodes, so a file that was replaced by one of the same owner, group, flags and "
+                    b"lists is not known")
 
 
 def warn_of_names(command: Command, look: Look) -> None:
@@ -194,6 +200,7 @@ def body(command: Command, words: List[str]) -> int:
         look = look.without(changed)
     check_obstacles(command, way, look, given.drop_capabilities)
     warn_of_names(command, look)
+    warn_of_inodes(command, way)
     if given.dry_run:
         print_dry_run(command, way, look)
         return DONE

@@ -255,12 +255,6 @@ def warn_of_empty_masks(command: Command, changes: Changes, new: Files) -> None:
                     b"groups too, and facl does not: %d, first: %s" % (len(found), live_path(found[0])))
 
 
-def warn_of_inodes(command: Command, snapshot: Snapshot, changes: Changes) -> None:
-    if changes.changed and not snapshot.inodes:
-        command.say(b"warning: " + snapshot.folder + b": has no inodes, so facl-apply will not know a file that was replaced by one "
-                    b"of the same owner, group, flags and lists")
-
-
 def group_of(word: str) -> int:
     """The id of a group; digits are an id."""
     try:
@@ -315,7 +309,6 @@ def body(command: Command, words: List[str]) -> int:
     is_written = not say_refused(command, outcome, given.keep_going) and has_work
     if is_written:
         warn_of_empty_masks(command, changes, outcome.new)
-        warn_of_inodes(command, snapshot, changes)
         kept = plan_folder.write_plan(target, {
             b"edits": b"".join(script.text for script in scripts),
             b"old": write_records(outcome.old, changes.changed),
