@@ -18,9 +18,11 @@ from common import COMMANDS, HERE, Case, outside_the_gate, restore_signals, take
 sys.path.insert(0, COMMANDS)
 
 from facl_commands import causes, completion, manual, overview  # noqa: E402
-from facl_commands.desk import WORDS_OF_PROMPT, Desk, shown  # noqa: E402
+from facl_commands.desk import WORDS_OF_PROMPT, Desk  # noqa: E402
 from facl_commands.messages import Failure  # noqa: E402
+from facl_commands.names import shown  # noqa: E402
 from facl_commands.program import Session, find_program  # noqa: E402
+from facl_commands.snapshot import check_texts  # noqa: E402
 
 SHARE = os.fsencode(os.path.join(HERE, "snapshots", "share"))
 SCRIPT = b"who r srv/share/notes\nfrob\nsetfacl -d -m d:u:guest:r,u:guest:x srv/share/drafts\nmay guest r\nwho 'open\n\xff\ngetfacl -M - x\nindex"
@@ -240,7 +242,7 @@ class Overview(Case):
             b"warning: the directories above are not recorded, so --reach does not judge them",
         ])
         with self.assertRaises(Failure):
-            overview.check_texts(os.fsencode(self.path("absent")))
+            check_texts(os.fsencode(self.path("absent")))
 
 
 class Prompt(unittest.TestCase):
