@@ -28,7 +28,7 @@ ANSWERED, REFUSED = 0, 1
 NO_FILE = b": no such file"
 NAME_OF_HOST = rb"[A-Za-z0-9_][A-Za-z0-9._-]*"
 HOST = re.compile(rb"((?:" + NAME_OF_HOST + rb"@)?" + NAME_OF_HOST + rb"):(.*)\Z", re.DOTALL)
-LIKE_HOST = re.compile(rb"[A-Za-z0-9@._-]+:")
+LIKE_HOST = re.compile(rb"[A-Za-z0-9@._-]+:|-[^/]*:")  # What somebody may have meant for one.
 NO_OPERAND = re.compile(rb".*\n|::::?\+?\Z|\Z", re.DOTALL)  # What parallel does not take as it is.
 PEOPLE = (b"gpasswd", b"usermod", b"useradd", b"userdel")
 Item = Tuple[bytes, int, bytes]  # A path, the number of its snapshot, and what is printed for it.
@@ -63,7 +63,7 @@ def hosts_of(folders: List[bytes]) -> Dict[bytes, List[bytes]]:
         if match is None and LIKE_HOST.match(folder) and not os.path.exists(folder):
             raise Failure(folder + b": a HOST starts with a letter, a digit or _, so that no program takes it for something else")
         if NO_OPERAND.match(match[2] if match else folder):
-            raise Failure(folder + b": has a name that cannot be given to parallel: rename the folder")
+            raise Failure(folder + b": parallel cannot be given a snapshot of this name: rename the folder")
         host, name = (match[1], match[2]) if match else (b":", folder)
         found.setdefault(host, []).append(name)
     return found
