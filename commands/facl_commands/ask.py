@@ -5,10 +5,11 @@ import argparse
 import contextlib
 import os
 import signal
-from typing import List, NoReturn
+from types import FrameType
+from typing import List, NoReturn, Optional
 
 from . import environment
-from .messages import Command, Failure, reason
+from .messages import SIGNALS, Command, Failure, reason
 from .names import shown
 from .program import Session, find_program
 from .scripts import read_text, read_units
@@ -98,6 +99,18 @@ def answer_scripts(command: Command, program: str, folder: bytes, names: List[st
     return status
 
 
+def leave(number: int, _frame: Optional[FrameType]) -> None:
+    raise SystemExit(128 + number)
+
+
+def take_signals() -> None:
+    """At a prompt control-C ends a line, and not the command; the other signals end it as the one exception that prompt_toolkit's
+    loop of events lets through at any moment."""
+    for number in SIGNALS:
+        if signal.getsignal(number) != signal.SIG_IGN:
+            signal.signal(number, signal.default_int_handler if number == signal.SIGINT else leave)
+
+
 def prompt(command: Command, program: str, folder: bytes) -> int:
     """Answers a person's lines. Only a prompt needs these parts of the package."""
     from . import manual, overview, terminal
@@ -111,8 +124,7 @@ def prompt(command: Command, program: str, folder: bytes) -> int:
         command.write(text)
         command.flush()
 
-    if signal.getsignal(signal.SIGINT) != signal.SIG_IGN:
-        signal.signal(signal.SIGINT, signal.default_int_handler)  # Control-C ends a line, and not the command.
+    take_signals()
     desk = Desk(lambda: Session(program, folder), completer.page, completer, out)
     with contextlib.closing(desk):
         refuse_early_end(desk.session)

@@ -10,15 +10,16 @@ import shutil
 import signal
 import subprocess
 import sys
+import termios
 import time
 import unittest
-from typing import Dict, List, Union
+from typing import Dict, List, Tuple, Union
 
 from common import COMMANDS, HERE, Case, outside_the_gate, restore_signals, take_terminal
 
 sys.path.insert(0, COMMANDS)
 
-from facl_commands import causes, completion, manual, overview  # noqa: E402
+from facl_commands import causes, completion, manual, overview, terminal  # noqa: E402
 from facl_commands.desk import WORDS_OF_PROMPT, Desk  # noqa: E402
 from facl_commands.messages import Failure  # noqa: E402
 from facl_commands.names import shown  # noqa: E402
@@ -61,12 +62,13 @@ class AsTheProgram(Case):
         self.write("script", b"who r srv/share/one\n")
         self.write("refused", b"frob\n")
         start = [sys.executable, os.path.join(COMMANDS, "facl-ask"), "before"]
-        for words, how, status, messages in (
+        cases: List[Tuple[List[str], str, int, bytes]] = [
             ([], "<&-", 0, b""), (["script"], ">&-", 2, b"facl: write fault\n"), (["script"], ">/dev/full", 2, b"facl: write fault\n"),
             (["script", "script"], ">&-", 2, b"facl-ask: Bad file descriptor\n"),
             (["-", "script"], "<&- >/dev/full", 2, b"facl-ask: No space left on device\n"), (["script", "refused"], "2>&-", 2, b""),
             (["script", "refused"], "2>/dev/full", 2, b""), (["--each"], "<&-", 0, b""), (["--part"], "<&- >&-", 2, b"facl-ask: Bad file descriptor\n"),
-        ):
+        ]
+        for words, how, status, messages in cases:
             if words == ["--each"] and not shutil.which("parallel"):
                 continue
             command = ["sh", "-c", 'exec "$@" ' + how, "sh", *start, *words]
@@ -363,18 +365,46 @@ class Prompt(unittest.TestCase):
         self.assertEqual(self.ask("? frob"), b"There is no tool and no section of this name: `help` lists them.\n\n")
 
 
+class History(Case):
+    """Where the lines of a prompt are kept."""
+
+    def test_a_private_file(self) -> None:
+        os.mkdir(self.path("home"))
+        self.assertTrue(terminal.has_history(self.path("home")))
+        name = self.path("home/.facl_history")
+        self.assertEqual(os.stat(name).st_mode & 0o777, 0o600)
+        os.chmod(name, 0o644)
+        self.assertTrue(terminal.has_history(self.path("home")))
+        self.assertEqual(os.stat(name).st_mode & 0o777, 0o600)
+
+    def test_what_is_not_written(self) -> None:
+        os.mkdir(self.path("home"))
+        self.write("other", b"")
+        os.chmod(self.path("other"), 0o644)
+        os.symlink(self.path("other"), self.path("home/.facl_history"))
+        self.assertFalse(terminal.has_history(self.path("home")))
+        os.unlink(self.path("home/.facl_history"))
+        os.mkfifo(self.path("home/.facl_history"))
+        self.assertFalse(terminal.has_history(self.path("home")))
+        os.unlink(self.path("home/.facl_history"))
+        os.chmod(self.path("home"), 0o777)
+        self.assertFalse(terminal.has_history(self.path("home")))
+        self.assertFalse(terminal.has_history(self.path("absent")))
+        self.assertEqual((os.listdir(self.path("home")), os.stat(self.path("other")).st_mode & 0o777), ([], 0o644))
+
+
 @outside_the_gate
 class Terminal(Case):
     """facl-ask at a pseudo-terminal."""
 
     def start(self, environment: Dict[str, str]) -> None:
-        self.side, other = pty.openpty()
+        self.side, self.other = pty.openpty()
         self.addCleanup(os.close, self.side)
+        self.addCleanup(os.close, self.other)
         variables = {**os.environ, "TERM": "dumb" if "PYTHONPATH" in environment else "xterm", "HOME": self.folder, "PROMPT_TOOLKIT_NO_CPR": "1",
                      **environment}
-        self.run_of = subprocess.Popen([sys.executable, os.path.join(COMMANDS, "facl-ask"), "before"], cwd=self.folder, stdin=other,
-                                       stdout=other, stderr=other, env=variables, preexec_fn=take_terminal)
-        os.close(other)
+        self.run_of = subprocess.Popen([sys.executable, os.path.join(COMMANDS, "facl-ask"), "before"], cwd=self.folder, stdin=self.other,
+                                       stdout=self.other, stderr=self.other, env=variables, preexec_fn=take_terminal)
         self.addCleanup(self.end)
         self.seen = b""
 
@@ -443,9 +473,12 @@ class Terminal(Case):
         for number in (signal.SIGQUIT, signal.SIGTERM, signal.SIGHUP):
             with self.subTest(number):
                 self.start(environment)
+                before = termios.tcgetattr(self.other)
                 self.session()
+                time.sleep(0.3)  # Until it waits for keys: Python looks at a signal that comes just before that at the next key.
                 self.run_of.send_signal(number)
                 self.expect_end(128 + number)
+                self.assertEqual(termios.tcgetattr(self.other), before)
                 self.assertEqual(os.listdir(self.path("temporary")), [])
 
     @unittest.skipUnless(importlib.util.find_spec("prompt_toolkit"), "prompt_toolkit is not installed")
