@@ -5,15 +5,14 @@ import argparse
 import contextlib
 import os
 import signal
-import sys
-from typing import List, NoReturn
+from types import FrameType
+from typing import List, NoReturn, Optional
 
-from . import each, manual, overview, part, terminal
-from .completion import Completer
-from .desk import WORDS_OF_PROMPT, Desk, refuse_early_end
-from .messages import Command, Failure, reason
+from . import environment
+from .messages import SIGNALS, Command, Failure, reason
+from .names import shown
 from .program import Session, find_program
-from .scripts import Unit, read_script
+from .scripts import read_text, read_units
 from .snapshot import check_texts
 
 ANSWERED, REFUSED = 0, 1
@@ -73,22 +72,12 @@ def become_program(program: str, folder: bytes, script: str) -> NoReturn:
         os.dup2(descriptor, 0)
     words = program_words(program, folder)
     signal.signal(signal.SIGPIPE, signal.SIG_DFL)  # Which Python ignores, and the program need not.
+    for number in range(3):
+        os.set_inheritable(number, True)  # Also one that was closed: the program is not to find it closed.
     try:
-        os.execv(program, words)
+        os.execve(program, words, environment.of_called())
     except OSError as error:
         raise Failure(os.fsencode(program) + b": " + reason(error)) from error
-
-
-def read_units(names: List[str]) -> List[Unit]:
-    """The lines of all scripts."""
-    units: List[Unit] = []
-    for name in names:
-        try:
-            with open(0 if name == "-" else name, "rb", closefd=name != "-") as file:
-                units += read_script(b"standard input" if name == "-" else os.fsencode(name), file.read())
-        except OSError as error:
-            raise Failure(os.fsencode(name) + b": " + reason(error)) from error
-    return units
 
 
 def answer_scripts(command: Command, program: str, folder: bytes, names: List[str]) -> int:
@@ -110,8 +99,24 @@ def answer_scripts(command: Command, program: str, folder: bytes, names: List[st
     return status
 
 
+def leave(number: int, _frame: Optional[FrameType]) -> None:
+    raise SystemExit(128 + number)
+
+
+def take_signals() -> None:
+    """At a prompt control-C ends a line, and not the command; the other signals end it as the one exception that prompt_toolkit's
+    loop of events lets through at any moment."""
+    for number in SIGNALS:
+        if signal.getsignal(number) != signal.SIG_IGN:
+            signal.signal(number, signal.default_int_handler if number == signal.SIGINT else leave)
+
+
 def prompt(command: Command, program: str, folder: bytes) -> int:
-    """Answers a person's lines."""
+    """Answers a person's lines. Only a prompt needs these parts of the package."""
+    from . import manual, overview, terminal
+    from .completion import Completer
+    from .desk import WORDS_OF_PROMPT, Desk, refuse_early_end
+
     texts = overview.read_texts(folder)
     completer = Completer(manual.find_page(), texts.passwd, texts.group, lambda: texts.dump, WORDS_OF_PROMPT)
 
@@ -119,10 +124,11 @@ def prompt(command: Command, program: str, folder: bytes) -> int:
         command.write(text)
         command.flush()
 
+    take_signals()
     desk = Desk(lambda: Session(program, folder), completer.page, completer, out)
     with contextlib.closing(desk):
         refuse_early_end(desk.session)
-        out(overview.summary(texts) + b"; `help` lists the tools, control-D ends\n")
+        out(shown(overview.summary(texts)) + b"; `help` lists the tools, control-D ends\n")
         for warning in overview.warnings(texts):
             command.say(warning)
         if terminal.find_toolkit() is None:
@@ -134,14 +140,18 @@ def prompt(command: Command, program: str, folder: bytes) -> int:
 def body(command: Command, words: List[str]) -> int:
     given = parse(words)
     if given.each:
+        from . import each
+
         return each.body(command, [given.snapshot, *given.scripts], given.program)
     folder = os.fsencode(given.snapshot)
     os.close(check_texts(folder))
     program = find_program(given.program)
     if given.part:
-        return part.write_part(command, program, folder, sys.stdin.buffer.read())
+        from . import part
+
+        return part.write_part(command, program, folder, read_text("-"))
     if len(given.scripts) > 1:
         return answer_scripts(command, program, folder, given.scripts)
-    if not given.scripts and sys.stdin.isatty() and sys.stdout.isatty():
+    if not given.scripts and os.isatty(0) and os.isatty(1):
         return prompt(command, program, folder)
     become_program(program, folder, given.scripts[0] if given.scripts else "-")

@@ -6,7 +6,7 @@ import re
 from typing import Callable, Dict, Iterator, List, NamedTuple, Optional, Set, Tuple
 
 from .manual import Page
-from .names import json_text, read_path
+from .names import read_path, shown
 from .people import rows_of
 from .scripts import words_of
 
@@ -89,8 +89,8 @@ class Paths:
 
 def written(name: bytes) -> str:
     """A name as a person writes it in a script, but for quotes."""
-    text = json_text(name.replace(b"\\", b"\\\\"))
-    return re.sub(r"[\x00-\x1f\x7f-\x9f']", lambda found: "".join("\\%03o" % byte for byte in found[0].encode()), text)
+    text = shown(name.replace(b"\\", b"\\\\")).decode()
+    return re.sub(r"[\t']", lambda found: "\\%03o" % ord(found[0]), text)
 
 
 def quoted(word: str, is_whole: bool) -> str:

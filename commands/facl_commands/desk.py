@@ -8,7 +8,7 @@ from . import causes
 from .completion import Completer
 from .manual import Page
 from .messages import Failure
-from .names import json_text, read_path, shown
+from .names import read_path, shown, write_name
 from .program import Answer, Region, Session
 from .scripts import LINE_LIMIT, Unit, is_empty, read_script, takes_text, words_of
 
@@ -141,7 +141,7 @@ class Desk:
         """Recorded files whose paths end in one that is not there."""
         match = re.match(rb"[a-z]+: (.*): no such file\Z", message, re.DOTALL)
         path = read_path(match[1]) if match else b""
-        return ["There is " + json_text(found) for found in self.completer.ending(path)] if path else []
+        return ["There is " + shown(write_name(found)).decode() for found in self.completer.ending(path)] if path else []
 
     def follow(self, unit: Unit) -> None:
         """Keeps the paths that are completed up to date."""

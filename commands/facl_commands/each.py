@@ -11,20 +11,25 @@ import os
 import re
 import shlex
 import shutil
+import signal
 import subprocess
 import sys
 import tempfile
 from typing import IO, Callable, Dict, Iterator, List, NamedTuple, Optional, Set, Tuple
 
+from . import environment
 from .messages import Command, Failure
 from .names import path_order, read_path, write_name
 from .part import EDITS, Header, read_header
 from .program import HOME, Region
-from .scripts import Unit, read_script
+from .scripts import Unit, read_script, read_text
 
 ANSWERED, REFUSED = 0, 1
 NO_FILE = b": no such file"
-HOST = re.compile(rb"([A-Za-z0-9@._-]+):(.*)\Z", re.DOTALL)
+NAME_OF_HOST = rb"[A-Za-z0-9_][A-Za-z0-9._-]*"
+HOST = re.compile(rb"((?:" + NAME_OF_HOST + rb"@)?" + NAME_OF_HOST + rb"):(.*)\Z", re.DOTALL)
+LIKE_HOST = re.compile(rb"[A-Za-z0-9@._-]+:|-[^/]*:")  # What somebody may have meant for one.
+NO_OPERAND = re.compile(rb".*\n|::::?\+?\Z|\Z", re.DOTALL)  # What parallel does not take as it is.
 PEOPLE = (b"gpasswd", b"usermod", b"useradd", b"userdel")
 Item = Tuple[bytes, int, bytes]  # A path, the number of its snapshot, and what is printed for it.
 SEVERAL = b"its files lie in several snapshots; name those of one in a line of its own"
@@ -54,7 +59,11 @@ def hosts_of(folders: List[bytes]) -> Dict[bytes, List[bytes]]:
     """The snapshots by the machine that they are on: HOST:DIR, or a folder of this machine."""
     found: Dict[bytes, List[bytes]] = {}
     for folder in folders:
-        match = None if b"/" in folder.partition(b":")[0] or os.path.exists(folder) else HOST.match(folder)
+        match = None if os.path.exists(folder) else HOST.match(folder)
+        if match is None and LIKE_HOST.match(folder) and not os.path.exists(folder):
+            raise Failure(folder + b": a HOST starts with a letter, a digit or _, so that no program takes it for something else")
+        if NO_OPERAND.match(match[2] if match else folder):
+            raise Failure(folder + b": parallel cannot be given a snapshot of this name: rename the folder")
         host, name = (match[1], match[2]) if match else (b":", folder)
         found.setdefault(host, []).append(name)
     return found
@@ -65,7 +74,7 @@ def parallel_words(host: bytes, folders: List[bytes], program: Optional[str]) ->
     found = shutil.which("parallel")
     if found is None:
         raise Failure(b"GNU parallel is not installed (package parallel)")
-    here = [os.fsencode(sys.executable), os.fsencode(os.path.join(HOME, "facl-ask"))]
+    here = [os.fsencode(sys.executable), b"-I", os.fsencode(os.path.join(HOME, "facl-ask"))]
     command = (here if host == b":" else [b"facl-ask"]) + [b"--part"]
     if program is not None:
         command += [b"--program", os.fsencode(program)]
@@ -74,18 +83,19 @@ def parallel_words(host: bytes, folders: List[bytes], program: Optional[str]) ->
     return [os.fsencode(found), *words, b" ".join(quoted) + b" -- {}", b":::", *folders]
 
 
-def run_parts(folders: List[bytes], program: Optional[str], script: bytes, work: str) -> List[Part]:
+def run_parts(hosts: Dict[bytes, List[bytes]], program: Optional[str], script: bytes, work: str) -> List[Part]:
     """Runs all snapshots side by side, and reads what they wrote."""
     with open(os.path.join(work, "script"), "wb") as file:
         file.write(script + b"\n")
     runs: List[Tuple["subprocess.Popen[bytes]", IO[bytes], IO[bytes]]] = []
+    called = {**environment.of_called(), "LC_ALL": "C", "PARALLEL_SHELL": "/bin/sh", "PARALLEL_HOME": work, "TMPDIR": work}
     try:
-        for host, names in hosts_of(folders).items():
+        for host, names in hosts.items():
             out, messages = tempfile.TemporaryFile(dir=work), tempfile.TemporaryFile(dir=work)
             with open(os.path.join(work, "script"), "rb") as given:
                 words = parallel_words(host, names, program)
-                environment = {**os.environ, "TMPDIR": work, "PARALLEL_HOME": work}
-                runs.append((subprocess.Popen(words, stdin=given, stdout=out, stderr=messages, env=environment), out, messages))
+                run = subprocess.Popen(words, stdin=given, stdout=out, stderr=messages, env=called, preexec_fn=leave_quit_to_us)
+                runs.append((run, out, messages))
         parts: List[Part] = []
         for run, out, messages in runs:
             run.wait()
@@ -93,9 +103,15 @@ def run_parts(folders: List[bytes], program: Optional[str], script: bytes, work:
     finally:
         for run, _, _ in runs:
             end(run)
-    if len(parts) != len(folders):
-        raise Failure(b"%d of %d snapshots did not answer" % (len(folders) - len(parts), len(folders)))
+    wanted = sum(map(len, hosts.values()))
+    if len(parts) != wanted:
+        raise Failure(b"%d of %d snapshots did not answer" % (wanted - len(parts), wanted))
     return parts
+
+
+def leave_quit_to_us() -> None:
+    """In parallel, which would end at SIGQUIT and leave its jobs behind: the signal is left to the command, which ends it."""
+    signal.signal(signal.SIGQUIT, signal.SIG_IGN)
 
 
 def end(run: "subprocess.Popen[bytes]") -> None:
@@ -276,12 +292,13 @@ def without(script: bytes, units: List[Unit], dropped: Set[int]) -> bytes:
 
 def body(command: Command, folders: List[str], program: Optional[str]) -> int:
     """Answers standard input over all snapshots."""
-    script = sys.stdin.buffer.read()
+    hosts = hosts_of([os.fsencode(it) for it in folders])
+    script = read_text("-")
     units = read_script(b"standard input", script)
     dropped: Dict[int, Joined] = {}
     with tempfile.TemporaryDirectory(prefix="facl-ask.") as work:
         while True:
-            parts = run_parts([os.fsencode(it) for it in folders], program, without(script, units, set(dropped)), work)
+            parts = run_parts(hosts, program, without(script, units, set(dropped)), work)
             joined: Dict[int, Joined] = dict(dropped)
             for unit in units:
                 if unit.number not in joined:

@@ -9,7 +9,7 @@ import re
 from typing import Iterator, List, NamedTuple, Set
 
 from .messages import counted
-from .names import read_path
+from .names import live_name, read_path
 from .people import rows_of
 from .records import EMPTY_MASK, OTHERS_WITH_SOMETHING
 from .snapshot import NEEDED, read_links
@@ -74,7 +74,7 @@ def warnings(texts: Texts) -> Iterator[bytes]:
     """Each with a number and the first name."""
     found = [
         (b"names of files that have another name in the snapshot too (see links)",
-         [b"/" + name for names in read_links(texts.links) for name in names]),
+         [live_name(path) for names in read_links(texts.links) for path in names]),
         (b"lists with an empty mask whose others have something, which Linux grants to named users and groups too, and facl does not",
          list(open_empty_masks(texts.dump))),
         (b"ids in the dump without a row in passwd or group", ids_without_row(texts)),

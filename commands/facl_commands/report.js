@@ -6,7 +6,15 @@ const REQUESTS = ["---", "--x", "-w-", "-wx", "r--", "r-x", "rw-", "rwx"];
 const SHOWN = 500; // Files of a search that are shown at once.
 const FIRST = 200; // Rows of the tree at the start, about.
 const ROWS = 4000; // Rows of the tree that are shown at once.
-let rows = 0, who = 0, alongPaths = false, changesAlone = false, search = "", chosen = null;
+const LONG = 240; // Letters of a name or path in a row; a longer one is shown without its middle.
+const LONGEST = 2000; // Letters of the path beside the tree.
+// A file is its place in these columns, in path order: the files in a directory, and in these, follow it.
+const {parents, names, rights, records, inner, changed, reached} = data.files;
+const files = parents.length;
+const SEVERAL = -2, NONE = -1;
+const sizes = new Int32Array(files), changes = new Int32Array(files), depths = new Int32Array(files), opens = new Uint8Array(files), alike = new Uint8Array(files);
+const openGroups = new Set(); // Of files that are alike, by their directory and their rights.
+let rows = 0, who = 0, alongPaths = false, changesAlone = false, search = "", chosen = NONE;
 
 function element(name, properties, ...inner) {
   const made = Object.assign(document.createElement(name), properties);
@@ -26,109 +34,131 @@ function colour(right) {
   return write && read ? "rw" : write ? "w" : read ? "r" : right.includes("x") ? "x" : "none";
 }
 
+function isFolder(file) { return inner[file] >= 0; }
+function isChanged(file) { return changed[file] !== undefined; }
+function rightsOf(file, isOld) { return isOld && isChanged(file) ? changed[file][0] : rights[file]; }
+function recordOf(file, isOld) { return isOld && isChanged(file) ? changed[file][1] : records[file]; }
+function innerOf(file, isOld) { return (isOld ? reached[file] : undefined) ?? inner[file]; }
+function aboveOf(file, isOld) { return parents[file] < 0 ? data.start : innerOf(parents[file], isOld); }
+function isReached(reach, place) { return data.reaches[reach][place] === "1"; }
+
 // What the user of a place may do on a file alone, as a byte of `index`, in the present state or the one before the script;
 // 0 where the file or the user is not there.
-function byteOf(node, place, isOld) {
-  return parseInt(data.rows[isOld ? node.q ?? node.r : node.r].substr(2 * place, 2) || "0", 16);
+function byteOf(file, place, isOld) {
+  return parseInt(data.rows[rightsOf(file, isOld)].substr(2 * place, 2) || "0", 16);
 }
 
-function rightOf(node, place, isOld) {
-  const byte = byteOf(node, place, isOld);
-  if (alongPaths && data.reaches[isOld ? node.aboveOld : node.above][place] !== "1") return byte ? "none" : "absent";
+function rightOf(file, place, isOld) {
+  const byte = byteOf(file, place, isOld);
+  if (alongPaths && !isReached(aboveOf(file, isOld), place)) return byte ? "none" : "absent";
   return GRANTED[byte];
 }
 
-// Gives each node what is asked of it often: the reach above it, its parent, its count, and whether all below is alike.
-function prepare(node, parent, above, aboveOld) {
-  node.parent = parent;
-  node.above = above;
-  node.aboveOld = aboveOld;
-  node.count = 1;
-  node.changes = node.q === undefined ? 0 : 1;
-  if (!node.d) return;
-  const files = new Set(), folders = new Set([node.r + "/" + (node.q ?? "")]);
-  for (const child of node.c) {
-    prepare(child, node, node.i, node.j ?? node.i);
-    node.count += child.count;
-    node.changes += child.changes;
-    if (child.d) child.folders.forEach(it => folders.add(it)), child.files.forEach(it => files.add(it));
-    else files.add(child.r + "/" + (child.q ?? ""));
+function both(one, other) { return one === NONE || one === other ? other : other === NONE ? one : SEVERAL; }
+
+// Gives each file what is asked of it often: its depth, the numbers of files and of changed files from it on, and whether
+// all of these are alike, files with files and directories with directories.
+function prepare() {
+  const below = new Int32Array(files).fill(NONE), folders = new Int32Array(files).fill(NONE);
+  for (let file = 0; file < files; file++) depths[file] = parents[file] < 0 ? 0 : depths[parents[file]] + 1;
+  for (let file = files - 1; file >= 0; file--) {
+    const parent = parents[file];
+    sizes[file] += 1;
+    changes[file] += isChanged(file) ? 1 : 0;
+    folders[file] = isFolder(file) ? both(folders[file], rights[file]) : NONE;
+    alike[file] = isFolder(file) && sizes[file] > 1 && !changes[file] && below[file] !== SEVERAL && folders[file] !== SEVERAL ? 1 : 0;
+    if (parent < 0) continue;
+    sizes[parent] += sizes[file];
+    changes[parent] += changes[file];
+    below[parent] = both(below[parent], isFolder(file) ? below[file] : rights[file]);
+    folders[parent] = both(folders[parent], folders[file]);
   }
-  node.files = files.size > 1 ? new Set([0, 1]) : files;
-  node.folders = folders.size > 1 ? new Set([0, 1]) : folders;
-  node.isAlike = files.size < 2 && folders.size < 2 && node.count > 1 && !node.changes;
-  node.isOpen = false;
+}
+
+// The files in a directory, at most so many.
+function inside(folder, most) {
+  const found = [];
+  for (let file = folder + 1; file < folder + sizes[folder] && found.length < most; file += sizes[file]) found.push(file);
+  return found;
 }
 
 // Opens directories from the top down, as long as that makes no more than so many rows.
 function openFirst(room) {
-  const coming = [...data.tree];
-  for (const node of coming) {
-    if (!node.d || node.isAlike || (node.parent && node.c.length > room)) continue;
-    node.isOpen = true;
-    room -= node.c.length;
-    coming.push(...node.c);
+  const coming = [];
+  for (let file = 0; file < files; file += sizes[file]) coming.push(file);
+  for (const file of coming) {
+    if (!isFolder(file) || alike[file]) continue;
+    const found = inside(file, Math.max(room, 0) + 1);
+    if (parents[file] >= 0 && found.length > room) continue;
+    opens[file] = 1;
+    room -= found.length;
+    for (const it of found) coming.push(it);
   }
 }
 
-function pathOf(node) {
-  if (!node.parent) return "/";
-  return (node.parent.parent ? pathOf(node.parent) : "") + "/" + node.n;
+// A text without its middle where it is longer than it may be.
+function shortened(text, most) {
+  if (text.length <= most) return text;
+  const half = Math.floor(most / 2);
+  return text.slice(0, half).replace(/[\ud800-\udbff]$/, "") + " \u2026 " + text.slice(-half).replace(/^[\udc00-\udfff]/, "");
 }
 
-function rightBadge(node) {
-  const now = rightOf(node, who, false), before = rightOf(node, who, true);
+// The path of a file; of many components those that are shown at least.
+function pathOf(file, most) {
+  const way = [];
+  for (let it = file; it >= 0 && (parents[it] >= 0 || names[it] !== "/"); it = parents[it]) way.push(it);
+  way.reverse();
+  const kept = way.length <= most ? way : [...way.slice(0, most / 2), ...way.slice(-most / 2)];
+  return shortened("/" + kept.map(it => names[it]).join("/"), most);
+}
+
+function rightBadge(file) {
+  const now = rightOf(file, who, false), before = rightOf(file, who, true);
   const badge = element("span", {className: "right " + colour(now), textContent: now});
   return before === now ? [badge] : [element("span", {className: "right " + colour(before), textContent: before}), "\u2192", badge];
 }
 
-function nodeRow(node, deep) {
+function rowOf(depth) {
   const row = element("div", {className: "row"});
-  row.style.setProperty("--deep", deep);
-  const open = element("button", {className: "open", type: "button", textContent: node.d && node.c.length ? (node.isOpen ? "\u25be" : "\u25b8") : ""});
-  open.onclick = () => { node.isOpen = !node.isOpen; draw(); };
-  const name = element("button", {className: "name" + (node === chosen ? " chosen" : ""), type: "button", textContent: node.n + (node.d && node.parent ? "/" : "")});
-  name.onclick = () => { chosen = node; draw(); };
-  row.append(open, ...rightBadge(node), name);
-  if (node.d && !node.isOpen && node.count > 1)
-    row.append(element("span", {className: "count", textContent: (node.count - 1) + " below" + (node.isAlike ? ", alike for everybody" : "")}));
-  if (node.q !== undefined) row.append(element("span", {className: "changed", textContent: node.l < 0 ? "removed" : node.m < 0 ? "new" : "changed"}));
-  else if (node.changes) row.append(element("span", {className: "changed", textContent: node.changes + " changed below"}));
+  row.style.setProperty("--deep", depth);
   return row;
 }
+
+function fileRow(file, depth, text) {
+  const row = rowOf(depth), isTop = parents[file] < 0;
+  const open = element("button", {className: "open", type: "button", textContent: sizes[file] > 1 ? (opens[file] ? "\u25be" : "\u25b8") : ""});
+  open.onclick = () => { opens[file] = 1 - opens[file]; draw(); };
+  const name = element("button", {className: "name" + (file === chosen ? " chosen" : ""), type: "button",
+    textContent: text ?? shortened(names[file], LONG) + (isFolder(file) && !isTop ? "/" : "")});
+  name.onclick = () => { chosen = file; draw(); };
+  row.append(open, ...rightBadge(file), name);
+  if (!opens[file] && sizes[file] > 1)
+    row.append(element("span", {className: "count", textContent: (sizes[file] - 1) + " below" + (alike[file] ? ", alike for everybody" : "")}));
+  if (isChanged(file)) row.append(element("span", {className: "changed", textContent: records[file] < 0 ? "removed" : changed[file][1] < 0 ? "new" : "changed"}));
+  else if (changes[file]) row.append(element("span", {className: "changed", textContent: changes[file] + " changed below"}));
+  return row;
+}
+
+function groupKey(file) { return parents[file] + "/" + rights[file]; }
 
 // Files of a folder with the same rights, as one row.
-function groupRow(parent, group, deep) {
-  const row = element("div", {className: "row"});
-  row.style.setProperty("--deep", deep);
+function groupRow(first, count) {
+  const row = rowOf(depths[first]);
   const open = element("button", {className: "open", type: "button", textContent: "\u25b8"});
-  const name = element("button", {className: "name", type: "button", textContent: group[0].n + " .. " + group[group.length - 1].n});
-  open.onclick = name.onclick = () => { (parent.openGroups ??= new Set()).add(group[0].r); draw(); };
-  row.append(open, ...rightBadge(group[0]), name, element("span", {className: "count", textContent: group.length + " files, alike for everybody"}));
+  const name = element("button", {className: "name", type: "button",
+    textContent: shortened(names[first], LONG / 2) + " .. " + shortened(names[first + count - 1], LONG / 2)});
+  open.onclick = name.onclick = () => { openGroups.add(groupKey(first)); draw(); };
+  row.append(open, ...rightBadge(first), name, element("span", {className: "count", textContent: count + " files, alike for everybody"}));
   return row;
 }
 
-function isShown(node) { return !changesAlone || node.changes > 0; }
+function isShown(file) { return !changesAlone || changes[file] > 0; }
 
-function drawBelow(node, deep, out) {
-  const children = node.c.filter(isShown);
-  let group = [];
-  const flush = () => {
-    const isGroup = group.length > 3 && !node.openGroups?.has(group[0].r) && !group.includes(chosen);
-    if (isGroup) addRow(out, () => groupRow(node, group, deep));
-    else for (const it of group) addRow(out, () => nodeRow(it, deep));
-    group = [];
-  };
-  for (const child of children) {
-    if (child.d || child.q !== undefined) {
-      flush();
-      drawNode(child, deep, out);
-    } else {
-      if (group.length && group[0].r !== child.r) flush();
-      group.push(child);
-    }
-  }
-  flush();
+// How many files from one on are in one directory, unchanged, and have the same rights.
+function groupSize(first) {
+  let next = first;
+  while (next < files && parents[next] === parents[first] && !isFolder(next) && !isChanged(next) && rights[next] === rights[first]) next += 1;
+  return next - first;
 }
 
 // Adds a row where there is room for it.
@@ -137,48 +167,61 @@ function addRow(out, make) {
   if (rows <= ROWS) out.append(make());
 }
 
-function drawNode(node, deep, out) {
-  if (rows > ROWS) return;
-  addRow(out, () => nodeRow(node, deep));
-  if (node.d && node.isOpen) drawBelow(node, deep + 1, out);
+// Draws files that are alike, as one row where they are many and closed; returns how many they are.
+function drawGroup(first, out) {
+  const count = groupSize(first);
+  const isClosed = count > 3 && !openGroups.has(groupKey(first)) && !(chosen >= first && chosen < first + count);
+  if (isClosed) addRow(out, () => groupRow(first, count));
+  else for (let file = first; file < first + count && rows <= ROWS; file++) addRow(out, () => fileRow(file, depths[file]));
+  return count;
+}
+
+function drawTree(out) {
+  let file = 0;
+  while (file < files && rows <= ROWS) {
+    if (!isShown(file)) file += sizes[file];
+    else if (groupSize(file) > 0) file += drawGroup(file, out);
+    else {
+      const place = file;
+      addRow(out, () => fileRow(place, depths[place]));
+      file += opens[file] ? 1 : sizes[file];
+    }
+  }
+  if (rows > ROWS) out.append(element("p", {className: "row count", textContent: "only the first " + ROWS + " rows are shown: close directories, or search"}));
 }
 
 function drawFound(out) {
   const found = [];
-  const walk = node => {
-    if (found.length > SHOWN) return;
-    if (isShown(node) && node.n.includes(search)) found.push(node);
-    if (node.d) node.c.forEach(walk);
-  };
-  data.tree.forEach(walk);
-  for (const node of found.slice(0, SHOWN)) {
-    const row = nodeRow(node, 0);
-    row.querySelector(".name").textContent = pathOf(node);
-    out.append(row);
-  }
+  for (let file = 0; file < files && found.length <= SHOWN; file++)
+    if (isShown(file) && names[file].includes(search)) found.push(file);
+  for (const file of found.slice(0, SHOWN)) out.append(fileRow(file, 0, pathOf(file, LONG)));
   out.append(element("p", {className: "row count", textContent: found.length > SHOWN ? "only the first " + SHOWN + " are shown" : found.length + " found"}));
 }
 
 function whoText([kind, name]) { return kind === "user" ? name : kind === "group" ? "group " + name : "everybody else"; }
 
 // The entries of a file by which a user is judged.
-function entriesOf(node, place, isOld) {
-  const list = isOld ? node.m ?? node.l : node.l;
-  const decision = (isOld && data.before[list]) || data.decisions[list];
+function entriesOf(file, place, isOld) {
+  const record = recordOf(file, isOld);
+  const decision = (isOld && data.before[record]) || data.decisions[record];
   return decision ? data.entries[decision[1][place] ?? decision[0]].replaceAll("\n", ", ") : "";
+}
+
+// The first directory on the way to a file that a user may not search; NONE where there is none.
+function closedFolder(file, place, isOld) {
+  if (isReached(aboveOf(file, isOld), place)) return NONE;
+  let it = parents[file];
+  while (it >= 0 && (aboveOf(it, isOld) === innerOf(it, isOld) || !isReached(aboveOf(it, isOld), place))) it = parents[it];
+  return it;
 }
 
 // By which entries a user has a right: those of the file, or along its path those of the first directory that the user may
 // not search.
-function reasonOf(node, place, isOld) {
-  let closed = null;
-  for (let it = alongPaths ? node.parent : null; it; it = it.parent) {
-    const byte = byteOf(it, place, isOld);
-    if (byte && !(byte >> 1 & 1)) closed = it;
-  }
-  if (!byteOf(node, place, isOld)) return "";
-  const entries = entriesOf(closed ?? node, place, isOld);
-  return closed && entries ? entries + " of " + pathOf(closed) : entries;
+function reasonOf(file, place, isOld) {
+  if (!byteOf(file, place, isOld)) return "";
+  const closed = alongPaths ? closedFolder(file, place, isOld) : NONE;
+  const entries = entriesOf(closed >= 0 ? closed : file, place, isOld);
+  return closed >= 0 && entries ? entries + " of " + pathOf(closed, LONG) : entries;
 }
 
 // What was and what is, where the two differ.
@@ -187,12 +230,13 @@ function bothOf(before, now) { return before === now || !before ? now : now ? be
 // Who may do what with the chosen file, and by which entries.
 function drawSide() {
   const box = element("div");
-  if (!chosen) box.append(element("p", {textContent: "Choose a file to see its list, and who may do what with it."}));
+  if (chosen < 0) box.append(element("p", {textContent: "Choose a file to see its list, and who may do what with it."}));
   else {
-    box.append(element("h2", {className: "name", textContent: pathOf(chosen)}));
-    if (chosen.q !== undefined && chosen.m >= 0 && chosen.m !== chosen.l)
-      box.append(element("h3", {textContent: "Before"}), element("pre", {textContent: data.lists[chosen.m]}), element("h3", {textContent: "After"}));
-    if (chosen.l >= 0) box.append(element("pre", {textContent: data.lists[chosen.l]}));
+    box.append(element("h2", {className: "name", textContent: pathOf(chosen, LONGEST)}));
+    const before = recordOf(chosen, true), now = records[chosen];
+    if (before >= 0 && before !== now)
+      box.append(element("h3", {textContent: "Before"}), element("pre", {textContent: data.lists[before]}), element("h3", {textContent: "After"}));
+    if (now >= 0) box.append(element("pre", {textContent: data.lists[now]}));
     for (const kind of ["user", "group", "everybody"]) {
       const alike = new Map();
       data.whos.forEach((it, place) => {
@@ -218,8 +262,7 @@ function draw() {
   const out = document.createDocumentFragment();
   rows = 0;
   if (search) drawFound(out);
-  else data.tree.filter(isShown).forEach(node => drawNode(node, 0, out));
-  if (rows > ROWS) out.append(element("p", {className: "row count", textContent: "only the first " + ROWS + " rows are shown: close directories, or search"}));
+  else drawTree(out);
   document.getElementById("tree").replaceChildren(out);
   drawSide();
 }
@@ -230,10 +273,14 @@ function choice(text, change) {
   return element("label", {}, box, text);
 }
 
+// Opens the directories that have changed files below them.
+function openChanges() {
+  for (let file = 0; file < files; file++) if (isFolder(file) && changes[file]) opens[file] = 1;
+}
+
 function start() {
-  data.tree.forEach(node => prepare(node, null, data.start, data.start));
+  prepare();
   openFirst(FIRST);
-  const files = data.tree.reduce((sum, node) => sum + node.count, 0), changes = data.tree.reduce((sum, node) => sum + node.changes, 0);
   const select = element("select", {id: "who"});
   data.whos.forEach((it, place) => select.append(element("option", {value: place, textContent: whoText(it)})));
   select.onchange = () => { who = Number(select.value); draw(); };
@@ -241,17 +288,12 @@ function start() {
   field.oninput = () => { search = field.value; draw(); };
   const bar = element("div", {className: "bar"}, element("label", {}, "What may ", select, " do"),
     choice("along paths", it => { alongPaths = it; }), element("label", {}, "Find ", field));
-  if (data.script) bar.append(choice("changes alone", it => { changesAlone = it; if (it) data.tree.forEach(openChanges); }));
-  const numbers = files + " files, " + data.whos.filter(it => it[0] === "user").length + " users" + (data.script ? ", " + changes + " files changed" : "");
-  document.body.append(element("header", {}, element("h1", {textContent: data.title + ": " + numbers}), bar),
+  if (data.script) bar.append(choice("changes alone", it => { changesAlone = it; if (it) openChanges(); }));
+  const counts = files + " files, " + data.whos.filter(it => it[0] === "user").length + " users"
+    + (data.script ? ", " + Object.keys(changed).length + " files changed" : "");
+  document.body.append(element("header", {}, element("h1", {textContent: data.title + ": " + counts}), bar),
     element("main", {}, element("div", {id: "tree"}), element("div", {id: "side"})));
   draw();
-}
-
-function openChanges(node) {
-  if (!node.d || !node.changes) return;
-  node.isOpen = true;
-  node.c.forEach(openChanges);
 }
 
 start();

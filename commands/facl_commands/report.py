@@ -9,21 +9,23 @@ import argparse
 import base64
 import hashlib
 import json
-import mmap
 import os
 import re
 import secrets
 from collections import Counter
-from typing import Dict, Iterator, List, NamedTuple, Tuple
+from typing import Dict, Generic, Hashable, Iterable, Iterator, List, NamedTuple, Tuple, TypeVar
 
-from . import plan, reasons, rights
-from .messages import Command, counted
-from .names import path_order, read_path
+from . import plan
+from .label_answers import Answers, People, ask_labels
+from .messages import Command, Failure, counted
 from .names import shown as shown_bytes
-from .people import rows_of
-from .program import Region, Session, find_program
-from .records import Files, read_listing
-from .scripts import read_script
+from .names import write_name
+from .new_file import NewFile
+from .page_tree import ABOVE, GONE, Labels, Listing, Record, Tree, records_of
+from .people import CHANGES, rows_of
+from .program import Session, find_program
+from .records import File, Files
+from .scripts import Unit, read_units
 from .snapshot import Snapshot, read_snapshot
 
 HERE = os.path.dirname(os.path.realpath(__file__))
@@ -31,13 +33,13 @@ WRITTEN, REFUSED = 0, 1
 ABSENT = b"00"  # In the place of a byte of `index`, which always grants the request for nothing.
 GREATEST_ID = 4_294_967_294
 HELP = """\
-Writes one page of HTML to standard output: a tree of the files of a snapshot, in which the rights of a user or a group are
-shown by colour, on each file or along its path; the list of a file, and who may do what with it, by which entries; with
-SCRIPTs, what their edits change. The page needs no network. The SCRIPT - is standard input.
+Writes one page of HTML, to standard output or to a new FILE: a tree of the files of a snapshot, in which the rights of a
+user or a group are shown by colour, on each file or along its path; the list of a file, and who may do what with it, by
+which entries; with SCRIPTs, what their edits change. The page needs no network. The SCRIPT - is standard input.
 """
 STATUS = """\
 The exit status is 0 where the page is written; 1 where lines were refused: then none is; 2 where the words, the snapshot
-or a script cannot be used.
+or a script cannot be used, or FILE cannot be made; 5 where FILE is written, and a message was not.
 """
 PAGE = """\
 <!DOCTYPE html>
@@ -60,12 +62,10 @@ PAGE = """\
 
 
 class State(NamedTuple):
-    """What the program answers at one time."""
+    """The files at one time, and what the program answers of their labels."""
 
-    files: Files
-    whos: List[bytes]
-    vectors: Dict[bytes, bytes]  # By path: two hex digits for each of whos.
-    reasons: reasons.Reasons
+    listing: Listing
+    answers: Answers
 
 
 class Who(NamedTuple):
@@ -81,6 +81,7 @@ def parse(words: List[str]) -> argparse.Namespace:
         prog="facl-report", description=HELP, epilog=STATUS, formatter_class=argparse.RawDescriptionHelpFormatter, allow_abbrev=False,
     )
     parser.add_argument("--program", metavar="FILE", help="the program facl; without it $FACL, or facl on the path")
+    parser.add_argument("--output", metavar="FILE", help="write the page to a new file that its owner alone may read")
     parser.add_argument("snapshot", metavar="SNAPSHOT")
     parser.add_argument("scripts", metavar="SCRIPT", nargs="*")
     return parser.parse_args(words)
@@ -91,177 +92,161 @@ def shown(text: bytes) -> str:
     return shown_bytes(text).decode()
 
 
-def unused_ids(passwd: bytes, files: Files) -> Iterator[int]:
-    """Ids that neither rows nor lists have, from the greatest one down."""
+def shown_lines(text: bytes) -> str:
+    return "\n".join(map(shown, text.split(b"\n")))
+
+
+def unused_ids(passwd: bytes, texts: Iterable[bytes]) -> Iterator[int]:
+    """Ids that neither rows nor texts have, from the greatest one down."""
     used = {int(row[2]) for row in rows_of(passwd)}
-    used |= {int(it) for body in {file.body for file in files.values()} for it in re.findall(rb"[0-9]+", body)}
+    used |= {int(it) for text in texts for it in re.findall(rb"[0-9]+", text)}
     return (it for it in range(GREATEST_ID, 0, -1) if it not in used)
 
 
-def add_probes(session: Session, snapshot: Snapshot, files: Files) -> List[Who]:
-    """Adds a user for each group that lists name, who has that group alone, and one for everybody."""
-    bodies = {file.body for file in files.values()}
-    named = {it for body in bodies for it in re.findall(rb"^(?:# group: |group:)([0-9]+)", body, re.MULTILINE)}
-    groups = rows_of(snapshot.group)
-    unnamed = next((row for row in groups if row[2] not in named), None)
-    wanted = [("group", row[0], row) for row in groups if row[2] in named]
-    wanted += [("everybody", b"everybody", unnamed)] if unnamed else []
-    ids = unused_ids(snapshot.passwd, files)
-    token = secrets.token_hex(8).encode()
-    found: List[Who] = []
-    for place, (kind, name, row) in enumerate(wanted):
-        user = b"probe-%s-%d" % (token, place)
-        session.ask_surely(b"useradd -u %d -g %s -- %s" % (next(ids), row[2], user))
-        found.append(Who(kind, name, user))
-    return found
+class Probes:
+    """A user for each group that lists name, who has that group alone, and one for everybody."""
+
+    def __init__(self, snapshot: Snapshot, bodies: List[bytes], changes: bytes) -> None:
+        named = {it for body in bodies for it in re.findall(rb"^(?:# group: |group:)([0-9]+)", body, re.MULTILINE)}
+        groups = rows_of(snapshot.group)
+        unnamed = next((row for row in groups if row[2] not in named), None)
+        wanted = [("group", row[0], row) for row in groups if row[2] in named]
+        wanted += [("everybody", b"everybody", unnamed)] if unnamed else []
+        ids = unused_ids(snapshot.passwd, [*bodies, changes])
+        token = secrets.token_hex(8).encode()
+        self.whos = [Who(kind, name, b"probe-%s-%d" % (token, place)) for place, (kind, name, _) in enumerate(wanted)]
+        self.lines = b"".join(
+            b"useradd -u %d -g %s -- %s\n" % (next(ids), row[2], who.user) for who, (_, _, row) in zip(self.whos, wanted)
+        )
 
 
-def vectors_of(region: Region, users: List[bytes], files: Files) -> Dict[bytes, bytes]:
-    """For each path two digits of each user. All lines of a file have one length but for the user; files with one owner, group
-    and list have the same digits, which are read once."""
-    found: Dict[bytes, bytes] = {}
-    known: Dict[bytes, bytes] = {}
-    starts = [0]
-    for user in users:
-        starts.append(starts[-1] + len(user))
-    with mmap.mmap(region.file.fileno(), region.end, access=mmap.ACCESS_READ) as text:
-        place = region.start
-        while place < region.end:
-            name = text[place : text.find(b"\n", place)].split(b" ", 2)[2]
-            path = read_path(name)
-            step = len(name) + 5
-            label = files[path].body
-            if label not in known:
-                heads = [place + start + k * step for k, start in enumerate(starts[:-1])]
-                known[label] = b"".join([text[head : head + 2] for head in heads])
-            found[path] = known[label]
-            place += starts[-1] + len(users) * step
-    return found
+Value = TypeVar("Value", bound=Hashable)
 
 
-def state_of(session: Session, passwd: bytes) -> State:
-    """The files, and who may do what with them, by which entries."""
-    answer = session.ask(b"getfacl -R -E .\n")
-    files = {} if answer.messages else read_listing(answer.output.read())
-    table = session.ask_surely(b"index")
-    users = rights.users_of(table)
-    return State(files, users, vectors_of(table, users, files) if users else {}, reasons.ask_reasons(session, passwd, users, files))
-
-
-class Table:
+class Table(Generic[Value]):
     """Values that many files share, each with a number."""
 
     def __init__(self) -> None:
-        self.numbers: Dict[str, int] = {}
+        self.numbers: Dict[Value, int] = {}
+        self.values: List[Value] = []  # By number.
 
-    def number(self, value: str) -> int:
-        return self.numbers.setdefault(value, len(self.numbers))
+    def number(self, value: Value) -> int:
+        found = self.numbers.setdefault(value, len(self.values))
+        if found == len(self.values):
+            self.values.append(value)
+        return found
 
-    def values(self) -> List[str]:
-        return list(self.numbers)
 
+class Tables:
+    """Texts and numbers that many files share."""
 
-class Builder:
-    """The data of the page."""
-
-    def __init__(self, old: State, new: State, whos: List[Who]) -> None:
-        self.old, self.new, self.whos = old, new, whos
-        self.rows, self.lists, self.reaches, self.entries = Table(), Table(), Table(), Table()
-        self.known_digits: Dict[Tuple[int, bytes], str] = {}
-        self.known_lists: Dict[bytes, int] = {}
+    def __init__(self) -> None:
+        self.rows: Table[str] = Table()
+        self.lists: Table[Tuple[str, bytes]] = Table()  # A text with the record that it shows.
+        self.reaches: Table[str] = Table()
+        self.entries: Table[str] = Table()
         self.known_entries: Dict[bytes, int] = {}
-        self.places = [self.picker(state) for state in (old, new)]
-        paths = sorted({*old.files, *new.files}, key=path_order)
-        self.children: Dict[bytes, List[bytes]] = {}
-        for path in paths:
-            if path:
-                self.children.setdefault(path.rpartition(b"/")[0], []).append(path)
-
-    def picker(self, state: State) -> List[int]:
-        """Where the digits of each of the shown users are; -1 where the user is not there."""
-        known = {user: place for place, user in enumerate(state.whos)}
-        return [known.get(who.user, -1) for who in self.whos]
-
-    def digits(self, which: int, path: bytes) -> str:
-        """The digits of all shown users on a file, before or after."""
-        vector = (self.old, self.new)[which].vectors.get(path)
-        if vector is None:
-            return ""
-        if (which, vector) not in self.known_digits:
-            digits = [ABSENT if place < 0 else vector[2 * place : 2 * place + 2] for place in self.places[which]]
-            self.known_digits[which, vector] = b"".join(digits).decode()
-        return self.known_digits[which, vector]
-
-    def inside(self, reach: str, digits: str) -> str:
-        """Who can get to what is in a directory: those who can get to it, and are granted search there."""
-        if not digits:
-            return reach
-        return "".join("1" if it == "1" and int(digits[2 * k : 2 * k + 2], 16) & 2 else "0" for k, it in enumerate(reach))
-
-    def list_number(self, which: int, path: bytes) -> int:
-        file = (self.old, self.new)[which].files.get(path)
-        if file is None:
-            return -1
-        if file.body not in self.known_lists:
-            lines = file.body.rstrip(b"\n").split(b"\n")
-            self.known_lists[file.body] = self.lists.number("\n".join(map(shown, lines)))
-        return self.known_lists[file.body]
+        self.known_insides: Dict[Tuple[int, int], int] = {}
 
     def entries_number(self, text: bytes) -> int:
         if text not in self.known_entries:
-            self.known_entries[text] = self.entries.number(shown(text))
+            self.known_entries[text] = self.entries.number(shown_lines(text))
         return self.known_entries[text]
 
-    def decisions(self, which: int, body: bytes) -> List[object]:
+    def decisions(self, reasons: List[bytes], places: List[int]) -> List[object]:
         """By which entries of a list the shown users are judged: those that judge the most of them, and the others' by their
         places."""
-        answers = (self.old, self.new)[which].reasons[body]
-        numbers = {place: self.entries_number(answers[it]) for place, it in enumerate(self.places[which]) if it >= 0}
+        numbers = {place: self.entries_number(reasons[it]) for place, it in enumerate(places) if it >= 0}
         most = Counter(numbers.values()).most_common(1)[0][0] if numbers else 0
         return [most, {place: number for place, number in numbers.items() if number != most}]
 
+    def inside(self, reach: int, row: int) -> int:
+        """Who can get to what is in a directory: those who can get to it, and are granted search there."""
+        digits = self.rows.values[row]
+        if not digits:
+            return reach
+        if (reach, row) not in self.known_insides:
+            above = enumerate(self.reaches.values[reach])
+            found = ["1" if it == "1" and int(digits[2 * k : 2 * k + 2], 16) & 2 else "0" for k, it in above]
+            self.known_insides[reach, row] = self.reaches.number("".join(found))
+        return self.known_insides[reach, row]
+
+
+class View:
+    """What is shown of the labels of one state, by number in the tables of the page; of a file that is not there at the
+    end, where GONE finds it."""
+
+    def __init__(self, state: State, bodies: List[bytes], whos: List[Who], tables: Tables) -> None:
+        self.listing = state.listing
+        known = {user: place for place, user in enumerate(state.answers.users)}
+        places = [known.get(who.user, -1) for who in whos]  # -1 where the user is not there.
+        self.rows = [tables.rows.number(digits_of(vector, places)) for vector in state.answers.vectors]
+        self.rows.append(tables.rows.number(""))
+        self.lists = [tables.lists.number((shown_lines(it), body)) for it, body in zip(state.answers.lists, bodies)] + [GONE]
+        self.decisions = {
+            number: tables.decisions(reasons, places) for number, reasons in zip(self.lists, state.answers.reasons)
+        }
+
+    def label(self, number: int) -> int:
+        return self.listing.labels[number] if number < len(self.listing.labels) else GONE
+
+
+def digits_of(vector: bytes, places: List[int]) -> str:
+    """The digits of the shown users, from those of all users."""
+    return b"".join([ABSENT if place < 0 else vector[2 * place : 2 * place + 2] for place in places]).decode()
+
+
+class Builder:
+    """The data of the page: the files in path order, by columns, so that a file is in an earlier one, and nothing is nested."""
+
+    def __init__(self, tree: Tree, whos: List[Who], old: View, new: View, tables: Tables) -> None:
+        self.tree, self.whos, self.old, self.new, self.tables = tree, whos, old, new, tables
+        self.start = tables.reaches.number("1" * len(whos))
+        self.insides: Tuple[List[int], List[int]] = ([self.start] * len(tree.names), [self.start] * len(tree.names))
+
+    def inner(self, view: View, insides: List[int], number: int) -> int:
+        """The reach of what is in a directory, which is kept for that."""
+        parent = self.tree.parents[number]
+        above = self.start if parent == ABOVE else insides[parent]
+        insides[number] = self.tables.inside(above, view.rows[view.label(number)])
+        return insides[number]
+
+    def files(self) -> Dict[str, object]:
+        """The columns: the place of what a file is in, its name, row and list, and of a directory the reach of what is in it;
+        and by places the row and list before, and the reach, where these are others."""
+        places = [ABOVE] * (len(self.tree.names) + 1)  # The last one is that of ABOVE itself.
+        columns: List[Tuple[int, str, int, int, int]] = []
+        changed: Dict[int, Tuple[int, int]] = {}
+        reached: Dict[int, int] = {}
+        for place, number in enumerate(self.tree.order()):
+            places[number] = place
+            old, new = ((view.rows[view.label(number)], view.lists[view.label(number)]) for view in (self.old, self.new))
+            was, is_now = (number in view.listing.directories for view in (self.old, self.new))
+            if old != new or was != is_now:
+                changed[place] = old
+            before = now = ABOVE
+            if was or is_now:
+                before, now = self.inner(self.old, self.insides[0], number), self.inner(self.new, self.insides[1], number)
+            if before != now:
+                reached[place] = before
+            columns.append((places[self.tree.parents[number]], shown(write_name(self.tree.names[number])) or "/", *new, now))
+        names = ("parents", "names", "rights", "records", "inner")
+        return {**dict(zip(names, zip(*columns))), "changed": changed, "reached": reached}
+
     def all_decisions(self) -> Tuple[List[object], Dict[int, object]]:
         """The decisions of each list, as they are now; and by its number of each that had others before, or is no more there."""
-        now, before = (
-            {number: self.decisions(which, body) for body, number in self.known_lists.items() if body in state.reasons}
-            for which, state in ((1, self.new), (0, self.old))
-        )
-        lists = [now.get(number) for number in range(len(self.lists.values()))]
+        now, before = self.new.decisions, self.old.decisions
+        lists = [now.get(number) for number in range(len(self.tables.lists.values))]
         return list(lists), {number: it for number, it in before.items() if it != lists[number]}
 
-    def node(self, path: bytes, above: Tuple[str, str]) -> Dict[str, object]:
-        """A file with all below it. Its keys: name, directory, row, list, the reach of what is in it, children; and, where
-        the script changes them, the old row, list and reach."""
-        old, new = self.digits(0, path), self.digits(1, path)
-        file = self.new.files.get(path) or self.old.files[path]
-        found: Dict[str, object] = {
-            "n": shown(rights_name(path)), "r": self.rows.number(new), "l": self.list_number(1, path),
-        }
-        if old != new or self.old.files.get(path) != self.new.files.get(path):
-            found.update({"q": self.rows.number(old), "m": self.list_number(0, path)})
-        if file.is_directory:
-            inner = self.inside(above[0], old), self.inside(above[1], new)
-            found.update({"d": 1, "i": self.reaches.number(inner[1]), "c": [self.node(it, inner) for it in self.children.get(path, [])]})
-            if inner[0] != inner[1]:
-                found["j"] = self.reaches.number(inner[0])
-        return found
-
     def data(self, title: str, has_script: bool) -> Dict[str, object]:
-        everybody = "1" * len(self.whos)
-        start = self.reaches.number(everybody)
-        tops = [self.node(path, (everybody, everybody)) for path in ([b""] if b"" in self.old.files or b"" in self.new.files else [])]
+        files = self.files()
         decisions, before = self.all_decisions()
         return {
-            "title": title, "script": has_script, "whos": [[who.kind, shown(who.name)] for who in self.whos], "tree": tops, "start": start,
-            "rows": self.rows.values(), "lists": self.lists.values(), "reaches": self.reaches.values(),
-            "entries": self.entries.values(), "decisions": decisions, "before": before,
+            "title": title, "script": has_script, "whos": [[who.kind, shown(who.name)] for who in self.whos], "start": self.start,
+            "files": files, "rows": self.tables.rows.values, "lists": [text for text, _ in self.tables.lists.values],
+            "reaches": self.tables.reaches.values, "entries": self.tables.entries.values, "decisions": decisions, "before": before,
         }
-
-
-def rights_name(path: bytes) -> bytes:
-    """The last component of a path, as the manual page writes it."""
-    name = path.rpartition(b"/")[2]
-    return re.sub(rb"[\\\n\r]", lambda found: b"\\%03o" % found[0][0], name) or b"/"
 
 
 def checksum(text: str) -> str:
@@ -283,37 +268,83 @@ def page_of(data: Dict[str, object]) -> bytes:
     return (PAGE % {"policy": policy, "style": style, "data": text, "script": script}).encode("utf-8")
 
 
-def answer_scripts(command: Command, session: Session, snapshot: Snapshot, names: List[str]) -> int:
+def list_files(session: Session) -> Iterator[Record]:
+    """The files as they are now; none where the root was removed, which removes all."""
+    answer = session.ask(b"getfacl -R -n -E .\n")
+    if answer.messages and not answer.messages[0].endswith(b": no such file"):
+        raise Failure(b"the program refused to list the files: " + answer.messages[0])
+    return records_of(answer.output)
+
+
+def keep(records: Iterator[Record], wanted: List[List[bytes]], kept: Files) -> Iterator[Record]:
+    """The records, of which those of some paths are kept."""
+    paths = {path for names in wanted for path in names}
+    for record in records:
+        if record.path in paths:
+            kept[record.path] = File(record.is_directory, record.body)
+        yield record
+
+
+def answer_scripts(command: Command, run: plan.Run, units: List[Unit]) -> int:
     """Answers the scripts, and returns how many lines were refused."""
-    scripts = plan.read_scripts(names)
-    run = plan.Run(session, snapshot, plan.all_files(session))
-    for name, text in scripts:
-        for unit in read_script(name, text):
-            run.answer(unit)
+    for unit in units:
+        run.answer(unit)
     for message in run.messages:
         command.say(message.unit.place() + b": " + message.text)
     return sum(not message.is_warning for message in run.messages)
 
 
-def users_shown(old: State, new: State, probes: List[Who]) -> List[Who]:
+def users_shown(old: List[bytes], new: List[bytes], probes: List[Who]) -> List[Who]:
     """Users first, then groups, then everybody."""
     others = {who.user for who in probes}
-    users = old.whos + [user for user in new.whos if user not in set(old.whos)]
+    users = old + [user for user in new if user not in set(old)]
     return [Who("user", user, user) for user in users if user not in others] + probes
+
+
+def changes_of_people(units: List[Unit]) -> bytes:
+    return b"".join(unit.lines[0] + b"\n" for unit in units if unit.is_of(*CHANGES))
+
+
+def data_of(program: str, snapshot: Snapshot, tree: Tree, listings: List[Tuple[Listing, Labels]], units: List[Unit]) -> Dict[str, object]:
+    """The data of the page, of one listing, or of two with scripts between them."""
+    bodies = [labels.bodies() for _, labels in listings]
+    changes = changes_of_people(units)
+    probes = Probes(snapshot, [body for its in bodies for body in its], changes)
+    states = [
+        State(listing, ask_labels(program, People(snapshot.passwd, snapshot.group, lines + probes.lines), its))
+        for (listing, _), its, lines in zip(listings, bodies, (b"", changes))
+    ]
+    whos = users_shown(states[0].answers.users, states[-1].answers.users, probes.whos)
+    tables = Tables()
+    views = [View(state, its, whos, tables) for state, its in zip(states, bodies)]
+    return Builder(tree, whos, views[0], views[-1], tables).data(shown(snapshot.folder), len(listings) > 1)
 
 
 def body(command: Command, words: List[str]) -> int:
     given = parse(words)
+    target = NewFile(os.fsencode(given.output)) if given.output is not None else None
+    command.goes_on = target is not None
     snapshot = read_snapshot(os.fsencode(given.snapshot))
-    with Session(find_program(given.program), snapshot.folder) as session:
-        probes = add_probes(session, snapshot, plan.all_files(session))
-        old = new = state_of(session, snapshot.passwd)
+    program = find_program(given.program)
+    units = read_units(given.scripts)
+    tree = Tree()
+    linked: Files = {}
+    with Session(program, snapshot.folder) as session:
+        labels = Labels()
+        listings = [(tree.add(keep(list_files(session), snapshot.links, linked), labels), labels)]
+        if not tree.names:
+            raise Failure(snapshot.folder + b": has no directories above its files: make a snapshot by facl-snapshot")
         if given.scripts:
-            refusals = answer_scripts(command, session, snapshot, given.scripts)
+            refusals = answer_scripts(command, plan.Run(session, snapshot, linked), units)
             if refusals:
                 command.say(counted(refusals, "line was", "lines were") + b" refused, so no page is written")
                 return REFUSED
-            new = state_of(session, snapshot.passwd)
-        builder = Builder(old, new, users_shown(old, new, probes))
-        command.write(page_of(builder.data(shown(snapshot.folder), bool(given.scripts))))
+            labels = Labels()
+            listings.append((tree.add(list_files(session), labels), labels))
+    page = page_of(data_of(program, snapshot, tree, listings, units))
+    if target is None:
+        command.write(page)
+    else:
+        target.write(page)
+        command.tell(target.name + b": is written")
     return WRITTEN

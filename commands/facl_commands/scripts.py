@@ -1,8 +1,11 @@
 """Scripts, cut into lines with their texts, as the section SCRIPTS of the manual page has it."""
 from __future__ import annotations
 
+import os
 import re
 from typing import List, NamedTuple, Optional, Tuple
+
+from .messages import Failure, reason
 
 LINE_LIMIT = 65536
 WORD = re.compile(rb"(?:[^ \t']|'[^']*')+")
@@ -68,3 +71,22 @@ def read_script(name: bytes, content: bytes) -> List[Unit]:
             place, is_ended = end_of_text(lines, place)
         units.append(Unit(name, begin + 1, words or [], lines[begin:place], is_ended))
     return units
+
+
+def shown_name(name: str) -> bytes:
+    """How messages name a script."""
+    return b"standard input" if name == "-" else os.fsencode(name)
+
+
+def read_text(name: str) -> bytes:
+    """What is in a script; the name - is standard input."""
+    try:
+        with open(0 if name == "-" else name, "rb", closefd=name != "-") as file:
+            return file.read()
+    except OSError as error:
+        raise Failure(shown_name(name) + b": " + reason(error)) from error
+
+
+def read_units(names: List[str]) -> List[Unit]:
+    """The lines of all scripts."""
+    return [unit for name in names for unit in read_script(shown_name(name), read_text(name))]

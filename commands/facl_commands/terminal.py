@@ -3,13 +3,17 @@ from __future__ import annotations
 
 import importlib
 import os
+import stat
 from types import ModuleType
 from typing import Any, Iterator, Optional
 
+from . import trusted
 from .completion import Completer
 from .desk import Read
+from .messages import Failure
 
-HISTORY = os.path.join("~", ".facl_history")
+HISTORY = ".facl_history"
+PRIVATE = 0o600
 
 
 def find_toolkit() -> Optional[ModuleType]:
@@ -25,14 +29,33 @@ def part(name: str) -> Any:
     return importlib.import_module("prompt_toolkit." + name)
 
 
-def history() -> Any:
-    """The lines of earlier sessions, in a file of the user's own; in memory where it cannot be written."""
-    name = os.path.expanduser(HISTORY)
+def has_history(home: str) -> bool:
+    """Whether lines can be kept in a folder: nobody else can write there, and the file, which is made where there is none, is
+    the user's own; nobody else may read it then."""
     try:
-        os.close(os.open(name, os.O_RDWR | os.O_APPEND | os.O_CREAT, 0o600))
+        folder = trusted.open_folder(os.fsencode(home))
+    except Failure:
+        return False
+    try:
+        file = os.open(HISTORY, os.O_RDWR | os.O_CREAT | os.O_NOFOLLOW | os.O_NONBLOCK | os.O_CLOEXEC, PRIVATE, dir_fd=folder)
     except OSError:
+        return False
+    finally:
+        os.close(folder)
+    with open(file, "rb") as opened:
+        look = os.fstat(opened.fileno())
+        is_own = stat.S_ISREG(look.st_mode) and look.st_uid == os.geteuid()
+        if is_own:
+            os.fchmod(opened.fileno(), PRIVATE)
+        return is_own
+
+
+def history() -> Any:
+    """The lines of earlier sessions, in a file of the user's own; in memory where they cannot be kept there."""
+    home = os.path.expanduser("~")
+    if not has_history(home):
         return part("history").InMemoryHistory()
-    return part("history").FileHistory(name)
+    return part("history").FileHistory(os.path.join(home, HISTORY))
 
 
 def completer_of(known: Completer) -> Any:

@@ -187,6 +187,34 @@ class Files(unittest.TestCase):
                          {b":": [b"a", b"./c:d"], b"host": [b"b", b"e"], b"me@host.x": [b"/b c"]})
 
 
+class Hosts(Case):
+    """Words that no program that is called may take for something else."""
+
+    def refused(self, *words: str) -> bytes:
+        done = self.run_command("facl-ask", ["--each", "--", *words])
+        self.assertEqual((done.status, done.out), (2, b""))
+        return done.messages
+
+    def test_hosts(self) -> None:
+        for word in (b"-F:before", b"-oProxyCommand=x:before", b"-:x", b"..:x", b".:x", b"@x:x", b"me@-F:x", b"a@b@c:x"):
+            self.assertEqual(self.refused(os.fsdecode(word)), b"facl-ask: " + word + b": a HOST starts with a letter, a digit or _, so "
+                             b"that no program takes it for something else\n")
+
+    def test_names(self) -> None:
+        for word, shown in (("a\nb", b"a\\012b"), (":::", b":::"), ("::::", b"::::"), (":::+", b":::+"), ("", b""), ("host:", b"host:"),
+                            ("host:a\nb", b"host:a\\012b")):
+            self.assertEqual(self.refused("before", word), b"facl-ask: " + shown + b": parallel cannot be given a snapshot of this name: rename "
+                             b"the folder\n")
+
+    def test_the_environment(self) -> None:
+        os.mkdir(self.path("bin"))
+        self.write("bin/parallel", b"#!/bin/sh\necho \"$POSIXLY_CORRECT$PYTHONPATH$PYTHONHOME$PARALLEL$LC_ALL\" >&2\nprintf '%s\\n' \"$@\" >&2\nexit 9\n")
+        os.chmod(self.path("bin/parallel"), 0o755)
+        environment = {"PATH": self.path("bin") + ":" + os.environ["PATH"], "POSIXLY_CORRECT": "1", "PYTHONPATH": "x", "PARALLEL": "--dry-run"}
+        done = self.run_command("facl-ask", ["--each", "before"], b"", environment)
+        self.assertEqual(done, Done(2, b"", b"facl-ask: C\n"))
+
+
 @outside_the_gate
 @unittest.skipUnless(shutil.which("parallel"), "GNU parallel is not installed")
 class Each(Case):
@@ -270,7 +298,7 @@ class Each(Case):
         self.write("slow", b"#!/bin/sh\necho $$ >writing\nmv writing at_work\nexec sleep 100\n")
         os.chmod(self.path("slow"), 0o755)
         os.mkdir(self.path("temporary"))
-        for number, status in ((signal.SIGTERM, 143), (signal.SIGINT, 130)):
+        for number, status in ((signal.SIGTERM, 143), (signal.SIGINT, 130), (signal.SIGQUIT, 131)):
             words = [os.path.join(COMMANDS, "facl-ask"), "--program", "./slow", "--each", "1", "2"]
             environment = {**os.environ, "TMPDIR": self.path("temporary")}
             with subprocess.Popen(words, cwd=self.folder, stdin=subprocess.PIPE, stdout=subprocess.PIPE, stderr=subprocess.PIPE,

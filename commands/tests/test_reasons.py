@@ -9,15 +9,15 @@ import shutil
 import subprocess
 import sys
 import unittest
-from typing import Any, Dict, List, Tuple
+from typing import Dict, List, Tuple
 
 from common import COMMANDS, HERE, Case
+from page_data import Node, nodes_of, read_data
 
 sys.path.insert(0, COMMANDS)
 
 from facl_commands.names import script_word  # noqa: E402
 from facl_commands.program import Session, find_program  # noqa: E402
-from facl_commands.reasons import parts_of  # noqa: E402
 
 # Rows of passwd: two of one id, a name of digits alone, one with a blank, and one that is no UTF-8.
 USERS = [b"root:x:0:0:::", b"ines:x:1001:100:::", b"ben:x:1002:100:::", b"twin:x:1002:200:::", b"77:x:1005:300:::", b"jo x:x:1006:400:::",
@@ -77,32 +77,17 @@ class Random(Case):
         self.write("before/links", b"")
         return paths
 
-    def page(self, *scripts: str) -> Dict[str, Any]:
+    def page(self, *scripts: str) -> Node:
         done = self.run_command("facl-report", ["before", *scripts])
         self.assertEqual((done.status, done.messages), (0, b""))
         self.write("page.html", done.out)
-        found = re.search(rb'<script type="application/json" id="data">(.*?)</script>', done.out, re.DOTALL)
-        assert found is not None
-        data: Dict[str, Any] = json.loads(found[1])
-        return data
+        return read_data(done.out)
 
-    def nodes(self, data: Dict[str, Any]) -> Dict[str, Dict[str, Any]]:
-        """The nodes by their paths."""
-        found: Dict[str, Dict[str, Any]] = {}
-
-        def walk(node: Dict[str, Any], path: str) -> None:
-            found[path or "/"] = node
-            for child in node.get("c", []):
-                walk(child, path + "/" + child["n"])
-
-        for top in data["tree"]:
-            walk(top, "")
-        return found
-
-    def shown(self, data: Dict[str, Any], is_old: bool) -> Dict[Key, str]:
+    def shown(self, data: Node, is_old: bool) -> Dict[Key, str]:
         """By user and path the entries that the page has."""
         found: Dict[Key, str] = {}
-        for path, node in self.nodes(data).items():
+        for path, node in nodes_of(data).items():
+            path = "/" if path == "." else "/" + path
             number = node.get("m", node["l"]) if is_old else node["l"]
             decision = data["before"].get(str(number)) if is_old else None
             decision = decision or (data["decisions"][number] if number >= 0 else None)
@@ -189,15 +174,6 @@ def is_within(request: str, other: str) -> bool:
 def line_of(side: List[List[str]], name: str) -> Tuple[str, str]:
     """The right and the reason of a user in the side of a file."""
     return next((right, reason) for kind, right, names, reason in side if kind == "Users" and name in names.split(", "))
-
-
-class Parts(unittest.TestCase):
-    def test_lines_have_room_for_their_words(self) -> None:
-        words = [b"w" * 25_000 + b"%d" % k for k in range(7)]
-        parts = list(parts_of(words))
-        self.assertEqual(b" ".join(parts).split(b" "), words)
-        self.assertEqual([part.count(b"w") // 25_000 for part in parts], [2, 2, 2, 1])
-        self.assertEqual(list(parts_of([])), [])
 
 
 if __name__ == "__main__":

@@ -5,8 +5,8 @@ usage: tools/check/report.py PROGRAM [--files N] [--users N] [--pictures FOLDER]
 
 It looks at the page of the stored snapshot with hostile names and a script: what is shown of users and groups, on files and
 along paths, the list of a file, changes, the search, and that no name is markup, and nothing is loaded or run but the
-page itself. Then a page of --files files and --users users of tools/lib/make_tree.py is measured (5,000 and 20). With
---pictures it keeps pictures at 1,280 and 400 points of width, light and dark, in FOLDER, to be looked at. The exit status is
+page itself. Then a page of a chain of --levels directories (5,000) is opened, searched and changed, and one of --files files
+and --users users of tools/lib/make_tree.py (5,000 and 20) is measured. With --pictures it keeps pictures at 1,280 and 400 points of width, light and dark, in FOLDER, to be looked at. The exit status is
 1 where something is not as it has to be, 2 where the words are others or Selenium is not installed.
 """
 from __future__ import annotations
@@ -162,6 +162,45 @@ def take_pictures(driver: Any, file: str, folder: str) -> None:
     driver.execute_cdp_cmd("Emulation.clearDeviceMetricsOverride", {})
 
 
+def write_chain(folder: str, levels: int) -> None:
+    """A snapshot of directories in each other, with a file in the last one; u1 may not search the one in the middle."""
+    os.mkdir(folder)
+    names = ["/"] + ["/" + "d/" * level for level in range(1, levels + 1)] + ["/" + "d/" * levels + "leaf"]
+    texts = {"passwd": "u0:x:1000:100::/:\nu1:x:1001:100::/:\n", "group": "all:x:100:\nother:x:200:\n", "links": "", "dump": "".join(
+        "# file: %s\n# owner: 1000\n# group: 100\nuser::rwx\ngroup::%s\nother::r-x\n\n" % (name, "r--" if place == levels // 2 else "r-x")
+        for place, name in enumerate(names))}
+    for name, text in texts.items():
+        with open(os.path.join(folder, name), "w", encoding="ascii") as file:
+            file.write(text)
+
+
+def check_chain(driver: Any, program: str, work: str, levels: int) -> None:
+    folder, file = os.path.join(work, "chain"), os.path.join(work, "chain.html")
+    write_chain(folder, levels)
+    leaf = "/" + "d/" * levels + "leaf"
+    seconds = write_page(program, folder, b"chmod 600 %s\n" % leaf.encode(), file)
+    start = time.monotonic()
+    page = Page(driver, file)
+    shown = len(page.rows())
+    page.find("leaf")
+    path = leaf[:120] + " \u2026 " + leaf[-120:]
+    expect([row[0] for row in page.rows()] == [path, ""], "the search of a chain: %r" % page.rows())
+    page.click(path)
+    page.click("along paths")
+    page.choose("u1")
+    expect("group::r-- of /d/d/" in page.side(), "the side of a chain: %s" % page.side())
+    expect(page.row(path)[1] == "none", "the leaf of a chain: %r" % page.row(path))
+    page.find("")
+    page.click("changes alone")
+    expect(len(page.rows()) == min(levels + 2, 4001), "the rows of a chain: %d" % len(page.rows()))
+    for width in (1280, 400):
+        driver.execute_cdp_cmd("Emulation.setDeviceMetricsOverride", {"width": width, "height": 900, "deviceScaleFactor": 1, "mobile": False})
+        wide = page.run("return document.documentElement.scrollWidth")
+        expect(wide <= width, "the page of a chain is %d points wide on %d" % (wide, width))
+    driver.execute_cdp_cmd("Emulation.clearDeviceMetricsOverride", {})
+    print("%d levels: written in %.1f s, %d rows at the start, all looked at in %.1f s" % (levels, seconds, shown, time.monotonic() - start))
+
+
 def measure(driver: Any, program: str, work: str, files: int, users: int) -> None:
     folder = os.path.join(work, "made")
     os.mkdir(folder)
@@ -183,6 +222,7 @@ def main() -> int:
     parser.add_argument("program", type=program_at)
     parser.add_argument("--files", type=int, default=5_000)
     parser.add_argument("--users", type=int, default=20)
+    parser.add_argument("--levels", type=int, default=5_000)
     parser.add_argument("--pictures", metavar="FOLDER")
     given = parser.parse_args()
     try:
@@ -193,6 +233,7 @@ def main() -> int:
     try:
         with tempfile.TemporaryDirectory(prefix="facl-report.") as work:
             check_share(driver, given.program, work, given.pictures)
+            check_chain(driver, given.program, work, given.levels)
             measure(driver, given.program, work, given.files, given.users)
     finally:
         driver.quit()
