@@ -1,4 +1,4 @@
-"""The parts that the commands share: names, scripts, records, and what a restore that was ended can have left."""
+"""The parts that the commands share: names, scripts, records and people."""
 from __future__ import annotations
 
 import os
@@ -12,7 +12,7 @@ from common import COMMANDS, HERE, Case
 
 sys.path.insert(0, COMMANDS)
 
-from facl_commands import live, names, people, records, scripts  # noqa: E402
+from facl_commands import names, people, records, scripts  # noqa: E402
 from facl_commands.messages import Failure  # noqa: E402
 from facl_commands.program import Session, find_program  # noqa: E402
 
@@ -103,11 +103,6 @@ class Records(unittest.TestCase):
         self.assertEqual(records.write_record(b"c", files[b"c"]), self.record(b"/c/", *base))
         self.assertEqual(records.write_record(b"", files[b""]), self.record(b"/", *base))
 
-    def test_order_and_effective_permissions_do_not_count(self) -> None:
-        one = records.File(False, b"# owner: 1\n# group: 2\nuser::rw-\nuser:3:rw-\t\t\t#effective:r--\n")
-        other = records.File(False, b"# group: 2\n# owner: 1\nuser:3:rw-\nuser::rw-\n")
-        self.assertTrue(live.is_same(one, other))
-
     def test_a_plan_is_read_exactly(self) -> None:
         one = self.record(b"/a", b"user::rw-", b"group::r--", b"other::---")
         self.assertEqual(list(records.read_exactly(b"new", one + one.replace(b"/a", b"/b"))), [b"a", b"b"])
@@ -117,28 +112,6 @@ class Records(unittest.TestCase):
         for text in bad:
             with self.assertRaises(Failure, msg=repr(text)):
                 records.read_exactly(b"new", text)
-
-    def test_differences(self) -> None:
-        def file(owner: bytes, flags: bytes, *entries: bytes) -> records.File:
-            return records.read_listing(self.record(b"a", *entries, flags=flags).replace(b"owner: 0", b"owner: " + owner))[b"a"]
-        one = file(b"1", b"", b"user::rw-", b"group::r--", b"other::---")
-        other = file(b"2", b"--t", b"user::rw-", b"group::r--", b"other::r--", b"default:user::rwx")
-        self.assertEqual(live.difference(one, other), b"owner, flags, access list, default list")
-
-    def test_between(self) -> None:
-        def file(owner: int, flags: bytes, *entries: bytes) -> records.File:
-            body = b"# owner: %d\n# group: 0\n# flags: %s\n" % (owner, flags) + b"".join(entry + b"\n" for entry in entries)
-            return records.File(False, body)
-        old = file(1, b"s--", b"user::rw-", b"group::r--", b"other::r--")
-        nothing = (b"user::---", b"user:3:---", b"group::---", b"mask::---", b"other::---")
-        new = file(2, b"-s-", *nothing)
-        for between in (file(1, b"s--", *nothing), file(2, b"---", *nothing),
-                        file(2, b"-s-", b"user::rw-", b"user:3:---", b"group::---", b"mask::r--", b"other::r--"), old, new):
-            self.assertTrue(live.is_between(between, old, new))
-        for changed in (file(3, b"s--", *nothing), file(1, b"--t", *nothing), file(1, b"s--", b"user::rw-", b"group::rw-", b"other::r--"),
-                        file(1, b"s--", *nothing, b"default:user::rwx"),
-                        file(1, b"s--", b"user::rw-", b"user:4:---", b"group::r--", b"mask::r--", b"other::r--")):
-            self.assertFalse(live.is_between(changed, old, new))
 
     def test_empty_masks(self) -> None:
         for entries, is_open in (((b"user::rw-", b"user:3:r--", b"group::r--", b"mask::---", b"other::r--"), True),
