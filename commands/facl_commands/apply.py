@@ -170,10 +170,17 @@ def give_all(command: Command, way: Way, carrier: Carrier, is_whole: bool) -> in
     return DONE
 
 
-def say_by_hand(command: Command, way: Way) -> None:
+def by_hand(way: Way) -> List[bytes]:
+    """The line that names what is to be done by hand, where there is something. It is made before anything is touched: a script
+    that cannot be read has no part in what is said of the files."""
     name = b"by_hand_undo" if way.is_undo else b"by_hand"
-    if way.folder.has(name) and way.folder.read(name):
-        command.tell(b"still to be done by hand: sh " + shell_word(way.file(name)))
+    is_there = way.folder.has(name) and way.folder.read(name)
+    return [b"still to be done by hand: sh " + shell_word(way.file(name))] if is_there else []
+
+
+def tell_all(command: Command, lines: List[bytes]) -> None:
+    for line in lines:
+        command.tell(line)
 
 
 def print_dry_run(command: Command, way: Way, look: Look) -> None:
@@ -185,9 +192,9 @@ def body(command: Command, words: List[str]) -> int:
     given = parse(words)
     live.check_proc()
     way = read_way(plan_folder.open_plan(os.fsencode(given.plan)), given.undo)
+    rest = by_hand(way)
     if nothing_to_do(command, way):
-        if not way.is_undo:
-            say_by_hand(command, way)
+        tell_all(command, rest if not way.is_undo else [])
         return NOTHING
     look = look_at(way, way.work.files)
     changed = unexpected(way, look)
@@ -205,6 +212,5 @@ def body(command: Command, words: List[str]) -> int:
         print_dry_run(command, way, look)
         return DONE
     status = carry_out(command, way, Carrier(way, look), not changed)
-    if status == DONE:
-        say_by_hand(command, way)
+    tell_all(command, rest if status == DONE else [])
     return status
