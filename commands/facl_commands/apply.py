@@ -6,11 +6,11 @@ import os
 from collections import Counter
 from typing import Dict, List
 
-from . import live, plan_folder, planned
+from . import differences, live, plan_folder, planned
 from .carrying import Carrier
 from .messages import Command, Failure, counted, reason
 from .names import live_name, path_order, shell_word
-from .way import Look, Obstacles, Way, difference, look_at, read_way, unexpected
+from .way import Look, Obstacles, Way, look_at, read_way, unexpected
 
 DONE, NOT_DONE, NOTHING, IN_PART = 0, 1, 3, 4
 HELP = """\
@@ -65,8 +65,18 @@ def say_cut_off(command: Command, way: Way, look: Look) -> None:
                 (old, new, len(look.files) - old - new))
 
 
-def say_changed(command: Command, way: Way, found: Dict[bytes, bytes]) -> None:
-    say_list(command, found)
+def say_list_with_lines(command: Command, way: Way, look: Look, found: Dict[bytes, bytes]) -> None:
+    """Each file with what was and what is."""
+    when = b"by the plan" if way.is_undo else b"in the snapshot"
+    for path in sorted(found, key=path_order):
+        command.say(live_name(path) + b": " + found[path])
+        seen = look.files.get(path)
+        for line in () if seen is None else differences.lines(way.start(path), seen.record, when):
+            command.say(b"    " + line)
+
+
+def say_changed(command: Command, way: Way, look: Look, found: Dict[bytes, bytes]) -> None:
+    say_list_with_lines(command, way, look, found)
     count = counted(len(found), "file is", "files are")
     if way.is_undo:
         command.say(count + b" not as the plan left them, so nothing is touched; --leave-changed takes back the others")
@@ -185,7 +195,7 @@ def tell_all(command: Command, lines: List[bytes]) -> None:
 
 def print_dry_run(command: Command, way: Way, look: Look) -> None:
     for path in [*look.files, *look.later]:
-        command.tell(b"would change " + live_name(path) + b": " + difference(way.start(path), way.end(path)))
+        command.tell(b"would change " + live_name(path) + b": " + differences.parts(way.start(path), way.end(path)))
 
 
 def body(command: Command, words: List[str]) -> int:
@@ -200,10 +210,11 @@ def body(command: Command, words: List[str]) -> int:
     changed = unexpected(way, look)
     say_cut_off(command, way, look)
     if changed and not given.leave_changed:
-        say_changed(command, way, changed)
+        say_changed(command, way, look, changed)
         return NOT_DONE
     if changed:
-        say_list(command, {path: text + b"; it is left as it is" for path, text in changed.items()})
+        left = {path: text + b"; it is left as it is" for path, text in changed.items()}
+        say_list_with_lines(command, way, look, left)
         look = look.without(changed)
     check_obstacles(command, way, look, given.drop_capabilities)
     warn_of_names(command, look)

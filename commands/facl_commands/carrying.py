@@ -5,13 +5,13 @@ import os
 import signal
 from typing import Dict, Iterable, List, Optional, Set
 
-from . import live, plan_folder, planned, system
+from . import differences, live, plan_folder, planned, system
 from .lists import Record
 from .live import NotFound, OpenFile, Opener, Seen
 from .messages import SIGNALS, reason
 from .names import path_order
 from .snapshot import Identity
-from .way import Look, Way, closes, difference, is_expected, look_at, opens, unexpected
+from .way import Look, Way, closes, is_expected, look_at, opens, unexpected
 
 OFTEN = 64  # Files between two looks at the signals that wait.
 
@@ -118,7 +118,7 @@ class Carrier:
             if seen.identity in self.finished:
                 return
             if not is_expected(self.way, path, seen.record):
-                raise Mismatch(b"was changed: " + difference(seen.record, self.way.start(path)))
+                raise Mismatch(b"was changed: " + differences.parts(seen.record, self.way.start(path)))
             self.changed.append(path)
             if seen.identity.device not in self.folders:
                 self.remember_folder(opener, seen.identity.device)
@@ -174,4 +174,4 @@ def change(file: OpenFile, now: Record, end: Record, is_directory: bool) -> None
     live.change(file, now, end, is_directory)
     record = file.record()
     if record != end:
-        raise Mismatch(b"is not as it should be: " + difference(record, end))
+        raise Mismatch(b"is not as it should be: " + differences.parts(record, end))

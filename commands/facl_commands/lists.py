@@ -6,7 +6,7 @@ than two others.
 from __future__ import annotations
 
 import struct
-from typing import Dict, Iterator, List, NamedTuple, Tuple
+from typing import Dict, Iterator, NamedTuple, Tuple
 
 ACCESS, DEFAULT = b"system.posix_acl_access", b"system.posix_acl_default"
 HEAD = struct.pack("<I", 2)  # The version.
@@ -89,10 +89,10 @@ def common(one: bytes, other: bytes) -> bytes:
     return bytes_of(found)
 
 
-def changed_lines(one: bytes, other: bytes) -> Iterator[Tuple[Key, List[int]]]:
-    """The keys of two lists that differ, each with its permissions, -1 where a list lacks it."""
+def changed(one: bytes, other: bytes) -> Iterator[Tuple[Key, Tuple[int, int]]]:
+    """The keys of two lists that differ, each with its permissions in both, -1 where a list lacks it."""
     first, second = entries_of(one) if one else {}, entries_of(other) if other else {}
     for key in sorted({**first, **second}):
-        both = [first.get(key, -1), second.get(key, -1)]
+        both = first.get(key, -1), second.get(key, -1)
         if both[0] != both[1]:
             yield key, both

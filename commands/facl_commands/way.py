@@ -5,7 +5,7 @@ import os
 import stat
 from typing import Dict, Iterable, List, NamedTuple, Optional, Tuple
 
-from . import live, plan_folder, planned, system
+from . import differences, live, plan_folder, planned, system
 from .lists import Record, is_minimal, owner_permissions
 from .live import NotFound, OpenFile, Opener, Seen
 from .messages import reason
@@ -59,12 +59,6 @@ def read_way(folder: Folder, is_undo: bool) -> Way:
     if state and folder.has(b"journal"):
         journal = planned.read_journal(os.path.join(folder.name, b"journal"), folder.read(b"journal"))
     return Way(folder, state, work, journal, is_undo)
-
-
-def difference(one: Record, other: Record) -> bytes:
-    """What two records of a file do not have in common."""
-    names = (b"owner", b"group", b"flags", b"access list", b"default list")
-    return b", ".join(name for name, first, second in zip(names, one, other) if first != second)
 
 
 def search_of(way: Way, path: bytes) -> Tuple[bool, bool]:
@@ -134,7 +128,7 @@ def unexpected(way: Way, look: Look) -> Dict[bytes, bytes]:
     found = dict(look.faults)
     for path, seen in look.files.items():
         if not is_expected(way, path, seen.record):
-            found[path] = b"was changed: " + difference(seen.record, way.start(path))
+            found[path] = b"was changed: " + differences.parts(seen.record, way.start(path))
     return {**found, **no_longer_one_file(way, look)}
 
 

@@ -11,7 +11,7 @@ from typing import Callable, Dict
 from common import Case, Done
 from real import RealCase
 
-from facl_commands import carrying, live, plan_folder, way  # noqa: E402
+from facl_commands import carrying, differences, lists, live, plan_folder, way  # noqa: E402
 
 
 class Plans(Case):
@@ -111,9 +111,21 @@ class ThereAndBack(Tree):
         self.planned(b"chmod 600 " + self.word("a") + b" " + self.word("b"))
         os.chmod(os.path.join(self.tree, "b"), 0o644)
         before = self.modes()
-        self.expect(self.apply(), 1, b"", b"facl-apply: " + self.live("b") + b": was changed: access list\nfacl-apply: 1 file is not as in "
-                                          b"the snapshot, so nothing is touched: make a new snapshot and a new plan\n")
+        lines = [self.live("b") + b": was changed: access list", b"    other:: --- in the snapshot, r-- now",
+                 b"1 file is not as in the snapshot, so nothing is touched: make a new snapshot and a new plan"]
+        self.expect(self.apply(), 1, b"", b"".join(b"facl-apply: " + line + b"\n" for line in lines))
         self.assertEqual(self.modes(), before)
+
+    def test_what_was_and_what_is(self) -> None:
+        # getfacl(1) has the form of flags, acl(5) that of entries
+        old = lists.Record(70001, 4, 0o1000, lists.minimal(0o640), b"")
+        entries = {**lists.entries_of(lists.minimal(0o604)), (lists.USER, 70009): 6, (lists.MASK, lists.NO_ID): 7}
+        new = lists.Record(0, 4, 0o6000, lists.bytes_of(entries), lists.minimal(0o700))
+        self.assertEqual(differences.parts(old, new), b"owner, flags, access list, default list")
+        self.assertEqual(list(differences.lines(old, new, b"before")), [
+            b"owner: 70001 before, root now", b"flags: --t before, ss- now", b"user:70009: none before, rw- now",
+            b"group:: r-- before, --- now", b"mask:: none before, rwx now", b"other:: --- before, r-- now",
+            b"default:user:: none before, rwx now", b"default:group:: none before, --- now", b"default:other:: none before, --- now"])
 
     def expect_not_taken(self, what: bytes) -> None:
         done = self.apply()
