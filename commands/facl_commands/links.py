@@ -8,6 +8,7 @@ from __future__ import annotations
 
 import re
 from bisect import bisect_left
+from itertools import takewhile
 from typing import Dict, Iterator, List, Optional, Set
 
 from .names import read_path, script_word, shown_path
@@ -23,7 +24,7 @@ RECURSIVE = re.compile(rb"--recursive\Z|-[^-mxMX]*[rR]")
 RECORD = re.compile(rb"\s*#\s*file: ?(.*)", re.DOTALL)  # The first line of a record of a restore.
 QUESTION = b"getfacl -n -E --"
 FEW_NAMES = 8  # So many are asked for one by one where a line of them is refused.
-ROOM_FOR_NAMES = 1 << 24  # Bytes of questions by names in a session; after them all files are listed, by a short line.
+ROOM_FOR_NAMES = 1 << 24  # Bytes of questions by names in a session; after them a directory is listed, by a short line.
 
 
 class Links:
@@ -96,7 +97,7 @@ class Links:
 
     def look(self, session: Session, names: Set[bytes]) -> None:
         """Asks for the present records of names that a line can have changed; some may not be there any more."""
-        found = self.ask(session, sorted(names))
+        found = self.ask(session, sorted(names, key=sorting_key))
         for path in names:
             self.open.update(self.places[path])
             if path in found:
@@ -114,7 +115,7 @@ class Links:
             if answer is not None and not answer.messages:
                 found.update((path, file.body) for path, file in read_listing(answer.output.read()).items())
             elif answer is None or len(part) > FEW_NAMES:
-                files = list_all(session).files
+                files = list_all(session, directory_above(paths)).files or list_all(session).files
                 return {path: files[path].body for path in paths if path in files}
             elif len(part) > 1:
                 for path in part:
@@ -126,6 +127,12 @@ def paths_in(unit: Unit) -> Set[bytes]:
     """The words of a line, and the names in the records of its text, as paths."""
     records = filter(None, map(RECORD.match, unit.lines[1:]))
     return {read_path(text) for text in [*unit.words[1:], *(record[1] for record in records)]}
+
+
+def directory_above(paths: List[bytes]) -> bytes:
+    """The lowest directory that all these paths are below; they are in path order."""
+    pairs = zip(paths[0].split(b"/")[:-1], paths[-1].split(b"/")[:-1])
+    return b"/".join(first for first, _ in takewhile(lambda pair: pair[0] == pair[1], pairs))
 
 
 def word_of(path: bytes) -> bytes:

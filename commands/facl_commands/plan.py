@@ -2,6 +2,7 @@
 from __future__ import annotations
 
 import argparse
+import gc
 import json
 import os
 import sys
@@ -159,6 +160,7 @@ def all_files(session: Session) -> Files:
 
 
 def answer_scripts(given: argparse.Namespace, snapshot: Snapshot, units: List[Unit]) -> Outcome:
+    gc.disable()  # What is made of many files has no cycles, and lasts to the end.
     with Session(find_program(given.program), snapshot.folder) as session:
         old = list_all(session)
         if b"" not in old.files:
@@ -217,17 +219,29 @@ def summary(changes: Changes, commands: List[bytes], outcome: Outcome) -> bytes:
     return b"; ".join(parts) + nobody + b"\n"
 
 
-def rights_json(outcome: Outcome, is_full: bool) -> List[Dict[str, object]]:
-    if is_full:
-        return [
-            {"user": json_text(it.user), "from": it.old, "to": it.new, "file": json_text(file)}
-            for file, group in outcome.rights.files
-            for it in group.differences
-        ]
+def rights_json(outcome: Outcome) -> List[Dict[str, object]]:
     return [
         {"user": json_text(user), "from": old, "to": new, "files": count, "first": json_text(first)}
         for user, old, new, count, first in rights.kinds(outcome.rights, outcome.users)
     ]
+
+
+@lru_cache(maxsize=None)
+def json_head_of(it: rights.Difference) -> str:
+    """What an object of --full has before the name of the file, as json writes it."""
+    whole = json.dumps([{"user": json_text(it.user), "from": it.old, "to": it.new, "file": None}], indent=2)
+    lines = whole[len("[\n") : -len("null\n  }\n]")].split("\n")
+    return "\n".join("  " + line for line in lines)
+
+
+def full_json(outcome: Outcome) -> str:
+    """The list of all changes of each file; these are too many for json, which takes ten times as long."""
+    heads = {group: list(map(json_head_of, group.differences)) for group in outcome.rights.groups}
+    rows = []
+    for file, group in outcome.rights.files:
+        end = json.dumps(json_text(file)) + "\n    }"
+        rows.append(",\n".join([head + end for head in heads[group]]))
+    return "[\n" + ",\n".join(rows) + "\n  ]" if rows else "[]"
 
 
 def messages_json(found: List[Message], are_warnings: bool) -> List[Dict[str, object]]:
@@ -242,7 +256,7 @@ def json_report(outcome: Outcome, given: argparse.Namespace, changes: Changes, c
                 plan: Optional[bytes]) -> bytes:
     report = {
         "plan": None if plan is None else json_text(plan),
-        "changes": rights_json(outcome, given.full),
+        "changes": [] if given.full else rights_json(outcome),
         "records": [json_text(live_path(path)) for path in changes.changed],
         "made": [json_text(live_path(path)) for path in changes.made],
         "removed": [json_text(live_path(path)) for path in changes.removed],
@@ -255,7 +269,10 @@ def json_report(outcome: Outcome, given: argparse.Namespace, changes: Changes, c
         "refused": messages_json(outcome.messages, False),
         "warnings": messages_json(outcome.messages, True),
     }
-    return json.dumps(report, indent=2).encode() + b"\n"
+    text = json.dumps(report, indent=2)
+    if given.full:
+        text = text.replace('"changes": []', '"changes": ' + full_json(outcome), 1)
+    return text.encode() + b"\n"
 
 
 def say_messages(command: Command, outcome: Outcome, scripts: List[Script]) -> None:

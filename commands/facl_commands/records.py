@@ -6,7 +6,7 @@ from functools import lru_cache
 from typing import Dict, Iterable, List, NamedTuple, Tuple
 
 from .messages import Failure
-from .names import read_path, write_name
+from .names import read_path, script_word, shown_path, write_name
 from .program import Session
 
 # The lines that a record of a plan has after its first one.
@@ -49,16 +49,23 @@ class Changes(NamedTuple):
 
 def name_in_record(path: bytes, is_directory: bool) -> bytes:
     """The name of a file in a record that goes to the live system; that of a directory ends in a slash."""
-    has_escapes = b"\\" in path or b"\n" in path or b"\r" in path
-    return b"/" + (write_name(path) if has_escapes else path) + (b"/" if is_directory and path else b"")
+    return b"/" + write_name(path) + (b"/" if is_directory and path else b"")
 
 
 def write_record(path: bytes, file: File) -> bytes:
-    return b"# file: %s\n%s\n" % (name_in_record(path, file.is_directory), file.body)
+    return write_records({path: file}, [path])
 
 
 def write_records(files: Files, paths: Iterable[bytes]) -> bytes:
-    return b"".join([write_record(path, files[path]) for path in paths])
+    """The records of files; a name without escapes is written as it is."""
+    parts: List[bytes] = []
+    for path in paths:
+        is_directory, body = files[path]
+        if is_directory or b"\\" in path or b"\n" in path or b"\r" in path:
+            parts += (b"# file: ", name_in_record(path, is_directory), b"\n", body, b"\n")
+        else:
+            parts += (b"# file: /", path, b"\n", body, b"\n")
+    return b"".join(parts)
 
 
 def sorting_key(path: bytes) -> bytes:
@@ -71,6 +78,14 @@ def path_of(name: bytes) -> bytes:
     if b"\\" in name or b"//" in name or b"/." in name or name[:1] == b".":
         return read_path(name)
     return name.strip(b"/")
+
+
+def paths_of(names: List[bytes]) -> List[bytes]:
+    """The paths that the names in a listing are, of which the first may be the root."""
+    text = b"/" + b"\n/".join(names[1:])
+    if b"\\" in text or b"//" in text or b"/." in text:
+        return [path_of(name) for name in names]
+    return [*map(path_of, names[:1]), *[name.strip(b"/") for name in names[1:]]]
 
 
 def read_bodies(text: bytes) -> Tuple[List[bytes], List[bytes]]:
@@ -89,23 +104,30 @@ def read_bodies(text: bytes) -> Tuple[List[bytes], List[bytes]]:
 
 
 def list_files(text: bytes) -> Listing:
-    """The files of a listing. A file is a directory by its name, its default entries, or another file below it."""
+    """The files of a listing. A file is a directory by its name, its default entries, or another file below it. Files of one
+    kind with the same lines are one value."""
     names, bodies = read_bodies(text)
-    paths = [path_of(name) for name in names]
+    paths = paths_of(names)
     parents = {b"", *[path.rpartition(b"/")[0] for path in paths]}
-    kinds = {body: (File(b"\ndefault:" in body, body), File(True, body)) for body in set(bodies)}
-    return Listing({
-        path: kinds[body][name[-1:] == b"/" or path in parents] for path, name, body in zip(paths, names, bodies)
-    }, names)
+    known: Tuple[Dict[bytes, File], Dict[bytes, File]] = {}, {}
+    found: Files = {}
+    for path, name, body in zip(paths, names, bodies):
+        is_directory = name[-1:] == b"/" or path in parents
+        file = known[is_directory].get(body)
+        if file is None:
+            file = known[is_directory][body] = File(is_directory or b"\ndefault:" in body, body)
+        found[path] = file
+    return Listing(found, names)
 
 
 def read_listing(text: bytes) -> Files:
     return list_files(text).files
 
 
-def list_all(session: Session) -> Listing:
-    """The files as they are now; none where the root was removed, which removes all."""
-    answer = session.ask(b"getfacl -R -n -E .\n")
+def list_all(session: Session, top: bytes = b"") -> Listing:
+    """The files as they are now, a directory and those below it; none where it is not there, and so where the root was
+    removed, which removes all."""
+    answer = session.ask(b"getfacl -R -n -E -- " + script_word(shown_path(top)) + b"\n")
     if answer.messages and not answer.messages[0].endswith(b": no such file"):
         raise Failure(b"the program refused to list the files: " + answer.messages[0])
     return list_files(answer.output.read())

@@ -176,16 +176,18 @@ def by_user(users: List[bytes], vector: Optional[Vector]) -> Dict[bytes, int]:
 
 
 def paths_of(old: Answers, new: Answers) -> List[bytes]:
-    """The paths of both, in path order."""
-    return sorted({**old.names, **new.names}, key=sorting_key)
+    """The paths of both, in path order, in which the program has those of each."""
+    first = list(old.names)
+    return first if first == list(new.names) else sorted({**old.names, **new.names}, key=sorting_key)
 
 
 def changes(old: Answers, new: Answers) -> Changes:
     """What differs. Two files with the same rights before and after are alike."""
     found = Changes([], [])
     known: Dict[Tuple[Optional[Vector], Optional[Vector]], Group] = {}
+    before_of, after_of = old.vectors.get, new.vectors.get
     for path in paths_of(old, new):
-        pair = old.vectors.get(path), new.vectors.get(path)
+        pair = before_of(path), after_of(path)
         group = known.get(pair)
         if group is None:
             before, after = by_user(old.users, pair[0]), by_user(new.users, pair[1])

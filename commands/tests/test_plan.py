@@ -14,7 +14,7 @@ from common import COMMANDS, Case, Done, restore_signals
 
 sys.path.insert(0, COMMANDS)
 
-from facl_commands.links import Links, parts_of, question  # noqa: E402
+from facl_commands.links import Links, directory_above, parts_of, question  # noqa: E402
 from facl_commands.program import Session, find_program  # noqa: E402
 from facl_commands.records import File, write_record  # noqa: E402
 from facl_commands.scripts import LINE_LIMIT, read_script  # noqa: E402
@@ -123,6 +123,15 @@ class Reports(Case):
         report = json.loads(done.out)
         self.assertEqual((done.status, report["plan"]), (1, None))
         self.assertEqual(report["refused"], [{"script": "edits", "line": 1, "message": "setfacl: srv/none: no such file"}])
+
+    def test_json_of_each_file(self) -> None:
+        script = b"setfacl -R -m u:guest:r,g:audit:w srv/share\nuserdel mara\nuseradd -u 2000 -g staff 'n\"l'\n"
+        rows = [line.decode().split("\t") for line in self.plan(script, "--full").out.replace(b"\351", b"\\351").splitlines() if b"\t" in line]
+        done = self.plan(script, "--full", "--json")
+        report = json.loads(done.out)
+        self.assertEqual(done.out.decode(), json.dumps(report, indent=2) + "\n")
+        self.assertEqual([[it["user"], it["from"], "->", it["to"], it["file"]] for it in report["changes"]], rows)
+        self.assertGreater(len(rows), 20)
 
     def test_nothing_to_do(self) -> None:
         message = b"facl-plan: nothing to do: no line changes a list, an owner, a flag, a file or a user\n"
@@ -269,7 +278,7 @@ class ManyHardLinks(Case):
         sent = self.planned(b"chmod -R 600 srv/share/many\nsetfacl -R -m u:guest:r srv/share/many\n" * 3)
         self.assertEqual(sent.count(b"getfacl -n -E --"), 6)  # 1,500 names of about 25 bytes are in one line.
         self.assertEqual(sent.count(b"# file: "), self.SETS)
-        self.assertEqual(self.read("before.plan/new").count(b"user:1009:r--"), 2 * self.SETS)
+        self.assertEqual(self.read("before.plan/new").count(b"user:1009:r--"), 2 * self.SETS + 1)  # With the directory.
 
     def test_questions_see_all_names(self) -> None:
         edit = b"setfacl -m u:guest:r srv/share/many/a%d\n"
@@ -284,17 +293,17 @@ class ManyHardLinks(Case):
     def test_many_names_that_are_removed(self) -> None:
         lines = b"rm srv/share/many/a7\nrm -r srv/share/many\nsetfacl -R -m u:guest:r srv/share/more\n"
         sent = self.planned(lines)
-        # After the second line the question for its names is refused, and all files are listed.
-        self.assertEqual((sent.count(b"getfacl -n -E --"), sent.count(b"getfacl -R -n -E .")), (4, 3))
+        # After the second line the question for its names is refused, and so is that for their directory: all files are listed.
+        self.assertEqual((sent.count(b"getfacl -n -E --"), sent.count(b"getfacl -R -n -E --")), (3, 4))
         self.assertEqual(self.read("before.plan/by_hand").count(b"rm -- "), self.SETS)
         self.assertEqual(self.read("before.plan/new").count(b"# file: /srv/share/more/b"), self.SETS)
 
 
 class TouchedLinks(unittest.TestCase):
-    FILES: Dict[bytes, File] = {it: File(False, b"") for it in (b"srv/a", b"srv/d/b", b"srv/d/e f", b"srv/d-e/c", b"-R", b"g")}
+    FILES: Dict[bytes, File] = {it: File(False, b"") for it in (b"srv/a", b"srv/d/b", b"srv/d/e f", b"srv/d-e/c", b"-x", b"g")}
 
     def expect(self, script: bytes, *names: bytes) -> None:
-        links = Links([[b"srv/a", b"srv/d/b"], [b"srv/d/e f", b"srv/d-e/c"], [b"-R", b"g"]], self.FILES)
+        links = Links([[b"srv/a", b"srv/d/b"], [b"srv/d/e f", b"srv/d-e/c"], [b"-x", b"g"]], self.FILES)
         for unit in read_script(b"edits", script):
             self.assertEqual(links.touched(unit), set(names), script)
 
@@ -304,7 +313,7 @@ class TouchedLinks(unittest.TestCase):
         self.expect(b"setfacl -m u:guest:r 'srv/d/e f' srv/a", b"srv/d/e f", b"srv/a")
         self.expect(b"setfacl -m u:guest:r srv/d/e\\040f 'srv\\057a'", b"srv/d/e f", b"srv/a")
         self.expect(b"chmod 600 srv/x")
-        self.expect(b"rm -- -R", b"-R")
+        self.expect(b"rm -- -x", b"-x")
         self.expect(b"who --reach r srv/a", b"srv/a")
 
     def test_whole_subtrees(self) -> None:
@@ -334,6 +343,10 @@ class TouchedLinks(unittest.TestCase):
         self.assertEqual([path for part in parts for path in part], paths)
         self.assertEqual([len(part) for part in parts], [3, 3, 1])
         self.assertTrue(all(len(question(part)) <= LINE_LIMIT + 1 for part in parts))
+
+    def test_the_directory_above_names(self) -> None:
+        for paths, above in (([b"a/b/c", b"a/b/d/e"], b"a/b"), ([b"a/b/c"], b"a/b"), ([b"a/b", b"a-c/b"], b""), ([b"a", b"a-/b"], b"")):
+            self.assertEqual(directory_above(paths), above)
 
 
 class Names(Case):
@@ -399,7 +412,7 @@ class Names(Case):
         self.write("-edits '", b"chmod 600 srv/share/one\n")
         done = self.run_command("facl-plan", ["--", name + "/", "-edits '"])
         self.assertEqual(done.status, 0)
-        self.assertIn(b"a\351 b\n.plan: is written; next: facl-apply 'a\351 b\n.plan'\n", done.out)
+        self.assertIn(b"a\\351 b\\012.plan: is written; next: facl-apply 'a\\351 b\\012.plan'\n", done.out)
         self.assertTrue(os.path.exists(self.path(name + ".plan")))
 
     def test_the_folder_itself(self) -> None:
