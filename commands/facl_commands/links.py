@@ -56,7 +56,7 @@ class Links:
         if not unit.is_of(*OF_WORDS):
             return set() if unit.is_of(*CHANGES) else set(self.places)
         named = paths_in(unit)
-        found = named.intersection(self.places)
+        found = {path for path in named if path in self.places}
         if any(map(RECURSIVE.match, unit.words[1:])):
             found.update(*map(self.below, named))
         return found
