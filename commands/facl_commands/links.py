@@ -24,6 +24,7 @@ RECURSIVE = re.compile(rb"--recursive\Z|-[^-mxMX]*[rR]")
 RECORD = re.compile(rb"\s*#\s*file: ?(.*)", re.DOTALL)  # The first line of a record of a restore.
 QUESTION = b"getfacl -n -E --"
 FEW_NAMES = 8  # So many are asked for one by one where a line of them is refused.
+LONGEST_LIST = 4_000  # Bytes of a list in a line.
 ROOM_FOR_NAMES = 1 << 24  # Bytes of questions by names in a session; after them a directory is listed, by a short line.
 
 
@@ -38,7 +39,7 @@ class Links:
                 self.places.setdefault(path, []).append(place)
         self.known = {path: files[path].body for path in self.places}  # The lines of each record, as they were alike.
         self.present = dict(self.known)  # The same as they are now, of names that are there.
-        self.late: Set[bytes] = set()  # Names whose present record the program does not have yet.
+        self.late: Dict[bytes, bytes] = {}  # Names whose present record the program does not have yet, with what it has.
         self.open: Set[int] = set()  # The places of sets of which a line can have changed a name.
         self.paths = sorted(self.places, key=sorting_key)
         self.keys = [sorting_key(path) for path in self.paths]
@@ -64,17 +65,31 @@ class Links:
     def before(self, session: Session, unit: Unit) -> None:
         """Gives the program the records of those names that a line can touch or look at."""
         if self.late:
-            self.restore(session, self.late & self.touched(unit))
-
-    def restore(self, session: Session, names: Set[bytes]) -> None:
-        if names:
-            records = b"".join(write_record(path, File(False, self.known[path])) for path in sorted(names))
-            session.ask_surely(b"setfacl --restore=-\n" + records + b".")
-            self.late -= names
+            self.restore(session, [path for path in self.touched(unit) if path in self.late])
 
     def end(self, session: Session) -> None:
         """Gives the program the records of all names."""
-        self.restore(session, set(self.late))
+        self.restore(session, list(self.late))
+
+    def restore(self, session: Session, paths: List[bytes]) -> None:
+        """Gives the program the present records of names: by a line for many that get one list, as it is shorter."""
+        by_list: Dict[bytes, List[bytes]] = {}
+        for path in sorted(paths, key=sorting_key):
+            by_list.setdefault(list_to_set(self.late.pop(path), self.known[path]), []).append(path)
+        alone = by_list.pop(b"", [])
+        for entries, names in by_list.items():
+            if len(names) < FEW_NAMES:
+                alone += names
+            else:
+                self.set_list(session, entries, names)
+        if alone:
+            records = b"".join([write_record(path, File(False, self.known[path])) for path in alone])
+            session.ask_surely(b"setfacl --restore=-\n" + records + b".")
+
+    def set_list(self, session: Session, entries: bytes, names: List[bytes]) -> None:
+        head = b"setfacl -n --set=%s --" % entries
+        for part in parts_of(names, len(head)):
+            session.ask_surely(head + b"".join(map(word_of, part)))
 
     def follow(self, session: Session, unit: Unit) -> Optional[List[bytes]]:
         """After an edit: each name of a file has what one of them got. Where two names of a file got different lists, nothing
@@ -91,8 +106,9 @@ class Links:
         return None
 
     def make_alike(self, names: List[bytes], body: bytes) -> None:
-        self.late.update(path for path in names if self.present[path] != body)
         for path in names:
+            if self.present[path] != body:
+                self.late.setdefault(path, self.present[path])
             self.present[path] = self.known[path] = body
 
     def look(self, session: Session, names: Set[bytes]) -> None:
@@ -143,15 +159,23 @@ def question(paths: List[bytes]) -> bytes:
     return QUESTION + b"".join(map(word_of, paths)) + b"\n"
 
 
-def parts_of(paths: List[bytes]) -> Iterator[List[bytes]]:
-    """The names in their order, as many in each part as a line has room for."""
+def list_to_set(old: bytes, new: bytes) -> bytes:
+    """The list, as a word, that makes one record of another: of a file with the same owner, group and flags. Nothing where
+    these are others, or the list is long."""
+    old_head, head = old.partition(b"\nuser::")[0], new.partition(b"\nuser::")[0]
+    entries = new[len(head) + 1 :].rstrip(b"\n").replace(b"\n", b",")
+    return entries if old_head == head and len(entries) < LONGEST_LIST else b""
+
+
+def parts_of(paths: List[bytes], head: int = len(QUESTION)) -> Iterator[List[bytes]]:
+    """The names in their order, as many in each part as a line has room for, after a head of so many bytes."""
     part: List[bytes] = []
-    size = len(QUESTION)
+    size = head
     for path in paths:
         length = len(word_of(path))
         if part and size + length > LINE_LIMIT:
             yield part
-            part, size = [], len(QUESTION)
+            part, size = [], head
         part.append(path)
         size += length
     if part:
