@@ -6,19 +6,21 @@ import grp
 import json
 import os
 import sys
+from functools import lru_cache
 from typing import Dict, Iterator, List, NamedTuple, Optional
 
 from . import by_hand, people, plan_folder, planned, rights
 from .links import EDITS, Links
 from .messages import Command, Failure, counted, named
-from .names import json_text, live_path, shell_word
+from .names import json_text, live_path, shell_word, shown
 from .program import Session, find_program
-from .records import Changes, Files, compare, has_open_empty_mask, read_listing, write_records
+from .records import Changes, Files, compare, has_open_empty_mask, list_all, write_records
 from .scripts import Unit, read_script
 from .snapshot import Snapshot, read_snapshot
 
 SOMETHING, REFUSED, NOTHING = 0, 1, 3
 WARNING = b"setfacl: warning: default entries dropped"
+PLAIN = bytes(range(0x20, 0x7F)) + b"\t\n"  # What is shown as it is, and what is between lines.
 QUESTIONS_WITH_EMPTY_ANSWERS = (b"who", b"may", b"index", b"changes")
 HELP = """\
 Answers the lines of each SCRIPT over a snapshot, as facl does, and prints what would change in who may do what: one
@@ -67,7 +69,7 @@ class Outcome(NamedTuple):
 
     old: Files
     new: Files
-    rights: List[rights.Change]
+    rights: rights.Changes
     users: List[bytes]
     asked: List[Asked]
     messages: List[Message]
@@ -121,9 +123,19 @@ class Run:
 
     def answer(self, unit: Unit) -> None:
         """Answers a line, and keeps what it printed."""
+        self.answer_all([unit])
+
+    def answer_all(self, units: List[Unit]) -> None:
+        for unit in units:
+            self.answer_before_end(unit)
+        self.links.end(self.session)
+
+    def answer_before_end(self, unit: Unit) -> None:
+        """Answers a line; other names of its files may get later what it changes."""
         if not unit.is_ended:
             self.messages.append(Message(unit, b"facl: text without end"))
             return
+        self.links.before(self.session, unit)
         answer = self.session.ask(b"".join(line + b"\n" for line in unit.lines))
         output = answer.output.read()
         refused = any(message != WARNING for message in answer.messages)
@@ -137,8 +149,8 @@ class Run:
         """What an accepted line means for other names of its files, and for the system's users."""
         if unit.is_of(*people.CHANGES):
             self.commands += filter(None, [self.people.change(unit.words)])
-        elif self.links.sets and unit.is_of(*EDITS):
-            names = self.links.follow(self.session)
+        elif unit.is_of(*EDITS):
+            names = self.links.follow(self.session, unit)
             if names:
                 shown = b", ".join(map(live_path, names))
                 self.messages.append(Message(unit, b"names of one file get different lists: " + shown, is_final=True))
@@ -146,41 +158,50 @@ class Run:
 
 def all_files(session: Session) -> Files:
     """The files as they are now; none where the root was removed, which removes all."""
-    answer = session.ask(b"getfacl -R -n -E .\n")
-    if answer.messages and not answer.messages[0].endswith(b": no such file"):
-        raise Failure(b"the program refused to list the files: " + answer.messages[0])
-    return read_listing(answer.output.read())
+    return list_all(session).files
 
 
 def answer_scripts(given: argparse.Namespace, snapshot: Snapshot, units: List[Unit]) -> Outcome:
     with Session(find_program(given.program), snapshot.folder) as session:
-        old = all_files(session)
-        if b"" not in old:
+        old = list_all(session)
+        if b"" not in old.files:
             raise Failure(snapshot.folder + b": has no directories above its files: make a snapshot by facl-snapshot")
-        before = rights.ask_rights(session, given.reach, snapshot.passwd)
-        run = Run(session, snapshot, old)
-        for unit in units:
-            run.answer(unit)
-        new = all_files(session)
-        after = rights.ask_rights(session, given.reach, snapshot.passwd)
-        users = rights.users_of(before.table)
-        users += [user for user in rights.users_of(after.table) if user not in users]
-        found = list(rights.changes(before, after))
-    return Outcome(old, new, found, users, run.asked, run.messages, run.commands)
+        before = rights.ask_rights(session, old, given.reach, snapshot.passwd)
+        run = Run(session, snapshot, old.files)
+        run.answer_all(units)
+        new = list_all(session)
+        after = rights.ask_rights(session, new, given.reach, snapshot.passwd)
+    users = list(dict.fromkeys([*before.users, *after.users]))
+    return Outcome(old.files, new.files, rights.changes(before, after), users, run.asked, run.messages, run.commands)
+
+
+def shown_lines(text: bytes) -> bytes:
+    """What a person reads of lines."""
+    return text if not text.translate(None, PLAIN) else b"\n".join(map(shown, text.split(b"\n")))
 
 
 def answers_text(asked: List[Asked]) -> bytes:
     """Each answer below its line."""
     parts = []
     for unit, output in asked:
-        parts.append(b"# " + unit.place() + b": " + unit.lines[0] + b"\n" + (output or b"(nothing)\n"))
+        parts.append(b"# " + shown(unit.place() + b": " + unit.lines[0]) + b"\n" + (shown_lines(output) or b"(nothing)\n"))
         parts.append(b"" if output.endswith(b"\n\n") else b"\n")
     return b"".join(parts)
 
 
+@lru_cache(maxsize=None)
+def head_of(it: rights.Difference) -> bytes:
+    """What a line of --full has before the name of the file."""
+    return b"%s\t%s\t->\t%s\t" % (it.user, it.old.encode(), it.new.encode())
+
+
 def full_lines(outcome: Outcome) -> Iterator[bytes]:
-    for user, file, old, new in outcome.rights:
-        yield b"\t".join([user, old.encode(), b"->", new.encode(), file]) + b"\n"
+    """The changes of each file, for scripts; as a person reads them where they go to a terminal."""
+    is_terminal = os.isatty(1)
+    heads = {group: list(map(head_of, group.differences)) for group in outcome.rights.groups}
+    for file, group in outcome.rights.files:
+        text = b"".join([head + file + b"\n" for head in heads[group]])
+        yield shown_lines(text) if is_terminal else text
 
 
 def short_lines(outcome: Outcome) -> Iterator[bytes]:
@@ -188,27 +209,40 @@ def short_lines(outcome: Outcome) -> Iterator[bytes]:
     width = max((len(kind.user) for kind in found), default=0)
     for user, old, new, count, first in found:
         what = b"%s -> %s" % (old.encode(), new.encode())
-        yield user.ljust(width) + b"  " + what.ljust(13) + b"  " + counted(count, "file").ljust(8) + b"  first: " + first + b"\n"
+        yield shown(user.ljust(width) + b"  " + what.ljust(13) + b"  " + counted(count, "file").ljust(8) + b"  first: " + first) + b"\n"
 
 
 def summary(changes: Changes, commands: List[bytes], outcome: Outcome) -> bytes:
     parts = [counted(len(changes.changed), "file changes", "files change") + b" owner, group, flags or lists"]
     if commands:
         parts.append(counted(len(commands), "command has to be run", "commands have to be run") + b" by hand")
-    nobody = b"" if outcome.rights else b"; nobody may do anything else than before"
+    nobody = b"" if outcome.rights.files else b"; nobody may do anything else than before"
     return b"; ".join(parts) + nobody + b"\n"
 
 
-def rights_json(outcome: Outcome, is_full: bool) -> List[Dict[str, object]]:
-    if is_full:
-        return [
-            {"user": json_text(user), "from": old, "to": new, "file": json_text(file)}
-            for user, file, old, new in outcome.rights
-        ]
+def rights_json(outcome: Outcome) -> List[Dict[str, object]]:
     return [
         {"user": json_text(user), "from": old, "to": new, "files": count, "first": json_text(first)}
         for user, old, new, count, first in rights.kinds(outcome.rights, outcome.users)
     ]
+
+
+@lru_cache(maxsize=None)
+def json_head_of(it: rights.Difference) -> str:
+    """What an object of --full has before the name of the file, as json writes it."""
+    whole = json.dumps([{"user": json_text(it.user), "from": it.old, "to": it.new, "file": None}], indent=2)
+    lines = whole[len("[\n") : -len("null\n  }\n]")].split("\n")
+    return "\n".join("  " + line for line in lines)
+
+
+def full_json(outcome: Outcome) -> str:
+    """The list of all changes of each file; these are too many for json, which takes ten times as long."""
+    heads = {group: list(map(json_head_of, group.differences)) for group in outcome.rights.groups}
+    rows = []
+    for file, group in outcome.rights.files:
+        end = json.dumps(json_text(file)) + "\n    }"
+        rows.append(",\n".join([head + end for head in heads[group]]))
+    return "[\n" + ",\n".join(rows) + "\n  ]" if rows else "[]"
 
 
 def messages_json(found: List[Message], are_warnings: bool) -> List[Dict[str, object]]:
@@ -223,7 +257,7 @@ def json_report(outcome: Outcome, given: argparse.Namespace, changes: Changes, c
                 plan: Optional[bytes]) -> bytes:
     report = {
         "plan": None if plan is None else json_text(plan),
-        "changes": rights_json(outcome, given.full),
+        "changes": [] if given.full else rights_json(outcome),
         "records": [json_text(live_path(path)) for path in changes.changed],
         "made": [json_text(live_path(path)) for path in changes.made],
         "removed": [json_text(live_path(path)) for path in changes.removed],
@@ -236,7 +270,10 @@ def json_report(outcome: Outcome, given: argparse.Namespace, changes: Changes, c
         "refused": messages_json(outcome.messages, False),
         "warnings": messages_json(outcome.messages, True),
     }
-    return json.dumps(report, indent=2).encode() + b"\n"
+    text = json.dumps(report, indent=2)
+    if given.full:
+        text = text.replace('"changes": []', '"changes": ' + full_json(outcome), 1)
+    return text.encode() + b"\n"
 
 
 def say_messages(command: Command, outcome: Outcome, scripts: List[Script]) -> None:
@@ -279,10 +316,9 @@ def text_report(given: argparse.Namespace, outcome: Outcome, changes: Changes, c
                 target: bytes) -> Iterator[bytes]:
     yield from full_lines(outcome) if given.full else short_lines(outcome)
     yield summary(changes, commands, outcome)
-    yield target + b": is written"
-    yield b"; next: facl-apply " + shell_word(target) + b"\n" if changes.changed else b"\n"
+    yield shown(target + b": is written" + (b"; next: facl-apply " + shell_word(target) if changes.changed else b"")) + b"\n"
     for command in commands:
-        yield b"by hand: " + command + b"\n"
+        yield shown(b"by hand: " + command) + b"\n"
 
 
 def beside(folder: bytes) -> bytes:

@@ -5,9 +5,10 @@ import os
 import secrets
 import shutil
 import subprocess
+import sys
 import tempfile
 from types import TracebackType
-from typing import IO, Iterator, List, NamedTuple, Optional, Type
+from typing import IO, Dict, Iterator, List, NamedTuple, Optional, Type
 
 from .messages import Failure
 
@@ -62,6 +63,11 @@ class Answer(NamedTuple):
     messages: List[bytes]
 
 
+def small_environment() -> Dict[str, str]:
+    """What the program is started with, whatever the caller's environment has."""
+    return {"LC_ALL": "C", "PATH": os.environ.get("PATH", os.defpath)}
+
+
 class Session:
     """A run of the program over the texts of a snapshot's folder.
 
@@ -73,9 +79,10 @@ class Session:
         words = [program, "--passwd", "passwd", "--group", "group", "--dump", "dump"]
         self.folder = folder
         self.number = 0
-        self.output = tempfile.TemporaryFile(prefix="facl-plan.")
+        self.output = tempfile.TemporaryFile(prefix=os.path.basename(sys.argv[0]) + ".")
         self.run = subprocess.Popen(
-            words, cwd=folder, stdin=subprocess.PIPE, stdout=self.output, stderr=subprocess.PIPE, start_new_session=True
+            words, cwd=folder, env=small_environment(), stdin=subprocess.PIPE, stdout=self.output, stderr=subprocess.PIPE,
+            start_new_session=True,
         )
 
     def __enter__(self) -> Session:

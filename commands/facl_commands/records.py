@@ -2,16 +2,13 @@
 from __future__ import annotations
 
 import re
-from typing import Dict, Iterable, List, NamedTuple
+from functools import lru_cache
+from typing import Dict, Iterable, List, NamedTuple, Tuple
 
 from .messages import Failure
-from .names import path_order, read_path, write_name
+from .names import read_path, script_word, shown_path, write_name
+from .program import Session
 
-# The lines that a record of a plan has after its first one.
-BODY = re.compile(
-    rb"# owner: [0-9]+\n# group: [0-9]+\n(# flags: [s-][s-][t-]\n)?"
-    rb"((user|group|mask|other):[0-9]*:[r-][w-][x-]\n)+(default:(user|group|mask|other):[0-9]*:[r-][w-][x-]\n)*\Z"
-)
 EMPTY_MASK = re.compile(rb"^mask::---$", re.MULTILINE)
 OTHERS_WITH_SOMETHING = re.compile(rb"^other::(?!---)", re.MULTILINE)
 
@@ -22,12 +19,15 @@ class File(NamedTuple):
     is_directory: bool
     body: bytes
 
-    def lines(self) -> List[bytes]:
-        """Its lines, in an order that does not depend on who listed it, without effective permissions."""
-        return sorted(line.split(b"\t")[0] for line in self.body.splitlines())
-
 
 Files = Dict[bytes, File]  # By path.
+
+
+class Listing(NamedTuple):
+    """The files of a listing, in its order, with their names as they are printed there."""
+
+    files: Files
+    names: List[bytes]
 
 
 class Changes(NamedTuple):
@@ -44,48 +44,102 @@ def name_in_record(path: bytes, is_directory: bool) -> bytes:
 
 
 def write_record(path: bytes, file: File) -> bytes:
-    return b"# file: " + name_in_record(path, file.is_directory) + b"\n" + file.body + b"\n"
+    return write_records({path: file}, [path])
 
 
 def write_records(files: Files, paths: Iterable[bytes]) -> bytes:
-    return b"".join(write_record(path, files[path]) for path in paths)
+    """The records of files; a name without escapes is written as it is."""
+    parts: List[bytes] = []
+    for path in paths:
+        is_directory, body = files[path]
+        if is_directory or b"\\" in path or b"\n" in path or b"\r" in path:
+            parts += (b"# file: ", name_in_record(path, is_directory), b"\n", body, b"\n")
+        else:
+            parts += (b"# file: /", path, b"\n", body, b"\n")
+    return b"".join(parts)
+
+
+def sorting_key(path: bytes) -> bytes:
+    """What paths are sorted by: no component has a NUL byte, so that these are in the order of the components."""
+    return path.replace(b"/", b"\0")
+
+
+def path_of(name: bytes) -> bytes:
+    """The path that a name in a listing is; only one with an escape, or with a component that is none, has to be read."""
+    if b"\\" in name or b"//" in name or b"/." in name or name[:1] == b".":
+        return read_path(name)
+    return name.strip(b"/")
+
+
+def paths_of(names: List[bytes]) -> List[bytes]:
+    """The paths that the names in a listing are, of which the first may be the root."""
+    text = b"/" + b"\n/".join(names[1:])
+    if b"\\" in text or b"//" in text or b"/." in text:
+        return [path_of(name) for name in names]
+    return [*map(path_of, names[:1]), *[name.strip(b"/") for name in names[1:]]]
+
+
+def read_bodies(text: bytes) -> Tuple[List[bytes], List[bytes]]:
+    """The names in the records of a listing, and their other lines; each different body is there once."""
+    names, bodies = [], []
+    known: Dict[bytes, bytes] = {}
+    for record in text.split(b"\n\n"):
+        if record:
+            first, _, rest = record.partition(b"\n")
+            names.append(first[len(b"# file: ") :])
+            body = known.get(rest)
+            if body is None:
+                body = known[rest] = rest + b"\n"
+            bodies.append(body)
+    return names, bodies
+
+
+def list_files(text: bytes) -> Listing:
+    """The files of a listing. A file is a directory by its name, its default entries, or another file below it. Files of one
+    kind with the same lines are one value."""
+    names, bodies = read_bodies(text)
+    paths = paths_of(names)
+    parents = {b"", *[path.rpartition(b"/")[0] for path in paths]}
+    known: Tuple[Dict[bytes, File], Dict[bytes, File]] = {}, {}
+    found: Files = {}
+    for path, name, body in zip(paths, names, bodies):
+        is_directory = name[-1:] == b"/" or path in parents
+        file = known[is_directory].get(body)
+        if file is None:
+            file = known[is_directory][body] = File(is_directory or b"\ndefault:" in body, body)
+        found[path] = file
+    return Listing(found, names)
 
 
 def read_listing(text: bytes) -> Files:
-    """The files of a listing. A file is a directory by its name, its default entries, or another file below it."""
-    names, bodies = [], []
-    for record in text.split(b"\n\n"):
-        if record:
-            first, _, body = record.partition(b"\n")
-            names.append(first[len(b"# file: ") :])
-            bodies.append(body + b"\n")
-    paths = [read_path(name) for name in names]
-    parents = {path.rpartition(b"/")[0] for path in paths}
-    return {
-        path: File(name.endswith(b"/") or path in parents or path == b"" or b"\ndefault:" in body, body)
-        for path, name, body in zip(paths, names, bodies)
-    }
+    return list_files(text).files
 
 
-def read_exactly(name: bytes, text: bytes) -> Files:
-    """The files of a text that was written by write_records, in which nothing else may be."""
-    files = read_listing(text)
-    if write_records(files, files) != text or not all(BODY.match(file.body) for file in files.values()):
-        raise Failure(name + b": is not as facl-plan wrote it: make the plan again")
-    return files
+def list_all(session: Session, top: bytes = b"") -> Listing:
+    """The files as they are now, a directory and those below it; none where it is not there, and so where the root was
+    removed, which removes all."""
+    answer = session.ask(b"getfacl -R -n -E -- " + script_word(shown_path(top)) + b"\n")
+    if answer.messages and not answer.messages[0].endswith(b": no such file"):
+        raise Failure(b"the program refused to list the files: " + answer.messages[0])
+    return list_files(answer.output.read())
 
 
 def compare(old: Files, new: Files) -> Changes:
     """What differs. A file in the place of a directory, or a directory in the place of a file, is a new one."""
-    both = [path for path in old if path in new and old[path].is_directory == new[path].is_directory]
+    both = [path for path, file in old.items() if path in new and file.is_directory == new[path].is_directory]
     same_kind = set(both)
     return Changes(
-        sorted((path for path in both if old[path] != new[path]), key=path_order),
-        sorted((path for path in new if path not in same_kind), key=path_order),
-        sorted((path for path in old if path not in same_kind), key=path_order),
+        sorted((path for path in both if old[path] != new[path]), key=sorting_key),
+        sorted((path for path in new if path not in same_kind), key=sorting_key),
+        sorted((path for path in old if path not in same_kind), key=sorting_key),
     )
+
+
+@lru_cache(maxsize=4096)
+def is_open_empty_mask(body: bytes) -> bool:
+    return bool(EMPTY_MASK.search(body)) and bool(OTHERS_WITH_SOMETHING.search(body))
 
 
 def has_open_empty_mask(file: File) -> bool:
     """Whether Linux grants named users and groups what others have, as the mask is empty."""
-    return bool(EMPTY_MASK.search(file.body)) and bool(OTHERS_WITH_SOMETHING.search(file.body))
+    return is_open_empty_mask(file.body)

@@ -1,31 +1,55 @@
-"""Who may do what: what the program answers before the edits and after them, and what differs."""
+"""Who may do what: what the program answers before the edits and after them, and what differs.
+
+What a user may do with a file depends on its owner, group and list alone, which are lines of its record: files with one
+record are judged alike, so that of each of these one block of `index` is read. Along a path, what is in one directory is
+reached by the same users.
+"""
 from __future__ import annotations
 
-from typing import Dict, Iterator, List, NamedTuple, Optional, Set, Tuple
+from hashlib import blake2b
+from typing import Dict, Iterator, List, NamedTuple, Optional, Tuple
 
-from .names import path_order, read_path, script_word
+from .messages import Failure
+from .names import script_word
 from .people import uid_of_row
 from .program import Region, Session
+from .records import Listing, sorting_key
 
 ABSENT = "absent"  # Of a file or a user that is not there.
 REQUESTS = ["---", "--x", "-w-", "-wx", "r--", "r-x", "rw-", "rwx"]
-Block = Dict[bytes, int]  # A byte of `index` for each user, on one file.
+NOTHING = 1  # The byte of `index` that grants no more than the request for nothing.
+Vector = bytes  # A byte of `index` for each user, on one file.
 
 
 class Answers(NamedTuple):
     """What was asked of the program at one time."""
 
-    table: Region  # What `index` printed.
-    reached: Optional[Dict[bytes, Region]]  # For each user the files that the user can get to.
+    names: Dict[bytes, bytes]  # By path: the name as the program prints it.
+    users: List[bytes]
+    vectors: Dict[bytes, Vector]  # By path, in path order.
 
 
-class Change(NamedTuple):
-    """A user may do something else with a file than before; the names are as the program prints them."""
+class Difference(NamedTuple):
+    """A user has another right than before."""
 
     user: bytes
-    file: bytes
     old: str
     new: str
+
+
+class Group:
+    """Files, by the names that the program prints, on which the same users have the same other rights."""
+
+    def __init__(self, differences: List[Difference]) -> None:
+        self.differences = differences
+        self.files: List[bytes] = []
+
+
+class Changes(NamedTuple):
+    """The groups, in the order of their first files; and each file with its group, in path order."""
+
+    groups: List[Group]
+    files: List[Tuple[bytes, Group]]
 
 
 class Kind(NamedTuple):
@@ -61,71 +85,128 @@ def users_of(table: Region) -> List[bytes]:
     return users
 
 
-def ask_rights(session: Session, along_paths: bool, rows: bytes) -> Answers:
-    """Asks what all users may do with all files. A request is granted along a path where it is granted on the file, and
-    the user can get there, which the request for nothing asks."""
+def vector_in(block: bytes, name: bytes, users: List[bytes], known: Dict[bytes, Vector]) -> Vector:
+    """The bytes in the lines of one file, of which each has two digits, a user and the name. Without the name, lines that
+    have the same digits are the same text, which is read once."""
+    text = block.replace(b" " + name + b"\n", b"\n")
+    if text not in known:
+        rows = text.split(b"\n")[:-1]
+        if [row[3:] for row in rows] != users:
+            raise Failure(b"the program does not list the users and files of `index` in their order: " + name)
+        known[text] = bytes([int(row[:2], 16) for row in rows])
+    return known[text]
+
+
+def read_table(table: Region, users: List[bytes], listing: Listing) -> Dict[bytes, Vector]:
+    """For each record what `index` has of the first file that has it. All lines of a file have one length but for the user."""
+    found: Dict[bytes, Vector] = {}
+    known: Dict[bytes, Vector] = {}
+    fixed = sum(len(user) + len(b"XX  \n") for user in users)
+    place = table.start
+    for name, file in zip(listing.names, listing.files.values()):
+        end = place + fixed + len(users) * len(name)
+        if file.body not in found:
+            found[file.body] = vector_in(Region(table.file, place, end).read(), name, users, known)
+        place = end
+    if place != table.end:
+        raise Failure(b"the program does not list the files of `index` as getfacl does")
+    return found
+
+
+def directory_of(path: bytes) -> bytes:
+    """What a path is in, with a slash at its end; nothing for the root."""
+    return path.rpartition(b"/")[0] + b"/" if path else b""
+
+
+def ask_reached(session: Session, listing: Listing, users: List[bytes], passwd: bytes) -> Dict[bytes, bytes]:
+    """By directory: for each user 1 where the user can get to what is in it, else 0. The request for nothing asks that; the
+    first file in a directory answers for all. Users with one answer have it read once."""
+    examples: Dict[bytes, bytes] = {}
+    for path, name in zip(listing.files, listing.names):
+        examples.setdefault(directory_of(path), name)
+    known: Dict[bytes, bytes] = {}
+    columns: List[bytes] = []
+    for user in users:
+        word = uid_of_row(passwd, user) if user.isdigit() else user
+        text = session.ask_surely(b"may --reach -- " + script_word(word) + b" 0").read()
+        digest = blake2b(text).digest()
+        if digest not in known:
+            reached = set(text.split(b"\n"))
+            known[digest] = bytes([name in reached for name in examples.values()])
+        columns.append(known[digest])
+    rows = map(bytes, zip(*columns)) if columns else iter([b""] * len(examples))
+    return dict(zip(examples, rows))
+
+
+def along_path(vector: Vector, reached: bytes) -> Vector:
+    """What is granted along a path: nothing to those who cannot get there."""
+    return bytes([byte if is_reached else NOTHING for byte, is_reached in zip(vector, reached)])
+
+
+def ask_rights(session: Session, listing: Listing, along_paths: bool, passwd: bytes) -> Answers:
+    """Asks what all users may do with all files that are listed."""
     table = session.ask_surely(b"index")
-    if not along_paths:
-        return Answers(table, None)
-    reached = {}
-    for user in users_of(table):
-        word = uid_of_row(rows, user) if user.isdigit() else user
-        reached[user] = session.ask_surely(b"may --reach -- " + script_word(word) + b" 0")
-    return Answers(table, reached)
+    users = users_of(table)
+    of_record = read_table(table, users, listing)
+    names = dict(zip(listing.files, listing.names))
+    vectors = {path: of_record[file.body] for path, file in listing.files.items()}
+    if along_paths:
+        reached = ask_reached(session, listing, users, passwd)
+        known: Dict[Tuple[Vector, bytes], Vector] = {}
+        for path, vector in vectors.items():
+            pair = vector, reached[directory_of(path)]
+            if pair not in known:
+                known[pair] = along_path(*pair)
+            vectors[path] = known[pair]
+    return Answers(names, users, vectors)
 
 
-def blocks(answers: Answers) -> Iterator[Tuple[bytes, bytes, Block]]:
-    """Each path, with its name as it is printed and what each user may do."""
-    reached: Optional[Dict[bytes, Set[bytes]]] = None
-    if answers.reached is not None:
-        reached = {user: set(region.lines()) for user, region in answers.reached.items()}
-    last: Optional[bytes] = None
-    block: Block = {}
-    for line in answers.table.lines():
-        digits, user, file = line.split(b" ", 2)
-        if file != last:
-            if last is not None:
-                yield read_path(last), last, block
-            last, block = file, {}
-        block[user] = int(digits, 16) if reached is None or file in reached[user] else 1
-    if last is not None:
-        yield read_path(last), last, block
-
-
-def differing(file: bytes, old: Block, new: Block) -> Iterator[Change]:
+def differing(old: Dict[bytes, int], new: Dict[bytes, int]) -> Iterator[Difference]:
     """The users with other rights. One who is absent, or to whom the file is, has none."""
-    if old == new:
-        return
     for user in [*old, *(user for user in new if user not in old)]:
         before = GRANTED[old[user]] if user in old else ABSENT
         after = GRANTED[new[user]] if user in new else ABSENT
         if before != after and {before, after} != {ABSENT, "none"}:
-            yield Change(user, file, before, after)
+            yield Difference(user, before, after)
 
 
-def changes(old: Answers, new: Answers) -> Iterator[Change]:
-    """What differs, in path order."""
-    ahead = blocks(new)
-    coming = next(ahead, None)
-    for path, file, block in blocks(old):
-        while coming is not None and path_order(coming[0]) < path_order(path):
-            yield from differing(coming[1], {}, coming[2])
-            coming = next(ahead, None)
-        if coming is not None and coming[0] == path:
-            yield from differing(coming[1], block, coming[2])
-            coming = next(ahead, None)
-        else:
-            yield from differing(file, block, {})
-    while coming is not None:
-        yield from differing(coming[1], {}, coming[2])
-        coming = next(ahead, None)
+def by_user(users: List[bytes], vector: Optional[Vector]) -> Dict[bytes, int]:
+    """The bytes of each user; of no user where there is no file."""
+    return {} if vector is None else dict(zip(users, vector))
 
 
-def kinds(found: List[Change], users: List[bytes]) -> List[Kind]:
+def paths_of(old: Answers, new: Answers) -> List[bytes]:
+    """The paths of both, in path order, in which the program has those of each."""
+    first = list(old.names)
+    return first if first == list(new.names) else sorted({**old.names, **new.names}, key=sorting_key)
+
+
+def changes(old: Answers, new: Answers) -> Changes:
+    """What differs. Two files with the same rights before and after are alike."""
+    found = Changes([], [])
+    known: Dict[Tuple[Optional[Vector], Optional[Vector]], Group] = {}
+    before_of, after_of = old.vectors.get, new.vectors.get
+    for path in paths_of(old, new):
+        pair = before_of(path), after_of(path)
+        group = known.get(pair)
+        if group is None:
+            before, after = by_user(old.users, pair[0]), by_user(new.users, pair[1])
+            group = known[pair] = Group(list(differing(before, after)))
+            found.groups.append(group)
+        if group.differences:
+            name = new.names.get(path) or old.names[path]
+            group.files.append(name)
+            found.files.append((name, group))
+    return found
+
+
+def kinds(found: Changes, users: List[bytes]) -> List[Kind]:
     """The changes by user and kind, in the order of the users."""
     place = {user: k for k, user in enumerate(users)}
-    counts: Dict[Tuple[bytes, str, str], Kind] = {}
-    for user, file, old, new in found:
-        before = counts.get((user, old, new))
-        counts[user, old, new] = before._replace(files=before.files + 1) if before else Kind(user, old, new, 1, file)
+    counts: Dict[Difference, Kind] = {}
+    for group in found.groups:
+        for it in group.differences:
+            before = counts.get(it)
+            files, first = (before.files, before.first) if before else (0, group.files[0])
+            counts[it] = Kind(*it, files + len(group.files), first)
     return sorted(counts.values(), key=lambda kind: (place.get(kind.user, len(place)), kind.old, kind.new))

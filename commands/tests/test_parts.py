@@ -13,7 +13,6 @@ from common import COMMANDS, HERE, Case
 sys.path.insert(0, COMMANDS)
 
 from facl_commands import names, people, records, scripts  # noqa: E402
-from facl_commands.messages import Failure  # noqa: E402
 from facl_commands.program import Session, find_program  # noqa: E402
 
 
@@ -102,16 +101,6 @@ class Records(unittest.TestCase):
         self.assertEqual([path for path, file in files.items() if file.is_directory], [b"", b"a", b"c", b"d"])
         self.assertEqual(records.write_record(b"c", files[b"c"]), self.record(b"/c/", *base))
         self.assertEqual(records.write_record(b"", files[b""]), self.record(b"/", *base))
-
-    def test_a_plan_is_read_exactly(self) -> None:
-        one = self.record(b"/a", b"user::rw-", b"group::r--", b"other::---")
-        self.assertEqual(list(records.read_exactly(b"new", one + one.replace(b"/a", b"/b"))), [b"a", b"b"])
-        bad = [one[:-1], one[:-1] + one.replace(b"/a", b"/b"), b"\n" + one, one + b"\n", one + b"ines\n", b"ines\n\n" + one, one + one,
-               one.replace(b"# owner: 0\n", b""), one.replace(b"group", b"grup"), one.replace(b"/a", b"a"), one.replace(b"r--", b"r-X"),
-               one.replace(b"other::---\n", b"other::---\t#effective\n"), one.replace(b"/a", b"/a\\x"), one[:30]]
-        for text in bad:
-            with self.assertRaises(Failure, msg=repr(text)):
-                records.read_exactly(b"new", text)
 
     def test_empty_masks(self) -> None:
         for entries, is_open in (((b"user::rw-", b"user:3:r--", b"group::r--", b"mask::---", b"other::r--"), True),

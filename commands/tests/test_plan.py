@@ -8,13 +8,16 @@ import subprocess
 import sys
 import time
 import unittest
-from typing import List, Set
+from typing import Dict, List, Set
 
-from common import COMMANDS, Case, restore_signals
+from common import COMMANDS, Case, Done, restore_signals
 
 sys.path.insert(0, COMMANDS)
 
+from facl_commands.links import Links, directory_above, parts_of, question  # noqa: E402
 from facl_commands.program import Session, find_program  # noqa: E402
+from facl_commands.records import File, write_record  # noqa: E402
+from facl_commands.scripts import LINE_LIMIT, read_script  # noqa: E402
 
 WRITTEN = b"before.plan: is written; next: facl-apply before.plan\n"
 REQUESTS = [b"--x", b"-w-", b"-wx", b"r--", b"r-x", b"rw-", b"rwx"]
@@ -39,7 +42,7 @@ class Reports(Case):
         self.assertEqual(self.read("before.plan/new"), NEW_NOTES)
         self.assertEqual(self.read("before.plan/edits"), b"setfacl -m u:guest:r srv/share/notes\n")
         self.assertEqual(self.read("before.plan/by_hand"), b"")
-        self.assertEqual(self.read("before.plan/plan"), b"facl-plan 1\n")
+        self.assertEqual(self.read("before.plan/plan"), b"facl-plan 2\n")
         self.assertEqual(sorted(os.listdir(self.folder)), ["before", "before.plan", "edits"])
 
     def test_full(self) -> None:
@@ -120,6 +123,15 @@ class Reports(Case):
         report = json.loads(done.out)
         self.assertEqual((done.status, report["plan"]), (1, None))
         self.assertEqual(report["refused"], [{"script": "edits", "line": 1, "message": "setfacl: srv/none: no such file"}])
+
+    def test_json_of_each_file(self) -> None:
+        script = b"setfacl -R -m u:guest:r,g:audit:w srv/share\nuserdel mara\nuseradd -u 2000 -g staff 'n\"l'\n"
+        rows = [line.decode().split("\t") for line in self.plan(script, "--full").out.replace(b"\351", b"\\351").splitlines() if b"\t" in line]
+        done = self.plan(script, "--full", "--json")
+        report = json.loads(done.out)
+        self.assertEqual(done.out.decode(), json.dumps(report, indent=2) + "\n")
+        self.assertEqual([[it["user"], it["from"], "->", it["to"], it["file"]] for it in report["changes"]], rows)
+        self.assertGreater(len(rows), 20)
 
     def test_nothing_to_do(self) -> None:
         message = b"facl-plan: nothing to do: no line changes a list, an owner, a flag, a file or a user\n"
@@ -214,7 +226,160 @@ class HardLinks(Case):
         self.assertTrue(self.read("before.plan/new").startswith(b"# file: /srv/share/two\n"))
 
 
+    def test_a_directory_above_that_is_removed(self) -> None:
+        self.write("before/links", b"/srv/share/drafts/logo.svg\n/srv/share/one\n/srv/share/two\n")
+        done = self.plan(b"rm -r srv/share/drafts\nchmod 600 srv/share/two\n")
+        self.assertEqual(done.status, 0)
+        names = [line for line in self.read("before.plan/new").split(b"\n") if line.startswith(b"# f")]
+        self.assertEqual(names, [b"# file: /srv/share/one", b"# file: /srv/share/two"])
+
+    def test_names_that_were_different_stay_so_until_a_line_touches_them(self) -> None:
+        # The file is one; its record is that of the name which the line has.
+        self.write("before/links", b"/srv/share/notes\n/srv/share/one\n")
+        self.assertEqual(self.plan(b"chmod 600 srv/share/two\n").status, 0)
+        self.assertEqual(self.read("before.plan/new").count(b"# file"), 1)
+        self.plan(b"chmod 660 srv/share/one\n")
+        body = b"# owner: 1001\n# group: 100\nuser::rw-\ngroup::rw-\nother::---\n\n"
+        self.assertEqual(self.read("before.plan/new"), b"# file: /srv/share/notes\n" + body + b"# file: /srv/share/one\n" + body)
+
+
+class ManyHardLinks(Case):
+    """A snapshot with many hard links, and a program that keeps what it is sent."""
+
+    SETS = 1_500
+
+    def setUp(self) -> None:
+        super().setUp()
+        self.sets = [[b"srv/share/many/a%d" % k, b"srv/share/more/b%d" % k] for k in range(self.SETS)]
+        body = b"# owner: 1001\n# group: 100\nuser::rw-\ngroup::r--\nother::---\n"
+        names = sorted(it for names in self.sets for it in names)
+        records = b"".join(write_record(b"srv/share/" + it, File(True, body)) for it in (b"many", b"more"))
+        records += b"".join(write_record(it, File(False, body)) for it in names)
+        self.write("before/dump", self.read("before/dump") + records)
+        self.write("before/links", b"\n".join(b"".join(b"/%s\n" % it for it in names) for names in self.sets))
+        self.write("keeps", b'#!/bin/sh\ntee ../sent | "%s" "$@"\n' % os.fsencode(find_program(None)))
+        os.chmod(self.path("keeps"), 0o755)
+
+    def planned(self, script: bytes) -> bytes:
+        """What the program is sent for a script, of which nothing is refused."""
+        done = self.plan(script, "--program", "./keeps")
+        self.assertEqual((done.status, done.messages), (0, b""))
+        return self.read("sent")
+
+    def test_only_names_that_a_line_can_touch_are_asked_for(self) -> None:
+        lines = b"".join(b"setfacl -m u:guest:r srv/share/many/a%d\n" % k for k in range(100))
+        sent = self.planned(lines)
+        self.assertEqual(sent.count(b"getfacl -n -E --"), 100)
+        self.assertLess(len(sent), 60_000)
+        self.assertEqual(self.read("before.plan/new").count(b"user:1009:r--"), 200)
+
+    def test_other_names_get_their_records_once(self) -> None:
+        sent = self.planned(b"chmod -R 600 srv/share/many\nsetfacl -R -m u:guest:r srv/share/many\n" * 3)
+        self.assertEqual(sent.count(b"getfacl -n -E --"), 6)  # 1,500 names of about 25 bytes are in one line.
+        self.assertEqual(sent.count(b"setfacl -n --set="), 1)
+        self.assertEqual(self.read("before.plan/new").count(b"user:1009:r--"), 2 * self.SETS + 1)  # With the directory.
+
+    def test_questions_see_all_names(self) -> None:
+        edit = b"setfacl -m u:guest:r srv/share/many/a%d\n"
+        self.plan(edit % 7 + b"can guest srv/share/more/b7\n" + edit % 8 + b"may guest r\ngetfacl -R -n -c srv/share/more\n")
+        answers = self.plan(self.read("edits"), "--json").out
+        found = [it["answer"] for it in json.loads(answers)["answers"]]
+        self.assertEqual(found[0], "r--\n")
+        self.assertEqual([name for name in found[1].splitlines() if "/m" in name],
+                         ["srv/share/many/a7", "srv/share/many/a8", "srv/share/more/b7", "srv/share/more/b8"])
+        self.assertEqual(found[2].count("user:1009:r--"), 2)
+
+    def test_many_names_that_are_removed(self) -> None:
+        lines = b"rm srv/share/many/a7\nrm -r srv/share/many\nsetfacl -R -m u:guest:r srv/share/more\n"
+        sent = self.planned(lines)
+        # After the second line the question for its names is refused, and so is that for their directory: all files are listed.
+        self.assertEqual((sent.count(b"getfacl -n -E --"), sent.count(b"getfacl -R -n -E --")), (3, 4))
+        self.assertEqual(self.read("before.plan/by_hand").count(b"rm -- "), self.SETS)
+        self.assertEqual(self.read("before.plan/new").count(b"# file: /srv/share/more/b"), self.SETS)
+
+
+class TouchedLinks(unittest.TestCase):
+    FILES: Dict[bytes, File] = {it: File(False, b"") for it in (b"srv/a", b"srv/d/b", b"srv/d/e f", b"srv/d-e/c", b"-x", b"g")}
+
+    def expect(self, script: bytes, *names: bytes) -> None:
+        links = Links([[b"srv/a", b"srv/d/b"], [b"srv/d/e f", b"srv/d-e/c"], [b"-x", b"g"]], self.FILES)
+        for unit in read_script(b"edits", script):
+            self.assertEqual(links.touched(unit), set(names), script)
+
+    def test_files(self) -> None:
+        self.expect(b"chmod 600 srv/a", b"srv/a")
+        self.expect(b"chmod 600 /srv//./a/", b"srv/a")
+        self.expect(b"setfacl -m u:guest:r 'srv/d/e f' srv/a", b"srv/d/e f", b"srv/a")
+        self.expect(b"setfacl -m u:guest:r srv/d/e\\040f 'srv\\057a'", b"srv/d/e f", b"srv/a")
+        self.expect(b"chmod 600 srv/x")
+        self.expect(b"rm -- -x", b"-x")
+        self.expect(b"who --reach r srv/a", b"srv/a")
+
+    def test_whole_subtrees(self) -> None:
+        self.expect(b"chmod -R 600 srv/d", b"srv/d/b", b"srv/d/e f")
+        self.expect(b"setfacl -R -m u:guest:r srv/d-e", b"srv/d-e/c")
+        self.expect(b"setfacl --recursive -m u:guest:r srv/d-e", b"srv/d-e/c")
+        self.expect(b"setfacl -nRmu:guest:r /", *self.FILES)
+        self.expect(b"chacl -r u::rwx,g::---,o::--- .", *self.FILES)
+        self.expect(b"getfacl -Rn srv/d-e", b"srv/d-e/c")
+        self.expect(b"rm -r srv/d-e", b"srv/d-e/c")
+        # These change the directory alone.
+        self.expect(b"setfacl -m u:guest:r srv")
+        self.expect(b"setfacl -mu:guest:r srv")
+
+    def test_other_tools(self) -> None:
+        for line in (b"index", b"changes", b"may guest r", b"frob"):
+            self.expect(line, *self.FILES)
+        self.expect(b"gpasswd -a guest staff")
+
+    def test_records(self) -> None:
+        self.expect(b"setfacl --restore=-\n# file: srv/a\nuser::rw-\n\n \t#file:/g/\n.\n", b"srv/a", b"g")
+        self.expect(b"setfacl --restore=-\n# file: srv\nuser::rw-\n.\n")
+
+    def test_lines_have_room(self) -> None:
+        paths = [b"\xff" * 5_000 + b"%d" % k for k in range(7)]
+        parts = list(parts_of(paths))
+        self.assertEqual([path for part in parts for path in part], paths)
+        self.assertEqual([len(part) for part in parts], [3, 3, 1])
+        self.assertTrue(all(len(question(part)) <= LINE_LIMIT + 1 for part in parts))
+
+    def test_the_directory_above_names(self) -> None:
+        for paths, above in (([b"a/b/c", b"a/b/d/e"], b"a/b"), ([b"a/b/c"], b"a/b"), ([b"a/b", b"a-c/b"], b""), ([b"a", b"a-/b"], b"")):
+            self.assertEqual(directory_above(paths), above)
+
+
 class Names(Case):
+    def plan_with(self, name: bytes, script: bytes, *options: str) -> Done:
+        """Plans edits over a snapshot that has a further file, which is the last one."""
+        body = b"# owner: 1001\n# group: 100\nuser::rw-\ngroup::r--\nother::---\n"
+        self.write("before/dump", self.read("before/dump") + write_record(b"srv/share/" + name, File(False, body)))
+        return self.plan(script, *options)
+
+    def test_what_a_terminal_would_obey(self) -> None:
+        name, word, seen = b"z\033[2J\xc2\x9b", b"'srv/share/z\\033[2J\\302\\233'", b"srv/share/z\\033[2J\\302\\233"
+        row = b"guest  none -> r--    1 file    first: %s\n" % seen
+        done = self.plan_with(name, b"who r %s\nsetfacl -m u:guest:r %s\n" % (word, word))
+        self.assertTrue(done.out.startswith(b"# edits, line 1: who r " + word + b"\nines\nben\n\n" + row), done.out)
+        done = self.plan(b"getfacl -c %s\nmay ines w\nrm %s\n" % (word, word))
+        self.assertIn(b"\nsrv/share/two\n" + seen + b"\n", done.out)
+        self.assertIn(b"by hand: rm -- '/" + seen + b"'\n", done.out)
+        self.assertNotIn(b"\033", done.out)
+
+    def test_scripts_get_names_as_they_are(self) -> None:
+        done = self.plan_with(b"z\033", b"setfacl -m u:guest:r 'srv/share/z\\033'\n", "--full")
+        self.assertTrue(done.out.startswith(b"guest\tnone\t->\tr--\tsrv/share/z\033\n"), done.out)
+        report = json.loads(self.plan(self.read("edits"), "--json").out)
+        self.assertEqual(report["changes"][0]["first"], "srv/share/z\033")
+
+    def test_full_at_a_terminal(self) -> None:
+        self.plan_with(b"z\033", b"setfacl -m u:guest:r 'srv/share/z\\033'\n")
+        own, its = os.openpty()
+        words = [os.path.join(COMMANDS, "facl-plan"), "--full", "before", "edits"]
+        self.assertEqual(subprocess.run(words, cwd=self.folder, stdout=its, check=False).returncode, 0)
+        os.close(its)
+        with open(own, "rb", buffering=0) as terminal:
+            self.assertTrue(terminal.read(1_000).startswith(b"guest\tnone\t->\tr--\tsrv/share/z\\033\r\n"))
+
     def test_odd_names(self) -> None:
         done = self.plan(b"chmod 600 'srv/share/a\\012b' 'srv/share/back\\\\slash' srv/share/-x 'srv/share/it\\047s' "
                          b"'srv/share/p\\351q' '/srv/share/plan 2 '\n")
@@ -224,6 +389,15 @@ class Names(Case):
         self.assertEqual(self.read("before.plan/new"), b"".join(b"# file: /srv/share/" + name + body for name in names))
         self.assertEqual(self.read("before.plan/old"),
                          b"".join(b"# file: /srv/share/" + name + body.replace(b"group::---", b"group::r--") for name in names))
+
+    def test_a_chain_of_directories(self) -> None:
+        chain = [b"srv/share" + b"/d" * depth for depth in range(1, 1_500)]
+        body = b"# owner: 1001\n# group: 100\nuser::rwx\ngroup::r-x\nother::---\n"
+        self.write("before/dump", self.read("before/dump") + b"".join(write_record(path, File(True, body)) for path in chain))
+        for options in ("", "--reach", "--json"):
+            done = self.plan(b"setfacl -R -m u:guest:rX srv\n", *options.split())
+            self.assertEqual((done.status, done.messages), (0, b""))
+            self.assertEqual(self.read("before.plan/new").count(b"# file: "), 1_499 + 13)
 
     def test_directories_end_in_a_slash(self) -> None:
         self.plan(b"chmod 700 srv/share/drafts srv/share\n")
@@ -237,7 +411,7 @@ class Names(Case):
         self.write("-edits '", b"chmod 600 srv/share/one\n")
         done = self.run_command("facl-plan", ["--", name + "/", "-edits '"])
         self.assertEqual(done.status, 0)
-        self.assertIn(b"a\351 b\n.plan: is written; next: facl-apply 'a\351 b\n.plan'\n", done.out)
+        self.assertIn(b"a\\351 b\\012.plan: is written; next: facl-apply 'a\\351 b\\012.plan'\n", done.out)
         self.assertTrue(os.path.exists(self.path(name + ".plan")))
 
     def test_the_folder_itself(self) -> None:
@@ -348,7 +522,7 @@ class BadInput(Case):
     def test_targets(self) -> None:
         self.write("edits", b"chmod 600 srv/share/one\n")
         self.expect_unusable(b"absent/plan: the folder that it is to be in is not there", "--plan", "absent/plan", "before", "edits")
-        self.expect_unusable(b"edits: is there, and is no plan, or has other files too: give another name by --plan",
+        self.expect_unusable(b"edits: is there, and is no plan: give another name by --plan",
                              "--plan", "edits", "before", "edits")
         self.expect_unusable(b"before: is there, and is no plan, or has other files too: give another name by --plan",
                              "--plan", "before", "before", "edits")
@@ -357,12 +531,23 @@ class BadInput(Case):
         self.plan(b"chmod 600 srv/share/one\n")
         self.assertEqual(self.plan(b"chmod 600 srv/share/-x\n").status, 0)
         self.assertTrue(self.read("before.plan/new").startswith(b"# file: /srv/share/-x\n"))
-        self.write("before.plan/state", b"applied\n")
-        done = self.plan(b"chmod 600 srv/share/one\n")
-        self.expect(done, 2, b"", b"facl-plan: before.plan: was applied, and is the way back: give another name by --plan, or remove it\n")
-        self.write("before.plan/state", b"undone\n")
-        self.assertEqual(self.plan(b"chmod 600 srv/share/one\n").status, 0)
-        self.assertEqual(sorted(os.listdir(self.folder)), ["before", "before.plan", "edits"])
+        for number, state in enumerate((b"applied\n", b"undone\n"), 1):
+            self.write("before.plan/state", state)
+            done = self.plan(b"chmod 600 srv/share/one\n")
+            self.assertEqual((done.status, done.messages), (0, b"facl-plan: the plan that was there is before.plan.%d now\n" % number))
+            self.assertEqual(self.read("before.plan.%d/state" % number), state)
+        self.assertEqual(sorted(os.listdir(self.folder)), ["before", "before.plan", "before.plan.1", "before.plan.2", "edits"])
+
+    def test_the_program_has_a_small_environment(self) -> None:
+        self.write("shows", b'#!/bin/sh\nenv >../variables\nexec "%s" "$@"\n' % os.fsencode(find_program(None)))
+        os.chmod(self.path("shows"), 0o755)
+        self.write("edits", b"chmod 600 srv/share/one\n")
+        done = self.run_command("facl-plan", ["--program", "./shows", "before", "edits"],
+                                environment={"POSIXLY_CORRECT": "1", "LC_ALL": "C.UTF-8", "LD_PRELOAD": ""})
+        self.assertEqual(done.status, 0)
+        found = self.read("variables").splitlines()
+        self.assertIn(b"LC_ALL=C", found)
+        self.assertLessEqual({line.split(b"=")[0] for line in found}, {b"LC_ALL", b"PATH", b"PWD", b"OLDPWD", b"SHLVL", b"_"})
 
 
 class Interruptions(Case):
@@ -385,7 +570,9 @@ class Interruptions(Case):
         self.write("edits", b"index\n" * 2000)
         command = "%s before edits | head -n 1; echo ${PIPESTATUS[0]}" % os.path.join(COMMANDS, "facl-plan")
         done = subprocess.run(["bash", "-c", command], cwd=self.folder, capture_output=True, check=False)
-        self.assertEqual((done.stdout, done.stderr), (b"# edits, line 1: index\n141\n", b""))
+        # It goes on: what is decided does not depend on what can be said.
+        message = b"facl-plan: nothing to do: no line changes a list, an owner, a flag, a file or a user\n"
+        self.assertEqual((done.stdout, done.stderr), (b"# edits, line 1: index\n3\n", message))
 
 
 if __name__ == "__main__":
