@@ -29,6 +29,9 @@ with the same status. With several SCRIPTs a message names the SCRIPT, and its l
 With --each all words are SNAPSHOTs, of parts of one tree, as facl-snapshot --split makes them; HOST:DIR is one on another
 machine. They answer standard input side by side, by GNU parallel, and the answers are joined in the order of paths. A line
 that edits is taken where all its files lie in one of them.
+
+With --hosts all words are servers, NAME:DIR, each with a snapshot DIR of its own. They answer standard input side by side, by
+GNU parallel and ssh, and each line of an answer and each message begins with the NAME. localhost is this machine.
 """
 STATUS = """\
 The exit status is that of facl: 0 where every line was accepted, 1 where some line was refused, 2 where it ended early,
@@ -42,6 +45,8 @@ def parse(words: List[str]) -> argparse.Namespace:
     )
     parser.add_argument("--program", metavar="FILE", help="the program facl; without it $FACL, or facl on the path")
     parser.add_argument("--each", action="store_true", help="answer standard input over several SNAPSHOTs side by side")
+    parser.add_argument("--hosts", action="store_true", help="answer standard input over the snapshots of several servers, NAME:DIR")
+    parser.add_argument("--records", action="store_true", help=argparse.SUPPRESS)  # With --part: what it records, too.
     parser.add_argument("--part", action="store_true", help=argparse.SUPPRESS)  # What --each runs for each of them.
     parser.add_argument("snapshot", metavar="SNAPSHOT")
     parser.add_argument("scripts", metavar="SCRIPT", nargs="*")
@@ -139,17 +144,20 @@ def prompt(command: Command, program: str, folder: bytes) -> int:
 
 def body(command: Command, words: List[str]) -> int:
     given = parse(words)
-    if given.each:
-        from . import each
+    if given.each and given.hosts:
+        raise Failure(b"--each is for parts of one tree, and --hosts for servers: give one of them")
+    if given.each or given.hosts:
+        from . import each, servers
 
-        return each.body(command, [given.snapshot, *given.scripts], given.program)
+        answer = each.body if given.each else servers.body
+        return answer(command, [given.snapshot, *given.scripts], given.program)
     folder = os.fsencode(given.snapshot)
     os.close(check_texts(folder))
     program = find_program(given.program)
     if given.part:
         from . import part
 
-        return part.write_part(command, program, folder, read_text("-"))
+        return part.write_part(command, program, folder, read_text("-"), given.records)
     if len(given.scripts) > 1:
         return answer_scripts(command, program, folder, given.scripts)
     if not given.scripts and os.isatty(0) and os.isatty(1):

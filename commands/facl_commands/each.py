@@ -1,6 +1,6 @@
 """facl-ask --each: a script over several snapshots side by side, by GNU parallel, with the answers joined in path order.
 
-Each snapshot answers the whole script (part.py). A line is then taken where the snapshots agree on it. One that is not
+The snapshots have to be parts of one tree (agreement.py). Each answers the whole script (part.py). A line is then taken where the snapshots agree on it. One that is not
 taken, since its files lie in several snapshots, may have been done by some of them: then all answer the script again,
 without it.
 """
@@ -15,12 +15,12 @@ import signal
 import subprocess
 import sys
 import tempfile
-from typing import IO, Callable, Dict, Iterator, List, NamedTuple, Optional, Set, Tuple
+from typing import IO, Callable, Dict, Iterator, List, NamedTuple, Optional, Set, Tuple, Union
 
-from . import environment
+from . import agreement, environment
 from .messages import Command, Failure
 from .names import path_order, read_path, write_name
-from .part import EDITS, Header, read_header
+from .part import EDITS, Head, Header, read_head, read_header
 from .program import HOME, Region
 from .scripts import Unit, read_script, read_text
 
@@ -31,6 +31,7 @@ HOST = re.compile(rb"((?:" + NAME_OF_HOST + rb"@)?" + NAME_OF_HOST + rb"):(.*)\Z
 LIKE_HOST = re.compile(rb"[A-Za-z0-9@._-]+:|-[^/]*:")  # What somebody may have meant for one.
 NO_OPERAND = re.compile(rb".*\n|::::?\+?\Z|\Z", re.DOTALL)  # What parallel does not take as it is.
 PEOPLE = (b"gpasswd", b"usermod", b"useradd", b"userdel")
+HERE = b":"  # What parallel calls this machine.
 Item = Tuple[bytes, int, bytes]  # A path, the number of its snapshot, and what is printed for it.
 SEVERAL = b"its files lie in several snapshots; name those of one in a line of its own"
 
@@ -43,8 +44,23 @@ class Answered(NamedTuple):
 
 
 class Part(NamedTuple):
-    folder: bytes
+    """What one snapshot wrote."""
+
+    label: bytes  # The snapshot, as it was given.
+    head: Head
+    files: Region
     answers: Dict[int, Answered]  # By the number of the line.
+
+
+Outcome = Union[List[Part], Failure]  # Of the snapshots on one machine.
+
+
+class Run(NamedTuple):
+    """A run of parallel, with files for what it prints."""
+
+    process: "subprocess.Popen[bytes]"
+    out: IO[bytes]
+    messages: IO[bytes]
 
 
 class Joined(NamedTuple):
@@ -64,48 +80,69 @@ def hosts_of(folders: List[bytes]) -> Dict[bytes, List[bytes]]:
             raise Failure(folder + b": a HOST starts with a letter, a digit or _, so that no program takes it for something else")
         if NO_OPERAND.match(match[2] if match else folder):
             raise Failure(folder + b": parallel cannot be given a snapshot of this name: rename the folder")
-        host, name = (match[1], match[2]) if match else (b":", folder)
+        host, name = (match[1], match[2]) if match else (HERE, folder)
         found.setdefault(host, []).append(name)
     return found
 
 
-def parallel_words(host: bytes, folders: List[bytes], program: Optional[str]) -> List[bytes]:
+def parallel_words(host: bytes, folders: List[bytes], options: List[bytes]) -> List[bytes]:
     """GNU parallel's command line, which gives each job all of its standard input."""
     found = shutil.which("parallel")
     if found is None:
         raise Failure(b"GNU parallel is not installed (package parallel)")
     here = [os.fsencode(sys.executable), b"-I", os.fsencode(os.path.join(HOME, "facl-ask"))]
-    command = (here if host == b":" else [b"facl-ask"]) + [b"--part"]
-    if program is not None:
-        command += [b"--program", os.fsencode(program)]
+    command = (here if host == HERE else [b"facl-ask"]) + [b"--part", *options]
     words = [b"--will-cite", b"--keep-order", b"--pipe", b"--tee", b"--jobs", b"%d" % len(folders), b"--sshlogin", host]
     quoted = [os.fsencode(shlex.quote(os.fsdecode(word))) for word in command]
     return [os.fsencode(found), *words, b" ".join(quoted) + b" -- {}", b":::", *folders]
 
 
-def run_parts(hosts: Dict[bytes, List[bytes]], program: Optional[str], script: bytes, work: str) -> List[Part]:
-    """Runs all snapshots side by side, and reads what they wrote."""
+def program_option(program: Optional[str]) -> List[bytes]:
+    return [] if program is None else [b"--program", os.fsencode(program)]
+
+
+def start(words: List[bytes], work: str) -> Run:
+    """Starts parallel with the script as its standard input."""
+    called = {**environment.of_called(), "LC_ALL": "C", "PARALLEL_SHELL": "/bin/sh", "PARALLEL_HOME": work, "TMPDIR": work}
+    out, messages = tempfile.TemporaryFile(dir=work), tempfile.TemporaryFile(dir=work)
+    with open(os.path.join(work, "script"), "rb") as given:
+        process = subprocess.Popen(words, stdin=given, stdout=out, stderr=messages, env=called, preexec_fn=leave_quit_to_us)
+    return Run(process, out, messages)
+
+
+def run_hosts(hosts: Dict[bytes, List[bytes]], options: List[bytes], script: bytes, work: str) -> Dict[bytes, Outcome]:
+    """Runs all snapshots side by side, and reads what they wrote; by machine."""
     with open(os.path.join(work, "script"), "wb") as file:
         file.write(script + b"\n")
-    runs: List[Tuple["subprocess.Popen[bytes]", IO[bytes], IO[bytes]]] = []
-    called = {**environment.of_called(), "LC_ALL": "C", "PARALLEL_SHELL": "/bin/sh", "PARALLEL_HOME": work, "TMPDIR": work}
+    runs: Dict[bytes, Run] = {}
     try:
         for host, names in hosts.items():
-            out, messages = tempfile.TemporaryFile(dir=work), tempfile.TemporaryFile(dir=work)
-            with open(os.path.join(work, "script"), "rb") as given:
-                words = parallel_words(host, names, program)
-                run = subprocess.Popen(words, stdin=given, stdout=out, stderr=messages, env=called, preexec_fn=leave_quit_to_us)
-                runs.append((run, out, messages))
-        parts: List[Part] = []
-        for run, out, messages in runs:
-            run.wait()
-            parts += read_parts(out, run.returncode, messages)
+            runs[host] = start(parallel_words(host, names, options), work)
+        return {host: outcome_of(run, host, len(hosts[host])) for host, run in runs.items()}
     finally:
-        for run, _, _ in runs:
-            end(run)
-    wanted = sum(map(len, hosts.values()))
-    if len(parts) != wanted:
-        raise Failure(b"%d of %d snapshots did not answer" % (wanted - len(parts), wanted))
+        for run in runs.values():
+            end(run.process)
+
+
+def outcome_of(run: Run, host: bytes, wanted: int) -> Outcome:
+    """Waits for a run, and reads what it wrote."""
+    run.process.wait()
+    try:
+        parts = read_parts(run, host)
+        if len(parts) != wanted:
+            raise Failure(b"%d of %d snapshots did not answer" % (wanted - len(parts), wanted))
+        return parts
+    except Failure as failure:
+        return failure
+
+
+def run_parts(hosts: Dict[bytes, List[bytes]], options: List[bytes], script: bytes, work: str) -> List[Part]:
+    """The answers of all snapshots."""
+    parts: List[Part] = []
+    for host, outcome in run_hosts(hosts, options, script, work).items():
+        if isinstance(outcome, Failure):
+            raise Failure((b"" if host == HERE else host + b": ") + outcome.text)
+        parts += outcome
     return parts
 
 
@@ -124,10 +161,11 @@ def end(run: "subprocess.Popen[bytes]") -> None:
             pass
 
 
-def read_parts(out: IO[bytes], status: int, messages: IO[bytes]) -> List[Part]:
+def read_parts(run: Run, host: bytes) -> List[Part]:
     """The places of the answers in what one run of parallel wrote."""
-    messages.seek(0)
-    said = [line for line in messages.read().splitlines() if line]
+    out, status = run.out, run.process.returncode
+    run.messages.seek(0)
+    said = [line for line in run.messages.read().splitlines() if line]
     if status != 0:
         raise Failure(said[0].replace(b"facl-ask: ", b"", 1) if said else b"parallel ended with status %d" % status)
     out.seek(0)
@@ -138,18 +176,27 @@ def read_parts(out: IO[bytes], status: int, messages: IO[bytes]) -> List[Part]:
         if not line:
             break
         if line.startswith(b'{"part": '):
-            parts.append(Part(line, {}))
+            parts.append(open_part(out, line, host))
             is_open = True
         elif line == b"end\n":
             is_open = False
         else:
             header = read_header(line)
-            start = out.tell()
+            place = out.tell()
             out.seek(header.size + 1, os.SEEK_CUR)
-            parts[-1].answers[header.line] = Answered(header, Region(out, start, start + header.size))
+            parts[-1].answers[header.line] = Answered(header, Region(out, place, place + header.size))
     if is_open:
         raise Failure(b"a snapshot did not answer to the end")
     return parts
+
+
+def open_part(out: IO[bytes], line: bytes, host: bytes) -> Part:
+    """A part, of which the first line is read."""
+    head = read_head(line)
+    place = out.tell()
+    out.seek(head.size, os.SEEK_CUR)
+    label = head.folder if host == HERE else host + b":" + head.folder
+    return Part(label, head, Region(out, place, place + head.size), {})
 
 
 def path_key(name: bytes) -> bytes:
@@ -290,15 +337,25 @@ def without(script: bytes, units: List[Unit], dropped: Set[int]) -> bytes:
     return b"\n".join(lines)
 
 
+def check_agreement(parts: List[Part]) -> None:
+    """Fails where snapshots are not parts of one tree."""
+    fault = agreement.disagreement([agreement.Recorded(it.label, it.head.users, it.head.groups, it.files) for it in parts])
+    if fault is not None:
+        raise Failure(fault + b", so they are no parts of one tree: ask servers by --hosts NAME:DIR..")
+
+
 def body(command: Command, folders: List[str], program: Optional[str]) -> int:
     """Answers standard input over all snapshots."""
     hosts = hosts_of([os.fsencode(it) for it in folders])
     script = read_text("-")
     units = read_script(b"standard input", script)
     dropped: Dict[int, Joined] = {}
+    options = [b"--records"] if len(folders) > 1 else []
     with tempfile.TemporaryDirectory(prefix="facl-ask.") as work:
         while True:
-            parts = run_parts(hosts, program, without(script, units, set(dropped)), work)
+            parts = run_parts(hosts, [*options, *program_option(program)], without(script, units, set(dropped)), work)
+            check_agreement(parts)
+            options = []
             joined: Dict[int, Joined] = dict(dropped)
             for unit in units:
                 if unit.number not in joined:

@@ -1,0 +1,84 @@
+"""facl-ask --hosts: a script over a snapshot of each of several servers, by GNU parallel and ssh.
+
+Each line that a server prints, and each of its messages, begins with the server's name, so that the lines can be searched and
+sorted by it.
+"""
+from __future__ import annotations
+
+import os
+import tempfile
+from typing import Dict, List, NamedTuple, Optional
+
+from .each import HERE, HOST, NO_OPERAND, Part, is_refused, program_option, run_hosts
+from .messages import UNUSABLE, Command, Failure
+from .names import shown
+from .program import Region
+from .scripts import read_script, read_text
+
+ANSWERED, REFUSED = 0, 1
+THIS = b"localhost"  # The name of this machine, which needs no ssh.
+
+
+class Server(NamedTuple):
+    name: bytes  # As it was given.
+    folder: bytes
+
+    def host(self) -> bytes:
+        """What parallel calls the machine."""
+        return HERE if self.name == THIS else self.name
+
+
+def read_servers(words: List[bytes]) -> List[Server]:
+    """The servers; a name is that of a HOST of --each."""
+    found: Dict[bytes, Server] = {}
+    for word in words:
+        match = HOST.match(word)
+        if match is None:
+            raise Failure(word + b": a server is NAME:DIR, and NAME starts with a letter, a digit or _")
+        if NO_OPERAND.match(match[2]):
+            raise Failure(word + b": parallel cannot be given a snapshot of this name: rename the folder")
+        if match[1] in found:
+            raise Failure(word + b": is the second snapshot of " + match[1] + b": ask each of one server in a run of its own")
+        found[match[1]] = Server(match[1], match[2])
+    return list(found.values())
+
+
+def write_region(command: Command, server: Server, output: Region) -> None:
+    """An answer, of which each line begins with the name of its server."""
+    for line in output.lines():
+        command.write(server.name + b": " + line + b"\n")
+
+
+def write_messages(command: Command, server: Server, number: int, messages: List[bytes]) -> None:
+    command.flush()
+    for message in messages:
+        command.put(command.messages, server.name + b": line %d: %s\n" % (number, message))
+    command.put(command.messages)
+
+
+def write_answers(command: Command, numbers: List[int], parts: Dict[Server, Part]) -> int:
+    """The answers line by line of the script, and of each line server by server."""
+    status = ANSWERED
+    for number in numbers:
+        for server, part in parts.items():
+            answered = part.answers[number]
+            write_region(command, server, answered.output)
+            write_messages(command, server, number, answered.header.messages)
+            status = REFUSED if is_refused(answered) else status
+    return status
+
+
+def body(command: Command, words: List[str], program: Optional[str]) -> int:
+    """Answers standard input over all servers. One that does not answer leaves the answers of the others as they are."""
+    servers = read_servers([os.fsencode(word) for word in words])
+    script = read_text("-")
+    with tempfile.TemporaryDirectory(prefix="facl-ask.") as work:
+        outcomes = run_hosts({it.host(): [it.folder] for it in servers}, program_option(program), script, work)
+        failures = {it: found for it in servers for found in [outcomes[it.host()]] if isinstance(found, Failure)}
+        parts = {it: found[0] for it in servers for found in [outcomes[it.host()]] if not isinstance(found, Failure)}
+        status = write_answers(command, [unit.number for unit in read_script(b"", script)], parts)
+    command.flush()
+    for server, failure in failures.items():
+        command.put(command.messages, server.name + b": " + shown(failure.text) + b"\n")
+    command.put(command.messages)
+    return UNUSABLE if failures else status
