@@ -116,6 +116,13 @@ def take_signals() -> None:
             signal.signal(number, signal.default_int_handler if number == signal.SIGINT else leave)
 
 
+def dim(line: bytes) -> bytes:
+    """A line at a terminal that is beside the answers."""
+    if os.environ.get("NO_COLOR") or os.environ.get("TERM", "dumb") == "dumb":
+        return line
+    return b"\x1b[2m" + line.rstrip(b"\n") + b"\x1b[0m\n"
+
+
 def prompt(command: Command, program: str, folder: bytes) -> int:
     """Answers a person's lines. Only a prompt needs these parts of the package."""
     from . import manual, overview, terminal
@@ -130,7 +137,7 @@ def prompt(command: Command, program: str, folder: bytes) -> int:
         command.flush()
 
     take_signals()
-    desk = Desk(lambda: Session(program, folder), completer.page, completer, out)
+    desk = Desk(lambda: Session(program, folder), completer.page, completer, out, dim)
     with contextlib.closing(desk):
         refuse_early_end(desk.session)
         out(shown(overview.summary(texts)) + b"; `help` lists the tools, control-D ends\n")

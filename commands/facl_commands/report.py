@@ -34,8 +34,8 @@ ABSENT = b"00"  # In the place of a byte of `index`, which always grants the req
 GREATEST_ID = 4_294_967_294
 HELP = """\
 Writes one page of HTML, to standard output or to a new FILE: a tree of the files of a snapshot, in which the rights of a
-user or a group are shown by colour, on each file or along its path; the list of a file, and who may do what with it, by
-which entries; with SCRIPTs, what their edits change. The page needs no network. The SCRIPT - is standard input.
+user or a group are shown by colour, along the path of each file or on the file alone; the list of a file, and who may do what
+with it, by which entries; with SCRIPTs, what their edits change. The page needs no network. The SCRIPT - is standard input.
 """
 STATUS = """\
 The exit status is 0 where the page is written; 1 where lines were refused: then none is; 2 where the words, the snapshot
@@ -81,6 +81,9 @@ def parse(words: List[str]) -> argparse.Namespace:
         prog="facl-report", description=HELP, epilog=STATUS, formatter_class=argparse.RawDescriptionHelpFormatter, allow_abbrev=False,
     )
     parser.add_argument("--program", metavar="FILE", help="the program facl; without it $FACL, or facl on the path")
+    view = parser.add_mutually_exclusive_group()
+    view.add_argument("--file-alone", action="store_true", help="open the page with each file judged alone, and not along its path")
+    view.add_argument("--reach", action="store_true", help="open it along paths, as it does without a word")
     parser.add_argument("--output", metavar="FILE", help="write the page to a new file that its owner alone may read")
     parser.add_argument("snapshot", metavar="SNAPSHOT")
     parser.add_argument("scripts", metavar="SCRIPT", nargs="*")
@@ -239,11 +242,11 @@ class Builder:
         lists = [now.get(number) for number in range(len(self.tables.lists.values))]
         return list(lists), {number: it for number, it in before.items() if it != lists[number]}
 
-    def data(self, title: str, has_script: bool) -> Dict[str, object]:
+    def data(self, title: str, has_script: bool, is_alone: bool = False) -> Dict[str, object]:
         files = self.files()
         decisions, before = self.all_decisions()
         return {
-            "title": title, "script": has_script, "whos": [[who.kind, shown(who.name)] for who in self.whos], "start": self.start,
+            "title": title, "script": has_script, "alone": is_alone, "whos": [[who.kind, shown(who.name)] for who in self.whos], "start": self.start,
             "files": files, "rows": self.tables.rows.values, "lists": [text for text, _ in self.tables.lists.values],
             "reaches": self.tables.reaches.values, "entries": self.tables.entries.values, "decisions": decisions, "before": before,
         }
@@ -305,7 +308,8 @@ def changes_of_people(units: List[Unit]) -> bytes:
     return b"".join(unit.lines[0] + b"\n" for unit in units if unit.is_of(*CHANGES))
 
 
-def data_of(program: str, snapshot: Snapshot, tree: Tree, listings: List[Tuple[Listing, Labels]], units: List[Unit]) -> Dict[str, object]:
+def data_of(program: str, snapshot: Snapshot, tree: Tree, listings: List[Tuple[Listing, Labels]], units: List[Unit],
+            is_alone: bool) -> Dict[str, object]:
     """The data of the page, of one listing, or of two with scripts between them."""
     bodies = [labels.bodies() for _, labels in listings]
     changes = changes_of_people(units)
@@ -317,7 +321,7 @@ def data_of(program: str, snapshot: Snapshot, tree: Tree, listings: List[Tuple[L
     whos = users_shown(states[0].answers.users, states[-1].answers.users, probes.whos)
     tables = Tables()
     views = [View(state, its, whos, tables) for state, its in zip(states, bodies)]
-    return Builder(tree, whos, views[0], views[-1], tables).data(shown(snapshot.folder), len(listings) > 1)
+    return Builder(tree, whos, views[0], views[-1], tables).data(shown(snapshot.folder), len(listings) > 1, is_alone)
 
 
 def body(command: Command, words: List[str]) -> int:
@@ -341,7 +345,7 @@ def body(command: Command, words: List[str]) -> int:
                 return REFUSED
             labels = Labels()
             listings.append((tree.add(list_files(session), labels), labels))
-    page = page_of(data_of(program, snapshot, tree, listings, units))
+    page = page_of(data_of(program, snapshot, tree, listings, units, given.file_alone))
     if target is None:
         command.write(page)
     else:

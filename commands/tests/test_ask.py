@@ -20,7 +20,7 @@ from common import COMMANDS, HERE, Case, outside_the_gate, restore_signals, take
 sys.path.insert(0, COMMANDS)
 
 from facl_commands import causes, completion, manual, overview, terminal  # noqa: E402
-from facl_commands.desk import WORDS_OF_PROMPT, Desk  # noqa: E402
+from facl_commands.desk import ALONE, WORDS_OF_PROMPT, Desk  # noqa: E402
 from facl_commands.messages import Failure  # noqa: E402
 from facl_commands.names import shown  # noqa: E402
 from facl_commands.program import Session, find_program  # noqa: E402
@@ -267,10 +267,13 @@ class Overview(Case):
 class Prompt(unittest.TestCase):
     """What is printed for lines, without a terminal."""
 
+    noted = [ALONE]  # What was said once before.
+
     def desk(self) -> Desk:
         self.printed: List[bytes] = []
         known = completer()
-        desk = Desk(lambda: Session(find_program(None), SHARE), known.page, known, self.printed.append)
+        desk = Desk(lambda: Session(find_program(None), SHARE), known.page, known, self.printed.append, lambda line: b"~" + line)
+        desk.noted.update(self.noted)
         self.addCleanup(desk.close)
         return desk
 
@@ -303,6 +306,22 @@ class Prompt(unittest.TestCase):
                          b"(nothing)\n# file: srv/share/notes\nuser:mara:rw-\t\t\t#effective:r--\n\n"
                          b"mara gains -w-,rw- srv/share/notes\nguest gains r-- srv/share/notes\n"
                          b"# file: srv/share/notes\nuser:mara:rw-\n\n(nothing)\n(nothing)\n\n")
+
+    def test_what_is_said_once(self) -> None:
+        self.noted = []
+        self.assertEqual(self.ask("who --reach r srv/share/one", "can ines srv", "getfacl -s srv", "who", "who w srv", "may guest w"),
+                         b"ines\nben\n--x r-- r-x\n~" + ALONE + b"(nothing)\nline 4: who: usage\n    who [--reach] PERMS FILE\n    A word is "
+                         b"missing.\nroot\n(nothing)\n\n")
+
+    def test_where_the_user_is_stopped(self) -> None:
+        mark = b"    <-- here is no search: nothing below is reached\n"
+        share = b"# file: srv/share\nother::---\n\n"
+        answer = self.ask("why --reach guest srv/share/one srv/share/drafts/logo.svg srv", "why guest srv/share srv/share/one",
+                          "setfacl -m u:guest:x srv/share", "why --reach guest srv/share/drafts/logo.svg")
+        blocks = answer.split(b"\n\n")
+        self.assertEqual([block.split(b"\n")[0] + b"\n" for block in blocks if b"<--" in block],
+                         [share.split(b"\n")[0] + mark, b"# file: srv/share/drafts" + mark])
+        self.assertEqual(answer.count(b"# file: srv\n"), 2)
 
     def test_refused_lines(self) -> None:
         self.assertEqual(self.ask('who r "srv/share/plan 2 "', "who r share/one", "", "frob", "chmod u+w srv/share/one"), (
@@ -437,18 +456,18 @@ class Terminal(Case):
                     break
         self.assertEqual(self.run_of.wait(60), status)
 
-    def session(self) -> None:
+    def session(self, dim: bytes = b"") -> None:
         self.expect_output(b"before: 5 users, 5 groups, ")
         self.expect_output(b"warning: names of files that have another name in the snapshot too (see links): 2")
         self.expect_output(b"1>")
         self.send(b"who x srv/share/one\r")
-        self.expect_output(b"(nobody)\r\n")
+        self.expect_output(b"(nobody)\r\n" + dim + b"(each file is judged alone")
         self.expect_output(b"2>")
 
     @unittest.skipUnless(importlib.util.find_spec("prompt_toolkit"), "prompt_toolkit is not installed")
     def test_prompt_toolkit(self) -> None:
-        self.start({})
-        self.session()
+        self.start({"NO_COLOR": ""})
+        self.session(b"\x1b[2m")
         self.send(b"can i\t")
         self.expect_output(b"nes")
         self.send(b"srv/share/o\t")
@@ -484,7 +503,7 @@ class Terminal(Case):
     @unittest.skipUnless(importlib.util.find_spec("prompt_toolkit"), "prompt_toolkit is not installed")
     def test_signals(self) -> None:
         os.mkdir(self.path("temporary"))
-        self.expect_nothing_left({"TMPDIR": self.path("temporary")})
+        self.expect_nothing_left({"TMPDIR": self.path("temporary"), "NO_COLOR": "1"})
 
     def test_signals_without_prompt_toolkit(self) -> None:
         os.mkdir(self.path("temporary"))

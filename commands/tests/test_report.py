@@ -122,6 +122,12 @@ class Report(Case):
         _, data = self.report()
         self.assertEqual({kind for kind, _ in places_of(data)}, {"group", "everybody"})
 
+    def test_how_it_opens(self) -> None:
+        for words, is_alone in (([], False), (["--reach"], False), (["--file-alone"], True)):
+            data = read_data(self.run_command("facl-report", [*words, "before"]).out)
+            self.assertEqual(data["alone"], is_alone)
+        self.assertEqual(self.run_command("facl-report", ["--reach", "--file-alone", "before"]).status, 2)
+
     def test_a_new_file(self) -> None:
         wanted = self.run_command("facl-report", ["before"])
         done = self.run_command("facl-report", ["--output", "page.html", "before"])
@@ -280,6 +286,9 @@ class Deep(Case):
         self.assertEqual(done["side"][0], path[:1000] + " \u2026 " + path[-1000:])
         reason = "by other::--- of " + path[:120] + " \u2026 " + path[-122:-2]
         self.assertEqual(done["side"][1], [["Users", "rwx", "ines", "by other::r-x"], ["Users", "none", "ben", reason]])
+        self.write("page.html", report.page_of({**self.page(), "alone": True}))
+        done = json.loads(subprocess.run(words, capture_output=True, check=True, timeout=60).stdout)
+        self.assertEqual(done["side"][1], [["Users", "rwx", "ines, ben", "by other::r-x"]])
 
 
 if __name__ == "__main__":
