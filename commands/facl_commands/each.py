@@ -17,7 +17,7 @@ import sys
 import tempfile
 from typing import IO, Callable, Dict, Iterator, List, NamedTuple, Optional, Set, Tuple, Union
 
-from . import agreement, environment
+from . import agreement, environment, overview
 from .messages import Command, Failure
 from .names import path_order, read_path, write_name
 from .part import EDITS, Head, Header, read_head, read_header
@@ -337,6 +337,19 @@ def without(script: bytes, units: List[Unit], dropped: Set[int]) -> bytes:
     return b"\n".join(lines)
 
 
+def say_notices(command: Command, parts: List[Part]) -> None:
+    """What the snapshots cannot tell, each of it once, and how many lists with an empty mask they have."""
+    known: Dict[bytes, bytes] = {}
+    for part in parts:
+        for text in part.head.unknown:
+            known.setdefault(text, part.label)
+    for text, label in known.items():
+        command.say(label + b": " + text)
+    names = sorted({name for part in parts for name in part.head.masks}, key=lambda name: path_order(read_path(name)))
+    if names:
+        command.say(overview.warning_of(overview.EMPTY_MASKS, names))
+
+
 def check_agreement(parts: List[Part]) -> None:
     """Fails where snapshots are not parts of one tree."""
     fault = agreement.disagreement([agreement.Recorded(it.label, it.head.users, it.head.groups, it.files) for it in parts])
@@ -355,6 +368,8 @@ def body(command: Command, folders: List[str], program: Optional[str]) -> int:
         while True:
             parts = run_parts(hosts, [*options, *program_option(program)], without(script, units, set(dropped)), work)
             check_agreement(parts)
+            if not dropped:
+                say_notices(command, parts)
             options = []
             joined: Dict[int, Joined] = dict(dropped)
             for unit in units:

@@ -11,7 +11,7 @@ import os
 import re
 from typing import Dict, List, NamedTuple, Optional
 
-from . import agreement, texts
+from . import agreement, overview, texts
 from .completion import OPERANDS, VALUES
 from .messages import Command
 from .names import read_name, script_word
@@ -32,15 +32,20 @@ class Head(NamedTuple):
     folder: bytes
     users: Dict[str, int]
     groups: Dict[str, int]
+    unknown: List[bytes]  # What it cannot tell.
+    masks: List[bytes]  # Files with an empty mask, and something for others.
     size: int  # Of what it records, which comes next.
 
     def write(self) -> bytes:
-        return json.dumps({"part": self.folder.decode("latin-1"), "users": self.users, "groups": self.groups, "size": self.size}).encode() + b"\n"
+        unknown, masks = ([it.decode("latin-1") for it in texts_of] for texts_of in (self.unknown, self.masks))
+        fields = {"users": self.users, "groups": self.groups, "unknown": unknown, "masks": masks, "size": self.size}
+        return json.dumps({"part": self.folder.decode("latin-1"), **fields}).encode() + b"\n"
 
 
 def read_head(line: bytes) -> Head:
     fields = json.loads(line)
-    return Head(fields["part"].encode("latin-1"), fields["users"], fields["groups"], fields["size"])
+    unknown, masks = ([it.encode("latin-1") for it in fields[name]] for name in ("unknown", "masks"))
+    return Head(fields["part"].encode("latin-1"), fields["users"], fields["groups"], unknown, masks, fields["size"])
 
 
 class Header(NamedTuple):
@@ -140,13 +145,19 @@ def ids_of(folder: bytes, name: bytes) -> Dict[str, int]:
     return {row[0].decode("latin-1"): int(row[2]) for row in rows_of(read_trusted(os.path.join(folder, name)))}
 
 
+def head_of(folder: bytes, size: int) -> Head:
+    dump = read_trusted(os.path.join(folder, b"dump"))
+    unknown, masks = list(overview.unknown(folder, dump)), list(overview.open_empty_masks(dump))
+    return Head(folder, ids_of(folder, b"passwd"), ids_of(folder, b"group"), unknown, masks, size)
+
+
 def write_part(command: Command, program: str, folder: bytes, script: bytes, has_records: bool) -> int:
     """Answers a script over one snapshot, between a first and a last line of our own."""
     with Session(program, folder) as session:
         session.ask(b"")
         listings = texts.list_below(session, texts.find_tops(session, folder)) if has_records else []
         files = b"".join(agreement.blocks_of(record for listing in listings for record in records_of(listing)))
-        command.write(Head(folder, ids_of(folder, b"passwd"), ids_of(folder, b"group"), len(files)).write() + files)
+        command.write(head_of(folder, len(files)).write() + files)
         for unit in read_script(b"", script):
             answer(command, session, unit)
         command.write(b"end\n")

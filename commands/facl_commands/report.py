@@ -13,9 +13,9 @@ import os
 import re
 import secrets
 from collections import Counter
-from typing import Dict, Generic, Hashable, Iterable, Iterator, List, NamedTuple, Tuple, TypeVar
+from typing import Dict, Generic, Hashable, Iterable, Iterator, List, NamedTuple, Optional, Tuple, TypeVar
 
-from . import plan
+from . import overview, plan, texts
 from .label_answers import Answers, People, ask_labels
 from .messages import Command, Failure, counted
 from .names import shown as shown_bytes
@@ -27,6 +27,8 @@ from .program import Session, find_program
 from .records import File, Files
 from .scripts import Unit, read_units
 from .snapshot import Snapshot, read_snapshot
+from .texts import Source
+from .trusted import read_trusted
 
 HERE = os.path.dirname(os.path.realpath(__file__))
 WRITTEN, REFUSED = 0, 1
@@ -85,7 +87,7 @@ def parse(words: List[str]) -> argparse.Namespace:
     view.add_argument("--file-alone", action="store_true", help="open the page with each file judged alone, and not along its path")
     view.add_argument("--reach", action="store_true", help="open it along paths, as it does without a word")
     parser.add_argument("--output", metavar="FILE", help="write the page to a new file that its owner alone may read")
-    parser.add_argument("snapshot", metavar="SNAPSHOT")
+    texts.add_source(parser, words)
     parser.add_argument("scripts", metavar="SCRIPT", nargs="*")
     return parser.parse_args(words)
 
@@ -271,12 +273,9 @@ def page_of(data: Dict[str, object]) -> bytes:
     return (PAGE % {"policy": policy, "style": style, "data": text, "script": script}).encode("utf-8")
 
 
-def list_files(session: Session) -> Iterator[Record]:
-    """The files as they are now; none where the root was removed, which removes all."""
-    answer = session.ask(b"getfacl -R -n -E .\n")
-    if answer.messages and not answer.messages[0].endswith(b": no such file"):
-        raise Failure(b"the program refused to list the files: " + answer.messages[0])
-    return records_of(answer.output)
+def list_files(session: Session, tops: List[bytes]) -> Iterator[Record]:
+    """The files as they are now; none where the tops were removed, which removes all."""
+    return (record for region in texts.list_below(session, tops) for record in records_of(region))
 
 
 def keep(records: Iterator[Record], wanted: List[List[bytes]], kept: Files) -> Iterator[Record]:
@@ -324,28 +323,44 @@ def data_of(program: str, snapshot: Snapshot, tree: Tree, listings: List[Tuple[L
     return Builder(tree, whos, views[0], views[-1], tables).data(shown(snapshot.folder), len(listings) > 1, is_alone)
 
 
-def body(command: Command, words: List[str]) -> int:
-    given = parse(words)
-    target = NewFile(os.fsencode(given.output)) if given.output is not None else None
-    command.goes_on = target is not None
-    snapshot = read_snapshot(os.fsencode(given.snapshot))
+def say_notices(command: Command, source: Source) -> None:
+    dump = read_trusted(os.path.join(source.folder, b"dump"))
+    for text in (*overview.unknown(source.folder, dump), *overview.masks(dump)):
+        command.say(text if text.startswith(b"warning: ") else source.shown + b": " + text)
+
+
+def page_over(command: Command, given: argparse.Namespace, source: Source) -> Optional[bytes]:
+    """The page; None where lines were refused."""
+    snapshot = read_snapshot(source.folder, needs_links=False)
     program = find_program(given.program)
     units = read_units(given.scripts)
+    say_notices(command, source)
     tree = Tree()
     linked: Files = {}
     with Session(program, snapshot.folder) as session:
         labels = Labels()
-        listings = [(tree.add(keep(list_files(session), snapshot.links, linked), labels), labels)]
+        tops = texts.find_tops(session, snapshot.folder)
+        listings = [(tree.add(keep(list_files(session, tops), snapshot.links, linked), labels), labels)]
         if not tree.names:
-            raise Failure(snapshot.folder + b": has no directories above its files: make a snapshot by facl-snapshot")
+            raise Failure(source.shown + b": has no files: make a snapshot by facl-snapshot")
         if given.scripts:
             refusals = answer_scripts(command, plan.Run(session, snapshot, linked), units)
             if refusals:
                 command.say(counted(refusals, "line was", "lines were") + b" refused, so no page is written")
-                return REFUSED
+                return None
             labels = Labels()
-            listings.append((tree.add(list_files(session), labels), labels))
-    page = page_of(data_of(program, snapshot, tree, listings, units, given.file_alone))
+            listings.append((tree.add(list_files(session, tops), labels), labels))
+    return page_of(data_of(program, snapshot._replace(folder=source.shown), tree, listings, units, given.file_alone))
+
+
+def body(command: Command, words: List[str]) -> int:
+    given = parse(words)
+    target = NewFile(os.fsencode(given.output)) if given.output is not None else None
+    command.goes_on = target is not None
+    with texts.opened(given) as source:
+        page = page_over(command, given, source)
+    if page is None:
+        return REFUSED
     if target is None:
         command.write(page)
     else:

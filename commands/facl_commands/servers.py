@@ -9,6 +9,7 @@ import os
 import tempfile
 from typing import Dict, List, NamedTuple, Optional
 
+from . import overview
 from .each import HERE, HOST, NO_OPERAND, Part, is_refused, program_option, run_hosts
 from .messages import UNUSABLE, Command, Failure
 from .names import shown
@@ -56,6 +57,14 @@ def write_messages(command: Command, server: Server, number: int, messages: List
     command.put(command.messages)
 
 
+def say_notices(command: Command, server: Server, part: Part) -> None:
+    """What its snapshot cannot tell, and its empty masks."""
+    found = [*part.head.unknown, *([overview.warning_of(overview.EMPTY_MASKS, part.head.masks)] if part.head.masks else [])]
+    for text in found:
+        command.put(command.messages, server.name + b": " + shown(text) + b"\n")
+    command.put(command.messages)
+
+
 def write_answers(command: Command, numbers: List[int], parts: Dict[Server, Part]) -> int:
     """The answers line by line of the script, and of each line server by server."""
     status = ANSWERED
@@ -76,6 +85,8 @@ def body(command: Command, words: List[str], program: Optional[str]) -> int:
         outcomes = run_hosts({it.host(): [it.folder] for it in servers}, program_option(program), script, work)
         failures = {it: found for it in servers for found in [outcomes[it.host()]] if isinstance(found, Failure)}
         parts = {it: found[0] for it in servers for found in [outcomes[it.host()]] if not isinstance(found, Failure)}
+        for server, part in parts.items():
+            say_notices(command, server, part)
         status = write_answers(command, [unit.number for unit in read_script(b"", script)], parts)
     command.flush()
     for server, failure in failures.items():

@@ -29,6 +29,8 @@ from facl_commands.snapshot import check_texts  # noqa: E402
 SHARE = os.fsencode(os.path.join(HERE, "snapshots", "share"))
 SCRIPT = b"who r srv/share/notes\nfrob\nsetfacl -d -m d:u:guest:r,u:guest:x srv/share/drafts\nmay guest r\nwho 'open\n\xff\ngetfacl -M - x\nindex"
 
+UNKNOWN = b"the directories above are not recorded, so they are taken as open; hard links are not known\n"
+
 
 def completer(folder: bytes = SHARE) -> completion.Completer:
     texts = overview.read_texts(folder)
@@ -94,7 +96,8 @@ class AsTheProgram(Case):
     def test_the_session_of_readme(self) -> None:
         demo = os.path.join(COMMANDS, "..", "demo")
         with open(os.path.join(demo, "plan.stdout"), "rb") as file:
-            self.expect(self.run_command("facl-ask", [demo, os.path.join(demo, "plan")]), 0, file.read())
+            done = self.run_command("facl-ask", [demo, os.path.join(demo, "plan")])
+            self.expect(done, 0, file.read(), b"facl-ask: " + os.fsencode(demo) + b": " + UNKNOWN)
 
     def test_several_scripts(self) -> None:
         self.write("first", b"# one\nfrob\nsetfacl -m u:guest:r srv/share/one\nsetfacl -M - srv/share/two\nu:guest:r")
@@ -118,6 +121,85 @@ class AsTheProgram(Case):
         self.expect(self.run_command("facl-ask", ["before"]), 2, b"", b"facl-ask: before: is no snapshot: group is not in it\n")
         self.assertEqual(self.run_command("facl-ask", []).status, 2)
         self.assertEqual(self.run_command("facl-ask", ["--help"]).status, 0)
+
+
+class AnyDump(Case):
+    """A folder of three texts, and texts by name."""
+
+    DUMP = b"""\
+# file: project
+# owner: ines
+# group: staff
+user::rwx
+group::r-x
+other::---
+
+# file: project/notes
+# owner: mara
+# group: staff
+user::rw-
+user:guest:rw-
+group::---
+mask::---
+other::r--
+
+"""
+    MASKS = (b"facl-ask: warning: lists with an empty mask whose others have something, which Linux grants to named users and groups too, and "
+             b"facl does not: 1, first: project/notes\n")
+    QUESTIONS = b"may ben 0\ncan mara project/notes\n"
+    ANSWERS = b"project\nproject/notes\n-w- r-- rw-\n"
+
+    def setUp(self) -> None:
+        super().setUp()
+        self.write("acls", self.DUMP)
+        os.mkdir(self.path("folder"))
+        self.write("folder/dump", self.DUMP)
+        for name in ("passwd", "group"):
+            shutil.copy(self.path("before/" + name), self.path("folder"))
+        self.write("questions", self.QUESTIONS)
+        os.mkdir(self.path("temporary"))
+
+    def test_a_folder(self) -> None:
+        wanted = b"facl-ask: folder: " + UNKNOWN + self.MASKS
+        self.expect(self.run_command("facl-ask", ["folder"], self.QUESTIONS), 0, self.ANSWERS, wanted)
+        self.expect(self.run_command("facl-ask", ["folder", "questions"]), 0, self.ANSWERS, wanted)
+        self.expect(self.run_command("facl-ask", ["folder", "questions", "questions"]), 0, self.ANSWERS * 2, wanted)
+        self.write("folder/links", b"")
+        self.write("folder/dump", b"# file: /\n# owner: ines\n# group: staff\nuser::rwx\ngroup::r-x\nother::--x\n")
+        self.expect(self.run_command("facl-ask", ["folder"], b"can ben .\n"), 0, b"--x r-- r-x\n")
+
+    def test_texts_by_name(self) -> None:
+        words = ["--dump", "acls", "--passwd", "before/passwd", "--group", "before/group"]
+        environment = {"TMPDIR": self.path("temporary")}
+        wanted = b"facl-ask: acls: " + UNKNOWN + self.MASKS
+        cases: List[Tuple[List[str], bytes]] = [([], self.QUESTIONS), (["-"], self.QUESTIONS), (["questions"], b"")]
+        for more, text in cases:
+            self.expect(self.run_command("facl-ask", [*words, *more], text, environment), 0, self.ANSWERS, wanted)
+        self.expect(self.run_command("facl-ask", words, b"frob\n", environment), 1, b"", wanted + b"line 1: facl: unknown tool\n")
+        self.assertEqual(os.listdir(self.path("temporary")), [])
+
+    def test_people_of_the_system(self) -> None:
+        os.mkdir(self.path("bin"))
+        self.write("bin/getent", b"#!/bin/sh\ncase $*:$1 in passwd:*|group:*) grep -v -e ^ines: -e ^staff: before/$1;; *:passwd) grep ^ines: before/passwd;;\n"
+                   b"*) grep ^staff: before/group;; esac\necho \"$*\" >>asked\n")
+        os.chmod(self.path("bin/getent"), 0o755)
+        environment = {"PATH": self.path("bin") + ":" + os.environ["PATH"], "TMPDIR": self.path("temporary")}
+        done = self.run_command("facl-ask", ["--dump", "acls"], self.QUESTIONS, environment)
+        self.expect(done, 0, self.ANSWERS, b"facl-ask: acls: " + UNKNOWN + self.MASKS)
+        self.assertEqual(self.read("asked"), b"passwd\npasswd -- ines\ngroup\ngroup -- staff\n")
+
+    def test_names_without_a_row(self) -> None:
+        self.write("folder/dump", self.DUMP.replace(b"user:guest", b"user:gone"))
+        self.expect(self.run_command("facl-ask", ["folder"], self.QUESTIONS), 2, b"", b"facl-ask: folder: " + UNKNOWN
+                    + b"facl-ask: warning: users and groups in the dump without a row, with which the program does not load it: 1, first: user gone\n"
+                    + self.MASKS + b"facl: setup: dump: text line 12: unknown user\n")
+
+    def test_words(self) -> None:
+        for words, message in ((["--dump", "absent"], b"absent: No such file or directory"), (["--dump", "acls", "--passwd", "absent"], b"absent: No such"),
+                               (["--passwd", "before/passwd", "before"], b"go with --dump"), (["--dump", "acls", "--each", "a"], b"one dump")):
+            done = self.run_command("facl-ask", words)
+            self.assertEqual((done.status, done.out), (2, b""))
+            self.assertIn(message, done.messages)
 
 
 class Causes(unittest.TestCase):
@@ -243,7 +325,7 @@ class Overview(Case):
                             b"# file: /srv/share/one\n# owner: 1001\n# group: 88\nuser::rw-\nuser:1009:r--\ngroup::r--\nmask::---\nother::r--")
         self.write("before/dump", dump)
         texts = overview.read_texts(os.fsencode(self.path("before")))
-        self.assertTrue(overview.summary(texts).endswith(b"before: 5 users, 5 groups, 14 files"), overview.summary(texts))
+        self.assertEqual(overview.summary(texts, b"name"), b"name: 5 users, 5 groups, 14 files")
         self.assertEqual(list(overview.warnings(texts)), [
             b"warning: names of files that have another name in the snapshot too (see links): 2, first: /srv/share/one",
             b"warning: lists with an empty mask whose others have something, which Linux grants to named users and groups too, and "
@@ -258,7 +340,6 @@ class Overview(Case):
             self.write("before/" + name, text)
         self.assertEqual(list(overview.warnings(overview.read_texts(os.fsencode(self.path("before"))))), [
             b"warning: passwd is empty: who, may and index will name nobody",
-            b"warning: the directories above are not recorded, so --reach does not judge them",
         ])
         with self.assertRaises(Failure):
             check_texts(os.fsencode(self.path("absent")))

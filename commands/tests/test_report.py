@@ -122,8 +122,32 @@ class Report(Case):
         _, data = self.report()
         self.assertEqual({kind for kind, _ in places_of(data)}, {"group", "everybody"})
 
+    def test_any_dump(self) -> None:
+        demo = os.path.join(COMMANDS, "..", "demo")
+        self.write("edits", b"setfacl -m u:guest:x project\nrm -r project/drafts\n")
+        texts = ["--dump", os.path.join(demo, "dump"), "--passwd", os.path.join(demo, "passwd"), "--group", os.path.join(demo, "group")]
+        for words, name in (([demo], demo), (texts, texts[1])):
+            done = self.run_command("facl-report", [*words, "edits"])
+            self.assertEqual((done.status, done.messages), (0, b"facl-report: " + os.fsencode(name) + b": the directories above are not recorded, "
+                                                            b"so they are taken as open; hard links are not known\n"))
+            data = read_data(done.out)
+            self.assertEqual(data["title"], name)
+            nodes = nodes_of(data)
+            self.assertEqual((data["files"]["names"][0], len(nodes)), ("project", 9))
+            self.assertTrue(granted(data, nodes["."], places_of(data)["user", "guest"], 1))
+        self.write("edits", b"rm -r project\n")
+        self.assertEqual(read_data(self.run_command("facl-report", [demo, "edits"]).out)["files"]["records"], [-1] * 9)
+
+    def test_empty_masks(self) -> None:
+        self.write("before/dump", self.read("before/dump").replace(b"user::rw-\ngroup::r--\nother::---\n",
+                                                                   b"user::rw-\nuser:1009:r--\ngroup::r--\nmask::---\nother::r--\n", 1))
+        done = self.run_command("facl-report", ["before"])
+        self.assertEqual(done.status, 0)
+        self.assertIn(b"facl-report: warning: lists with an empty mask whose others have something", done.messages)
+
     def test_how_it_opens(self) -> None:
-        for words, is_alone in (([], False), (["--reach"], False), (["--file-alone"], True)):
+        cases: List[Tuple[List[str], bool]] = [([], False), (["--reach"], False), (["--file-alone"], True)]
+        for words, is_alone in cases:
             data = read_data(self.run_command("facl-report", [*words, "before"]).out)
             self.assertEqual(data["alone"], is_alone)
         self.assertEqual(self.run_command("facl-report", ["--reach", "--file-alone", "before"]).status, 2)
