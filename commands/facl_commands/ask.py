@@ -50,6 +50,7 @@ def parse(words: List[str]) -> argparse.Namespace:
         prog="facl-ask", description=HELP, epilog=STATUS, formatter_class=argparse.RawDescriptionHelpFormatter, allow_abbrev=False,
     )
     parser.add_argument("--program", metavar="FILE", help="the program facl; without it $FACL, or facl on the path")
+    parser.add_argument("--with-root", action="store_true", help="at the prompt, with --each and --hosts: answers about people have uid 0 too")
     parser.add_argument("--each", action="store_true", help="answer standard input over several SNAPSHOTs side by side")
     parser.add_argument("--hosts", action="store_true", help="answer standard input over the snapshots of several servers, NAME:DIR")
     parser.add_argument("--records", action="store_true", help=argparse.SUPPRESS)  # With --part: what it records, too.
@@ -150,11 +151,12 @@ def say_notices(command: Command, source: Source, has_prompt: bool = False) -> N
         command.say(text)
 
 
-def prompt(command: Command, program: str, source: Source) -> int:
+def prompt(command: Command, program: str, source: Source, with_root: bool) -> int:
     """Answers a person's lines. Only a prompt needs these parts of the package."""
     from . import manual, overview, terminal
     from .completion import Completer
     from .desk import WORDS_OF_PROMPT, Desk, refuse_early_end
+    from .superuser import Superusers, ids_in
 
     found = overview.read_texts(source.folder)
     completer = Completer(manual.find_page(), found.passwd, found.group, lambda: found.dump, WORDS_OF_PROMPT)
@@ -164,7 +166,8 @@ def prompt(command: Command, program: str, source: Source) -> int:
         command.flush()
 
     take_signals()
-    desk = Desk(lambda: Session(program, source.folder), completer.page, completer, out, dim)
+    superusers = Superusers({} if with_root else ids_in(found.passwd))
+    desk = Desk(lambda: Session(program, source.folder), completer.page, completer, out, dim, superusers)
     with contextlib.closing(desk):
         refuse_early_end(desk.session)
         out(shown(overview.summary(found, source.shown)) + b"; `help` lists the tools, control-D ends\n")
@@ -186,7 +189,7 @@ def answer_one(command: Command, given: argparse.Namespace, source: Source) -> i
 
         return part.write_part(command, program, source.folder, read_text("-"), given.records)
     if not given.scripts and os.isatty(0) and os.isatty(1):
-        return prompt(command, program, source)
+        return prompt(command, program, source, given.with_root)
     if len(given.scripts) > 1:
         say_notices(command, source)
         return answer_scripts(command, program, source.folder, given.scripts)
@@ -207,6 +210,6 @@ def body(command: Command, words: List[str]) -> int:
         if given.dump is not None:
             raise Failure(b"--dump is one dump: make a folder of passwd, group and dump for each of several")
         answer = each.body if given.each else servers.body
-        return answer(command, [given.snapshot, *given.scripts], given.program)
+        return answer(command, [given.snapshot, *given.scripts], given)
     with texts.opened(given) as source:
         return answer_one(command, given, source)

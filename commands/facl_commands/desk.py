@@ -9,8 +9,9 @@ from .completion import Completer
 from .manual import Page
 from .messages import Failure
 from .names import read_path, shown, write_name
-from .program import Answer, Region, Session
+from .program import Answer, Session
 from .scripts import LINE_LIMIT, Unit, is_empty, read_script, takes_text, words_of
+from .superuser import Superusers
 
 Read = Callable[[str], str]  # Reads a line, after a prompt; raises EOFError and KeyboardInterrupt.
 HELP_WORDS, END_WORDS = (b"help", b"?"), (b"quit", b"exit")
@@ -29,9 +30,10 @@ class Desk:
 
     def __init__(
         self, start: Callable[[], Session], page: Optional[Page], completer: Completer, out: Callable[[bytes], None],
-        dim: Callable[[bytes], bytes] = bytes,
+        dim: Callable[[bytes], bytes] = bytes, superusers: Optional[Superusers] = None,
     ) -> None:
         self.start = start
+        self.superusers = superusers or Superusers({})
         self.dim = dim  # How a line is written that is beside the answers.
         self.noted: Set[bytes] = set()  # What was said once.
         self.session = start()
@@ -107,6 +109,7 @@ class Desk:
             self.out(b"\n(the rest is not shown)\n")
         if not is_refused(answer) and not unit.is_of(*QUESTIONS):
             self.accepted.append(lines)
+            self.superusers.follow(unit)
             self.follow(unit)
 
     def start_again(self, message: bytes) -> None:
@@ -119,8 +122,11 @@ class Desk:
 
     def show(self, unit: Unit, answer: Answer, marked: List[bytes]) -> None:
         """An answer below its line."""
-        self.show_region(answer.output, marked)
-        if answer.output.start == answer.output.end and not is_refused(answer) and unit.words:
+        count = 0
+        for printed in self.superusers.rest(unit, answer.output.lines()):
+            self.out(shown(printed) + stops.mark_of(printed, marked) + b"\n")
+            count += 1
+        if not count and not is_refused(answer) and unit.words:
             self.out(EMPTY_ANSWERS.get(unit.words[0], b""))
         for message in answer.messages:
             self.out(b"line %d: %s\n" % (unit.number, shown(message)))
@@ -128,17 +134,14 @@ class Desk:
                 self.out(b"    " + line.encode() + b"\n")
         if unit.is_of(b"can", b"who", b"may") and b"--reach" not in unit.words and not is_refused(answer):
             self.note(ALONE)
+        if self.superusers.has_left_out:
+            self.note(b"(" + self.superusers.note() + b")\n")
 
     def note(self, line: bytes) -> None:
         """Says something once in a session."""
         if line not in self.noted:
             self.noted.add(line)
             self.out(self.dim(line))
-
-    def show_region(self, region: Region, marked: List[bytes]) -> None:
-        """The lines of an answer, with a mark where the blocks of some directories begin."""
-        for line in region.lines():
-            self.out(shown(line) + stops.mark_of(line, marked) + b"\n")
 
     def advice(self, unit: Unit, message: bytes) -> List[str]:
         """The synopses of the tool where its words are wrong, and what was probably meant."""

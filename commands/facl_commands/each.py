@@ -6,6 +6,7 @@ without it.
 """
 from __future__ import annotations
 
+import argparse
 import heapq
 import os
 import re
@@ -15,7 +16,7 @@ import signal
 import subprocess
 import sys
 import tempfile
-from typing import IO, Callable, Dict, Iterator, List, NamedTuple, Optional, Set, Tuple, Union
+from typing import IO, Callable, Dict, Iterable, Iterator, List, NamedTuple, Optional, Set, Tuple, Union
 
 from . import agreement, environment, overview
 from .messages import Command, Failure
@@ -23,6 +24,7 @@ from .names import path_order, read_path, write_name
 from .part import EDITS, Head, Header, read_head, read_header
 from .program import HOME, Region
 from .scripts import Unit, read_script, read_text
+from .superuser import Superusers
 
 ANSWERED, REFUSED = 0, 1
 NO_FILE = b": no such file"
@@ -69,6 +71,9 @@ class Joined(NamedTuple):
     output: Iterator[bytes]
     messages: List[bytes]
     is_dropped: bool = False  # Whether the script is answered again without it.
+
+    def is_refused(self) -> bool:
+        return any(b": warning: " not in message for message in self.messages)
 
 
 def hosts_of(folders: List[bytes]) -> Dict[bytes, List[bytes]]:
@@ -357,7 +362,13 @@ def check_agreement(parts: List[Part]) -> None:
         raise Failure(fault + b", so they are no parts of one tree: ask servers by --hosts NAME:DIR..")
 
 
-def body(command: Command, folders: List[str], program: Optional[str]) -> int:
+def superusers_of(parts: List[Part], with_root: bool) -> Superusers:
+    """Who is left out of answers about people."""
+    ids = {name.encode("latin-1"): number for part in parts for name, number in part.head.users.items()}
+    return Superusers({} if with_root else ids)
+
+
+def body(command: Command, folders: List[str], given: argparse.Namespace) -> int:
     """Answers standard input over all snapshots."""
     hosts = hosts_of([os.fsencode(it) for it in folders])
     script = read_text("-")
@@ -366,7 +377,7 @@ def body(command: Command, folders: List[str], program: Optional[str]) -> int:
     options = [b"--records"] if len(folders) > 1 else []
     with tempfile.TemporaryDirectory(prefix="facl-ask.") as work:
         while True:
-            parts = run_parts(hosts, [*options, *program_option(program)], without(script, units, set(dropped)), work)
+            parts = run_parts(hosts, [*options, *program_option(given.program)], without(script, units, set(dropped)), work)
             check_agreement(parts)
             if not dropped:
                 say_notices(command, parts)
@@ -377,18 +388,32 @@ def body(command: Command, folders: List[str], program: Optional[str]) -> int:
                     joined[unit.number] = join(unit, [part.answers[unit.number] for part in parts])
             new = next((unit.number for unit in units if joined[unit.number].is_dropped and unit.number not in dropped), None)
             if new is None:
-                return write(command, units, joined)
+                return write(command, units, joined, superusers_of(parts, given.with_root))
             dropped[new] = joined[new]
 
 
-def write(command: Command, units: List[Unit], joined: Dict[int, Joined]) -> int:
+def lines_of(pieces: Iterable[bytes]) -> Iterator[bytes]:
+    """The lines of a text that comes in pieces."""
+    rest = b""
+    for piece in pieces:
+        *whole, rest = (rest + piece).split(b"\n")
+        yield from whole
+
+
+def write(command: Command, units: List[Unit], joined: Dict[int, Joined], superusers: Superusers) -> int:
     status = ANSWERED
     for unit in units:
-        for text in joined[unit.number].output:
-            command.write(text)
+        answer = joined[unit.number]
+        is_whole = not superusers.is_about_people(unit)
+        for text in answer.output if is_whole else superusers.rest(unit, lines_of(answer.output)):
+            command.write(text if is_whole else text + b"\n")
         command.flush()
-        for message in joined[unit.number].messages:
+        for message in answer.messages:
             command.put(command.messages, b"line %d: %s\n" % (unit.number, message))
             status = status if b": warning: " in message else REFUSED
         command.put(command.messages)
+        if not answer.is_refused():
+            superusers.follow(unit)
+    if superusers.has_left_out:
+        command.say(superusers.note())
     return status

@@ -290,6 +290,7 @@ function start() {
     choice("along paths", alongPaths, it => { alongPaths = it; }), element("label", {}, "Find ", field));
   if (data.script) bar.append(choice("changes alone", changesAlone, it => { changesAlone = it; if (it) openChanges(); }));
   const counts = files + " files, " + data.whos.filter(it => it[0] === "user").length + " users"
+    + (data.without.length ? " (without " + data.without.join(", ") + ")" : "")
     + (data.script ? ", " + Object.keys(changed).length + " files changed" : "");
   document.body.append(element("header", {}, element("h1", {textContent: data.title + ": " + counts}), bar),
     element("main", {}, element("div", {id: "tree"}), element("div", {id: "side"})));

@@ -13,7 +13,7 @@ import os
 import re
 import secrets
 from collections import Counter
-from typing import Dict, Generic, Hashable, Iterable, Iterator, List, NamedTuple, Optional, Tuple, TypeVar
+from typing import Dict, Generic, Hashable, Iterable, Iterator, List, NamedTuple, Optional, Set, Tuple, TypeVar
 
 from . import overview, plan, texts
 from .label_answers import Answers, People, ask_labels
@@ -27,6 +27,7 @@ from .program import Session, find_program
 from .records import File, Files
 from .scripts import Unit, read_units
 from .snapshot import Snapshot, read_snapshot
+from .superuser import Superusers, ids_in
 from .texts import Source
 from .trusted import read_trusted
 
@@ -86,6 +87,7 @@ def parse(words: List[str]) -> argparse.Namespace:
     view = parser.add_mutually_exclusive_group()
     view.add_argument("--file-alone", action="store_true", help="open the page with each file judged alone, and not along its path")
     view.add_argument("--reach", action="store_true", help="open it along paths, as it does without a word")
+    parser.add_argument("--with-root", action="store_true", help="also the users of uid 0, to whom the kernel grants nearly everything")
     parser.add_argument("--output", metavar="FILE", help="write the page to a new file that its owner alone may read")
     texts.add_source(parser, words)
     parser.add_argument("scripts", metavar="SCRIPT", nargs="*")
@@ -244,11 +246,12 @@ class Builder:
         lists = [now.get(number) for number in range(len(self.tables.lists.values))]
         return list(lists), {number: it for number, it in before.items() if it != lists[number]}
 
-    def data(self, title: str, has_script: bool, is_alone: bool = False) -> Dict[str, object]:
+    def data(self, title: str, has_script: bool, is_alone: bool = False, left_out: Iterable[bytes] = ()) -> Dict[str, object]:
         files = self.files()
         decisions, before = self.all_decisions()
         return {
-            "title": title, "script": has_script, "alone": is_alone, "whos": [[who.kind, shown(who.name)] for who in self.whos], "start": self.start,
+            "title": title, "script": has_script, "alone": is_alone, "without": sorted(map(shown, left_out)),
+            "whos": [[who.kind, shown(who.name)] for who in self.whos], "start": self.start,
             "files": files, "rows": self.tables.rows.values, "lists": [text for text, _ in self.tables.lists.values],
             "reaches": self.tables.reaches.values, "entries": self.tables.entries.values, "decisions": decisions, "before": before,
         }
@@ -296,9 +299,9 @@ def answer_scripts(command: Command, run: plan.Run, units: List[Unit]) -> int:
     return sum(not message.is_warning for message in run.messages)
 
 
-def users_shown(old: List[bytes], new: List[bytes], probes: List[Who]) -> List[Who]:
+def users_shown(old: List[bytes], new: List[bytes], probes: List[Who], left_out: Set[bytes]) -> List[Who]:
     """Users first, then groups, then everybody."""
-    others = {who.user for who in probes}
+    others = {who.user for who in probes} | left_out
     users = old + [user for user in new if user not in set(old)]
     return [Who("user", user, user) for user in users if user not in others] + probes
 
@@ -308,7 +311,7 @@ def changes_of_people(units: List[Unit]) -> bytes:
 
 
 def data_of(program: str, snapshot: Snapshot, tree: Tree, listings: List[Tuple[Listing, Labels]], units: List[Unit],
-            is_alone: bool) -> Dict[str, object]:
+            given: argparse.Namespace) -> Dict[str, object]:
     """The data of the page, of one listing, or of two with scripts between them."""
     bodies = [labels.bodies() for _, labels in listings]
     changes = changes_of_people(units)
@@ -317,10 +320,13 @@ def data_of(program: str, snapshot: Snapshot, tree: Tree, listings: List[Tuple[L
         State(listing, ask_labels(program, People(snapshot.passwd, snapshot.group, lines + probes.lines), its))
         for (listing, _), its, lines in zip(listings, bodies, (b"", changes))
     ]
-    whos = users_shown(states[0].answers.users, states[-1].answers.users, probes.whos)
+    superusers = Superusers({} if given.with_root else ids_in(snapshot.passwd))
+    for unit in units:
+        superusers.follow(unit)
+    whos = users_shown(states[0].answers.users, states[-1].answers.users, probes.whos, superusers.names)
     tables = Tables()
     views = [View(state, its, whos, tables) for state, its in zip(states, bodies)]
-    return Builder(tree, whos, views[0], views[-1], tables).data(shown(snapshot.folder), len(listings) > 1, is_alone)
+    return Builder(tree, whos, views[0], views[-1], tables).data(shown(snapshot.folder), len(listings) > 1, given.file_alone, superusers.names)
 
 
 def say_notices(command: Command, source: Source) -> None:
@@ -350,7 +356,7 @@ def page_over(command: Command, given: argparse.Namespace, source: Source) -> Op
                 return None
             labels = Labels()
             listings.append((tree.add(list_files(session, tops), labels), labels))
-    return page_of(data_of(program, snapshot._replace(folder=source.shown), tree, listings, units, given.file_alone))
+    return page_of(data_of(program, snapshot._replace(folder=source.shown), tree, listings, units, given))
 
 
 def body(command: Command, words: List[str]) -> int:

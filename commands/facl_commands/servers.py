@@ -5,16 +5,16 @@ sorted by it.
 """
 from __future__ import annotations
 
+import argparse
 import os
 import tempfile
-from typing import Dict, List, NamedTuple, Optional
+from typing import Dict, List, NamedTuple
 
 from . import overview
-from .each import HERE, HOST, NO_OPERAND, Part, is_refused, program_option, run_hosts
+from .each import HERE, HOST, NO_OPERAND, Part, is_refused, program_option, run_hosts, superusers_of
 from .messages import UNUSABLE, Command, Failure
 from .names import shown
-from .program import Region
-from .scripts import read_script, read_text
+from .scripts import Unit, read_script, read_text
 
 ANSWERED, REFUSED = 0, 1
 THIS = b"localhost"  # The name of this machine, which needs no ssh.
@@ -44,12 +44,6 @@ def read_servers(words: List[bytes]) -> List[Server]:
     return list(found.values())
 
 
-def write_region(command: Command, server: Server, output: Region) -> None:
-    """An answer, of which each line begins with the name of its server."""
-    for line in output.lines():
-        command.write(server.name + b": " + line + b"\n")
-
-
 def write_messages(command: Command, server: Server, number: int, messages: List[bytes]) -> None:
     command.flush()
     for message in messages:
@@ -65,29 +59,37 @@ def say_notices(command: Command, server: Server, part: Part) -> None:
     command.put(command.messages)
 
 
-def write_answers(command: Command, numbers: List[int], parts: Dict[Server, Part]) -> int:
+def write_answers(command: Command, units: List[Unit], parts: Dict[Server, Part], with_root: bool) -> int:
     """The answers line by line of the script, and of each line server by server."""
     status = ANSWERED
-    for number in numbers:
+    superusers = {server: superusers_of([part], with_root) for server, part in parts.items()}
+    for unit in units:
         for server, part in parts.items():
-            answered = part.answers[number]
-            write_region(command, server, answered.output)
-            write_messages(command, server, number, answered.header.messages)
-            status = REFUSED if is_refused(answered) else status
+            answered = part.answers[unit.number]
+            for line in superusers[server].rest(unit, answered.output.lines()):
+                command.write(server.name + b": " + line + b"\n")
+            write_messages(command, server, unit.number, answered.header.messages)
+            if is_refused(answered):
+                status = REFUSED
+            else:
+                superusers[server].follow(unit)
+    left = next((it for it in superusers.values() if it.has_left_out), None)
+    if left is not None:
+        command.say(left.note())
     return status
 
 
-def body(command: Command, words: List[str], program: Optional[str]) -> int:
+def body(command: Command, words: List[str], given: argparse.Namespace) -> int:
     """Answers standard input over all servers. One that does not answer leaves the answers of the others as they are."""
     servers = read_servers([os.fsencode(word) for word in words])
     script = read_text("-")
     with tempfile.TemporaryDirectory(prefix="facl-ask.") as work:
-        outcomes = run_hosts({it.host(): [it.folder] for it in servers}, program_option(program), script, work)
+        outcomes = run_hosts({it.host(): [it.folder] for it in servers}, program_option(given.program), script, work)
         failures = {it: found for it in servers for found in [outcomes[it.host()]] if isinstance(found, Failure)}
         parts = {it: found[0] for it in servers for found in [outcomes[it.host()]] if not isinstance(found, Failure)}
         for server, part in parts.items():
             say_notices(command, server, part)
-        status = write_answers(command, [unit.number for unit in read_script(b"", script)], parts)
+        status = write_answers(command, read_script(b"", script), parts, given.with_root)
     command.flush()
     for server, failure in failures.items():
         command.put(command.messages, server.name + b": " + shown(failure.text) + b"\n")

@@ -25,6 +25,7 @@ from facl_commands.messages import Failure  # noqa: E402
 from facl_commands.names import shown  # noqa: E402
 from facl_commands.program import Session, find_program  # noqa: E402
 from facl_commands.snapshot import check_texts  # noqa: E402
+from facl_commands.superuser import Superusers  # noqa: E402
 
 SHARE = os.fsencode(os.path.join(HERE, "snapshots", "share"))
 SCRIPT = b"who r srv/share/notes\nfrob\nsetfacl -d -m d:u:guest:r,u:guest:x srv/share/drafts\nmay guest r\nwho 'open\n\xff\ngetfacl -M - x\nindex"
@@ -349,11 +350,13 @@ class Prompt(unittest.TestCase):
     """What is printed for lines, without a terminal."""
 
     noted = [ALONE]  # What was said once before.
+    without: Dict[bytes, int] = {}  # Of whom those of id 0 are left out.
 
     def desk(self) -> Desk:
         self.printed: List[bytes] = []
         known = completer()
-        desk = Desk(lambda: Session(find_program(None), SHARE), known.page, known, self.printed.append, lambda line: b"~" + line)
+        desk = Desk(lambda: Session(find_program(None), SHARE), known.page, known, self.printed.append, lambda line: b"~" + line,
+                    Superusers(self.without))
         desk.noted.update(self.noted)
         self.addCleanup(desk.close)
         return desk
@@ -393,6 +396,12 @@ class Prompt(unittest.TestCase):
         self.assertEqual(self.ask("who --reach r srv/share/one", "can ines srv", "getfacl -s srv", "who", "who w srv", "may guest w"),
                          b"ines\nben\n--x r-- r-x\n~" + ALONE + b"(nothing)\nline 4: who: usage\n    who [--reach] PERMS FILE\n    A word is "
                          b"missing.\nroot\n(nothing)\n\n")
+
+    def test_the_superuser(self) -> None:
+        self.without = {b"root": 0, b"ines": 1001}
+        note = b"~(left out of who, index and changes: root, to whom the kernel grants nearly everything; --with-root for all)\n"
+        self.assertEqual(self.ask("who w srv/share/one", "can root srv", "who w srv", "who r srv", "setfacl -m u:ines:- srv", "changes"),
+                         b"ines\n--x -w- -wx r-- r-x rw- rwx\n(nobody)\n" + note + b"ines\nben\nmara\nguest\nines loses --x,r--,r-x srv\n\n")
 
     def test_where_the_user_is_stopped(self) -> None:
         mark = b"    <-- here is no search: nothing below is reached\n"

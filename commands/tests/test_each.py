@@ -2,6 +2,7 @@
 from __future__ import annotations
 
 import os
+import re
 import shutil
 import signal
 import stat
@@ -332,7 +333,7 @@ class Each(Case):
             self.write(name + "/links", b"")
 
     def each(self, script: bytes, *parts: str) -> Done:
-        return self.run_command("facl-ask", ["--each", *(parts or ("1", "2", "3"))], script)
+        return self.run_command("facl-ask", ["--each", "--with-root", *(parts or ("1", "2", "3"))], script)
 
     def expect_as_one(self, script: bytes) -> None:
         self.assertEqual(self.each(script), self.run_command("facl-ask", ["before"], script))
@@ -372,6 +373,16 @@ class Each(Case):
         self.expect(self.each(b"gpasswd -d ben audit\ncan ben srv/share/one\n"), 1, b"r--\n",
                     b"line 1: gpasswd: the snapshots have other users or groups\n")
 
+    def test_the_superuser(self) -> None:
+        script = b"who x srv\nindex\nchmod 700 srv/share\nchanges\nuserdel root\nuseradd -u 0 -g staff toor\nwho x srv\n"
+        script += b"index\ncan toor srv\nmay toor 0\n"
+        whole, done = self.each(script), self.run_command("facl-ask", ["--each", "1", "2", "3"], script)
+        lines = [line for line in whole.out.splitlines(True) if not re.match(b"(.. )?(root|toor)[ \n]", line)]
+        self.assertLess(len(lines), len(whole.out.splitlines()))
+        self.expect(done, 0, b"".join(lines), b"facl-ask: left out of who, index and changes: root, toor, to whom the kernel grants nearly "
+                    b"everything; --with-root for all\n")
+        self.expect(self.run_command("facl-ask", ["--each", "1", "2"], b"may guest w\ncan root srv/share\n"), 0, b"none\n")
+
     def test_no_parts_of_one_tree(self) -> None:
         self.write("2/dump", self.read("2/dump").replace(b"# file: /srv/\n# owner: 0", b"# file: /srv/\n# owner: 1001"))
         servers_instead = b", so they are no parts of one tree: ask servers by --hosts NAME:DIR..\n"
@@ -396,7 +407,7 @@ class Each(Case):
         os.chmod(self.path("bin/ssh"), stat.S_IRWXU)
         os.symlink(os.path.join(COMMANDS, "facl-ask"), self.path("bin/facl-ask"))
         environment = {"PATH": self.path("bin") + ":" + os.environ["PATH"], "PARALLEL_SSH": self.path("bin/ssh")}
-        words = ["--each", "1", "machine:" + self.path("2"), "3"]
+        words = ["--each", "--with-root", "1", "machine:" + self.path("2"), "3"]
         done = self.run_command("facl-ask", words, b"index\n", environment)
         self.assertEqual(done, self.run_command("facl-ask", ["before"], b"index\n"))
         self.assertIn(b"machine\n", self.read("called"))

@@ -39,7 +39,7 @@ class Report(Case):
         for place, text in enumerate(scripts):
             names.append("script%d" % place)
             self.write(names[-1], text)
-        done = self.run_command("facl-report", ["before", *names])
+        done = self.run_command("facl-report", ["--with-root", "before", *names])
         self.assertEqual((done.status, done.messages), (0, b""))
         return done.out.decode(), read_data(done.out)
 
@@ -137,6 +137,15 @@ class Report(Case):
             self.assertTrue(granted(data, nodes["."], places_of(data)["user", "guest"], 1))
         self.write("edits", b"rm -r project\n")
         self.assertEqual(read_data(self.run_command("facl-report", [demo, "edits"]).out)["files"]["records"], [-1] * 9)
+
+    def test_the_superuser(self) -> None:
+        self.write("edits", b"userdel root\nuseradd -u 0 -g staff toor\n")
+        for words, users, without in (("before", ["ines", "ben", "mara", "guest"], ["root"]),
+                                      ("before edits", ["ines", "ben", "mara", "guest"], ["root", "toor"]),
+                                      ("--with-root before", ["root", "ines", "ben", "mara", "guest"], [])):
+            data = read_data(self.run_command("facl-report", words.split()).out)
+            self.assertEqual(([name for kind, name in data["whos"] if kind == "user"], data["without"]), (users, without))
+            self.assertIn(["group", "root"], data["whos"])
 
     def test_empty_masks(self) -> None:
         self.write("before/dump", self.read("before/dump").replace(b"user::rw-\ngroup::r--\nother::---\n",
