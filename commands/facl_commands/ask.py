@@ -7,13 +7,13 @@ import os
 import signal
 import subprocess
 from types import FrameType
-from typing import List, NoReturn, Optional
+from typing import Iterator, List, NoReturn, Optional
 
-from . import environment, texts
+from . import environment, headings, texts
 from .messages import SIGNALS, Command, Failure, reason
 from .names import shown
-from .program import Session, find_program
-from .scripts import read_text, read_units
+from .program import Answer, Session, find_program
+from .scripts import Unit, read_text, read_units
 from .snapshot import check_texts
 from .texts import Source
 from .trusted import read_trusted
@@ -27,7 +27,8 @@ lists the tools, tab completes words, each answer comes below its line, and wher
 synopsis and the likely cause. Else it answers standard input.
 
 Where it has one SCRIPT, or standard input that is no terminal, it is the program itself: it prints the same, and ends
-with the same status. With several SCRIPTs a message names the SCRIPT, and its line there.
+with the same status. With several SCRIPTs a message names the SCRIPT, and its line there. With --headings each question
+comes above its answer.
 
 SNAPSHOT may be a folder with passwd, group and dump alone. A dump can be given by --dump FILE too, in place of SNAPSHOT.
 What such a dump cannot tell is said on standard error.
@@ -50,6 +51,7 @@ def parse(words: List[str]) -> argparse.Namespace:
         prog="facl-ask", description=HELP, epilog=STATUS, formatter_class=argparse.RawDescriptionHelpFormatter, allow_abbrev=False,
     )
     parser.add_argument("--program", metavar="FILE", help="the program facl; without it $FACL, or facl on the path")
+    parser.add_argument("--headings", action="store_true", help="print each question of a script above its answer")
     parser.add_argument("--with-root", action="store_true", help="at the prompt, with --each and --hosts: answers about people have uid 0 too")
     parser.add_argument("--each", action="store_true", help="answer standard input over several SNAPSHOTs side by side")
     parser.add_argument("--hosts", action="store_true", help="answer standard input over the snapshots of several servers, NAME:DIR")
@@ -102,7 +104,13 @@ def become_program(program: str, folder: bytes) -> NoReturn:
         raise Failure(os.fsencode(program) + b": " + reason(error)) from error
 
 
-def answer_scripts(command: Command, program: str, folder: bytes, names: List[str]) -> int:
+def pieces_of(unit: Unit, answer: Answer, has_headings: bool) -> Iterator[bytes]:
+    """What is printed of an answer."""
+    is_refused = any(b": warning: " not in message for message in answer.messages)
+    return headings.below_heading(unit, answer.output.lines(), is_refused) if has_headings else answer.output.pieces()
+
+
+def answer_scripts(command: Command, program: str, folder: bytes, names: List[str], has_headings: bool) -> int:
     """Answers several scripts one after another; a message names the script."""
     status = ANSWERED
     with Session(program, folder) as session:
@@ -111,7 +119,7 @@ def answer_scripts(command: Command, program: str, folder: bytes, names: List[st
             if unit.is_ended:
                 answer = session.ask(b"".join(line + b"\n" for line in unit.lines))
                 messages = answer.messages
-                for piece in answer.output.pieces():
+                for piece in pieces_of(unit, answer, has_headings):
                     command.write(piece)
             command.flush()
             for message in messages:
@@ -190,9 +198,9 @@ def answer_one(command: Command, given: argparse.Namespace, source: Source) -> i
         return part.write_part(command, program, source.folder, read_text("-"), given.records)
     if not given.scripts and os.isatty(0) and os.isatty(1):
         return prompt(command, program, source, given.with_root)
-    if len(given.scripts) > 1:
+    if len(given.scripts) > 1 or given.headings:
         say_notices(command, source)
-        return answer_scripts(command, program, source.folder, given.scripts)
+        return answer_scripts(command, program, source.folder, given.scripts or ["-"], given.headings)
     take_script(given.scripts[0] if given.scripts else "-")
     say_notices(command, source)
     if source.is_made:

@@ -18,7 +18,7 @@ import sys
 import tempfile
 from typing import IO, Callable, Dict, Iterable, Iterator, List, NamedTuple, Optional, Set, Tuple, Union
 
-from . import agreement, environment, overview
+from . import agreement, environment, headings, overview
 from .messages import Command, Failure
 from .names import path_order, read_path, write_name
 from .part import EDITS, Head, Header, read_head, read_header
@@ -388,7 +388,7 @@ def body(command: Command, folders: List[str], given: argparse.Namespace) -> int
                     joined[unit.number] = join(unit, [part.answers[unit.number] for part in parts])
             new = next((unit.number for unit in units if joined[unit.number].is_dropped and unit.number not in dropped), None)
             if new is None:
-                return write(command, units, joined, superusers_of(parts, given.with_root))
+                return write(command, units, joined, superusers_of(parts, given.with_root), given.headings)
             dropped[new] = joined[new]
 
 
@@ -400,13 +400,21 @@ def lines_of(pieces: Iterable[bytes]) -> Iterator[bytes]:
         yield from whole
 
 
-def write(command: Command, units: List[Unit], joined: Dict[int, Joined], superusers: Superusers) -> int:
+def pieces_of(unit: Unit, answer: Joined, superusers: Superusers, has_headings: bool) -> Iterator[bytes]:
+    """What is printed of an answer."""
+    if has_headings:
+        return headings.below_heading(unit, superusers.rest(unit, lines_of(answer.output)), answer.is_refused())
+    if superusers.is_about_people(unit):
+        return (line + b"\n" for line in superusers.rest(unit, lines_of(answer.output)))
+    return answer.output
+
+
+def write(command: Command, units: List[Unit], joined: Dict[int, Joined], superusers: Superusers, has_headings: bool) -> int:
     status = ANSWERED
     for unit in units:
         answer = joined[unit.number]
-        is_whole = not superusers.is_about_people(unit)
-        for text in answer.output if is_whole else superusers.rest(unit, lines_of(answer.output)):
-            command.write(text if is_whole else text + b"\n")
+        for text in pieces_of(unit, answer, superusers, has_headings):
+            command.write(text)
         command.flush()
         for message in answer.messages:
             command.put(command.messages, b"line %d: %s\n" % (unit.number, message))

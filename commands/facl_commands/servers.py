@@ -8,13 +8,14 @@ from __future__ import annotations
 import argparse
 import os
 import tempfile
-from typing import Dict, List, NamedTuple
+from typing import Dict, Iterator, List, NamedTuple
 
-from . import overview
-from .each import HERE, HOST, NO_OPERAND, Part, is_refused, program_option, run_hosts, superusers_of
+from . import headings, overview
+from .each import HERE, HOST, NO_OPERAND, Answered, Part, is_refused, program_option, run_hosts, superusers_of
 from .messages import UNUSABLE, Command, Failure
 from .names import shown
 from .scripts import Unit, read_script, read_text
+from .superuser import Superusers
 
 ANSWERED, REFUSED = 0, 1
 THIS = b"localhost"  # The name of this machine, which needs no ssh.
@@ -59,24 +60,41 @@ def say_notices(command: Command, server: Server, part: Part) -> None:
     command.put(command.messages)
 
 
-def write_answers(command: Command, units: List[Unit], parts: Dict[Server, Part], with_root: bool) -> int:
-    """The answers line by line of the script, and of each line server by server."""
-    status = ANSWERED
-    superusers = {server: superusers_of([part], with_root) for server, part in parts.items()}
-    for unit in units:
-        for server, part in parts.items():
-            answered = part.answers[unit.number]
-            for line in superusers[server].rest(unit, answered.output.lines()):
-                command.write(server.name + b": " + line + b"\n")
-            write_messages(command, server, unit.number, answered.header.messages)
+def answer_lines(unit: Unit, server: Server, answered: Answered, superusers: Superusers, has_headings: bool) -> Iterator[bytes]:
+    """The lines of a server's answer, each of which begins with its name."""
+    lines = superusers.rest(unit, answered.output.lines())
+    for line in headings.lines_to_show(unit, lines, is_refused(answered)) if has_headings else lines:
+        yield server.name + b": " + line + b"\n"
+
+
+class Printer:
+    """What the servers answered, line by line of the script, and of each line server by server."""
+
+    def __init__(self, command: Command, parts: Dict[Server, Part], given: argparse.Namespace) -> None:
+        self.command, self.parts, self.has_headings = command, parts, given.headings
+        self.superusers = {server: superusers_of([part], given.with_root) for server, part in parts.items()}
+        self.status = ANSWERED
+
+    def write_line(self, unit: Unit) -> None:
+        """What all servers say to a line, below its heading where somebody answers it."""
+        has_heading = not self.has_headings
+        for server, part in self.parts.items():
+            answered, superusers = part.answers[unit.number], self.superusers[server]
+            text = b"".join(answer_lines(unit, server, answered, superusers, self.has_headings))
+            self.command.write(text if has_heading or not text else headings.heading(unit) + text)
+            has_heading = has_heading or text != b""
+            write_messages(self.command, server, unit.number, answered.header.messages)
             if is_refused(answered):
-                status = REFUSED
+                self.status = REFUSED
             else:
-                superusers[server].follow(unit)
-    left = next((it for it in superusers.values() if it.has_left_out), None)
-    if left is not None:
-        command.say(left.note())
-    return status
+                superusers.follow(unit)
+        self.command.write(b"\n" if self.has_headings and has_heading else b"")
+
+    def say_who_is_left_out(self) -> None:
+        """Once, of all servers."""
+        found = next((it for it in self.superusers.values() if it.has_left_out), None)
+        if found is not None:
+            self.command.say(found.note())
 
 
 def body(command: Command, words: List[str], given: argparse.Namespace) -> int:
@@ -89,9 +107,12 @@ def body(command: Command, words: List[str], given: argparse.Namespace) -> int:
         parts = {it: found[0] for it in servers for found in [outcomes[it.host()]] if not isinstance(found, Failure)}
         for server, part in parts.items():
             say_notices(command, server, part)
-        status = write_answers(command, read_script(b"", script), parts, given.with_root)
+        printer = Printer(command, parts, given)
+        for unit in read_script(b"standard input", script):
+            printer.write_line(unit)
+        printer.say_who_is_left_out()
     command.flush()
     for server, failure in failures.items():
         command.put(command.messages, server.name + b": " + shown(failure.text) + b"\n")
     command.put(command.messages)
-    return UNUSABLE if failures else status
+    return UNUSABLE if failures else printer.status

@@ -69,7 +69,7 @@ def opened(given: argparse.Namespace) -> Iterator[Source]:
             target = os.path.join(work, name)
             if file is not None:
                 os.close(open_trusted(os.fsencode(file), os.O_RDONLY))
-                os.symlink(os.path.abspath(os.fsencode(file)), os.fsencode(target))
+                os.symlink(os.path.join(os.getcwdb(), os.fsencode(file)), os.fsencode(target))
             else:
                 with open(target, "wb") as made:
                     made.write(rows_of_system(name, read_trusted(os.fsencode(given.dump))))

@@ -2,6 +2,7 @@
 from __future__ import annotations
 
 import importlib.util
+import json
 import os
 import pty
 import re
@@ -110,6 +111,24 @@ class AsTheProgram(Case):
                     b"standard input, line 1: setfacl: warning: default entries dropped\nsecond, line 2: who: usage\n")
         self.write("second", b"may guest w\n")
         self.expect(self.run_command("facl-ask", ["before", "second", "second"]), 0, b"")
+
+    def test_headings(self) -> None:
+        """They are those of facl-plan, which refuses no line of these."""
+        questions = (b"who r srv/share/one\n\nmay guest w\nmay ines r\ngetfacl srv/share/one srv\ngetfacl -c srv\nchanges\n# x\nwho --reach r srv\n"
+                     b"who x srv/share/one\nwhy mara srv/share/notes\n")
+        self.write("edits", questions)
+        wanted = self.run_command("facl-plan", ["--json", "before", "edits"])
+        self.assertEqual(wanted.status, 3)
+        for name in ("edits", "standard input"):
+            words = ["--headings", "before", "edits" if name == "edits" else "-"]
+            done = self.run_command("facl-ask", words, questions)
+            lines = b"".join(b"# %s, line %d: %s\n" % (name.encode(), it["line"], it["question"].encode())
+                             + (it["answer"].encode() or b"(nothing)\n") + (b"" if it["answer"].endswith("\n\n") else b"\n")
+                             for it in json.loads(wanted.out)["answers"])
+            self.expect(done, 0, lines.replace(b"\\\\351", b"\\351"))
+        self.assertEqual(len(json.loads(wanted.out)["answers"]), 9)
+        self.expect(self.run_command("facl-ask", ["--headings", "before"], b"frob\nchmod 600 srv/share/one\nwho z srv\n"), 1, b"",
+                    b"standard input, line 1: facl: unknown tool\nstandard input, line 3: who: usage\n")
 
     def test_bad_words(self) -> None:
         for words, message in ((["absent"], b"absent: no such folder: make a snapshot by facl-snapshot"),

@@ -383,6 +383,22 @@ class Each(Case):
                     b"everything; --with-root for all\n")
         self.expect(self.run_command("facl-ask", ["--each", "1", "2"], b"may guest w\ncan root srv/share\n"), 0, b"none\n")
 
+    def test_headings_and_notices(self) -> None:
+        mask = b"user:1009:r--\nmask::---\nother::r--\n"
+        for name in ("1", "2", "3"):
+            dump = self.read(name + "/dump").replace(b"# file: /srv/share/\n", b"# file: /srv/share\n")
+            self.write(name + "/dump", re.sub(b"(# file: /srv/share/(?:one|two)\n(?:#.*\n)*user::rw-\n)[^#]*", b"\\1group::r--\n" + mask + b"\n", dump))
+        os.unlink(self.path("2/links"))
+        done = self.run_command("facl-ask", ["--headings", "--each", "1", "2", "3"], b"may guest w\nwho w srv/share/one\nfrob\nchanges\n")
+        self.expect(done, 1, b"# standard input, line 1: may guest w\n(nothing)\n\n# standard input, line 2: who w srv/share/one\nines\n\n"
+                    b"# standard input, line 4: changes\n(nothing)\n\n",
+                    b"facl-ask: 2: hard links are not known\nfacl-ask: warning: lists with an empty mask whose others have something, which Linux "
+                    b"grants to named users and groups too, and facl does not: 2, first: /srv/share/one\nline 3: facl: unknown tool\n")
+        done = self.run_command("facl-ask", ["--headings", "--hosts", "localhost:2"], b"may guest w\ncan ines srv\nfrob\n")
+        self.assertEqual((done.status, done.out), (1, b"# standard input, line 1: may guest w\nlocalhost: (nothing)\n\n# standard input, line 2: can ines srv\n"
+                         b"localhost: --x r-- r-x\n\n"))
+        self.assertEqual(done.messages.splitlines()[0], b"localhost: hard links are not known")
+
     def test_no_parts_of_one_tree(self) -> None:
         self.write("2/dump", self.read("2/dump").replace(b"# file: /srv/\n# owner: 0", b"# file: /srv/\n# owner: 1001"))
         servers_instead = b", so they are no parts of one tree: ask servers by --hosts NAME:DIR..\n"
