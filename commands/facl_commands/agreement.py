@@ -5,11 +5,12 @@ in it. Only the lines of directories that several have are read.
 """
 from __future__ import annotations
 
+import itertools
 from hashlib import blake2b
 from typing import Dict, Iterable, Iterator, List, NamedTuple, Optional, Tuple
 
 from .names import path_order, read_path, write_name
-from .page_tree import Record
+from .page_tree import HEAD
 from .program import Region
 
 SIZE = 16  # Letters of a checksum.
@@ -24,17 +25,26 @@ class Recorded(NamedTuple):
     files: Region
 
 
-def blocks_of(records: Iterable[Record]) -> Iterator[bytes]:
-    """The line of each directory."""
+def blocks_of(listings: Iterable[Region]) -> Iterator[bytes]:
+    """The line of each directory, with names as the program prints them."""
     inside: Dict[bytes, List[bytes]] = {}
     known: Dict[bytes, bytes] = {}
-    for path, _, body in records:
-        if body not in known:
-            known[body] = blake2b(body, digest_size=SIZE // 2).hexdigest().encode()
-        above, _, name = path.rpartition(b"/")
-        inside.setdefault(above, []).append(known[body] + write_name(name))
+    for record in itertools.chain.from_iterable(map(texts_of_records, listings)):
+        first, _, body = record.partition(b"\n")
+        checksum = known.get(body)
+        if checksum is None:
+            checksum = known[body] = blake2b(body, digest_size=SIZE // 2).hexdigest().encode()
+        above, _, name = first[len(HEAD) :].rstrip(b"/").rpartition(b"/")
+        inside.setdefault(above, []).append(checksum + name)
     for above, files in inside.items():
-        yield write_name(above) + b"\0" + b"\0".join(files) + b"\n"
+        yield above + b"\0" + b"\0".join(files) + b"\n"
+
+
+def texts_of_records(listing: Region) -> Iterator[bytes]:
+    rest = b""
+    for piece in listing.pieces():
+        *whole, rest = (rest + piece).split(b"\n\n")
+        yield from whole
 
 
 def directories_of(files: Region) -> Iterator[Tuple[bytes, Region]]:

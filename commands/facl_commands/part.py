@@ -15,7 +15,6 @@ from . import agreement, overview, texts
 from .completion import OPERANDS, VALUES
 from .messages import Command
 from .names import read_name, script_word
-from .page_tree import records_of
 from .people import rows_of
 from .program import Session
 from .scripts import Unit, read_script
@@ -156,7 +155,7 @@ def write_part(command: Command, program: str, folder: bytes, script: bytes, has
     with Session(program, folder) as session:
         session.ask(b"")
         listings = texts.list_below(session, texts.find_tops(session, folder)) if has_records else []
-        files = b"".join(agreement.blocks_of(record for listing in listings for record in records_of(listing)))
+        files = b"".join(agreement.blocks_of(listings))
         command.write(head_of(folder, len(files)).write() + files)
         for unit in read_script(b"", script):
             answer(command, session, unit)

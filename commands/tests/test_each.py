@@ -20,7 +20,6 @@ sys.path.insert(0, COMMANDS)
 from facl_commands import agreement, each, part, servers, texts  # noqa: E402
 from facl_commands.messages import Failure  # noqa: E402
 from facl_commands.names import path_order, read_path  # noqa: E402
-from facl_commands.page_tree import Record  # noqa: E402
 from facl_commands.program import Region, Session, find_program  # noqa: E402
 from facl_commands.scripts import read_script  # noqa: E402
 
@@ -168,9 +167,13 @@ class Agreement(unittest.TestCase):
     def recorded(self, label: bytes, files: Dict[bytes, bytes], users: Dict[str, int], groups: Dict[str, int]) -> agreement.Recorded:
         file = tempfile.TemporaryFile()
         self.addCleanup(file.close)
-        file.write(b"".join(agreement.blocks_of(Record(path, False, body) for path, body in files.items())))
+        file.write(b"".join(b"# file: " + name + b"\n" + body + b"\n" for name, body in files.items()))
         file.flush()
-        return agreement.Recorded(label, users, groups, Region(file, 0, file.tell()))
+        size = file.tell()
+        blocks = b"".join(agreement.blocks_of([Region(file, 0, size)]))
+        file.write(blocks)
+        file.flush()
+        return agreement.Recorded(label, users, groups, Region(file, size, size + len(blocks)))
 
     def expect(self, wanted: Optional[bytes], first: Dict[bytes, bytes], second: Dict[bytes, bytes], users: Dict[str, int] = {},
                groups: Dict[str, int] = {}) -> None:
@@ -179,9 +182,9 @@ class Agreement(unittest.TestCase):
 
     def test_files(self) -> None:
         one, two = b"user::rwx\n", b"user::rw-\n"
-        self.expect(None, {b"": one, b"srv": one, b"srv/a": one}, {b"": one, b"srv": one, b"srv/b": two})
-        self.expect(b"/srv/a\\012b: is recorded differently in a and in b", {b"srv/c": one, b"srv/a\nb": two}, {b"srv/c": two, b"srv/a\nb": one})
-        self.expect(b"/: is recorded differently in a and in b", {b"": one, b"x": one}, {b"": two, b"x": two})
+        self.expect(None, {b".": one, b"srv": one, b"srv/a/": one}, {b".": one, b"srv": one, b"srv/b": two, b"srv/a": one})
+        self.expect(b"/srv/a\\012b: is recorded differently in a and in b", {b"srv/c": one, b"srv/a\\012b": two}, {b"srv/c": two, b"srv/a\\012b": one})
+        self.expect(b"/: is recorded differently in a and in b", {b".": one, b"x": one}, {b".": two, b"x": two})
         self.expect(b"/a/c: is recorded differently in a and in b", {b"a": one, b"a b": one, b"a/c": one}, {b"a": one, b"a b": two, b"a/c": two})
         self.expect(None, {}, {b"x": one})
 
