@@ -197,7 +197,10 @@ def read_parts(run: Run, host: bytes) -> List[Part]:
 
 def open_part(out: IO[bytes], line: bytes, host: bytes) -> Part:
     """A part, of which the first line is read."""
-    head = read_head(line)
+    try:
+        head = read_head(line)
+    except (KeyError, ValueError) as error:
+        raise Failure(b"the facl-ask there is of another version than the one here") from error
     place = out.tell()
     out.seek(head.size, os.SEEK_CUR)
     label = head.folder if host == HERE else host + b":" + head.folder
