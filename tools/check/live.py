@@ -10,7 +10,8 @@ usage: tools/check/live.py PROGRAM [--folder FOLDER] [--plans N] [--kills N] [--
   writes; then --undo, or a second run, has to reach the tree before or the planned one. And setfacl alone is killed at
   each call: then facl-apply itself has to put the tree back.
 - SIGNALS: of a plan, facl-apply is ended by each of three signals while setfacl is at work, and the tree is as before.
-- HANDS: plans that make and remove files; by_hand is run after facl-apply, and the tree is the planned one.
+- HANDS: plans that make and remove files; by_hand is run after facl-apply, and the tree is the planned one; after
+  by_hand_undo what was made is gone, and nothing else.
 
 A signal ends it early; what was counted by then is printed. The exit status is 1 where something is not as it has to be, 2
 where the words are others.
@@ -506,11 +507,16 @@ status=$?
         wanted = records_of(listed[: listed.index(b"\n\n\n") + 2] if b"\n\n\n" in listed else listed)
         if os.path.getsize(self.name(b"before.plan/new")):
             must(self.command(b"facl-apply", self.name(b"before.plan")), 0)
-        must(run([b"sh", self.name(b"before.plan/by_hand")]), 0)
+        shell = tree.chance.choice([b"dash", b"bash"])
+        must(run([shell, self.name(b"before.plan/by_hand")]), 0)
         found = records_of(tree.listing())
         if set(found) != {it for it in wanted if it.startswith(tree.top)}:
             raise Fault(f"other files than planned: {set(found) ^ set(wanted)}")
         self.check_tree(tree, wanted, "by hand")
+        must(run([shell, self.name(b"before.plan/by_hand_undo")]), 0)
+        left = records_of(tree.listing())
+        if left != {name: record for name, record in found.items() if name not in (made, made + b"/f")}:
+            raise Fault(f"by_hand_undo left or removed: {set(left) ^ set(found)}")
         self.count("plans with files made and removed by hand")
 
 
