@@ -69,7 +69,7 @@ class Outcome(NamedTuple):
     users: List[bytes]
     asked: List[Asked]
     messages: List[Message]
-    commands: List[bytes]  # Of users and memberships.
+    commands: List[people.PeopleChange]  # Of users and memberships.
 
     def refusals(self) -> List[Message]:
         return [message for message in self.messages if not message.is_warning]
@@ -114,7 +114,7 @@ class Run:
         self.people = people.People(snapshot.passwd, snapshot.group)
         self.asked: List[Asked] = []
         self.messages: List[Message] = []
-        self.commands: List[bytes] = []
+        self.commands: List[people.PeopleChange] = []
 
     def answer(self, unit: Unit) -> None:
         """Answers a line, and keeps what it printed."""
@@ -301,7 +301,8 @@ def body(command: Command, words: List[str]) -> int:
             b"edits": b"".join(script.text for script in scripts),
             b"old": write_records(outcome.old, changes.changed),
             b"new": write_records(outcome.new, changes.changed),
-            b"by_hand": by_hand.script_of(commands, changes, outcome.new),
+            b"by_hand": by_hand.script_of(outcome.commands, changes, outcome.old, outcome.new, snapshot.inodes),
+            b"by_hand_undo": by_hand.undo_script_of(outcome.commands, changes, outcome.old, outcome.new, snapshot.inodes),
         })
     if given.json:
         command.write(json_report(outcome, given, changes, commands, target if is_written else None))

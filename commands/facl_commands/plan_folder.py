@@ -12,7 +12,7 @@ from .records import Files, read_exactly
 from .snapshot import read_file
 
 VERSION = b"facl-plan 1\n"
-NAMES = {b"plan", b"edits", b"old", b"new", b"by_hand", b"state"}
+NAMES = {b"plan", b"edits", b"old", b"new", b"by_hand", b"by_hand_undo", b"by_hand_done", b"state"}
 # What facl-apply has done, in the file `state`; without it nothing was done.
 APPLYING, APPLIED, UNDOING, UNDONE = b"applying\n", b"applied\n", b"undoing\n", b"undone\n"
 IN_USE = (APPLYING, APPLIED, UNDOING)

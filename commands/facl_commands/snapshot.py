@@ -2,10 +2,18 @@
 from __future__ import annotations
 
 import os
-from typing import List, NamedTuple
+from typing import Dict, List, NamedTuple
 
 from .messages import Failure, named
 from .names import read_path
+
+
+class Identity(NamedTuple):
+    """Which file a name had: the numbers of its device and its inode, and its time of birth."""
+
+    device: int
+    inode: int
+    birth: bytes
 
 
 class Snapshot(NamedTuple):
@@ -13,6 +21,7 @@ class Snapshot(NamedTuple):
     passwd: bytes
     group: bytes
     links: List[List[bytes]]  # Sets of paths that are one file.
+    inodes: Dict[bytes, Identity] = {}  # By path.
 
 
 def read_file(name: bytes) -> bytes:
