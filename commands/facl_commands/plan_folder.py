@@ -1,7 +1,7 @@
 """A plan: the folder that facl-plan writes, and facl-apply reads.
 
-It is locked from the first look at it to the last change, and reached by its descriptor. A plan that facl-apply has used is
-never removed.
+It is locked from the first look at it to the last change, and reached by its descriptor. A plan that facl-apply or its
+by_hand has used is never removed.
 """
 from __future__ import annotations
 
@@ -18,7 +18,7 @@ from . import system, trusted
 from .messages import SIGNALS, Failure, reason
 
 VERSION = b"facl-plan 2\n"
-NAMES = (b"plan", b"edits", b"old", b"new", b"files", b"by_hand", b"by_hand_undo", b"by_hand_made", b"journal", b"state")
+NAMES = (b"plan", b"edits", b"old", b"new", b"files", b"by_hand", b"by_hand_undo", b"by_hand_done", b"journal", b"state")
 NEW = b".new"  # At the end of a name while the file is written.
 # What facl-apply has done, in the file `state`; without it nothing was done.
 APPLYING, APPLIED, UNDOING, UNDONE = b"applying\n", b"applied\n", b"undoing\n", b"undone\n"
@@ -259,7 +259,7 @@ def put_in_place(target: Target, made: bytes) -> Optional[bytes]:
         return None
     if not old.is_of(place):
         raise Failure(place.shown + b": was replaced meanwhile, so nothing is written: run facl-plan again")
-    is_kept = old.has(b"state") or old.others() is not None
+    is_kept = old.has(b"state") or old.has(b"by_hand_done") or old.others() is not None
     aside = keep(place) if is_kept else Place(place.above, made + b".old", place.shown)
     if not is_kept:
         system.rename_new(place.name, aside.name, place.above)
