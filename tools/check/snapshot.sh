@@ -329,7 +329,7 @@ kill_once() {
     setsid env --default-signal "$snapshot" --program "$program" "$work/before" "$work/closed" "$work/masks" >"$work/counts" \
         2>"$work/message" &
     running=$!
-    sleep "0.$(shuf -i 100-500 -n 1)"
+    sleep "$(printf 0.%03d "$(shuf -i 10-450 -n 1)")"
     kill -"$1" "$(shuf -n 1 -e -- -$running $running)" 2>/dev/null || true
     status=0
     { wait $running; } 2>/dev/null || status=$?
