@@ -334,12 +334,12 @@ kill_once() {
     status=0
     { wait $running; } 2>/dev/null || status=$?
     while kill -0 -$running 2>/dev/null; do sleep 0.01; done
-    if [ "$1" = KILL ]; then
-        left=$(find "$work" -maxdepth 1 -name 'before.??????')
+    for left in "$work"/before.??????; do
+        [ -d "$left" ] || continue
+        [ "$1" = KILL ] || fault "left behind after signal $1, status $status: $(find "$left")"
         [ -e "$work/before" ] || mv "$left/old" "$work/before"
         rm -rf "$left"
-    fi
-    nothing_left
+    done
     "$program" --passwd "$work/before/passwd" --group "$work/before/group" --dump "$work/before/dump" </dev/null ||
         fault "a snapshot that does not load after signal $1"
     [ -s "$work/before/inodes" ] || fault "a snapshot without inodes after signal $1"
@@ -515,12 +515,12 @@ check_bind_mount() {
     unmounted
 }
 
-# untrusted NAME TEXT: no snapshot is made there, nothing is called for it, and the message says why
+# untrusted NAME TEXT: no snapshot is made there, nothing is recorded for it, and the message says why
 untrusted() {
     rm -f "$work/at_work"
     take 2 "$1" "$work/masks"
     grep -qF -- "$2" "$work/message" || fault "$1: not the reason: $(cat "$work/message")"
-    [ ! -e "$work/at_work" ] || fault "$1: getent was called"
+    [ ! -e "$work/at_work" ] || fault "$1: the groups were recorded"
 }
 
 # Folders and files of another user, or that another one can write by a list or a group.
@@ -583,10 +583,11 @@ own_group() {
     [ $status -eq "$1" ] || fault "status $status in place of $1 in a folder of a group: $2: $(cat "$work/message")"
 }
 
-# with_slow_getent SECONDS: it leaves a mark that it was called
+# with_slow_getent SECONDS: it leaves a mark where it is asked for all groups
 with_slow_getent() {
     mkdir -p "$work/slow"
-    printf '#!/bin/sh\n: >"%s/at_work"\nsleep %s\nexec "%s" "$@"\n' "$work" "$1" "$(PATH=$real_path && command -v getent)" \
+    # shellcheck disable=SC2016  # the words of the script that is written
+    printf '#!/bin/sh\n[ "$*" != group ] || : >"%s/at_work"\nsleep %s\nexec "%s" "$@"\n' "$work" "$1" "$(PATH=$real_path && command -v getent)" \
         >"$work/slow/getent"
     chmod +x "$work/slow/getent"
     PATH=$work/slow:$real_path
