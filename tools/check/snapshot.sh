@@ -579,7 +579,8 @@ own_group() {
     chown 65534:7 "$work/own"
     rm -rf "$work/own/new"
     status=0
-    setpriv --reuid=65534 --regid=7 --clear-groups "$snapshot" "$work/own/new" "$work/masks" >"$work/counts" 2>"$work/message" || status=$?
+    setpriv --reuid=65534 --regid=7 --clear-groups "$snapshot" "$work/own/new" "$work/masks" \
+        >"$work/counts" 2>"$work/message" || status=$?
     [ $status -eq "$1" ] || fault "status $status in place of $1 in a folder of a group: $2: $(cat "$work/message")"
 }
 
