@@ -294,7 +294,7 @@ class ManyHardLinks(Case):
         sent = self.planned(lines)
         # After the second line the question for its names is refused, and so is that for their directory: all files are listed.
         self.assertEqual((sent.count(b"getfacl -n -E --"), sent.count(b"getfacl -R -n -E --")), (3, 4))
-        self.assertEqual(self.read("before.plan/by_hand").count(b"rm -- "), self.SETS)
+        self.assertEqual(self.read("before.plan/by_hand").count(b"\nremove_file "), self.SETS)
         self.assertEqual(self.read("before.plan/new").count(b"# file: /srv/share/more/b"), self.SETS)
 
 
