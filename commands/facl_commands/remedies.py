@@ -1,9 +1,8 @@
 """The lines that would do what a refused line was probably meant to do. A word in capital letters is for the person to fill in."""
 from __future__ import annotations
 
-import difflib
 import re
-from typing import Callable, Dict, List, Optional
+from typing import Callable, Dict, FrozenSet, List, Optional
 
 from .refused_line import OPTIONS, TOOLS_OF_PLANS, Line, quoted
 
@@ -46,12 +45,11 @@ def asks_files(*begin: bytes) -> Remedy:
 
 def replaced(pattern: bytes, by: bytes) -> Remedy:
     """The line with what the pattern is replaced."""
-    found = re.compile(pattern)
-    return lambda line: [found.sub(by, line.text)]
+    return lambda line: [re.sub(pattern, by, line.text)]
 
 
 def is_tool_line(text: bytes) -> bool:
-    return text.split()[:1] != [] and text.split()[0] in TOOLS
+    return text.split()[:1] != [] and text.split()[0] in OPTIONS
 
 
 def before_pipe(line: Line) -> List[bytes]:
@@ -64,11 +62,12 @@ def without_redirection(line: Line) -> List[bytes]:
 
 def parts(line: Line) -> List[bytes]:
     """The commands of one line as lines."""
-    return [part for part in PARTS.split(line.text.rstrip(b"& \t")) if part]
+    return [part for part in PARTS.split(line.text.rstrip(b"& \t")) if is_tool_line(part)]
 
 
 def single_quotes(line: Line) -> List[bytes]:
-    return [line.text.replace(b'"', b"'")] if b"'" not in line.text else []
+    text = re.sub(rb'"([^"\']*)"', rb"'\1'", line.text)
+    return [] if b'"' in text else [text]
 
 
 def quotes_for_backslash(line: Line) -> List[bytes]:
@@ -82,7 +81,8 @@ def escaped_bytes(line: Line) -> List[bytes]:
 
 
 def with_quote_escaped(line: Line) -> List[bytes]:
-    return [line.text.replace(b"'", b"\\047")] if line.text.count(b"'") == 1 else []
+    is_in_word = re.search(rb"\s\S*\w'\w", line.text) is not None
+    return [line.text.replace(b"'", b"\\047")] if is_in_word and line.text.count(b"'") == 1 else []
 
 
 # --- users and groups
@@ -131,7 +131,7 @@ def as_user(line: Line) -> List[bytes]:
 
 
 def rest_of_line(line: Line) -> List[bytes]:
-    return [line.text.split(None, 1)[1]] if len(line.words) > 1 else []
+    return [line.text.split(None, 1)[1]] if len(line.words) > 1 and line.words[1][:1] != b"-" else []
 
 
 def found_files(line: Line) -> List[bytes]:
@@ -165,6 +165,8 @@ def one_file_each(line: Line) -> List[bytes]:
 def with_placeholders(line: Line) -> List[bytes]:
     wanted = WORDS_OF_TOOLS[line.tool()].split()
     operands = line.operands[: len(wanted)]
+    if len(wanted) == 2 and len(operands) == 1 and b"/" in operands[0]:
+        operands = [wanted[0], *operands]
     return [built(line.tool(), *[it.name for it in line.given], *operands, *wanted[len(operands) :])]
 
 
@@ -177,8 +179,10 @@ WORDS_OF_TOOLS: Dict[bytes, bytes] = {
 
 def nearest_tool(line: Line) -> Optional[bytes]:
     """The tool whose name is nearly the first word of the line."""
+    import difflib  # Few lines need it.
+
     word = line.tool().decode("utf-8", "replace").lower()
-    found = difflib.get_close_matches(word, [tool.decode() for tool in sorted(TOOLS)], 1, 0.75)
+    found = difflib.get_close_matches(word, [tool.decode() for tool in sorted(OPTIONS)], 1, 0.75)
     return found[0].encode() if found else None
 
 
@@ -240,9 +244,63 @@ def entries_line(recursive: List[bytes], classes: Dict[bytes, bytes], files: Lis
     return built(b"setfacl", *recursive, b"-n", b"-m", entries, *files)
 
 
+def triads_of(line: Line) -> Optional["re.Match[bytes]"]:
+    """The nine letters that ls prints of a mode, in the place of the mode."""
+    return next((found for found in map(TRIADS.match, line.words[1:]) if found is not None), None)
+
+
 def letters_as_digits(line: Line) -> List[bytes]:
-    """Of chmod with the nine letters that ls prints."""
-    triads = TRIADS.match(line.operands[0])
-    assert triads is not None
+    triads = triads_of(line)
+    if triads is None:
+        return []
     digits = b"".join(digit_of(triads[place].lower().replace(b"s", b"x").replace(b"t", b"x")) for place in (1, 5, 9))
-    return [built(b"chmod", *[b"-R"] * line.has(b"-R"), digits, *files_of(line, 1))]
+    files = [word for word in line.operands if word != triads[0]] or [b"FILE"]
+    return [built(b"chmod", *[b"-R"] * (b"-R" in line.words), digits, *files)]
+
+
+# --- options and entries
+
+# Options of the system's tools without which a line does the same here.
+HARMLESS: Dict[bytes, FrozenSet[bytes]] = {
+    b"getfacl": frozenset((b"-p", b"-t", b"-L", b"-P", b"--absolute-names", b"--tabular", b"--logical", b"--physical")),
+    b"setfacl": frozenset((b"-L", b"-P", b"--logical", b"--physical")), b"userdel": frozenset((b"-r", b"-f", b"--remove", b"--force")),
+    b"chmod": frozenset((b"-v", b"-c", b"-f", b"--verbose", b"--changes", b"--silent", b"--quiet")), b"rm": frozenset((b"-i", b"-I", b"-v")),
+    b"chown": frozenset((b"-v", b"-c", b"-f", b"--verbose", b"--changes", b"--silent", b"--quiet", b"--preserve-root")),
+    b"chgrp": frozenset((b"-v", b"-c", b"-f", b"--verbose", b"--changes", b"--silent", b"--quiet", b"--preserve-root")),
+}
+
+
+def without_harmless(line: Line) -> List[bytes]:
+    """The line without options that say nothing here, where it has no others."""
+    known, harmless = OPTIONS[line.tool()], HARMLESS.get(line.tool(), frozenset())
+    if any(option.name not in known | harmless for option in line.given):
+        return []
+    options: List[bytes] = []
+    for option in line.given:
+        if option.name in known:
+            is_long = option.name.startswith(b"--")
+            options += [option.name + b"=" * bool(option.value) + option.value] if is_long else [option.name, option.value][: 1 + bool(option.value)]
+    return [built(line.tool(), *options, *line.operands)]
+
+
+def joined_entries(line: Line) -> List[bytes]:
+    """The line with entries that are words of their own joined by commas."""
+    words: List[bytes] = []
+    for word in line.words:
+        if words and b":" in word and b":" in words[-1] and b"/" not in word:
+            words[-1] = words[-1].rstrip(b",") + b"," + word
+        else:
+            words.append(word)
+    return [built(*words)]
+
+
+def letters_first(line: Line) -> List[bytes]:
+    """Of -mR: -Rm."""
+    return [re.sub(rb"(\s-)([mx])([Rdnbk]+)(?=\s)", rb"\1\3\2", line.text)]
+
+
+def colons_for_equals(line: Line) -> List[bytes]:
+    """The line with the entries of chmod's form as entries."""
+    words = [word if word[:1] == b"-" or b"/" in word else re.sub(rb"(?<![^,])([ugo]|user|group|other)=([rwxX-]*)(?=,|\Z)", rb"\1::\2", word)
+             for word in line.words]
+    return [built(*[word if word[:1] == b"-" or b"/" in word else word.replace(b"=", b":") for word in words])]

@@ -228,7 +228,7 @@ class Beside(unittest.TestCase):
         self.addCleanup(shutil.rmtree, self.folder)
         self.tree = os.path.join(self.folder, b"tree")
         self.make(self.tree, 3)
-        os.link(*[os.path.join(self.tree, name) for name in (b"plain", b"other name")])
+        os.link(os.path.join(self.tree, b"plain"), os.path.join(self.tree, b"other name"))
         os.symlink("/etc", os.path.join(self.tree, b"link"))
         words = [os.path.join(COMMANDS, "facl-snapshot"), os.path.join(os.fsdecode(self.folder), "before"), os.fsdecode(self.tree)]
         subprocess.run(words, check=True, capture_output=True)
@@ -256,15 +256,17 @@ class Beside(unittest.TestCase):
         os.chmod(whole, self.random.choice(self.MODES))
 
     def paths(self) -> List[bytes]:
-        return [self.tree] + [os.path.join(place, name) for place, folders, names in os.walk(self.tree) for name in [*folders, *names]
-                              if not os.path.islink(os.path.join(place, name))]
+        found = [self.tree]
+        for place, folders, names in os.walk(self.tree):
+            found += [os.path.join(place, name) for name in folders + names]
+        return [path for path in found if not os.path.islink(path)]
 
     def line(self, paths: List[bytes]) -> Tuple[List[bytes], List[bytes]]:
         """The words of a line, for a shell, and as they are written in a script."""
         tool = self.random.choice(owners.TOOLS)
         user, group = self.random.choice(self.USERS), self.random.choice(self.GROUPS)
         forms = [user, user + b":" + group, b":" + group] + [user + b":"] * (not user.isdigit())
-        options = self.random.choice([[], [], [b"-R"], [b"--recursive"]])
+        options: List[bytes] = self.random.choice([[], [], [b"-R"], [b"--recursive"]])
         files = self.random.sample(paths, self.random.randint(1, 3))
         words = [tool, *options, self.random.choice(forms) if tool == b"chown" else group]
         return words + files, words + [script_word(write_name(path)) for path in files]
