@@ -10,10 +10,12 @@ from typing import Callable, FrozenSet, List, NamedTuple
 
 from . import remedies
 from .refused_line import OPTIONS, TOOLS_OF_PLANS, Line
-from .remedies import (as_user, asks, asks_files, before_pipe, built, colons_for_equals, escaped_bytes, file_of, found_files, joined_entries,
-                       letters_as_digits, letters_first, listing, members, membership, memberships, mode_line, mode_of, nearest_tool, new_user,
-                       none, one_file_each, parts, quotes_for_backslash, replaced, rest_of_line, single_quotes, triads_of, user_first,
-                       with_nearest_tool, with_placeholders, with_quote_escaped, without_harmless, without_redirection, without_words)
+from .remedies import (
+    as_user, asks, asks_files, before_pipe, built, colons_for_equals, escaped_bytes, file_of, found_files, joined_entries,
+    letters_as_digits, letters_first, listing, members, membership, memberships, mode_line, mode_of, nearest_tool, new_user, none,
+    one_file_each, parts, quotes_for_backslash, replaced, rest_of_line, single_quotes, triads_of, user_first, with_nearest_tool,
+    with_placeholders, with_quote_escaped, without_harmless, without_redirection, without_words,
+)
 
 USAGE = rb"[a-z]+: usage"
 NO_FILE = rb"[a-z]+: .*: no such file"
@@ -159,6 +161,14 @@ def is_any(_word: bytes) -> bool:
 
 def is_other(word: bytes) -> bool:
     return not is_permissions(word)
+
+
+def has_words_for_permissions(line: Line) -> bool:
+    """Whether a question has its PERMS in capital letters or in words."""
+    if line.tool() not in (b"who", b"may") or len(line.operands) != 2:
+        return False
+    word = line.operands[0 if line.tool() == b"who" else 1]
+    return re.fullmatch(rb"[rwxRWX-]+|read|write|exec|execute|search|all|full", word) is not None
 
 
 def has_too_many_files(line: Line) -> bool:
@@ -318,12 +328,12 @@ UNKNOWN_TOOLS: List[Cause] = [
     Cause("words of the prompt", UNKNOWN, is_of(tools("help ? quit exit man info bye logout clear history")),
           "help and quit are words of facl-ask at a terminal; a script ends where its lines end.", none, b"help who", b""),
     Cause("a shell's line", UNKNOWN, is_of(tools(
-        "echo printf for while if do done then else fi case esac set export source . eval exec sh bash zsh python python3 perl awk sed grep "
-        "egrep cut sort uniq xargs time env true false sleep test facl-ask facl-plan facl-apply facl-report facl-snapshot parallel { ( :")),
+        "echo printf for while if do done then else fi case esac set export source . eval exec sh bash zsh python python3 perl awk sed "
+        "grep egrep cut sort uniq xargs time env true false sleep test facl-ask facl-plan facl-apply facl-report facl-snapshot parallel { ( :")),
           "No shell reads the line: each is a tool of facl with its words, and loops, filters and commands are around facl-ask.", none,
           b"for u in ines ben; do can $u srv/share/one; done", b""),
-    Cause("a tool's name", UNKNOWN, lambda line: line.tool() not in OPTIONS and nearest_tool(line) is not None, "There is no tool of this name. Nearly so:",
-          with_nearest_tool, b"getfac srv/share/one", b"getfacl srv/share/one"),
+    Cause("a tool's name", UNKNOWN, lambda line: line.tool() not in OPTIONS and nearest_tool(line) is not None,
+          "There is no tool of this name. Nearly so:", with_nearest_tool, b"getfac srv/share/one", b"getfacl srv/share/one"),
     Cause("a word that takes a text", rb"facl: text without end", always,
           "The lines after it are its text, up to a line with a dot alone, which is not there. A file of the name - is written ./-",
           none, b"getfacl -", b""),
@@ -372,8 +382,8 @@ OF_TOOLS: List[Cause] = [
         rb"[0-7]{1,4}\Z", line.operands[-1]) is not None, "MODE comes first, and FILEs after it.",
           lambda line: [built(b"chmod", *[b"-R"] * line.has(b"-R"), line.operands[-1], *line.operands[:-1])],
           b"chmod srv/share/one 640", b"chmod 640 srv/share/one"),
-    Cause("other digits for a mode", USAGE, lambda line: line.tool() == b"chmod" and len(line.operands) > 1, "MODE is one to four octal digits.",
-          none, b"chmod 888 srv/share/one", b"chmod 640 srv/share/one"),
+    Cause("other digits for a mode", USAGE, lambda line: line.tool() == b"chmod" and len(line.operands) > 1,
+          "MODE is one to four octal digits.", none, b"chmod 888 srv/share/one", b"chmod 640 srv/share/one"),
     Cause("restore beside files", USAGE, has_option(b"setfacl", b"--restore"),
           "--restore takes the names from its text: no FILE, and no option but --test.",
           none, b"setfacl --restore=- srv/share/one\n.", b""),
@@ -403,15 +413,15 @@ OF_TOOLS: List[Cause] = [
           "may asks of all files, so it takes no FILE. Of one file:",
           lambda line: [built(b"can", *[it.name for it in line.given], line.operands[0], line.operands[2])],
           b"may ines r srv/share/one", b"can ines srv/share/one"),
-    Cause("a file in may for its request", USAGE, has_operands(b"may", is_any, is_path), "may takes PERMS, and asks of all files. Of one file:",
+    Cause("a file in may for its request", USAGE, has_operands(b"may", is_any, is_path),
+          "may takes PERMS, and asks of all files. Of one file:",
           lambda line: [built(b"can", *[it.name for it in line.given], *line.operands[:2])], b"may ines srv/share/one",
           b"can ines srv/share/one"),
     Cause("a request before the user", USAGE, has_operands(b"may", is_permissions, is_other), "USER comes first, and PERMS after it.",
           user_first, b"may r ines", b"may ines r"),
     Cause("a file before the request", USAGE, has_operands(b"who", is_path, is_permissions), "PERMS comes first, and FILE after it.",
           user_first, b"who srv/share/one r", b"who r srv/share/one"),
-    Cause("other letters", USAGE, lambda line: line.tool() in (b"who", b"may") and len(line.operands) == 2
-          and re.fullmatch(rb"[rwxRWX-]+|read|write|exec|execute|search|all|full", line.operands[line.tool() == b"may"]) is not None, "PERMS are letters of rwx, or one digit 0 to 7.",
+    Cause("other letters", USAGE, has_words_for_permissions, "PERMS are letters of rwx, or one digit 0 to 7.",
           none, b"may ines W", b"may ines w"),
     Cause("a user in who", USAGE, has_operands(b"who", is_other, is_path), "who takes PERMS, and prints the users. Of one user:",
           lambda line: [built(b"can", *[it.name for it in line.given], *line.operands[:2])], b"who ines srv/share/one",
@@ -454,7 +464,8 @@ OF_TOOLS: List[Cause] = [
 OF_NAMES: List[Cause] = [
     Cause("a file before the user", rb"(can|may|why): .*: no such user", lambda line: is_path((line.operands or [b""])[0]),
           "USER comes first, and FILE after it.", user_first, b"why srv/share/one ines", b"why ines srv/share/one"),
-    Cause("a tag before the user", NO_NAME, is_about(rb"\A(u|user|g|group)?\\072"), "USER and GROUP are names, without the tag of an entry.",
+    Cause("a tag before the user", NO_NAME, is_about(rb"\A(u|user|g|group)?\\072"),
+          "USER and GROUP are names, without the tag of an entry.",
           replaced(rb"(?<=\s)(u|user|g|group)?:", b""), b"can u:ines srv/share/one", b"can ines srv/share/one"),
     Cause("several users", rb"gpasswd: .*: no such user", is_about(rb"\\054"), "gpasswd adds or removes one user a line.",
           lambda line: [built(b"gpasswd", option.name, name, *line.operands) for option in line.given for name in option.value.split(b",")],
@@ -465,14 +476,16 @@ OF_NAMES: List[Cause] = [
     Cause("a group before its member", rb"gpasswd: .*: no such user", always,
           "No user has this name or id. USER is the option's value, and GROUP the operand: gpasswd -a USER GROUP",
           none, b"gpasswd -a audit ines", b"gpasswd -a ines audit"),
-    Cause("a file before the owner", rb"ch(own|grp): .*: no such (user|group)", is_about(rb"/"), "The owner or group comes first, and FILEs after it.",
+    Cause("a file before the owner", rb"ch(own|grp): .*: no such (user|group)", is_about(rb"/"),
+          "The owner or group comes first, and FILEs after it.",
           lambda line: user_first(line) if two_operands(line) else [], b"chown srv/share/one ines", b"chown ines srv/share/one"),
     Cause("owner with a dot", rb"chown: .*: no such user", is_about(rb"\A[^.]+\.[^.]+\Z"), "A colon is between USER and GROUP.",
           replaced(rb"(\s[^\s./]+)\.(?=[^\s./]+\s)", rb"\1:"), b"chown ines.staff srv/share/one", b"chown ines:staff srv/share/one"),
     Cause("no such user", rb"[a-z]+: .*: no such user", always, "No row of the snapshot's passwd has this name or id.", none,
           b"userdel nobody", b"userdel mara"),
     Cause("no such group", rb"[a-z]+: .*: no such group", always,
-          "No row of the snapshot's group has this name or id, and no line adds one.", none, b"gpasswd -a ines crew", b"gpasswd -a ines audit"),
+          "No row of the snapshot's group has this name or id, and no line adds one.", none, b"gpasswd -a ines crew",
+          b"gpasswd -a ines audit"),
     Cause("not a member", rb"gpasswd: not a member", always,
           "The row of the group does not have this user. A primary group is changed by usermod -g GROUP USER", none,
           b"gpasswd -d ines staff", b"usermod -g guests ines"),
@@ -567,7 +580,7 @@ OF_OWNERS: List[Cause] = [
     Cause("chown --from", USAGE, lambda line: line.tool() in TOOLS_OF_PLANS and line.has(b"--from", b"--reference"),
           "The files are those that are named, and the owner is given by name. getfacl -R prints each file with its owner.", none,
           b"chown --from=mara ines srv/share/one", b"chown ines srv/share/one"),
-    Cause("primary group of an id", USAGE, lambda line: line.tool() == b"chown" and re.match(rb"\d+:\Z", (line.operands or [b""])[0]) is not None,
+    Cause("primary group of an id", USAGE, has_operands(b"chown", lambda word: re.match(rb"\d+:\Z", word) is not None),
           "After an id and a colon comes a GROUP; USER: without one takes the name of a user, and means the user's primary group.",
           none, b"chown 1001: srv/share/one", b"chown ines: srv/share/one"),
     Cause("no owner", USAGE, lambda line: line.tool() == b"chown" and (line.operands or [b""])[0] in (b":", b"") and len(line.operands) > 1,

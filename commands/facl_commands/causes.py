@@ -3,14 +3,14 @@ message."""
 from __future__ import annotations
 
 import re
-from typing import List, Optional, Tuple
+from typing import Dict, List, Optional, Tuple
 
 from .cause_rows import TABLE, Cause
 from .names import json_text, shown
 from .refused_line import LONG_OF_SHORT, OPTIONS, Line, line_of
 from .scripts import TEXT_WORDS, Unit
 
-__all__ = ["TABLE", "advice", "explained", "find_cause"]
+__all__ = ["TABLE", "advice", "explained", "explained_by_number", "find_cause"]
 
 
 def find_cause(line: bytes, message: bytes) -> Optional[Cause]:
@@ -54,6 +54,13 @@ def explained(unit: Unit, message: bytes) -> List[bytes]:
     instead = [b"  " + it for it in cause.remedy(line) if it != unit.lines[0]]
     text = advice_of(cause, line)
     return [shown(it) for it in [text if instead or text[-1:] != b":" else text[:-1] + b".", *instead, *swallowed(unit)]]
+
+
+def explained_by_number(units: Dict[int, Unit], message: bytes) -> List[bytes]:
+    """The same of a message as the program prints it, with the number of its line; units by the numbers of their lines."""
+    found = re.match(rb"line ([0-9]+): (.*)\Z", message, re.DOTALL)
+    unit = units.get(int(found[1])) if found else None
+    return [] if found is None or unit is None else explained(unit, found[2])
 
 
 def swallowed(unit: Unit) -> List[bytes]:

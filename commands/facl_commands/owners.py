@@ -244,7 +244,8 @@ def comments(left: Left) -> List[bytes]:
     if not left.owned:
         return []
     top = shell_word(live_path(folder_of(left.owned)))
-    return [b"# %s (uid %d) still owns %s. Put the new owner for NEWOWNER:" % (shown(left.name), left.uid, counted(len(left.owned), "file")),
+    owned = counted(len(left.owned), "file")
+    return [b"# %s (uid %d) still owns %s. Put the new owner for NEWOWNER:" % (shown(left.name), left.uid, owned),
             b"# chown -R -h --from=%d NEWOWNER -- %s" % (left.uid, top)]
 
 

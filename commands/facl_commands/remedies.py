@@ -4,7 +4,7 @@ from __future__ import annotations
 import re
 from typing import Callable, Dict, FrozenSet, List, Optional
 
-from .refused_line import OPTIONS, TOOLS_OF_PLANS, Line, quoted
+from .refused_line import OPTIONS, TOOLS_OF_PLANS, Line, Option, quoted
 
 CLAUSE = re.compile(rb"([ugoa]*)((?:[-+=](?:[rwxXst]*|[ugo]))+)\Z")
 TRIADS = re.compile(rb"[-dlbcps]?(([r-])([w-])([xsS-]))(([r-])([w-])([xsS-]))(([r-])([w-])([xtT-]))[.+]?\Z")
@@ -264,7 +264,8 @@ def letters_as_digits(line: Line) -> List[bytes]:
 HARMLESS: Dict[bytes, FrozenSet[bytes]] = {
     b"getfacl": frozenset((b"-p", b"-t", b"-L", b"-P", b"--absolute-names", b"--tabular", b"--logical", b"--physical")),
     b"setfacl": frozenset((b"-L", b"-P", b"--logical", b"--physical")), b"userdel": frozenset((b"-r", b"-f", b"--remove", b"--force")),
-    b"chmod": frozenset((b"-v", b"-c", b"-f", b"--verbose", b"--changes", b"--silent", b"--quiet")), b"rm": frozenset((b"-i", b"-I", b"-v")),
+    b"chmod": frozenset((b"-v", b"-c", b"-f", b"--verbose", b"--changes", b"--silent", b"--quiet")),
+    b"rm": frozenset((b"-i", b"-I", b"-v")),
     b"chown": frozenset((b"-v", b"-c", b"-f", b"--verbose", b"--changes", b"--silent", b"--quiet", b"--preserve-root")),
     b"chgrp": frozenset((b"-v", b"-c", b"-f", b"--verbose", b"--changes", b"--silent", b"--quiet", b"--preserve-root")),
 }
@@ -275,12 +276,14 @@ def without_harmless(line: Line) -> List[bytes]:
     known, harmless = OPTIONS[line.tool()], HARMLESS.get(line.tool(), frozenset())
     if any(option.name not in known | harmless for option in line.given):
         return []
-    options: List[bytes] = []
-    for option in line.given:
-        if option.name in known:
-            is_long = option.name.startswith(b"--")
-            options += [option.name + b"=" * bool(option.value) + option.value] if is_long else [option.name, option.value][: 1 + bool(option.value)]
+    options = [word for option in line.given if option.name in known for word in words_of_option(option)]
     return [built(line.tool(), *options, *line.operands)]
+
+
+def words_of_option(option: Option) -> List[bytes]:
+    if option.name.startswith(b"--"):
+        return [option.name + b"=" * bool(option.value) + option.value]
+    return [option.name] + [option.value] * bool(option.value)
 
 
 def joined_entries(line: Line) -> List[bytes]:
@@ -301,6 +304,8 @@ def letters_first(line: Line) -> List[bytes]:
 
 def colons_for_equals(line: Line) -> List[bytes]:
     """The line with the entries of chmod's form as entries."""
-    words = [word if word[:1] == b"-" or b"/" in word else re.sub(rb"(?<![^,])([ugo]|user|group|other)=([rwxX-]*)(?=,|\Z)", rb"\1::\2", word)
-             for word in line.words]
-    return [built(*[word if word[:1] == b"-" or b"/" in word else word.replace(b"=", b":") for word in words])]
+    return [built(*[word if word[:1] == b"-" or b"/" in word else with_colons(word) for word in line.words])]
+
+
+def with_colons(word: bytes) -> bytes:
+    return re.sub(rb"(?<![^,])([ugo]|user|group|other)=([rwxX-]*)(?=,|\Z)", rb"\1::\2", word).replace(b"=", b":")

@@ -203,6 +203,14 @@ class Explained(Asked):
     def test_bytes_that_a_terminal_obeys(self) -> None:
         self.expect(b"namei a\x1b[2J", b"What decides on each directory of a path is asked of a user:", b"  why --reach USER a\\033[2J")
 
+    def test_messages_of_a_run(self) -> None:
+        units = {unit.number: unit for unit in units_of(b"# one\nchmod a=r srv\nfrob -\nindex\n.\n")}
+        self.assertEqual(causes.explained_by_number(units, b"line 2: chmod: usage"), [b"MODE is one to four octal digits:", b"  chmod 444 srv"])
+        self.assertEqual(causes.explained_by_number(units, b"line 3: facl: unknown tool"),
+                         [b"lines 4 to 5 were taken as the text of line 3, since it has a word -"])
+        for message in (b"facl: script too long", b"line 4: facl: unknown tool", b"line x: facl: unknown tool"):
+            self.assertEqual(causes.explained_by_number(units, message), [])
+
     def test_one_line(self) -> None:
         self.assertEqual(causes.advice(b"mkdir x", b"facl: unknown tool"),
                          "A directory is made by creat -d: creat -d --user=USER --mode=MODE x")

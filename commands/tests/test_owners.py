@@ -10,6 +10,7 @@ import sys
 import tempfile
 import unittest
 from typing import List, Tuple
+from unittest import mock
 
 from common import COMMANDS, HERE, Case, outside_the_gate
 
@@ -173,6 +174,14 @@ class Stored(Case):
         before = self.run_of.files()
         self.assertEqual(self.run_of.answer(b"chown -R ines srv/share/one"), [])
         self.assertEqual(self.run_of.files(), before)
+
+
+    def test_too_many_files(self) -> None:
+        before = self.run_of.files()
+        with mock.patch.object(owners, "TEXT_LIMIT", 1000):
+            self.assertEqual(self.run_of.answer(b"chown -R guest srv"), [b"chown: too many files"])
+            self.assertEqual(self.run_of.files(), before)
+            self.assertEqual(self.run_of.answer(b"chown guest srv"), [])
 
 
 class Left(Case):
