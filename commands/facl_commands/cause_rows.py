@@ -24,7 +24,7 @@ ENTRY = rb"[a-z]+: (default )?entry \d+: (bad tag|bad permissions|unknown user|u
 BAD_PATH = rb"[a-z]+: operand \d+: bad path"
 UNKNOWN = rb"facl: (unknown tool|text without end)"
 WORDS = b"|".join((USAGE, NO_FILE, NO_NAME, ENTRY, BAD_PATH))
-SHELLS = WORDS + b"|facl: text without end"
+SHELLS = WORDS + b"|" + UNKNOWN
 LISTS = rb"[a-z]+: (.*: )?(access|default) list: "
 Fits = Callable[[Line], bool]
 
@@ -57,7 +57,7 @@ def has(pattern: bytes) -> Fits:
 
 def has_unquoted(pattern: bytes) -> Fits:
     """Whether a line of a tool has this outside of quotes."""
-    return lambda line: line.tool() in OPTIONS and re.search(pattern, line.unquoted()) is not None
+    return lambda line: re.split(rb"[|;&<>]", line.tool())[0] in OPTIONS and re.search(pattern, line.unquoted()) is not None
 
 
 def is_about(pattern: bytes) -> Fits:
@@ -329,7 +329,8 @@ UNKNOWN_TOOLS: List[Cause] = [
           "help and quit are words of facl-ask at a terminal; a script ends where its lines end.", none, b"help who", b""),
     Cause("a shell's line", UNKNOWN, is_of(tools(
         "echo printf for while if do done then else fi case esac set export source . eval exec sh bash zsh python python3 perl awk sed "
-        "grep egrep cut sort uniq xargs time env true false sleep test facl-ask facl-plan facl-apply facl-report facl-snapshot parallel { ( :")),
+        "grep egrep cut sort uniq xargs time env true false sleep test facl-ask facl-plan facl-apply facl-report facl-snapshot "
+        "parallel { ( :")),
           "No shell reads the line: each is a tool of facl with its words, and loops, filters and commands are around facl-ask.", none,
           b"for u in ines ben; do can $u srv/share/one; done", b""),
     Cause("a tool's name", UNKNOWN, lambda line: line.tool() not in OPTIONS and nearest_tool(line) is not None,

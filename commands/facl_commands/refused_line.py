@@ -37,6 +37,7 @@ LONG_OF_SHORT: Dict[bytes, Dict[bytes, bytes]] = {
                  b"-s": b"--skip-base", b"-R": b"--recursive", b"-n": b"--numeric"},
     b"chown": {b"-R": b"--recursive"}, b"chgrp": {b"-R": b"--recursive"},
 }
+BEFORE_OTHERS = (b"sudo", b"doas")  # The options after the first operand are those of another command.
 QUOTED = re.compile(rb"'[^']*'|\"[^\"]*\"")
 SUBJECT = re.compile(rb"[a-z]+: (.*): (?:no such (?:file|user|group)|exists|is a directory|not a directory|user exists)\Z", re.DOTALL)
 
@@ -95,6 +96,8 @@ def split_words(tool: bytes, words: List[bytes]) -> Tuple[List[Option], List[byt
             return given, operands + rest
         if word[:1] != b"-" or word == b"-":
             operands.append(word)
+            if tool in BEFORE_OTHERS:
+                return given, operands + rest
             continue
         found, name = options_of_word(word, values), b""
         if not found[-1].value and found[-1].name in values and b"=" not in word and rest:
