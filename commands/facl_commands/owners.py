@@ -6,10 +6,10 @@ import re
 from typing import Dict, Iterable, Iterator, List, NamedTuple, Optional, Tuple, Union
 
 from .messages import counted
-from .names import SAFE, live_name, live_path, path_order, read_name, script_word, shell_word, shown, shown_path
+from .names import SAFE, live_name, live_path, read_name, script_word, shell_word, shown, shown_path
 from .people import People
 from .program import Session
-from .records import File, Files, read_listing, write_record
+from .records import File, Files, read_listing, sorting_key, write_records
 from .scripts import LINE_LIMIT, WORD, Unit, takes_text
 
 TOOLS = (b"chown", b"chgrp")
@@ -17,6 +17,7 @@ RESTORE = b"setfacl --restore=-"
 TEXT_LIMIT = 60 << 20  # A run of the program takes 64 MiB, of which others have a part.
 NO_ID = 0xFFFFFFFF  # chown(2) takes it for "stays".
 HEAD = re.compile(rb"# owner: [0-9]+\n# group: [0-9]+\n(?:# flags: ([s-])([s-])([t-])\n)?")
+SET_FLAGS = re.compile(rb"\n# flags: (?:s|-s)")
 MASK, OWNING_GROUP = re.compile(rb"^mask::..([x-])", re.MULTILINE), re.compile(rb"^group::..([x-])", re.MULTILINE)
 ESCAPED_IN_NAMES = re.compile(rb"[\\\n\r\t :,#]")  # As the program prints names of users and groups.
 OWNER = re.compile(rb"# owner: ([0-9]+)\n# group: ([0-9]+)\n")
@@ -57,8 +58,8 @@ def restoring(session: Session, people: People, unit: Unit) -> Union[Unit, bytes
         files = ask_files(session, line)
     except Refused as refused:
         return refused.text if refused.text.startswith(b"facl: ") else unit.words[0] + b": " + refused.text
-    changed = {path: File(False, body) for path, body in new_bodies(session, line, files, ids) if body != files[path].body}
-    text = b"".join(write_record(path, file) for path, file in changed.items())
+    changed = changed_files(session, line, files, ids)
+    text = write_records(changed, changed)
     if len(text) > TEXT_LIMIT:
         return unit.words[0] + b": too many files"
     return Unit(unit.script, unit.number, RESTORE.split(b" "), [RESTORE, *text.split(b"\n")[:-1], b"."], True)
@@ -165,14 +166,26 @@ def fault_of(message: bytes, place: int) -> bytes:
     return fault if operand is None else b"operand %d" % (int(operand[1]) + place) + operand[2]
 
 
-def new_bodies(session: Session, line: Line, files: Files, ids: Ids) -> Iterator[Tuple[bytes, bytes]]:
+def changed_files(session: Session, line: Line, files: Files, ids: Ids) -> Files:
+    """The files whose records change, with the new ones; files with one record are looked at once."""
+    known: Dict[Tuple[bytes, bool], File] = {}
+    found: Files = {}
     for path, file in files.items():
-        head = HEAD.match(file.body)
-        assert head is not None
-        flags = b"".join(head.groups(b"-"))
-        if b"s" in flags[:2] and not file.is_directory and (line.is_recursive or not asks_as_directory(session, path)):
-            flags = cleared(flags, file.body)
-        yield path, head_of(file.body, ids, flags) + file.body[head.end() :]
+        is_unknown = not file.is_directory and not line.is_recursive and SET_FLAGS.search(file.body) is not None
+        keeps_flags = file.is_directory or is_unknown and asks_as_directory(session, path)
+        new = known.get((file.body, keeps_flags))
+        if new is None:
+            new = known[file.body, keeps_flags] = File(False, new_body(file.body, keeps_flags, ids))
+        if new.body != file.body:
+            found[path] = new
+    return found
+
+
+def new_body(body: bytes, keeps_flags: bool, ids: Ids) -> bytes:
+    head = HEAD.match(body)
+    assert head is not None
+    flags = b"".join(head.groups(b"-"))
+    return head_of(body, ids, flags if keeps_flags else cleared(flags, body)) + body[head.end() :]
 
 
 def asks_as_directory(session: Session, path: bytes) -> bool:
@@ -214,7 +227,7 @@ def left_behind(before: People, after: People, files: Files) -> List[Left]:
     present = {user.uid for user in after.users}
     gone = {user.uid: Left(user.name, user.uid, [], []) for user in reversed(before.users) if user.uid not in present}
     if gone:
-        for path in sorted(files, key=path_order):
+        for path in sorted(files, key=sorting_key):
             add_to(gone, path, files[path].body)
     return [left for left in gone.values() if left.owned or left.named][::-1]
 
@@ -251,7 +264,7 @@ def comments(left: Left) -> List[bytes]:
 
 def folder_of(paths: List[bytes]) -> bytes:
     """The folder that all of them are in, or the one path; its name has no character that ends or hides a line."""
-    first, last = path_order(paths[0]), path_order(paths[-1])
+    first, last = paths[0].split(b"/"), paths[-1].split(b"/")
     same = []
     for one, other in zip(first, last):
         if one != other or not SAFE.match(one):

@@ -41,6 +41,7 @@ class Run:
     def answer(self, line: bytes) -> List[bytes]:
         """Does a line, and returns its messages."""
         (unit,) = read_script(b"edits", line + b"\n")
+        self.links.before(self.session, unit)
         if unit.is_of(*owners.TOOLS):
             done = owners.restoring(self.session, self.people, unit)
             if isinstance(done, bytes):
@@ -49,7 +50,9 @@ class Run:
         messages = self.session.ask(b"".join(it + b"\n" for it in unit.lines)).messages
         if not messages and unit.words[0] in (b"useradd", b"userdel", b"usermod", b"gpasswd"):
             self.people.change(unit.words)
-        self.links.follow(self.session)
+        elif not messages:
+            self.links.follow(self.session, unit)
+            self.links.end(self.session)
         return messages
 
 
