@@ -34,7 +34,9 @@ from typing import Callable, Dict, List, Optional, Tuple
 
 sys.dont_write_bytecode = True
 sys.path.insert(0, os.path.join(os.path.dirname(os.path.realpath(__file__)), "..", "lib"))
-from live_tree import CHANGING, GROUPS, TEXTS, USERS, Call, Check, Fault, Given, Tree, must, records_of, run, trace, word, write  # noqa: E402
+from live_tree import (  # noqa: E402
+    CHANGING, GROUPS, TEXTS, USERS, Call, Fault, Given, Tree, copy, must, records_of, run, trace, word,
+)
 from live_others import Others  # noqa: E402
 from script import at_signals  # noqa: E402
 from session import program_at  # noqa: E402
@@ -306,7 +308,7 @@ class Ways(Others):
         """The plan's folder is on a full disk: nothing is touched."""
         place = self.name(b"small")
         with Mounted([b"-t", b"tmpfs", b"-o", b"size=1m,mode=755", b"none"], place):
-            shutil.copytree(self.plan, os.path.join(place, b"plan"))
+            copy(self.plan, os.path.join(place, b"plan"))
             fill(os.path.join(place, b"filled"))
             done = must_say(self.command(b"facl-apply", os.path.join(place, b"plan")), 2, b"nothing is touched")
             if tree.listing() != first or b"No space left" not in done:
