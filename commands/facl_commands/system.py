@@ -5,7 +5,7 @@ import ctypes
 import errno
 import os
 import struct
-from typing import Dict, Tuple
+from typing import Dict, Set, Tuple
 
 LIBRARY = ctypes.CDLL(None, use_errno=True)
 AT_EMPTY_PATH, AT_SYMLINK_NOFOLLOW = 0x1000, 0x100
@@ -16,6 +16,7 @@ STATX = struct.Struct("<I12xIIIH2xQ40xqI44xII")
 BUFFER = ctypes.create_string_buffer(256)
 STATX_CALL = getattr(LIBRARY, "statx", None)
 NO_DESCRIPTOR = -1
+MOUNTS_FILE = "/proc/self/mountinfo"
 BOOT_FILE = "/proc/sys/kernel/random/boot_id"
 
 
@@ -34,6 +35,27 @@ class DeviceNumbers(Dict[Tuple[int, int], int]):
 DEVICES = DeviceNumbers()
 
 
+class KeptBirths(Dict[Tuple[int, int], bool]):
+    """Whether files of a device keep their birth: on an overlay a file is copied when it is first changed, and gets another one."""
+
+    def __missing__(self, parts: Tuple[int, int]) -> bool:
+        self[parts] = b"%d:%d" % parts not in overlays()
+        return self[parts]
+
+
+KEPT_BIRTHS = KeptBirths()
+
+
+def overlays() -> Set[bytes]:
+    """The devices of the overlays that are mounted."""
+    try:
+        with open(MOUNTS_FILE, "rb") as file:
+            halves = [line.split(b" - ") for line in file]
+    except OSError:
+        return set()
+    return {first.split()[2] for first, second in halves if second.split()[0] == b"overlay"}
+
+
 def status_of(descriptor: int, name: bytes = b"") -> Status:
     """The status of an open file, or of a name in an open directory, which is not followed where it is a link."""
     if STATX_CALL is None:
@@ -43,7 +65,8 @@ def status_of(descriptor: int, name: bytes = b"") -> Status:
         number = ctypes.get_errno()
         raise OSError(number, os.strerror(number))
     known, names, owner, group, mode, inode, seconds, nanoseconds, major, minor = STATX.unpack_from(BUFFER)
-    birth = seconds * 1_000_000_000 + nanoseconds if known & STATX_BTIME else 0
+    has_birth = known & STATX_BTIME and KEPT_BIRTHS[major, minor]
+    birth = seconds * 1_000_000_000 + nanoseconds if has_birth else 0
     return mode, owner, group, names, DEVICES[major, minor], inode, birth
 
 
