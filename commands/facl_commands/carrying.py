@@ -115,7 +115,7 @@ class Carrier:
             seen, before = file.look(), self.seen[path]
             if seen.identity != before.identity:
                 raise Mismatch(b"was replaced by another file")
-            if seen.identity in self.finished:
+            if seen.identity in self.finished and seen.record == self.way.end(path):
                 return
             if not is_expected(self.way, path, seen.record):
                 raise Mismatch(b"was changed: " + differences.parts(seen.record, self.way.start(path)))

@@ -11,6 +11,7 @@ LIBRARY = ctypes.CDLL(None, use_errno=True)
 AT_EMPTY_PATH, AT_SYMLINK_NOFOLLOW = 0x1000, 0x100
 STATX_BASIC_STATS, STATX_BTIME = 0x7FF, 0x800
 RENAME_NOREPLACE = 1
+OVERLAY = 0x794C7630  # The kind of file system, as statfs(2) has it.
 # struct statx: the mask of what is known, names, owner, group, mode, inode, birth in seconds and nanoseconds, device.
 STATX = struct.Struct("<I12xIIIH2xQ40xqI44xII")
 BUFFER = ctypes.create_string_buffer(256)
@@ -44,6 +45,15 @@ class KeptBirths(Dict[Tuple[int, int], bool]):
 
 
 KEPT_BIRTHS = KeptBirths()
+
+
+def is_copied(descriptor: int, device: int) -> bool:
+    """Whether an open file is copied to another device when it is first changed: it is of a lower layer of an overlay, and the
+    layers are on several file systems."""
+    statfs = getattr(LIBRARY, "fstatfs", None)
+    if statfs is None or statfs(descriptor, BUFFER) != 0 or int.from_bytes(BUFFER.raw[:4], "little") != OVERLAY:
+        return False
+    return b"%d:%d" % (os.major(device), os.minor(device)) not in overlays()
 
 
 def overlays() -> Set[bytes]:

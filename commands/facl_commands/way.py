@@ -160,6 +160,7 @@ class Obstacles:
         self.drops_capabilities = drops_capabilities
         self.read_only: Dict[int, bool] = {}
         self.has_lists: Dict[int, bool] = {}
+        self.is_copied: Dict[int, bool] = {}  # Whether a file becomes one of another device when it is first changed.
 
     def of_right(self, path: bytes, seen: Seen) -> Optional[bytes]:
         if os.geteuid() == 0:
@@ -188,8 +189,12 @@ class Obstacles:
         if device not in self.read_only:
             self.read_only[device] = bool(os.fstatvfs(file.descriptor).f_flag & os.ST_RDONLY)
             self.has_lists[device] = file.takes_lists()
+            self.is_copied[device] = system.is_copied(file.descriptor, device)
         if self.read_only[device]:
             return b"is on a file system that is mounted read-only"
+        if self.is_copied[device]:
+            return b"would become another file, since the layers of its overlay are on several file systems: chmod it to the mode " \
+                   b"that it has, and make a new snapshot and a new plan"
         if not self.has_lists[device] and (end.default or not is_minimal(end.access)):
             return b"is on a file system without access control lists"
         if self.drops_capabilities or seen.is_directory or seen.record.ids() == end.ids():
@@ -198,14 +203,17 @@ class Obstacles:
             return b"has capabilities, which it would lose by its new owner or group: --drop-capabilities allows that"
         return None
 
+    def is_suspect(self, device: int) -> bool:
+        """Whether each file of a file system has to be looked at."""
+        return self.read_only.get(device, True) or not self.has_lists[device] or self.is_copied[device]
+
     def all(self, look: Look) -> Dict[bytes, bytes]:
         """The obstacles of files; a file system without an owner's change is looked at by one file."""
         found = {}
         with Opener() as opener:
             for path, seen in look.files.items():
                 fault = self.of_right(path, seen)
-                if fault is None and (seen.identity.device not in self.read_only or seen.record.ids() != self.way.end(path).ids()
-                                      or not self.has_lists[seen.identity.device] or self.read_only[seen.identity.device]):
+                if fault is None and (self.is_suspect(seen.identity.device) or seen.record.ids() != self.way.end(path).ids()):
                     fault = self.of_system(opener, path, seen)
                 if fault is not None:
                     found[path] = fault
