@@ -11,6 +11,7 @@ LIBRARY = ctypes.CDLL(None, use_errno=True)
 AT_EMPTY_PATH, AT_SYMLINK_NOFOLLOW = 0x1000, 0x100
 STATX_BASIC_STATS, STATX_BTIME = 0x7FF, 0x800
 RENAME_NOREPLACE = 1
+NO_OVERLAY, OF_ONE, OF_SEVERAL = range(3)
 OVERLAY = 0x794C7630  # The kind of file system, as statfs(2) has it.
 # struct statx: the mask of what is known, names, owner, group, mode, inode, birth in seconds and nanoseconds, device.
 STATX = struct.Struct("<I12xIIIH2xQ40xqI44xII")
@@ -47,13 +48,13 @@ class KeptBirths(Dict[Tuple[int, int], bool]):
 KEPT_BIRTHS = KeptBirths()
 
 
-def is_copied(descriptor: int, device: int) -> bool:
-    """Whether an open file is copied to another device when it is first changed: it is of a lower layer of an overlay, and the
-    layers are on several file systems."""
+def overlay_of(descriptor: int, device: int) -> int:
+    """Whether an open file is on an overlay: OF_ONE keeps device and inode where a file is copied at its first change, but for
+    one of several names; a file of OF_SEVERAL, whose layers are on several file systems, gets others."""
     statfs = getattr(LIBRARY, "fstatfs", None)
     if statfs is None or statfs(descriptor, BUFFER) != 0 or int.from_bytes(BUFFER.raw[:4], "little") != OVERLAY:
-        return False
-    return b"%d:%d" % (os.major(device), os.minor(device)) not in overlays()
+        return NO_OVERLAY
+    return OF_ONE if b"%d:%d" % (os.major(device), os.minor(device)) in overlays() else OF_SEVERAL
 
 
 def overlays() -> Set[bytes]:

@@ -160,7 +160,7 @@ class Obstacles:
         self.drops_capabilities = drops_capabilities
         self.read_only: Dict[int, bool] = {}
         self.has_lists: Dict[int, bool] = {}
-        self.is_copied: Dict[int, bool] = {}  # Whether a file becomes one of another device when it is first changed.
+        self.overlays: Dict[int, int] = {}  # As system.overlay_of says.
 
     def of_right(self, path: bytes, seen: Seen) -> Optional[bytes]:
         if os.geteuid() == 0:
@@ -189,12 +189,13 @@ class Obstacles:
         if device not in self.read_only:
             self.read_only[device] = bool(os.fstatvfs(file.descriptor).f_flag & os.ST_RDONLY)
             self.has_lists[device] = file.takes_lists()
-            self.is_copied[device] = system.is_copied(file.descriptor, device)
+            self.overlays[device] = system.overlay_of(file.descriptor, device)
         if self.read_only[device]:
             return b"is on a file system that is mounted read-only"
-        if self.is_copied[device]:
-            return b"would become another file, since the layers of its overlay are on several file systems: chmod it to the mode " \
-                   b"that it has, and make a new snapshot and a new plan"
+        has_names = seen.names > 1 and not seen.is_directory
+        if self.overlays[device] == system.OF_SEVERAL or has_names and self.overlays[device] == system.OF_ONE:
+            return b"would become another file, since it is " + (b"one of several names" if has_names else b"on another file system") + \
+                   b" in a lower layer of an overlay: chmod it to the mode that it has, and make a new snapshot and a new plan"
         if not self.has_lists[device] and (end.default or not is_minimal(end.access)):
             return b"is on a file system without access control lists"
         if self.drops_capabilities or seen.is_directory or seen.record.ids() == end.ids():
@@ -205,7 +206,7 @@ class Obstacles:
 
     def is_suspect(self, device: int) -> bool:
         """Whether each file of a file system has to be looked at."""
-        return self.read_only.get(device, True) or not self.has_lists[device] or self.is_copied[device]
+        return self.read_only.get(device, True) or not self.has_lists[device] or self.overlays[device] != system.NO_OVERLAY
 
     def all(self, look: Look) -> Dict[bytes, bytes]:
         """The obstacles of files; a file system without an owner's change is looked at by one file."""
