@@ -213,8 +213,9 @@ def write_plan(target: Target, files: Dict[bytes, bytes], group: Optional[int]) 
         share(made[1], group)
         os.fsync(made[1].descriptor)
         with signals_wait():
-            kept = put_in_place(target, made[0])
-            made = None
+            put_in_place(target, made[0])
+            name, made = made[0], None
+            kept = put_away(target, name)
         os.fsync(place.above)
         return kept
     except OSError as error:
@@ -251,33 +252,33 @@ def remove(place: Place, name: bytes, folder: Folder) -> bool:
     return True
 
 
-def put_in_place(target: Target, made: bytes) -> Optional[bytes]:
-    """By one rename, and one before it where a plan is there; returns the name of that one where it is kept."""
+def put_in_place(target: Target, made: bytes) -> None:
+    """By one rename; where a plan is there, the two change places, so that at no moment the name is free."""
     place, old = target
     if old is None:
         system.rename_new(made, place.name, place.above)
-        return None
-    if not old.is_of(place):
+    elif not old.is_of(place):
         raise Failure(place.shown + b": was replaced meanwhile, so nothing is written: run facl-plan again")
+    else:
+        system.exchange(made, place.name, place.above)
+
+
+def put_away(target: Target, name: bytes) -> Optional[bytes]:
+    """Removes the plan that was there, which has this name now; returns its new name where it is kept."""
+    place, old = target
+    if old is None:
+        return None
     is_kept = old.has(b"state") or old.has(b"by_hand_done") or old.others() is not None
-    aside = keep(place) if is_kept else Place(place.above, made + b".old", place.shown)
-    if not is_kept:
-        system.rename_new(place.name, aside.name, place.above)
-    try:
-        system.rename_new(made, place.name, place.above)
-    except OSError:
-        system.rename_new(aside.name, place.name, place.above)
-        raise
-    if not is_kept and not remove(place, aside.name, old):
-        aside, is_kept = keep(Place(place.above, aside.name, aside.shown), place), True
-    return aside.shown if is_kept else None
+    if is_kept or not remove(place, name, old):
+        return keep(place, name).shown
+    return None
 
 
-def keep(place: Place, beside: Optional[Place] = None) -> Place:
-    """Gives what is at a place the first name with a number that is free."""
-    for numbered in (beside or place).numbered():
+def keep(place: Place, name: bytes) -> Place:
+    """Gives what has a name the first one of a place with a number that is free."""
+    for numbered in place.numbered():
         try:
-            system.rename_new(place.name, numbered.name, place.above)
+            system.rename_new(name, numbered.name, place.above)
         except FileExistsError:
             continue
         return numbered

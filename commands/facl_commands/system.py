@@ -10,7 +10,7 @@ from typing import Dict, Set, Tuple
 LIBRARY = ctypes.CDLL(None, use_errno=True)
 AT_EMPTY_PATH, AT_SYMLINK_NOFOLLOW = 0x1000, 0x100
 STATX_BASIC_STATS, STATX_BTIME = 0x7FF, 0x800
-RENAME_NOREPLACE = 1
+RENAME_NOREPLACE, RENAME_EXCHANGE = 1, 2
 NO_OVERLAY, OF_ONE, OF_SEVERAL = range(3)
 OVERLAY = 0x794C7630  # The kind of file system, as statfs(2) has it.
 # struct statx: the mask of what is known, names, owner, group, mode, inode, birth in seconds and nanoseconds, device.
@@ -92,6 +92,24 @@ def rename_new(old: bytes, new: bytes, folder: int) -> None:
     if new in map(os.fsencode, os.listdir(folder)):
         raise FileExistsError(errno.EEXIST, os.strerror(errno.EEXIST), os.fsdecode(new))
     os.rename(old, new, src_dir_fd=folder, dst_dir_fd=folder)
+
+
+def exchange(made: bytes, there: bytes, folder: int) -> None:
+    """Has two names of a folder change places; by three renames where its file system cannot."""
+    if hasattr(LIBRARY, "renameat2"):
+        if LIBRARY.renameat2(folder, made, folder, there, RENAME_EXCHANGE) == 0:
+            return
+        number = ctypes.get_errno()
+        if number not in (errno.EINVAL, errno.ENOSYS):
+            raise OSError(number, os.strerror(number), os.fsdecode(there))
+    aside = made + b".old"
+    rename_new(there, aside, folder)
+    try:
+        rename_new(made, there, folder)
+    except OSError:
+        rename_new(aside, there, folder)
+        raise
+    rename_new(aside, made, folder)
 
 
 def write_out(descriptor: int) -> None:
