@@ -14,7 +14,7 @@ import stat
 from contextlib import contextmanager
 from typing import Dict, Iterator, NamedTuple, Optional, Tuple
 
-from . import system, trusted
+from . import lists, system, trusted
 from .messages import SIGNALS, Failure, reason
 
 VERSION = b"facl-plan 2\n"
@@ -231,11 +231,20 @@ def share(folder: Folder, group: Optional[int]) -> None:
         return
     for name in os.listdir(folder.descriptor):
         descriptor = os.open(name, os.O_RDONLY | os.O_NOFOLLOW | os.O_CLOEXEC, dir_fd=folder.descriptor)
-        os.fchown(descriptor, -1, group)
-        os.fchmod(descriptor, 0o640)
+        share_one(descriptor, group, 0o640)
         os.close(descriptor)
-    os.fchown(folder.descriptor, -1, group)
-    os.fchmod(folder.descriptor, 0o750)
+    share_one(folder.descriptor, group, 0o750)
+
+
+def share_one(descriptor: int, group: int, mode: int) -> None:
+    """Without the list that the folder above gave it, whose users would get what the mode gives the group."""
+    try:
+        os.removexattr(descriptor, lists.ACCESS)
+    except OSError as error:
+        if error.errno not in (errno.ENODATA, errno.ENOTSUP):
+            raise
+    os.fchown(descriptor, -1, group)
+    os.fchmod(descriptor, mode)
 
 
 def remove(place: Place, name: bytes, folder: Folder) -> bool:
