@@ -321,6 +321,7 @@ class Others(Check):
             self.tampered(tree, first, what)
         self.tampered_ways(tree, first)
         self.tampered_snapshot()
+        self.name_wanted(tree)
 
     def tampered(self, tree: Tree, first: bytes, what: str) -> None:
         """A plan that somebody else can have written: nothing is touched."""
@@ -369,6 +370,27 @@ class Others(Check):
             must(self.command(b"facl-plan", snapshot, self.name(b"edits")), 2)
             shutil.rmtree(snapshot)
             self.count("snapshots that others could write")
+
+    def name_wanted(self, tree: Tree) -> None:
+        """In a sticky folder another user waits for the name of a plan to be free while facl-plan replaces it."""
+        folder = self.name(b"sticky")
+        os.mkdir(folder)
+        os.chmod(folder, 0o1777)
+        plan = os.path.join(folder, b"plan")
+        words = self.words(b"facl-plan", b"--plan", plan, self.name(b"before"), self.name(b"edits"))
+
+        def take(_stop: int) -> None:
+            os.waitpid(child(MALLORY, lambda: None if os.path.exists(plan) else os.mkdir(plan)), 0)
+
+        for round_number in range(3):
+            must(run(words, variables=self.variables()), 0)
+            done = trace(self, words, ["renameat2", "rename"], ["renameat2:signal=STOP:when=1+"], take)
+            if done.status != 0 or os.stat(plan).st_uid != 0 or len(os.listdir(folder)) != 1 + round_number:
+                raise Fault(f"a name that is wanted: {done}: {os.listdir(folder)}")
+            must(self.command(b"facl-apply", plan), 0)
+            must(self.command(b"facl-apply", b"--undo", plan), 0)
+            self.count("plans whose name is wanted")
+        shutil.rmtree(folder)
 
     # --- locks
 
