@@ -79,6 +79,11 @@ def closes(way: Way, path: bytes) -> bool:
     return search_of(way, path) == (True, False)
 
 
+def was_closed(way: Way, path: bytes, now: Record) -> bool:
+    """Whether a run that was cut off has left a directory closed to the caller which is only to be closed at the end."""
+    return way.was_cut_off() and closes(way, path) and not owner_permissions(now.access) & 1
+
+
 def fault_of(way: Way, devices: Devices, path: bytes, seen: Seen) -> Optional[bytes]:
     """Why a file is not the one that the plan is about."""
     file = way.work.files[path]
@@ -110,7 +115,7 @@ def look_at(way: Way, paths: Iterable[bytes]) -> Look:
                 fault = reason(error)
             if fault is None:
                 look.files[path] = seen
-                if not is_root and opens(way, path) and seen.record != way.end(path):
+                if not is_root and (opens(way, path) and seen.record != way.end(path) or was_closed(way, path, seen.record)):
                     opened.append(path)
             else:
                 look.faults[path] = fault
