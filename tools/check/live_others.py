@@ -500,14 +500,21 @@ class Others(Check):
             raise Fault(f"applied by the owner under strace: {done}")
         calls = [call for call, _ in done.calls()]
         must(self.command(b"facl-apply", b"--undo", self.plan, user=MALLORY), 0)
-        for call in calls:
-            trace(self, words, CHANGING, [f"{call.name}:signal=KILL:when={call.number}"], user=MALLORY)
-            must(self.command(b"facl-apply", b"--undo", self.plan, user=MALLORY), 0)
+        undo = self.words(b"facl-apply", b"--undo", self.plan)
+        for turn, call in enumerate(calls * 2):
+            is_undo = turn >= len(calls)
+            if is_undo:
+                must(self.command(b"facl-apply", self.plan, user=MALLORY), 0)
+            trace(self, undo if is_undo else words, CHANGING, [f"{call.name}:signal=KILL:when={call.number}"], user=MALLORY)
+            if turn % 2:
+                must(self.command(b"facl-apply", self.plan, user=MALLORY), 0, 3)
+                self.check_tree(tree, self.expected(), "run again by the owner after a kill")
+            must(self.command(b"facl-apply", b"--undo", self.plan, user=MALLORY), 0, 3)
             if tree.listing() != first:
                 raise Fault(f"killed at {call}, as the owner: not undone")
         self.back_to(tree, first)
         self.count("plans that their owner applied")
-        self.count("kills of the owner's facl-apply", len(calls))
+        self.count("kills of the owner's facl-apply and --undo", 2 * len(calls))
 
     # --- sizes
 
