@@ -42,6 +42,8 @@ cd "$top"
 [ -z "$(git status --porcelain)" ] || fail "files are not as in the commit: commit them first"
 commit=$(git rev-parse HEAD)
 day=$(git show -s --format=%cd --date=format:%Y%m%d HEAD)
+# it rises with each commit of a day
+version=0.$day.$(git log --format=%cd --date=format:%Y%m%d HEAD | grep -c -x "$day")
 if [ -n "$program" ]; then
     origin="The program was given as it is, and is not known to be the one that is proved at commit $commit."
 else
@@ -54,18 +56,23 @@ make_work "${TMPDIR:-/tmp}"
 root=$work/root
 mkdir "$root"
 chmod 755 "$root"
-DESTDIR=$root tools/install.sh --program "$program" /usr >/dev/null
+DESTDIR=$root tools/install.sh --program "$program" --version "$version" /usr >/dev/null
 gzip -9n "$root"/usr/share/man/man1/*.1
 mkdir -p "$root/DEBIAN" "$root/usr/share/doc/facl"
 printf '%s\n' "$origin" >"$root/usr/share/doc/facl/commit"
+printf '%s\n' "facl. Its authors keep all rights that they have not given." "$origin" >"$root/usr/share/doc/facl/copyright"
+{
+    printf 'facl (%s) unstable; urgency=low\n\n' "$version"
+    git log -20 --format='  * %s' HEAD
+    git show -s --format='%n -- %an <%ae>  %cD' HEAD
+} | gzip -9n >"$root/usr/share/doc/facl/changelog.gz"
 size=$(du -sk "$root/usr" | cut -f 1)
-version=0.$day.$(git rev-parse --short=10 HEAD)
 architecture=$(dpkg --print-architecture)
 cat >"$root/DEBIAN/control" <<END
 Package: facl
 Version: $version
 Architecture: $architecture
-Maintainer: facl
+Maintainer: $(git show -s --format='%an <%ae>' HEAD)
 Installed-Size: $size
 Depends: libc6, libc-bin, acl, findutils, coreutils, python3 (>= 3.7)
 Recommends: python3-prompt-toolkit
