@@ -60,10 +60,14 @@ DESTDIR=$root tools/install.sh --program "$program" --version "$version" /usr >/
 gzip -9n "$root"/usr/share/man/man1/*.1
 mkdir -p "$root/DEBIAN" "$root/usr/share/doc/facl"
 printf '%s\n' "$origin" >"$root/usr/share/doc/facl/commit"
-printf '%s\n' "facl. Its authors keep all rights that they have not given." "$origin" >"$root/usr/share/doc/facl/copyright"
+printf '%s\n' "Copyright 2026 the authors of facl, who keep all rights that they have not given." "$origin" \
+    >"$root/usr/share/doc/facl/copyright"
+# the program is, to the byte, the one that was proved
+mkdir -p "$root/usr/share/lintian/overrides"
+echo 'facl: unstripped-binary-or-object [usr/bin/facl]' >"$root/usr/share/lintian/overrides/facl"
 {
     printf 'facl (%s) unstable; urgency=low\n\n' "$version"
-    git log -20 --format='  * %s' HEAD
+    git log -20 --format='  * %<(74,trunc)%s' HEAD
     git show -s --format='%n -- %an <%ae>  %cD' HEAD
 } | gzip -9n >"$root/usr/share/doc/facl/changelog.gz"
 size=$(du -sk "$root/usr" | cut -f 1)
@@ -74,7 +78,7 @@ Version: $version
 Architecture: $architecture
 Maintainer: $(git show -s --format='%an <%ae>' HEAD)
 Installed-Size: $size
-Depends: libc6, libc-bin, acl, findutils, coreutils, python3 (>= 3.7)
+Depends: libc6, acl, python3 (>= 3.7)
 Recommends: python3-prompt-toolkit
 Suggests: parallel
 Section: admin
