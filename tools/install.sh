@@ -86,6 +86,8 @@ install_files() {
         install -m 755 -- "$top/commands/$name" "$to/lib/facl"
         ln -sf -- "../lib/facl/$name" "$to/bin/$name"
     done
+    # A start reads what is compiled; a package compiles it where it is installed.
+    if [ -z "${DESTDIR:-}" ] && command -v python3 >/dev/null; then python3 -m compileall -q "$to/lib/facl/facl_commands"; fi
     for page in facl facl-commands; do install -m 644 -- "$top/docs/$page.1" "$to/share/man/man1"; done
     for name in facl-snapshot $python_commands; do
         echo ".so man1/facl-commands.1" >"$to/share/man/man1/$name.1"

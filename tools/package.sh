@@ -91,6 +91,18 @@ Description: plans changes of access control lists
  .
 $(printf '%s\n' "$origin" | fold -s -w 76 | sed 's/^/ /')
 END
+cat >"$root/DEBIAN/postinst" <<'END'
+#!/bin/sh
+# A start of a command reads what is compiled here.
+set -e
+if [ "$1" = configure ] && command -v py3compile >/dev/null; then py3compile -p facl /usr/lib/facl; fi
+END
+cat >"$root/DEBIAN/prerm" <<'END'
+#!/bin/sh
+set -e
+if command -v py3clean >/dev/null; then py3clean -p facl; fi
+END
+chmod 755 "$root/DEBIAN/postinst" "$root/DEBIAN/prerm"
 package=facl_${version}_$architecture.deb
 dpkg-deb --root-owner-group --build "$root" "$work/$package" >/dev/null
 mv -- "$work/$package" "$target/$package"
