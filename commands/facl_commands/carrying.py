@@ -126,21 +126,27 @@ class Carrier:
     def give_one(self, opener: Opener, path: bytes) -> None:
         file = opener.open(path)
         try:
-            seen, before = file.look(), self.seen[path]
-            if seen.identity != before.identity:
-                raise Mismatch(b"was replaced by another file")
-            if seen.identity in self.finished and seen.record == self.way.end(path):
+            seen = file.look()
+            if seen != self.seen[path]:
+                self.check_again(path, seen)
+            if seen.names > 1 and seen.identity in self.finished and seen.record == self.way.end(path):
                 return
-            if not is_expected(self.way, path, seen.record):
-                raise Mismatch(b"was changed: " + differences.parts(seen.record, self.way.start(path)))
             self.changed.append(path)
-            if seen.identity.device not in self.folders:
-                self.remember_folder(opener, seen.identity.device)
+            if seen.device not in self.folders:
+                self.remember_folder(opener, seen.device)
             change(file, seen.record, self.way.end(path), seen.is_directory)
             if seen.names > 1:
                 self.finished.add(seen.identity)
         finally:
             file.close()
+
+    def check_again(self, path: bytes, seen: Seen) -> None:
+        """Fails where a file is another one than before, or is not as it was."""
+        if seen.identity != self.seen[path].identity:
+            raise Mismatch(b"was replaced by another file")
+        is_done = seen.identity in self.finished and seen.record == self.way.end(path)  # By another name.
+        if not is_done and not is_expected(self.way, path, seen.record):
+            raise Mismatch(b"was changed: " + differences.parts(seen.record, self.way.start(path)))
 
     def remember_folder(self, opener: Opener, device: int) -> None:
         """Keeps a directory of the file system open, to write out what it has in memory; where the caller may not read it, all

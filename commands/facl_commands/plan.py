@@ -9,7 +9,7 @@ import sys
 from functools import lru_cache
 from typing import Dict, Iterator, List, NamedTuple, Optional
 
-from . import by_hand, people, plan_folder, planned, rights
+from . import VERSION, by_hand, people, plan_folder, planned, rights
 from .links import EDITS, Links
 from .messages import Command, Failure, counted, named
 from .names import json_text, live_path, shell_word, shown
@@ -84,6 +84,7 @@ def parse(words: List[str]) -> argparse.Namespace:
         prog="facl-plan", description=HELP, epilog=STATUS, formatter_class=argparse.RawDescriptionHelpFormatter,
         allow_abbrev=False,
     )
+    parser.add_argument("--version", action="version", version="%(prog)s " + VERSION)
     parser.add_argument("--plan", metavar="DIR", help="the folder of the plan, in place of SNAPSHOT.plan")
     parser.add_argument("--full", action="store_true", help="print each user and file")
     parser.add_argument("--reach", action="store_true", help="with search on the directories above each file")

@@ -141,9 +141,9 @@ def no_longer_one_file(way: Way, look: Look) -> Dict[bytes, bytes]:
     """Names that were those of one file, and are not now."""
     first: Dict[int, Identity] = {}
     found = {}
-    for path, seen in look.files.items():
-        same = way.work.files[path].same
-        if same and first.setdefault(same, seen.identity) != seen.identity:
+    several = {path: seen for path, seen in look.files.items() if way.work.files[path].same}
+    for path, seen in several.items():
+        if first.setdefault(way.work.files[path].same, seen.identity) != seen.identity:
             found[path] = b"is another file than the other name that it had in the snapshot"
     return found
 
@@ -168,8 +168,7 @@ class Obstacles:
         self.overlays: Dict[int, int] = {}  # As system.overlay_of says.
 
     def of_right(self, path: bytes, seen: Seen) -> Optional[bytes]:
-        if os.geteuid() == 0:
-            return None
+        """Of a caller who is not root."""
         if seen.record.owner != os.geteuid():
             return b"is not yours: run facl-apply as root"
         if seen.record.ids() != self.way.end(path).ids():
@@ -190,7 +189,7 @@ class Obstacles:
             file.close()
 
     def of_file(self, file: OpenFile, path: bytes, seen: Seen) -> Optional[bytes]:
-        device, end = seen.identity.device, self.way.end(path)
+        device, end = seen.device, self.way.end(path)
         if device not in self.read_only:
             self.read_only[device] = bool(os.fstatvfs(file.descriptor).f_flag & os.ST_RDONLY)
             self.has_lists[device] = file.takes_lists()
@@ -209,17 +208,21 @@ class Obstacles:
             return b"has capabilities, which it would lose by its new owner or group: --drop-capabilities allows that"
         return None
 
-    def is_suspect(self, device: int) -> bool:
-        """Whether each file of a file system has to be looked at."""
-        return self.read_only.get(device, True) or not self.has_lists[device] or self.overlays[device] != system.NO_OVERLAY
+    def has_more(self, seen: Seen, end: Record) -> bool:
+        """Whether a file itself has to be opened: its file system is not known yet, or has an obstacle or is an overlay, or its owner
+        changes."""
+        device = seen.device
+        is_free = device in self.read_only and self.has_lists[device] and not self.read_only[device]
+        return not is_free or self.overlays[device] != system.NO_OVERLAY or seen.owner != end.owner or seen.group != end.group
 
     def all(self, look: Look) -> Dict[bytes, bytes]:
-        """The obstacles of files; a file system without an owner's change is looked at by one file."""
+        """The obstacles of all files."""
         found = {}
+        is_root = os.geteuid() == 0
         with Opener() as opener:
             for path, seen in look.files.items():
-                fault = self.of_right(path, seen)
-                if fault is None and (self.is_suspect(seen.identity.device) or seen.record.ids() != self.way.end(path).ids()):
+                fault = None if is_root else self.of_right(path, seen)
+                if fault is None and self.has_more(seen, self.way.end(path)):
                     fault = self.of_system(opener, path, seen)
                 if fault is not None:
                     found[path] = fault
