@@ -38,7 +38,7 @@ class Carrier:
         self.folders: Dict[int, int] = {}  # A directory of each file system that was changed.
 
     def add_changed(self, seen: Dict[bytes, Seen]) -> None:
-        if self.way.was_cut_off():
+        if self.way.is_in_part():
             self.changed += [path for path, it in seen.items() if it.record != self.way.start(path)]
 
     def begin(self) -> None:

@@ -18,10 +18,12 @@ from . import lists, system, trusted
 from .messages import SIGNALS, Failure, reason
 
 VERSION = b"facl-plan 2\n"
-NAMES = (b"plan", b"edits", b"old", b"new", b"files", b"by_hand", b"by_hand_undo", b"by_hand_done", b"journal", b"state")
+LOCK = b"lock"  # Nobody but the owner can open it, also where a group reads the plan.
+NAMES = (LOCK, b"plan", b"edits", b"old", b"new", b"files", b"by_hand", b"by_hand_undo", b"by_hand_done", b"journal", b"state")
 NEW = b".new"  # At the end of a name while the file is written.
 # What facl-apply has done, in the file `state`; without it nothing was done.
 APPLYING, APPLIED, UNDOING, UNDONE = b"applying\n", b"applied\n", b"undoing\n", b"undone\n"
+UNDONE_IN_PART = b"undone in part\n"  # Files that somebody had changed were left out.
 CREATE = os.O_WRONLY | os.O_CREAT | os.O_EXCL | os.O_NOFOLLOW | os.O_CLOEXEC
 
 
@@ -71,8 +73,12 @@ class Folder(NamedTuple):
         return next((it for it in sorted(map(os.fsencode, os.listdir(self.descriptor))) if it not in known), None)
 
     def lock(self) -> None:
+        """Locks it until the command ends."""
+        descriptor = self.descriptor
+        if self.has(LOCK):
+            descriptor = os.open(LOCK, os.O_RDONLY | os.O_NOFOLLOW | os.O_CLOEXEC, dir_fd=self.descriptor)
         try:
-            fcntl.flock(self.descriptor, fcntl.LOCK_EX | fcntl.LOCK_NB)
+            fcntl.flock(descriptor, fcntl.LOCK_EX | fcntl.LOCK_NB)
         except BlockingIOError as error:
             raise Failure(self.name + b": another facl-plan or facl-apply is at work on it") from error
 
@@ -207,6 +213,7 @@ def write_plan(target: Target, files: Dict[bytes, bytes], group: Optional[int]) 
     try:
         with signals_wait():
             made = new_folder(place)
+        made[1].write(LOCK, b"")
         made[1].lock()
         for name, text in {b"plan": VERSION, **files}.items():
             made[1].write(name, text)
@@ -229,7 +236,7 @@ def share(folder: Folder, group: Optional[int]) -> None:
     """Lets the members of a group read it."""
     if group is None:
         return
-    for name in os.listdir(folder.descriptor):
+    for name in set(os.listdir(folder.descriptor)) - {os.fsdecode(LOCK)}:
         descriptor = os.open(name, os.O_RDONLY | os.O_NOFOLLOW | os.O_CLOEXEC, dir_fd=folder.descriptor)
         share_one(descriptor, group, 0o640)
         os.close(descriptor)

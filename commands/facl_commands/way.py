@@ -34,6 +34,10 @@ class Way(NamedTuple):
     def was_cut_off(self) -> bool:
         return self.state in (plan_folder.APPLYING, plan_folder.UNDOING)
 
+    def is_in_part(self) -> bool:
+        """Whether each file may be as it was, as planned, or between the two."""
+        return self.was_cut_off() or self.state == plan_folder.UNDONE_IN_PART
+
     def boot(self) -> str:
         return self.work.boot if self.journal is None else self.journal.boot
 
@@ -81,7 +85,7 @@ def closes(way: Way, path: bytes) -> bool:
 
 def was_closed(way: Way, path: bytes, now: Record) -> bool:
     """Whether a run that was cut off has left a directory closed to the caller which is only to be closed at the end."""
-    return way.was_cut_off() and closes(way, path) and not owner_permissions(now.access) & 1
+    return way.is_in_part() and closes(way, path) and not owner_permissions(now.access) & 1
 
 
 def fault_of(way: Way, devices: Devices, path: bytes, seen: Seen) -> Optional[bytes]:
@@ -125,7 +129,7 @@ def look_at(way: Way, paths: Iterable[bytes]) -> Look:
 def is_expected(way: Way, path: bytes, now: Record) -> bool:
     """Whether a file is as it was; after a run that was cut off it may be as planned too, or between the two."""
     start, end = way.start(path), way.end(path)
-    return now == start or way.was_cut_off() and (now == end or live.is_between(now, start, end))
+    return now == start or way.is_in_part() and (now == end or live.is_between(now, start, end))
 
 
 def unexpected(way: Way, look: Look) -> Dict[bytes, bytes]:
