@@ -2,7 +2,7 @@
 # Installs the program as `facl`, the commands facl-snapshot, facl-ask, facl-plan, facl-apply and facl-report, and
 # their manual pages.
 #
-# usage: tools/install.sh [--program FILE] [PREFIX]      into PREFIX/bin, PREFIX/lib/facl and PREFIX/share/man
+# usage: tools/install.sh [--program FILE] [--version VERSION] [PREFIX]      into PREFIX/bin, PREFIX/lib/facl and PREFIX/share/man
 #        tools/install.sh --uninstall [PREFIX]           removes what it installs
 #
 # PREFIX is /usr/local. FILE is a program that is built; without it crates/facl_cli/out/facl_cli, which tools/prove.py
@@ -21,12 +21,19 @@ warn() {
 }
 
 program=$top/crates/facl_cli/out/facl_cli
+version=0
 action=install
 while [ $# -gt 0 ]; do
     case $1 in
     --program)
         [ $# -gt 1 ] || fail "--program: a FILE is missing"
         program=$2
+        shift 2
+        ;;
+    --version)
+        [ $# -gt 1 ] || fail "--version: a VERSION is missing"
+        version=$2
+        case $version in *[!0-9a-z.]*) fail "$version: is no version" ;; esac
         shift 2
         ;;
     --uninstall)
@@ -73,10 +80,14 @@ install_files() {
     install -d -m 755 -- "$to/lib/facl" "$to/lib/facl/facl_commands"
     install -m 644 -- "$top"/commands/facl_commands/*.py "$top"/commands/facl_commands/report.css \
         "$top"/commands/facl_commands/report.js "$to/lib/facl/facl_commands"
+    sed -i "s/^version=0$/version=$version/" "$to/bin/facl-snapshot"
+    sed -i "s/^VERSION = \"0\"/VERSION = \"$version\"/" "$to/lib/facl/facl_commands/__init__.py"
     for name in $python_commands; do
         install -m 755 -- "$top/commands/$name" "$to/lib/facl"
         ln -sf -- "../lib/facl/$name" "$to/bin/$name"
     done
+    # A start reads what is compiled; a package compiles it where it is installed.
+    if [ -z "${DESTDIR:-}" ] && command -v python3 >/dev/null; then python3 -m compileall -q "$to/lib/facl/facl_commands"; fi
     for page in facl facl-commands; do install -m 644 -- "$top/docs/$page.1" "$to/share/man/man1"; done
     for name in facl-snapshot $python_commands; do
         echo ".so man1/facl-commands.1" >"$to/share/man/man1/$name.1"

@@ -42,6 +42,8 @@ cd "$top"
 [ -z "$(git status --porcelain)" ] || fail "files are not as in the commit: commit them first"
 commit=$(git rev-parse HEAD)
 day=$(git show -s --format=%cd --date=format:%Y%m%d HEAD)
+# it rises with each commit of a day
+version=0.$day.$(git log --format=%cd --date=format:%Y%m%d HEAD | grep -c -x "$day")
 if [ -n "$program" ]; then
     origin="The program was given as it is, and is not known to be the one that is proved at commit $commit."
 else
@@ -54,20 +56,29 @@ make_work "${TMPDIR:-/tmp}"
 root=$work/root
 mkdir "$root"
 chmod 755 "$root"
-DESTDIR=$root tools/install.sh --program "$program" /usr >/dev/null
+DESTDIR=$root tools/install.sh --program "$program" --version "$version" /usr >/dev/null
 gzip -9n "$root"/usr/share/man/man1/*.1
 mkdir -p "$root/DEBIAN" "$root/usr/share/doc/facl"
 printf '%s\n' "$origin" >"$root/usr/share/doc/facl/commit"
+printf '%s\n' "Copyright 2026 the authors of facl, who keep all rights that they have not given." "$origin" \
+    >"$root/usr/share/doc/facl/copyright"
+# the program is, to the byte, the one that was proved
+mkdir -p "$root/usr/share/lintian/overrides"
+echo 'facl: unstripped-binary-or-object [usr/bin/facl]' >"$root/usr/share/lintian/overrides/facl"
+{
+    printf 'facl (%s) unstable; urgency=low\n\n' "$version"
+    git log -20 --format='  * %<(74,trunc)%s' HEAD
+    git show -s --format='%n -- %an <%ae>  %cD' HEAD
+} | gzip -9n >"$root/usr/share/doc/facl/changelog.gz"
 size=$(du -sk "$root/usr" | cut -f 1)
-version=0.$day.$(git rev-parse --short=10 HEAD)
 architecture=$(dpkg --print-architecture)
 cat >"$root/DEBIAN/control" <<END
 Package: facl
 Version: $version
 Architecture: $architecture
-Maintainer: facl
+Maintainer: $(git show -s --format='%an <%ae>' HEAD)
 Installed-Size: $size
-Depends: libc6, libc-bin, acl, findutils, coreutils, python3 (>= 3.7)
+Depends: libc6, acl, python3 (>= 3.7)
 Recommends: python3-prompt-toolkit
 Suggests: parallel
 Section: admin
@@ -80,6 +91,18 @@ Description: plans changes of access control lists
  .
 $(printf '%s\n' "$origin" | fold -s -w 76 | sed 's/^/ /')
 END
+cat >"$root/DEBIAN/postinst" <<'END'
+#!/bin/sh
+# A start of a command reads what is compiled here.
+set -e
+if [ "$1" = configure ] && command -v py3compile >/dev/null; then py3compile -p facl /usr/lib/facl; fi
+END
+cat >"$root/DEBIAN/prerm" <<'END'
+#!/bin/sh
+set -e
+if command -v py3clean >/dev/null; then py3clean -p facl; fi
+END
+chmod 755 "$root/DEBIAN/postinst" "$root/DEBIAN/prerm"
 package=facl_${version}_$architecture.deb
 dpkg-deb --root-owner-group --build "$root" "$work/$package" >/dev/null
 mv -- "$work/$package" "$target/$package"

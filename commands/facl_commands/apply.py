@@ -6,7 +6,7 @@ import os
 from collections import Counter
 from typing import Dict, List
 
-from . import differences, live, plan_folder, planned
+from . import VERSION, differences, live, plan_folder, planned
 from .carrying import Carrier
 from .messages import Command, Failure, counted, reason
 from .names import live_name, path_order, shell_word
@@ -37,6 +37,7 @@ def parse(words: List[str]) -> argparse.Namespace:
         prog="facl-apply", description=HELP, epilog=STATUS, formatter_class=argparse.RawDescriptionHelpFormatter,
         allow_abbrev=False,
     )
+    parser.add_argument("--version", action="version", version="%(prog)s " + VERSION)
     parser.add_argument("--dry-run", action="store_true", help="compare, say which files would be changed, and stop")
     parser.add_argument("--undo", action="store_true", help="give the files their old records, with the same comparisons")
     parser.add_argument("--leave-changed", action="store_true",
@@ -174,8 +175,8 @@ def give_all(command: Command, way: Way, carrier: Carrier, is_whole: bool) -> in
     if left or carrier.is_interrupted() and not way.is_undo:
         say_list(command, left)
         return put_back(command, way, carrier)
-    if is_whole:
-        end(command, way, carrier, plan_folder.UNDONE if way.is_undo else plan_folder.APPLIED)
+    whole = plan_folder.UNDONE if way.is_undo else plan_folder.APPLIED
+    end(command, way, carrier, whole if is_whole else plan_folder.UNDONE_IN_PART)
     command.tell(counted(len(carrier.seen), "file is", "files are") + (b" as before" if way.is_undo else b" as planned"))
     return DONE
 

@@ -1,18 +1,49 @@
-"""What a restore cannot do, as the commands of sh that a person runs."""
+"""What a restore cannot do, as commands that a person reads, as a script of sh that does it, and as one that takes it back.
+
+The things of a plan have numbers from 1 in the order in which by_hand does them: changes of users and groups, files that go,
+files that are made. The two scripts know them by these in the file by_hand_done, in which by_hand notes what it has done.
+"""
 from __future__ import annotations
 
-from typing import List
+from typing import Dict, List, NamedTuple, Tuple
 
-from .names import live_path, path_order, shell_word
-from .records import Changes, Files, write_records
+from . import by_hand_texts as texts
+from .messages import counted
+from .names import live_path, parent_of, path_order, shell_word
+from .people import ADD_MEMBER, ADD_USER, CHANGE_GROUP, REMOVE_MEMBER, REMOVE_USER, PeopleChange, shown_change
+from .records import Changes, File, Files
+from .snapshot import Identity
 
-HEAD = b"""\
-#!/bin/sh
-# What facl-apply does not do: run it as root, after facl-apply, when you have read it.
-set -eu
-umask 077
-set -C    # no file that is there is written over
-"""
+Identities = Dict[bytes, Identity]  # By path, as in the snapshot; a path that is not there has none.
+NO_IDENTITY = b"-"
+MADE = {True: b"make_directory", False: b"make_file"}
+REMOVED = {True: b"remove_directory", False: b"remove_file"}
+
+
+class Things(NamedTuple):
+    """What is to be done by hand; the removed paths with what is below a directory first, the made ones with it last."""
+
+    people: List[PeopleChange]
+    removed: List[bytes]
+    made: List[bytes]
+    old: Files
+    new: Files
+    inodes: Identities
+
+    def number_removed(self) -> int:
+        """The number of the first file that goes."""
+        return len(self.people) + 1
+
+    def number_made(self) -> int:
+        return self.number_removed() + len(self.removed)
+
+
+def things_of(people: List[PeopleChange], changes: Changes, old: Files, new: Files, inodes: Identities) -> Things:
+    removed = sorted(changes.removed, key=path_order, reverse=True)
+    return Things(people, removed, sorted(changes.made, key=path_order), old, new, inodes)
+
+
+# --- what a person reads
 
 
 def removal(path: bytes, old: Files) -> bytes:
@@ -25,17 +56,223 @@ def creation(path: bytes, new: Files) -> bytes:
     return b"mkdir -m 700 -- " + word if new[path].is_directory else b": >" + word
 
 
-def commands_of(people: List[bytes], changes: Changes, old: Files, new: Files) -> List[bytes]:
-    """The commands: users and memberships, then files that go, what is below a directory first, then files that are made."""
-    removed = [removal(path, old) for path in sorted(changes.removed, key=path_order, reverse=True)]
-    return people + removed + [creation(path, new) for path in changes.made]
+def commands_of(people: List[PeopleChange], changes: Changes, old: Files, new: Files) -> List[bytes]:
+    """What is to be done, a line each, in the order of the script."""
+    things = things_of(people, changes, old, new, {})
+    removed = [removal(path, old) for path in things.removed]
+    return [shown_change(change) for change in people] + removed + [creation(path, new) for path in things.made]
 
 
-def script_of(commands: List[bytes], changes: Changes, new: Files) -> bytes:
-    """The script, which gives the files that it makes their owners, lists and flags at its end."""
-    if not commands:
+# --- words of the scripts
+
+
+def escaped(name: bytes) -> bytes:
+    """A name as characters that a terminal prints: each byte of another one, and a backslash, is a backslash and three octal
+    digits."""
+    found = []
+    for character in name.decode("utf-8", "surrogateescape"):
+        plain = character.encode("utf-8", "surrogateescape")
+        found.append(plain if character.isprintable() and character != "\\" else b"".join(b"\\%03o" % byte for byte in plain))
+    return b"".join(found)
+
+
+def word(name: bytes) -> bytes:
+    return shell_word(escaped(name))
+
+
+def call(*words: bytes) -> bytes:
+    return b" ".join(words) + b"\n"
+
+
+def number_word(number: int) -> bytes:
+    return b"%d" % number
+
+
+def identity_word(path: bytes, inodes: Identities) -> bytes:
+    """The identity that the scripts compare; the time of birth is a part of it where the file system has one."""
+    if path not in inodes:
+        return NO_IDENTITY
+    known = inodes[path]
+    text = b"%d:%d" % (known.device, known.inode)
+    return text + b":%d.%09d" % divmod(known.birth, 1_000_000_000) if known.birth else text
+
+
+def place_words(path: bytes, inodes: Identities) -> List[bytes]:
+    """The folder of a file, its identity, and the name in it."""
+    folder = parent_of(path)
+    return [word(live_path(folder)), identity_word(folder, inodes), word(path.rpartition(b"/")[2])]
+
+
+# --- by_hand
+
+
+def people_line(number: int, change: PeopleChange) -> bytes:
+    begins_with_dash = [name for name in (change.user.name, change.group) if name.startswith(b"-")]
+    if begins_with_dash:
+        text = shown_change(change) + b": " + begins_with_dash[0] + b" is an option for the tools of the system"
+        return call(b"refuse", number_word(number), word(text))
+    user = [word(change.user.name), b"%d" % change.user.uid]
+    group = [word(change.group), b"%d" % change.gid]
+    words = {
+        ADD_MEMBER: [b"add_member", number_word(number), *user, *group],
+        REMOVE_MEMBER: [b"remove_member", number_word(number), *user, *group],
+        CHANGE_GROUP: [b"change_group", number_word(number), *user, b"%d" % change.user.gid, *group],
+        ADD_USER: [b"add_user", number_word(number), *user, *group],
+        REMOVE_USER: [b"remove_user", number_word(number), *user, b"%d" % change.user.gid],
+    }
+    return call(*words[change.kind])
+
+
+def removal_line(number: int, path: bytes, things: Things) -> bytes:
+    if path == b"":
+        return call(b"refuse", number_word(number), b"'/: is the root of the system, which nothing removes'")
+    return call(REMOVED[things.old[path].is_directory], number_word(number), *place_words(path, things.inodes),
+                identity_word(path, things.inodes))
+
+
+def trees_of(made: List[bytes]) -> List[List[bytes]]:
+    """The made paths, in path order, by the greatest subtrees: the first of each is in a folder that is not made."""
+    known = set(made)
+    found: List[List[bytes]] = []
+    for path in made:
+        if parent_of(path) in known:
+            found[-1].append(path)
+        else:
+            found.append([path])
+    return found
+
+
+def relative(path: bytes, top: bytes) -> bytes:
+    """The name of a file of a tree, from the folder in which the tree is."""
+    return path[len(parent_of(top)) :].lstrip(b"/")
+
+
+def record_of(path: bytes, top: bytes, file: File) -> bytes:
+    """The record of a made file: twice where it has flags, as end_tree has it."""
+    name = escaped(relative(path, top)).replace(b" ", b"\\040")
+    return (b"# file: ./" + name + b"\n" + file.body + b"\n") * (2 if b"# flags: " in file.body else 1)
+
+
+def tree_lines(number: int, tree: List[bytes], things: Things) -> bytes:
+    top = tree[0]
+    lines = call(b"begin_tree", number_word(number), *place_words(top, things.inodes))
+    for place, path in enumerate(tree):
+        lines += call(MADE[things.new[path].is_directory], number_word(number + place), word(relative(path, top)))
+    records = b"".join(record_of(path, top, things.new[path]) for path in reversed(tree))
+    return lines + b"end_tree <<'END'\n" + records + b"END\n"
+
+
+def tree_blocks(things: Things) -> List[bytes]:
+    number = things.number_made()
+    blocks = []
+    for tree in trees_of(things.made):
+        blocks.append(tree_lines(number, tree, things))
+        number += len(tree)
+    return blocks
+
+
+def what(things: Things) -> bytes:
+    """What a script is about."""
+    parts = []
+    if things.people:
+        parts.append(counted(len(things.people), "change of users and groups", "changes of users and groups"))
+    if things.removed:
+        parts.append(counted(len(things.removed), "file or directory goes", "files and directories go"))
+    if things.made:
+        parts.append(counted(len(things.made), "file or directory is made", "files and directories are made"))
+    return b", ".join(parts)
+
+
+def is_blind(things: Things) -> bool:
+    """Whether the snapshot lacks the identity of a file that the script looks at."""
+    made = set(things.made)
+    looked_at = {parent_of(path) for path in things.removed + things.made} | set(things.removed)
+    return any(path not in things.inodes for path in looked_at - made)
+
+
+def common(name: bytes, things: Things) -> bytes:
+    tools = [b"flock", b"sed"]
+    if things.people:
+        tools += [b"getent", b"awk"] + sorted({change.tool() for change in things.people})
+    if things.removed or things.made:
+        tools += [b"stat", b"find", b"mktemp", b"setfacl", b"python3"]
+    return texts.COMMON % {b"name": name, b"tools": b" ".join(tools)}
+
+
+def functions_of(things: Things, refuses: bool) -> bytes:
+    """The functions that the lines of by_hand call."""
+    wanted = [
+        (bool(things.people), texts.USERS + texts.CHANGE_USERS),
+        (bool(things.removed or things.made), texts.FOLDERS + texts.PRIVATE),
+        (bool(things.removed), texts.REMOVE),
+        (bool(things.made), texts.MAKE),
+        (refuses, texts.REFUSE),
+    ]
+    return b"".join(text for is_wanted, text in wanted if is_wanted)
+
+
+def script_of(people: List[PeopleChange], changes: Changes, old: Files, new: Files, inodes: Identities) -> bytes:
+    """by_hand; empty where there is nothing to do."""
+    things = things_of(people, changes, old, new, inodes)
+    lines = [people_line(number, change) for number, change in enumerate(people, 1)]
+    lines += [removal_line(number, path, things) for number, path in enumerate(things.removed, things.number_removed())]
+    lines += tree_blocks(things)
+    if not lines:
         return b""
-    lines = HEAD + b"".join(command + b"\n" for command in commands)
-    if changes.made:
-        lines += b"setfacl --restore=- <<'END'\n" + write_records(new, changes.made) + b"END\n"
-    return lines
+    head = texts.HEAD % {b"what": what(things), b"blind": texts.BLIND * is_blind(things)}
+    refuses = any(line.startswith(b"refuse ") for line in lines)
+    return head + common(b"by_hand", things) + functions_of(things, refuses) + b"\n" + b"".join(lines)
+
+
+# --- by_hand_undo
+
+
+def people_back(number: int, place: int, people: List[PeopleChange]) -> bytes:
+    """The line that takes a change of users back; a comment where nothing does."""
+    change = people[place]
+    user = [word(change.user.name), b"%d" % change.user.uid]
+    is_removed_later = any(it.kind == REMOVE_USER and it.user.name == change.user.name for it in people[place:])
+    if is_removed_later or people_line(number, change).startswith(b"refuse "):
+        return comment(shown_change(change))
+    group = [word(change.group), b"%d" % change.gid]
+    words = {
+        ADD_MEMBER: [b"add_member_back", number_word(number), *user, *group],
+        REMOVE_MEMBER: [b"remove_member_back", number_word(number), *user, *group],
+        CHANGE_GROUP: [b"change_group_back", number_word(number), *user, b"%d" % change.user.gid, b"%d" % change.gid],
+        ADD_USER: [b"add_user_back", number_word(number), *user, b"%d" % change.gid],
+    }
+    return call(*words[change.kind])
+
+
+def comment(text: bytes) -> bytes:
+    return b"# is not taken back: " + escaped(text) + b"\n"
+
+
+def made_back(number: int, path: bytes, things: Things, numbers: Dict[bytes, int]) -> bytes:
+    folder, identity, name = place_words(path, things.inodes)
+    parent = parent_of(path)
+    kind = b"unmake_directory" if things.new[path].is_directory else b"unmake_file"
+    return call(kind, number_word(number), folder, b"@%d" % numbers[parent] if parent in numbers else identity, name)
+
+
+def undo_lines(things: Things) -> Tuple[List[bytes], List[bytes]]:
+    """The lines of files and of users, the last thing first."""
+    numbers = {path: number for number, path in enumerate(things.made, things.number_made())}
+    files = [made_back(numbers[path], path, things, numbers) for path in reversed(things.made)]
+    files += [comment(live_path(path) + b" is gone") for path in reversed(things.removed)]
+    places = range(len(things.people))
+    return files, [people_back(place + 1, place, things.people) for place in reversed(places)]
+
+
+def undo_script_of(people: List[PeopleChange], changes: Changes, old: Files, new: Files, inodes: Identities) -> bytes:
+    """by_hand_undo; empty where nothing can be taken back."""
+    things = things_of(people, changes, old, new, inodes)
+    files, users = undo_lines(things)
+    if all(line.startswith(b"# ") for line in files + users):
+        return b""
+    head = texts.UNDO_HEAD % {b"blind": texts.BLIND * is_blind(things)}
+    head += texts.LOST_HEAD if any(line.startswith(b"# ") for line in files + users) else b""
+    functions = texts.UNDO
+    functions += texts.FOLDERS + texts.PRIVATE + texts.UNMAKE if things.made else b""
+    functions += texts.USERS + texts.UNDO_USERS if not all(line.startswith(b"# ") for line in users) else b""
+    return head + common(b"by_hand_undo", things) + functions + b"\n" + b"".join(files + users) + texts.UNDO_END

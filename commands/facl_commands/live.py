@@ -32,12 +32,29 @@ class NotFound(Exception):
 
 
 class Seen(NamedTuple):
-    """A file as it is."""
+    """A file as it is: which file, its mode, how many names it has, its owner and group, and its lists."""
 
-    identity: Identity
-    is_directory: bool
-    names: int  # How many names it has.
-    record: Record
+    device: int
+    inode: int
+    birth: int
+    mode: int
+    names: int
+    owner: int
+    group: int
+    access: bytes
+    default: bytes
+
+    @property
+    def identity(self) -> Identity:
+        return Identity(self.device, self.inode, self.birth)
+
+    @property
+    def record(self) -> Record:
+        return Record(self.owner, self.group, self.mode & FLAGS, self.access, self.default)
+
+    @property
+    def is_directory(self) -> bool:
+        return stat.S_ISDIR(self.mode)
 
 
 class KnownLists(Dict[bytes, bytes]):
@@ -62,22 +79,15 @@ def attribute(name: bytes, attribute_name: bytes, follow: bool = True) -> Option
         return None
 
 
-def record_of(mode: int, owner: int, group: int, name: bytes, follow: bool = True) -> Record:
-    """A record, of a status and of a name for the attributes."""
-    access = attribute(name, lists.ACCESS, follow)
-    default = attribute(name, lists.DEFAULT, follow) if stat.S_ISDIR(mode) else None
-    return Record(
-        owner, group, mode & FLAGS, MINIMAL[mode & 0o777] if access is None else LISTS[access],
-        b"" if default is None else LISTS[default],
-    )
-
-
 def seen_of(status: Status, name: bytes, follow: bool = True) -> Seen:
-    """A file as it is; NotFound where it is a link."""
+    """A file as it is, of its status and of a name for its attributes; NotFound where it is a link."""
     mode, owner, group, names, device, inode, birth = status
     if stat.S_ISLNK(mode):
         raise NotFound(b"is a symbolic link now")
-    return Seen(Identity(device, inode, birth), stat.S_ISDIR(mode), names, record_of(mode, owner, group, name, follow))
+    access = attribute(name, lists.ACCESS, follow)
+    default = attribute(name, lists.DEFAULT, follow) if stat.S_ISDIR(mode) else None
+    return Seen(device, inode, birth, mode, names, owner, group, MINIMAL[mode & 0o777] if access is None else LISTS[access],
+                b"" if default is None else LISTS[default])
 
 
 class OpenFile:
@@ -95,7 +105,8 @@ class OpenFile:
 
     def record(self) -> Record:
         status = os.fstat(self.descriptor)
-        return record_of(status.st_mode, status.st_uid, status.st_gid, self.name)
+        known = status.st_mode, status.st_uid, status.st_gid, status.st_nlink, status.st_dev, status.st_ino, 0
+        return seen_of(known, self.name).record
 
     def mode(self) -> int:
         return os.fstat(self.descriptor).st_mode

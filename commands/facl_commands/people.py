@@ -6,6 +6,7 @@ from typing import Callable, Dict, List, NamedTuple, Optional, Tuple
 from .names import read_name, shell_word
 
 CHANGES = (b"gpasswd", b"usermod", b"useradd", b"userdel")
+ADD_MEMBER, REMOVE_MEMBER, CHANGE_GROUP, ADD_USER, REMOVE_USER = b"gpasswd -a", b"gpasswd -d", b"usermod -g", b"useradd", b"userdel"
 
 
 class User(NamedTuple):
@@ -18,6 +19,36 @@ class Group(NamedTuple):
     name: bytes
     gid: int
     members: List[bytes]
+
+
+class PeopleChange(NamedTuple):
+    """What an accepted line changes of users and groups: one of the kinds above."""
+
+    kind: bytes
+    user: User  # As before; one that is added, as afterwards.
+    group: bytes  # The group of the membership, or the primary group afterwards; empty for a user that is removed.
+    gid: int
+
+    def tool(self) -> bytes:
+        return self.kind.split(b" ")[0]
+
+
+def option_word(word: bytes) -> List[bytes]:
+    """An operand, after the end of the options where it looks like one of them."""
+    return [b"--", word] if word.startswith(b"-") else [word]
+
+
+def shown_change(change: PeopleChange) -> bytes:
+    """A change as the command that a person would write. A group whose name is digits alone is an id for the tools."""
+    group = b"%d" % change.gid if change.group.isdigit() else change.group
+    words = {
+        ADD_MEMBER: [b"-a", change.user.name, *option_word(change.group)],
+        REMOVE_MEMBER: [b"-d", change.user.name, *option_word(change.group)],
+        CHANGE_GROUP: [b"-g", group, *option_word(change.user.name)],
+        ADD_USER: [b"-u", b"%d" % change.user.uid, b"-g", group, *option_word(change.user.name)],
+        REMOVE_USER: option_word(change.user.name),
+    }
+    return b" ".join(shell_word(word) for word in [change.tool(), *words[change.kind]])
 
 
 def rows_of(text: bytes) -> List[List[bytes]]:
@@ -77,40 +108,39 @@ class People:
         name = read_name(word.strip(b" \t"))
         return next(it for it in self.groups if (it.gid == int(name) if name.isdigit() else it.name == name))
 
-    def change(self, words: List[bytes]) -> Optional[bytes]:
-        """Does what an accepted line does, and returns it as a command of the live system; None where nothing changes."""
+    def change(self, words: List[bytes]) -> Optional[PeopleChange]:
+        """Does what an accepted line does, and returns it; None where nothing changes."""
         given, operands = options_of(words[1:])
-        does: Dict[bytes, Callable[[Dict[bytes, bytes], bytes], Optional[List[bytes]]]] = {
+        does: Dict[bytes, Callable[[Dict[bytes, bytes], bytes], Optional[PeopleChange]]] = {
             b"gpasswd": self.gpasswd, b"usermod": self.usermod, b"useradd": self.useradd, b"userdel": self.userdel
         }
-        command = does[words[0]](given, operands[0])
-        return None if command is None else b" ".join(shell_word(word) for word in [words[0], *command])
+        return does[words[0]](given, operands[0])
 
-    def gpasswd(self, given: Dict[bytes, bytes], operand: bytes) -> Optional[List[bytes]]:
+    def gpasswd(self, given: Dict[bytes, bytes], operand: bytes) -> Optional[PeopleChange]:
         group = self.group(operand)
         option = b"a" if b"a" in given else b"d"
-        name = self.user(given[option]).name
-        if (name in group.members) == (option == b"a"):
+        user = self.user(given[option])
+        if (user.name in group.members) == (option == b"a"):
             return None
-        group.members[:] = [it for it in group.members if it != name] + [name] * (option == b"a")
-        return [b"-" + option, name, group.name]
+        group.members[:] = [it for it in group.members if it != user.name] + [user.name] * (option == b"a")
+        return PeopleChange(ADD_MEMBER if option == b"a" else REMOVE_MEMBER, user, group.name, group.gid)
 
-    def usermod(self, given: Dict[bytes, bytes], operand: bytes) -> Optional[List[bytes]]:
+    def usermod(self, given: Dict[bytes, bytes], operand: bytes) -> Optional[PeopleChange]:
         user, group = self.user(operand), self.group(given[b"g"])
         if user.gid == group.gid:
             return None
         self.users[self.users.index(user)] = user._replace(gid=group.gid)
-        return [b"-g", group.name, user.name]
+        return PeopleChange(CHANGE_GROUP, user, group.name, group.gid)
 
-    def useradd(self, given: Dict[bytes, bytes], operand: bytes) -> List[bytes]:
+    def useradd(self, given: Dict[bytes, bytes], operand: bytes) -> PeopleChange:
         group = self.group(given[b"g"])
         user = User(read_name(operand), int(given[b"u"]), group.gid)
         self.users.append(user)
-        return [b"-u", b"%d" % user.uid, b"-g", group.name, user.name]
+        return PeopleChange(ADD_USER, user, group.name, group.gid)
 
-    def userdel(self, _given: Dict[bytes, bytes], operand: bytes) -> List[bytes]:
+    def userdel(self, _given: Dict[bytes, bytes], operand: bytes) -> PeopleChange:
         user = self.user(operand)
         self.users.remove(user)
         for group in self.groups:
             group.members[:] = [it for it in group.members if it != user.name]
-        return [user.name]
+        return PeopleChange(REMOVE_USER, user, b"", user.gid)

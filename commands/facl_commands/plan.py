@@ -9,7 +9,7 @@ import sys
 from functools import lru_cache
 from typing import Dict, Iterator, List, NamedTuple, Optional
 
-from . import by_hand, people, plan_folder, planned, rights
+from . import VERSION, by_hand, people, plan_folder, planned, rights
 from .links import EDITS, Links
 from .messages import Command, Failure, counted, named
 from .names import json_text, live_path, shell_word, shown
@@ -73,7 +73,7 @@ class Outcome(NamedTuple):
     users: List[bytes]
     asked: List[Asked]
     messages: List[Message]
-    commands: List[bytes]  # Of users and memberships.
+    commands: List[people.PeopleChange]  # Of users and memberships.
 
     def refusals(self) -> List[Message]:
         return [message for message in self.messages if not message.is_warning]
@@ -84,6 +84,7 @@ def parse(words: List[str]) -> argparse.Namespace:
         prog="facl-plan", description=HELP, epilog=STATUS, formatter_class=argparse.RawDescriptionHelpFormatter,
         allow_abbrev=False,
     )
+    parser.add_argument("--version", action="version", version="%(prog)s " + VERSION)
     parser.add_argument("--plan", metavar="DIR", help="the folder of the plan, in place of SNAPSHOT.plan")
     parser.add_argument("--full", action="store_true", help="print each user and file")
     parser.add_argument("--reach", action="store_true", help="with search on the directories above each file")
@@ -119,7 +120,7 @@ class Run:
         self.people = people.People(snapshot.passwd, snapshot.group)
         self.asked: List[Asked] = []
         self.messages: List[Message] = []
-        self.commands: List[bytes] = []
+        self.commands: List[people.PeopleChange] = []
 
     def answer(self, unit: Unit) -> None:
         """Answers a line, and keeps what it printed."""
@@ -350,7 +351,8 @@ def body(command: Command, words: List[str]) -> int:
             b"old": write_records(outcome.old, changes.changed),
             b"new": write_records(outcome.new, changes.changed),
             b"files": planned.work_text(find_program(given.program), snapshot, changes, outcome.old, outcome.new),
-            b"by_hand": by_hand.script_of(commands, changes, outcome.new),
+            b"by_hand": by_hand.script_of(outcome.commands, changes, outcome.old, outcome.new, snapshot.inodes),
+            b"by_hand_undo": by_hand.undo_script_of(outcome.commands, changes, outcome.old, outcome.new, snapshot.inodes),
         }, group)
         if kept is not None:
             command.say(b"the plan that was there is " + kept + b" now")

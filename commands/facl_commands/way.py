@@ -5,7 +5,7 @@ import os
 import stat
 from typing import Dict, Iterable, List, NamedTuple, Optional, Tuple
 
-from . import differences, live, plan_folder, planned, system
+from . import differences, live, looking, plan_folder, planned, system
 from .lists import Record, is_minimal, owner_permissions
 from .live import NotFound, OpenFile, Opener, Seen
 from .messages import reason
@@ -33,6 +33,10 @@ class Way(NamedTuple):
 
     def was_cut_off(self) -> bool:
         return self.state in (plan_folder.APPLYING, plan_folder.UNDOING)
+
+    def is_in_part(self) -> bool:
+        """Whether each file may be as it was, as planned, or between the two."""
+        return self.was_cut_off() or self.state == plan_folder.UNDONE_IN_PART
 
     def boot(self) -> str:
         return self.work.boot if self.journal is None else self.journal.boot
@@ -79,6 +83,11 @@ def closes(way: Way, path: bytes) -> bool:
     return search_of(way, path) == (True, False)
 
 
+def was_closed(way: Way, path: bytes, now: Record) -> bool:
+    """Whether a run that was cut off has left a directory closed to the caller which is only to be closed at the end."""
+    return way.is_in_part() and closes(way, path) and not owner_permissions(now.access) & 1
+
+
 def fault_of(way: Way, devices: Devices, path: bytes, seen: Seen) -> Optional[bytes]:
     """Why a file is not the one that the plan is about."""
     file = way.work.files[path]
@@ -94,33 +103,43 @@ def look_at(way: Way, paths: Iterable[bytes]) -> Look:
     for later, until it is open."""
     look = Look({}, {}, [])
     devices = Devices(way.boot(), system.boot())
+    if os.geteuid() == 0:
+        names = list(paths)
+        for path, found in zip(names, looking.look_at_all(names)):
+            take(way, devices, look, path, found)
+        return look
     opened: List[bytes] = []  # The directories that the plan opens to the caller.
-    is_root = os.geteuid() == 0
     with Opener() as opener:
         for path in paths:
-            if opened and any(path.startswith(it + b"/") for it in opened):
+            if any(path.startswith(it + b"/") for it in opened):
                 look.later.append(path)
-                continue
-            try:
-                seen = opener.look(path)
-                fault = fault_of(way, devices, path, seen)
-            except NotFound as error:
-                fault = error.text
-            except OSError as error:
-                fault = reason(error)
-            if fault is None:
-                look.files[path] = seen
-                if not is_root and opens(way, path) and seen.record != way.end(path):
-                    opened.append(path)
-            else:
-                look.faults[path] = fault
+            elif take(way, devices, look, path, looking.look_at_one(opener, path)) and is_closed(way, path, look.files[path].record):
+                opened.append(path)
     return look
+
+
+def take(way: Way, devices: Devices, look: Look, path: bytes, found: looking.Found) -> bool:
+    """Takes what was found of a path; whether it is the file that the plan is about."""
+    if isinstance(found, bytes):
+        look.faults[path] = found
+        return False
+    fault = fault_of(way, devices, path, found)
+    if fault is not None:
+        look.faults[path] = fault
+        return False
+    look.files[path] = found
+    return True
+
+
+def is_closed(way: Way, path: bytes, now: Record) -> bool:
+    """Whether a directory is closed to the caller until the plan opens it, or is closed too early."""
+    return opens(way, path) and now != way.end(path) or was_closed(way, path, now)
 
 
 def is_expected(way: Way, path: bytes, now: Record) -> bool:
     """Whether a file is as it was; after a run that was cut off it may be as planned too, or between the two."""
     start, end = way.start(path), way.end(path)
-    return now == start or way.was_cut_off() and (now == end or live.is_between(now, start, end))
+    return now == start or way.is_in_part() and (now == end or live.is_between(now, start, end))
 
 
 def unexpected(way: Way, look: Look) -> Dict[bytes, bytes]:
@@ -136,9 +155,9 @@ def no_longer_one_file(way: Way, look: Look) -> Dict[bytes, bytes]:
     """Names that were those of one file, and are not now."""
     first: Dict[int, Identity] = {}
     found = {}
-    for path, seen in look.files.items():
-        same = way.work.files[path].same
-        if same and first.setdefault(same, seen.identity) != seen.identity:
+    several = {path: seen for path, seen in look.files.items() if way.work.files[path].same}
+    for path, seen in several.items():
+        if first.setdefault(way.work.files[path].same, seen.identity) != seen.identity:
             found[path] = b"is another file than the other name that it had in the snapshot"
     return found
 
@@ -160,10 +179,10 @@ class Obstacles:
         self.drops_capabilities = drops_capabilities
         self.read_only: Dict[int, bool] = {}
         self.has_lists: Dict[int, bool] = {}
+        self.overlays: Dict[int, int] = {}  # As system.overlay_of says.
 
     def of_right(self, path: bytes, seen: Seen) -> Optional[bytes]:
-        if os.geteuid() == 0:
-            return None
+        """Of a caller who is not root."""
         if seen.record.owner != os.geteuid():
             return b"is not yours: run facl-apply as root"
         if seen.record.ids() != self.way.end(path).ids():
@@ -184,12 +203,17 @@ class Obstacles:
             file.close()
 
     def of_file(self, file: OpenFile, path: bytes, seen: Seen) -> Optional[bytes]:
-        device, end = seen.identity.device, self.way.end(path)
+        device, end = seen.device, self.way.end(path)
         if device not in self.read_only:
             self.read_only[device] = bool(os.fstatvfs(file.descriptor).f_flag & os.ST_RDONLY)
             self.has_lists[device] = file.takes_lists()
+            self.overlays[device] = system.overlay_of(file.descriptor, device)
         if self.read_only[device]:
             return b"is on a file system that is mounted read-only"
+        has_names = seen.names > 1 and not seen.is_directory
+        if self.overlays[device] == system.OF_SEVERAL or has_names and self.overlays[device] == system.OF_ONE:
+            return b"would become another file, since it is " + (b"one of several names" if has_names else b"on another file system") + \
+                   b" in a lower layer of an overlay: chmod it to the mode that it has, and make a new snapshot and a new plan"
         if not self.has_lists[device] and (end.default or not is_minimal(end.access)):
             return b"is on a file system without access control lists"
         if self.drops_capabilities or seen.is_directory or seen.record.ids() == end.ids():
@@ -198,14 +222,21 @@ class Obstacles:
             return b"has capabilities, which it would lose by its new owner or group: --drop-capabilities allows that"
         return None
 
+    def has_more(self, seen: Seen, end: Record) -> bool:
+        """Whether a file itself has to be opened: its file system is not known yet, or has an obstacle or is an overlay, or its owner
+        changes."""
+        device = seen.device
+        is_free = device in self.read_only and self.has_lists[device] and not self.read_only[device]
+        return not is_free or self.overlays[device] != system.NO_OVERLAY or seen.owner != end.owner or seen.group != end.group
+
     def all(self, look: Look) -> Dict[bytes, bytes]:
-        """The obstacles of files; a file system without an owner's change is looked at by one file."""
+        """The obstacles of all files."""
         found = {}
+        is_root = os.geteuid() == 0
         with Opener() as opener:
             for path, seen in look.files.items():
-                fault = self.of_right(path, seen)
-                if fault is None and (seen.identity.device not in self.read_only or seen.record.ids() != self.way.end(path).ids()
-                                      or not self.has_lists[seen.identity.device] or self.read_only[seen.identity.device]):
+                fault = None if is_root else self.of_right(path, seen)
+                if fault is None and self.has_more(seen, self.way.end(path)):
                     fault = self.of_system(opener, path, seen)
                 if fault is not None:
                     found[path] = fault

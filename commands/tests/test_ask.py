@@ -20,7 +20,7 @@ from common import COMMANDS, HERE, Case, outside_the_gate, restore_signals, take
 
 sys.path.insert(0, COMMANDS)
 
-from facl_commands import causes, completion, manual, overview, terminal  # noqa: E402
+from facl_commands import completion, manual, overview, terminal  # noqa: E402
 from facl_commands.desk import ALONE, WORDS_OF_PROMPT, Desk  # noqa: E402
 from facl_commands.messages import Failure  # noqa: E402
 from facl_commands.names import shown  # noqa: E402
@@ -222,45 +222,6 @@ other::r--
             self.assertIn(message, done.messages)
 
 
-class Causes(unittest.TestCase):
-    def test_each_row_is_the_cause_of_its_line(self) -> None:
-        with Session(find_program(None), SHARE) as session:
-            for cause in causes.TABLE:
-                with self.subTest(cause.name):
-                    messages = session.ask(cause.wrong + b"\n").messages
-                    self.assertEqual(len(messages), 1)
-                    found = causes.find_cause(cause.wrong.split(b"\n")[0], messages[0])
-                    self.assertEqual(found and found.name, cause.name)
-
-    def test_each_remedy_is_accepted(self) -> None:
-        rows = {cause.right: cause.name for cause in causes.TABLE if cause.right}
-        with Session(find_program(None), SHARE) as session:
-            for line in sorted(rows, key=lambda line: line.startswith(b"rm ")):
-                self.assertEqual((rows[line], session.ask(line + b"\n").messages), (rows[line], []))
-
-    def test_other_lines_that_people_write(self) -> None:
-        wanted = {
-            b'setfacl -m "u:ines:r" srv/share/one': "double quotes", b"can ines srv/share/one #": "comment after a line",
-            b"may ines r\r": "carriage return", b"usermod -a -G audit ines": "usermod for memberships", b"chmod g+s srv/share": "symbolic mode",
-            b"setfacl --restore=acl srv": "text from a file", b"setfacl -M acl srv/share/one": "text from a file",
-            b"setfacl --modify=u:ines:r -m u:ben:r srv/share/one": "an option twice", b"rm -f srv/share/one": "force",
-            b"touch srv/share/x": "another command", b"groupadd x": "left out", b"getfacl ~/x": "names are not expanded",
-            b"setfacl -m u:ines:r srv/../srv": "a path of the directory above", b"setfacl -m audit:r srv/share/one": "an entry without its tag",
-            b"setfacl -P -R -m u:ines:r srv": "an option that is left out", b"chmod -v 600 srv": "an option that is left out",
-            b"getfacl -t": "an option that is left out", b"useradd -m nell": "an option that is left out", b"who rw 'a": "open quote", b"may": "a word is missing",
-        }
-        with Session(find_program(None), SHARE) as session:
-            for line, name in wanted.items():
-                message = session.ask(line + b"\n").messages[0]
-                found = causes.find_cause(line, message)
-                self.assertEqual((line, found and found.name), (line, name), message)
-
-    def test_the_advice_names_what_is_there(self) -> None:
-        self.assertEqual(causes.advice(b"mkdir x", b"facl: unknown tool"), "Here it is creat -d --user=USER --mode=MODE FILE")
-        self.assertIsNone(causes.advice(b"frob", b"facl: unknown tool"))
-        self.assertIsNone(causes.advice(b"load x", b"load: usage"))
-
-
 class Manual(unittest.TestCase):
     def setUp(self) -> None:
         page = manual.find_page()
@@ -438,8 +399,9 @@ class Prompt(unittest.TestCase):
             b"line 2: who: share/one: no such file\n    Paths start at the root of the file system. A symbolic link, and what is reached "
             b"by one, is not recorded.\n    There is srv/share/one\n"
             b"line 4: facl: unknown tool\n    The tools are listed by `help`.\n"
-            b"line 5: chmod: usage\n    chmod [-R] MODE FILE..\n    MODE is one to four octal digits. A single permission is given by "
-            b"setfacl -m, as in setfacl -m u::rwx FILE\n\n"))
+            b"line 5: chmod: usage\n    chmod [-R] MODE FILE..\n    MODE is one to four octal digits. setfacl puts whole entries, and PERMS are "
+            b"those that getfacl prints, changed as wanted. chmod changes the mask in the place of g, where there is one: "
+            b"setfacl -n -m u::PERMS srv/share/one\n\n"))
 
     def test_texts(self) -> None:
         self.assertEqual(self.ask("setfacl -M - srv/share/one", "u:guest:r", ".", "can guest srv/share/one", "getfacl -"), b"r--\n\n")

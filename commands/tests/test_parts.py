@@ -121,7 +121,8 @@ class People(unittest.TestCase):
         self.assertEqual(found.user(b"1").name, b"x")
         self.assertEqual(found.groups[0].members, [b"y", b"x"])
         self.assertIsNone(found.change([b"gpasswd", b"-a", b"x", b"g"]))
-        self.assertEqual(found.change([b"gpasswd", b"-d", b"1", b"5"]), b"gpasswd -d x g")
+        change = found.change([b"gpasswd", b"-d", b"1", b"5"])
+        self.assertEqual(change, people.PeopleChange(people.REMOVE_MEMBER, people.User(b"x", 1, 1), b"g", 5))
 
 
 if __name__ == "__main__":

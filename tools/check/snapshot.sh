@@ -86,10 +86,11 @@ check_reach() {
 check_words() {
     take 0 --help
     counted "usage: facl-snapshot "
-    for words in '' "$work/other" "--frob $work/other $work/closed" --program "--program x"; do
+    for words in '' "$work/other" --group "--frob $work/other $work/closed" --program "--program x"; do
         # shellcheck disable=SC2086  # the words of a case
         take 2 $words
-        printf 'usage: facl-snapshot [--program FILE] [--split COUNT] DIR FOLDER..\n' | diff - "$work/message" >&2 || fault "usage: $words"
+        printf 'usage: facl-snapshot [--program FILE] [--split COUNT] [--group GROUP] DIR FOLDER..\n' |
+            diff - "$work/message" >&2 || fault "usage: $words"
     done
     take 2 --program "$work/absent" "$work/other" "$work/closed"
     warned "facl-snapshot: $work/absent: no such program"
@@ -128,13 +129,16 @@ check_targets() {
 check_replacing() {
     chmod 750 "$work/before"
     setfacl -m u:nobody:rx "$work/before"
-    getfacl -n -p "$work/before" >"$work/look"
+    setfacl -m u:nobody:r "$work/before"/*
+    getfacl -n -p "$work/before" "$work/before/dump" >"$work/look"
+    getfacl -c -n -p "$work/before/dump" >"$work/list_of_dump"
     old=$(stat -c %i "$work/before")
     take 0 "$work/before" "$work/closed/share/team"
     not_recorded "$work/closed/share/note"
     [ "$(stat -c %i "$work/before")" != "$old" ] || fault "the folder was written, and not replaced"
-    getfacl -n -p "$work/before" | diff "$work/look" - >&2 || fault "the replaced folder had another owner or list"
-    rm "$work/before/links"
+    getfacl -n -p "$work/before" "$work/before/dump" | diff "$work/look" - >&2 || fault "what is replaced had another owner or list"
+    getfacl -c -n -p "$work/before/inodes" | diff - "$work/list_of_dump" >&2 || fault "inodes has not the list of dump"
+    rm "$work/before/links" "$work/before/inodes"
     take 0 "$work/before" "$work/closed/share/team"
     printf '#!/bin/sh\necho "facl: setup: dump: text line 1: bad row" >&2\nexit 2\n' >"$work/refuses"
     chmod +x "$work/refuses"
@@ -320,6 +324,85 @@ check_signals() {
     PATH=$real_path
 }
 
+# kill_once SIGNAL: ends a snapshot at a random moment, itself or with all that it runs, and looks at what it leaves
+kill_once() {
+    setsid env --default-signal "$snapshot" --program "$program" "$work/before" "$work/closed" "$work/masks" >"$work/counts" \
+        2>"$work/message" &
+    running=$!
+    sleep "$(printf 0.%03d "$(shuf -i 10-450 -n 1)")"
+    kill -"$1" "$(shuf -n 1 -e -- -$running $running)" 2>/dev/null || true
+    status=0
+    { wait $running; } 2>/dev/null || status=$?
+    while kill -0 -$running 2>/dev/null; do sleep 0.01; done
+    for left in "$work"/before.??????; do
+        [ -d "$left" ] || continue
+        [ "$1" = KILL ] || fault "left behind after signal $1, status $status: $(find "$left")"
+        [ -e "$work/before" ] || mv "$left/old" "$work/before"
+        rm -rf "$left"
+    done
+    "$program" --passwd "$work/before/passwd" --group "$work/before/group" --dump "$work/before/dump" </dev/null ||
+        fault "a snapshot that does not load after signal $1"
+    [ -s "$work/before/inodes" ] || fault "a snapshot without inodes after signal $1"
+}
+
+# Signals at random moments: the old snapshot or the new one is there, and nothing else.
+check_kills() {
+    take 0 "$work/before" "$work/closed"
+    ended=0
+    for _ in 1 2 3 4 5 6 7 8 9 10 11 12 13 14 15; do
+        for signal in HUP INT QUIT USR1 USR2 ALRM TERM KILL; do
+            kill_once $signal
+            [ $status -eq 0 ] || ended=$((ended + 1))
+        done
+    done
+    echo "$script_name: $ended of 120 snapshots were ended early"
+}
+
+# Words of getfacl and find in the environment, and what a terminal would do with names.
+check_environment() {
+    POSIXLY_CORRECT=1 TMPDIR=/nowhere CDPATH=/ QUOTING_STYLE=c BLOCK_SIZE=1 _POSIX2_VERSION=199209 \
+        "$snapshot" --program "$program" "$work/before" "$odd" >"$work/counts" 2>"$work/message" || fault "status $? in an odd environment"
+    recorded "$odd/-x"
+    mkdir "$work/shown"
+    printf 'x' >"$work/shown/$(printf 'e\033[31m\nfacl-snapshot: all is well\302\233\342\200\256\303\251')"
+    ln "$work/shown"/e* "$work/shown/other"
+    take 0 "$work/before" "$work/shown"
+    warned "first: $work/shown/e\\033[31m\\012facl-snapshot: all is well\\302\\233\\342\\200\\256$(printf '\303\251')"
+}
+
+# A long chain of directories, which sorts before a folder: that is recorded.
+check_chain() {
+    mkdir -p "$work/chain/a" "$work/chain/b" "$work/chain/z_payroll"
+    (cd "$work/chain/z_payroll" && seq 21 | xargs touch)
+    name=$(printf '%250s' '' | tr ' ' d)
+    (cd "$work/chain/b" && for _ in $(seq 300); do mkdir "$name" && cd -P "./$name"; done)
+    (cd "$work/chain/a" && for _ in $(seq 299); do mkdir "$name" && cd -P "./$name"; done && mv "$work/chain/b" "./$name")
+    take 1 --program "$program" "$work/before" "$work/chain"
+    [ "$(grep -c "^# file: $work/chain/z_payroll/." "$work/before/dump")" -eq 21 ] || fault "a long chain hides files"
+    chain=$(grep -c "^# file: $work/chain/a/." "$work/before/dump")
+    warned "names of more than 4,095 bytes, which are not recorded: $((600 - chain)), first: $work/chain/a/ddd"
+    rm -r "$work/chain"
+}
+
+# said STATUS WORDS: a snapshot by each shell, with its streams as the words have it, ends with this status and is in place
+said() {
+    for shell in dash bash; do
+        command -v $shell >/dev/null || continue
+        rm -rf "$work/said"
+        # shellcheck disable=SC2016  # the words are those of the inner shell
+        sh -c '{ status=0; "$@" || status=$?; echo $status >"$0"; } '"$2" "$work/status" \
+            $shell "$snapshot" --program "$program" "$work/said" "$work/masks" >/dev/null 2>&1 || true
+        read -r status <"$work/status"
+        [ "$status" -eq "$1" ] || fault "status $status in place of $1: $shell $2"
+        [ -s "$work/said/inodes" ] || fault "no snapshot: $shell $2"
+    done
+}
+
+check_streams() {
+    for words in '>&-' '>&- 2>&-' '<&- >&- 2>&-' '>/dev/full' '>/dev/full 2>/dev/full' '| true' '2>&1 | true'; do said 5 "$words"; done
+    for words in '<&-' '2>&-' '2>/dev/full' '2>&1 >/dev/null | true'; do said 0 "$words"; done
+}
+
 # Nothing but sh, getent and the programs of three packages is called.
 check_packages() {
     command -v dpkg >/dev/null || return 0
@@ -333,14 +416,19 @@ check_packages() {
     PATH=$real_path
 }
 
+# as_nobody COMMAND..
+as_nobody() {
+    setpriv --reuid=65534 --regid=65534 --clear-groups "$@"
+}
+
 # As nobody: files that cannot be read are counted; a directory that cannot be looked into is a directory.
 check_unreadable() {
     mkdir -p "$work/shut/none" "$work/shut/names/sub" "$work/theirs"
     : >"$work/shut/none/file"
     chmod 000 "$work/shut/none"
     chmod 744 "$work/shut/names"
-    chmod 777 "$work/theirs"
-    setpriv --reuid=65534 --regid=65534 --clear-groups "$snapshot" "$work/theirs/before" "$work/shut" \
+    chown 65534:65534 "$work/theirs"
+    as_nobody "$snapshot" "$work/theirs/before" "$work/shut" \
         >"$work/counts" 2>"$work/message" && fault "status 0, though files could not be read" || status=$?
     [ $status -eq 1 ] || fault "status $status where files could not be read"
     warned "so that the dump lacks them or what is in them: 2, first: find: '$work/shut/n"
@@ -378,32 +466,43 @@ check_without_lists() {
 # A disk that takes every file but the dump: its limit is below the size of the dump, and above that of each other file.
 check_large_dump() {
     mkdir "$work/many"
-    (cd "$work/many" && seq -f 'a file with a long name %g' 2000 | xargs -d '\n' touch && setfacl -m u:1:r,u:2:r,u:3:r -- *)
+    (cd "$work/many" && seq -f 'a file with a long name %g' 2000 | xargs -d '\n' touch &&
+        setfacl -m "$(seq -f 'u:%g:r' -s , 30)" -- *)
     status=0
-    (trap '' XFSZ && ulimit -f 520 && exec "$snapshot" "$work/large" "$work/many") \
+    (trap '' XFSZ && ulimit -f 1400 && exec "$snapshot" "$work/large" "$work/many") \
         >"$work/counts" 2>"$work/message" || status=$?
     [ $status -eq 2 ] || fault "status $status where the dump cannot be written"
     warned "facl-snapshot: cannot write dump"
     take 0 "$work/large" "$work/many"
-    for name in links group passwd; do
-        [ "$(stat -c %s "$work/large/$name")" -lt 266240 ] || fault "$name is larger than the limit"
+    for name in links group passwd inodes; do
+        [ "$(stat -c %s "$work/large/$name")" -lt 716800 ] || fault "$name is larger than the limit"
     done
-    [ "$(stat -c %s "$work/large/dump")" -gt 266240 ] || fault "the dump is smaller than the limit"
+    [ "$(stat -c %s "$work/large/dump")" -gt 716800 ] || fault "the dump is smaller than the limit"
     nothing_left
 }
 
-# A full disk, at each of several places.
+# A full disk, at each of several places: the snapshot is in place, or all is as before.
 check_full_disk() {
-    for kilobytes in 8 24 48 100; do
-        mounted tmpfs size=${kilobytes}k
+    full=0
+    for kilobytes in 8 24 48 100 200 350 500 700 900 1100 1300 1500 1700 1900 2200 2500; do
+        mounted tmpfs size=${kilobytes}k,mode=755
         mkdir "$work/mount/before"
         : >"$work/mount/before/passwd" && : >"$work/mount/before/group" && : >"$work/mount/before/dump"
-        take 2 "$work/mount/before" "$work/many"
-        warned "facl-snapshot: "
+        status=0
+        "$snapshot" --program "$program" "$work/mount/before" "$work/many" >"$work/counts" 2>"$work/message" || status=$?
         [ "$(ls "$work/mount")" = before ] || fault "left behind on a full disk: $(ls "$work/mount")"
-        [ ! -s "$work/mount/before/dump" ] || fault "the old snapshot is changed on a full disk"
+        case $status in
+        0) [ "$(grep -c '^# file: ' "$work/mount/before/dump")" -ge 2000 ] || fault "status 0 on a disk of $kilobytes KiB" ;;
+        2)
+            warned "facl-snapshot: "
+            full=$((full + 1))
+            [ ! -s "$work/mount/before/dump" ] || fault "the old snapshot is changed on a full disk"
+            ;;
+        *) fault "status $status on a disk of $kilobytes KiB: $(cat "$work/message")" ;;
+        esac
         unmounted
     done
+    [ $full -ge 8 ] || fault "only $full of 16 disks were full"
 }
 
 # Two names of one directory, by a bind mount.
@@ -416,7 +515,128 @@ check_bind_mount() {
     unmounted
 }
 
+# untrusted NAME TEXT: no snapshot is made there, nothing is recorded for it, and the message says why
+untrusted() {
+    rm -f "$work/at_work"
+    take 2 "$1" "$work/masks"
+    grep -qF -- "$2" "$work/message" || fault "$1: not the reason: $(cat "$work/message")"
+    [ ! -e "$work/at_work" ] || fault "$1: the groups were recorded"
+}
+
+# Folders and files of another user, or that another one can write by a list or a group.
+check_trust() {
+    with_slow_getent 0
+    mkdir "$work/trust" "$work/trust/empty" "$work/trust/theirs" "$work/trust/theirs/mine" "$work/trust/sticky"
+    take 0 "$work/trust/theirs/mine/snapshot" "$work/masks"
+    chown 65534 "$work/trust/empty" "$work/trust/theirs"
+    chmod 1777 "$work/trust/sticky"
+    ln -s "$work/trust" "$work/trust/sticky/leads"
+    chown -h 65534 "$work/trust/sticky/leads"
+    untrusted "$work/trust/empty" "$work/trust/empty: belongs to user 65534"
+    for name in theirs/new theirs/mine/new theirs/mine/snapshot; do untrusted "$work/trust/$name" "$work/trust/theirs: belongs to"; done
+    untrusted "$work/trust/sticky/leads/new" "$work/trust/sticky/leads: belongs to user 65534"
+    untrusted "$work/trust/sticky" "$work/trust/sticky: everybody can write there"
+    chown 0 "$work/trust/theirs"
+    chown 65534 "$work/trust/theirs/mine/snapshot/links"
+    untrusted "$work/trust/theirs/mine/snapshot" "is no snapshot of yours, or has other files too: links"
+    chown 0:65534 "$work/trust/theirs/mine"
+    chmod 770 "$work/trust/theirs/mine"
+    untrusted "$work/trust/theirs/mine/new" "$work/trust/theirs/mine: others than its owner can write there"
+    chmod 750 "$work/trust/theirs/mine"
+    setfacl -m u:nobody:rx "$work/trust/theirs/mine"
+    take 0 "$work/trust/theirs/mine/new" "$work/masks"
+    setfacl -m u:nobody:rwx "$work/trust/theirs/mine"
+    untrusted "$work/trust/theirs/mine/other" "$work/trust/theirs/mine: others than its owner can write there"
+    setfacl -b "$work/trust/theirs/mine"
+    setfacl -d -m u:nobody:rwx,o::rwx "$work/trust/theirs/mine"
+    take 0 "$work/trust/theirs/mine/third" "$work/masks"
+    [ "$(stat -c %a "$work/trust/theirs/mine/third" "$work/trust/theirs/mine/third/dump")" = "700${line_feed}600" ] ||
+        fault "a default list opens a snapshot"
+    PATH=$real_path
+}
+
+# A folder of the group of one user alone, which its owner may use, until somebody else is in the group.
+check_private_groups() {
+    with_getent 'root:x:0:0::/:/bin/sh\n' 'root:x:0:\n'
+    mkdir "$work/own"
+    chmod 775 "$work/own"
+    for rows in 'own:x:7:|own:x:65534:7:::|own:x:65534:7:::' 'own:x:7:own|own:x:65534:7:::|own:x:65534:7:::'; do own_group 0 "$rows"; done
+    for rows in 'own:x:7:mara|own:x:65534:7:::|own:x:65534:7:::' 'staff:x:7:|own:x:65534:7:::|own:x:65534:7:::' \
+        'own:x:7:|own:x:65534:8:::|own:x:65534:8:::' 'own:x:7:|own:x:65534:7:::|own:x:65534:7:::\nmara:x:3:7:::'; do
+        own_group 2 "$rows"
+    done
+    PATH=$real_path
+}
+
+# shellcheck disable=SC2016  # the words of the script that is written
+# own_group STATUS ROWS: as nobody in a folder of group 7; the row of the group, that of the user, and all users
+own_group() {
+    printf %b "${2%%|*}\n" >"$work/fake/group.txt"
+    printf %b "${2##*|}\n" >"$work/fake/passwd.txt"
+    user=${2#*|}
+    printf '#!/bin/sh\nif [ $# -eq 2 ] && [ "$1" = passwd ]; then echo "%s"; else cat "%s/$1.txt"; fi\n' "${user%|*}" "$work/fake" \
+        >"$work/fake/getent"
+    chown 65534:7 "$work/own"
+    rm -rf "$work/own/new"
+    status=0
+    setpriv --reuid=65534 --regid=7 --clear-groups "$snapshot" "$work/own/new" "$work/masks" \
+        >"$work/counts" 2>"$work/message" || status=$?
+    [ $status -eq "$1" ] || fault "status $status in place of $1 in a folder of a group: $2: $(cat "$work/message")"
+}
+
+# with_slow_getent SECONDS: it leaves a mark where it is asked for all groups
+with_slow_getent() {
+    mkdir -p "$work/slow"
+    # shellcheck disable=SC2016  # the words of the script that is written
+    printf '#!/bin/sh\n[ "$*" != group ] || : >"%s/at_work"\nsleep %s\nexec "%s" "$@"\n' "$work" "$1" "$(PATH=$real_path && command -v getent)" \
+        >"$work/slow/getent"
+    chmod +x "$work/slow/getent"
+    PATH=$work/slow:$real_path
+}
+
+# Another user exchanges the folder in which the snapshot is made for one with a link to a file of root: it is never made there.
+check_exchange() {
+    mkdir "$work/prey"
+    echo secret >"$work/prey/secret"
+    chmod 600 "$work/prey/secret"
+    getfacl -n -p "$work/prey/secret" >"$work/look"
+    with_slow_getent 0.3
+    chown 65534 "$work/prey"
+    # shellcheck disable=SC2016  # the words are those of the inner shell
+    as_nobody sh -c 'while :; do
+        for name in "$1"/before.??????; do
+            [ -d "$name" ] && mv "$name" "$1/away" && mkdir -p "$name/made" && ln -s "$1/secret" "$name/made/group"
+        done
+        sleep 0.01
+    done' sh "$work/prey" 2>/dev/null &
+    attacker=$!
+    for _ in 1 2 3 4 5; do take 2 "$work/prey/before" "$work/masks"; done
+    kill $attacker
+    { wait $attacker; } 2>/dev/null || true
+    chown 0 "$work/prey"
+    getfacl -n -p "$work/prey/secret" | diff "$work/look" - >&2 || fault "a file of root has another list"
+    [ "$(cat "$work/prey/secret")" = secret ] || fault "a file of root is overwritten"
+    [ "$(ls "$work/prey")" = secret ] || fault "written in a folder of another user: $(ls "$work/prey")"
+    PATH=$real_path
+}
+
+check_group() {
+    take 2 --group 'no such group' "$work/shared" "$work/masks"
+    [ ! -e "$work/shared" ] || fault "made for an unknown group"
+    for group in daemon 1; do
+        take 0 --group $group "$work/shared" "$work/masks"
+        [ "$(stat -c '%a %g' "$work/shared")" = '750 1' ] || fault "DIR is not shared"
+        [ "$(stat -c '%a %g' "$work/shared"/* | sort -u)" = '640 1' ] || fault "the files of DIR are not shared"
+    done
+    take 0 "$work/shared" "$work/masks"
+    [ "$(stat -c '%a %g' "$work/shared"/* | sort -u)" = '640 1' ] || fault "a replaced snapshot is not shared any more"
+}
+
 check_as_root() {
+    check_trust
+    check_private_groups
+    check_exchange
+    check_group
     check_unreadable
     check_without_lists
     check_bind_mount
@@ -435,6 +655,10 @@ check_itself
 check_masks
 check_rows
 check_signals
+check_kills
+check_environment
+check_chain
+check_streams
 check_packages
 check_large_dump
 if [ "$(id -u)" -eq 0 ]; then check_as_root; else echo "$script_name: without the checks that need root" >&2; fi

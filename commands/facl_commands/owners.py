@@ -1,0 +1,273 @@
+"""chown and chgrp in a script of facl-plan: what they do, as the records that setfacl --restore takes. And what a user who is
+removed leaves behind."""
+from __future__ import annotations
+
+import re
+from typing import Dict, Iterable, Iterator, List, NamedTuple, Optional, Tuple, Union
+
+from .messages import counted
+from .names import SAFE, live_name, live_path, read_name, script_word, shell_word, shown, shown_path
+from .people import People
+from .program import Session
+from .records import File, Files, read_listing, sorting_key, write_records
+from .scripts import LINE_LIMIT, WORD, Unit, takes_text
+
+TOOLS = (b"chown", b"chgrp")
+RESTORE = b"setfacl --restore=-"
+TEXT_LIMIT = 60 << 20  # A run of the program takes 64 MiB, of which others have a part.
+NO_ID = 0xFFFFFFFF  # chown(2) takes it for "stays".
+HEAD = re.compile(rb"# owner: [0-9]+\n# group: [0-9]+\n(?:# flags: ([s-])([s-])([t-])\n)?")
+SET_FLAGS = re.compile(rb"\n# flags: (?:s|-s)")
+MASK, OWNING_GROUP = re.compile(rb"^mask::..([x-])", re.MULTILINE), re.compile(rb"^group::..([x-])", re.MULTILINE)
+ESCAPED_IN_NAMES = re.compile(rb"[\\\n\r\t :,#]")  # As the program prints names of users and groups.
+OWNER = re.compile(rb"# owner: ([0-9]+)\n# group: ([0-9]+)\n")
+NAMED_USER = re.compile(rb"^(?:default:)?user:([0-9]+):", re.MULTILINE)
+
+
+class Refused(Exception):
+    """Why a line is refused, as a message of the program without the tool's name."""
+
+    def __init__(self, text: bytes) -> None:
+        super().__init__(text)
+        self.text = text
+
+
+class Line(NamedTuple):
+    """What a line asks for."""
+
+    is_recursive: bool
+    user: Optional[bytes]  # None: the owner stays.
+    group: Optional[bytes]  # None: the group stays; empty: the user's primary group.
+    files: List[bytes]  # As they are written, with their quotes.
+
+
+class Ids(NamedTuple):
+    """The new owner and group; None stays."""
+
+    uid: Optional[int]
+    gid: Optional[int]
+
+
+def restoring(session: Session, people: People, unit: Unit) -> Union[Unit, bytes]:
+    """The line of setfacl, with its text, that does what a line of chown or chgrp asks for; or the message of its refusal."""
+    if not is_utf8(unit.lines[0]):
+        return unit  # The program says so.
+    try:
+        line = read_line(unit)
+        ids = read_ids(line, people)
+        files = ask_files(session, line)
+    except Refused as refused:
+        return refused.text if refused.text.startswith(b"facl: ") else unit.words[0] + b": " + refused.text
+    changed = changed_files(session, line, files, ids)
+    text = write_records(changed, changed)
+    if len(text) > TEXT_LIMIT:
+        return unit.words[0] + b": too many files"
+    return Unit(unit.script, unit.number, RESTORE.split(b" "), [RESTORE, *text.split(b"\n")[:-1], b"."], True)
+
+
+def is_utf8(text: bytes) -> bool:
+    try:
+        text.decode("utf-8")
+    except UnicodeDecodeError:
+        return False
+    return True
+
+
+# --- the words of a line
+
+
+def read_line(unit: Unit) -> Line:
+    """The words of a line; an option may be anywhere before --, and once."""
+    if takes_text(unit.words):
+        raise Refused(b"usage")
+    options, operands = [], []
+    is_ended = False
+    for word, written in zip(unit.words[1:], WORD.findall(unit.lines[0])[1:]):
+        if is_ended or word[:1] != b"-":
+            operands.append((word, written))
+        elif word == b"--":
+            is_ended = True
+        else:
+            options.append(word)
+    if options not in ([], [b"-R"], [b"--recursive"]) or len(operands) < 2:
+        raise Refused(b"usage")
+    user, group = read_owner(unit.words[0], operands[0][0])
+    return Line(bool(options), user, group, [written for _, written in operands[1:]])
+
+
+def read_owner(tool: bytes, word: bytes) -> Tuple[Optional[bytes], Optional[bytes]]:
+    """USER, USER:GROUP, USER: or :GROUP; of chgrp GROUP."""
+    if tool == b"chgrp":
+        user, colon, group = b"", b":", word
+    else:
+        user, colon, group = word.partition(b":")
+    is_login_group = bool(colon) and not group
+    if not user and not group or is_login_group and is_id(user):
+        raise Refused(b"usage")
+    return user or None, group if colon else None
+
+
+def is_id(word: bytes) -> bool:
+    return read_name(word.strip(b" \t")).isdigit()
+
+
+def read_ids(line: Line, people: People) -> Ids:
+    uid = gid = None
+    if line.user is not None:
+        uid = read_id(line.user, ((user.name, user.uid) for user in people.users), b"user")
+    if line.user is not None and line.group == b"":
+        gid = read_id(line.user, ((user.name, user.gid) for user in people.users), b"user")
+    elif line.group is not None:
+        gid = read_id(line.group, ((group.name, group.gid) for group in people.groups), b"group")
+    return Ids(uid, gid)
+
+
+def read_id(word: bytes, rows: Iterable[Tuple[bytes, int]], kind: bytes) -> int:
+    """The id of a USER or a GROUP; digits alone are an id, also one without a row."""
+    name = read_name(word.strip(b" \t"))
+    found = int(name) if name.isdigit() else dict(reversed(list(rows))).get(name, NO_ID)
+    if found >= NO_ID:
+        raise Refused(ESCAPED_IN_NAMES.sub(lambda it: b"\\%03o" % it[0][0], name) + b": no such " + kind)
+    return found
+
+
+# --- the files
+
+
+def ask_files(session: Session, line: Line) -> Files:
+    """The files of a line as they are now."""
+    found: Files = {}
+    begin = b"getfacl -n -E -R --" if line.is_recursive else b"getfacl -n -E --"
+    for place, words in portions(line.files, LINE_LIMIT - len(begin)):
+        answer = session.ask(begin + words + b"\n")
+        if answer.messages:
+            raise Refused(fault_of(answer.messages[0], place))
+        found.update(read_listing(answer.output.read()))
+    return found
+
+
+def portions(words: List[bytes], limit: int) -> Iterator[Tuple[int, bytes]]:
+    """The words, each after a space, cut into lines; before each the number of words that were in others."""
+    place, line = 0, b""
+    for number, word in enumerate(words):
+        if line and len(line) + 1 + len(word) > limit:
+            yield place, line
+            place, line = number, b""
+        line += b" " + word
+    yield place, line
+
+
+def fault_of(message: bytes, place: int) -> bytes:
+    """The fault of a listing as that of a line whose operands begin that much earlier."""
+    if not message.startswith(b"getfacl: "):
+        return message
+    fault = message[len(b"getfacl: ") :]
+    operand = re.match(rb"operand ([0-9]+)(: .*)", fault, re.DOTALL)
+    return fault if operand is None else b"operand %d" % (int(operand[1]) + place) + operand[2]
+
+
+def changed_files(session: Session, line: Line, files: Files, ids: Ids) -> Files:
+    """The files whose records change, with the new ones; files with one record are looked at once."""
+    known: Dict[Tuple[bytes, bool], File] = {}
+    found: Files = {}
+    for path, file in files.items():
+        is_unknown = not file.is_directory and not line.is_recursive and SET_FLAGS.search(file.body) is not None
+        keeps_flags = file.is_directory or is_unknown and asks_as_directory(session, path)
+        new = known.get((file.body, keeps_flags))
+        if new is None:
+            new = known[file.body, keeps_flags] = File(False, new_body(file.body, keeps_flags, ids))
+        if new.body != file.body:
+            found[path] = new
+    return found
+
+
+def new_body(body: bytes, keeps_flags: bool, ids: Ids) -> bytes:
+    head = HEAD.match(body)
+    assert head is not None
+    flags = b"".join(head.groups(b"-"))
+    return head_of(body, ids, flags if keeps_flags else cleared(flags, body)) + body[head.end() :]
+
+
+def asks_as_directory(session: Session, path: bytes) -> bool:
+    """Whether the program takes a file for a directory, which a listing of it alone does not show."""
+    question = b"setfacl --test -m d:u::rwx -- " + script_word(shown_path(path)) + b"\n"
+    return not any(message.endswith(b": only directories have default lists") for message in session.ask(question).messages)
+
+
+def cleared(flags: bytes, body: bytes) -> bytes:
+    """The flags of a plain file after chown(2): set-group-ID stays where the group class may not execute, as it marks
+    mandatory locking then."""
+    group_class = MASK.search(body) or OWNING_GROUP.search(body)
+    assert group_class is not None
+    return b"-" + (b"-" if group_class[1] == b"x" else flags[1:2]) + flags[2:]
+
+
+def head_of(body: bytes, ids: Ids, flags: bytes) -> bytes:
+    owner = OWNER.match(body)
+    assert owner is not None
+    old = (int(owner[1]), int(owner[2]))
+    uid, gid = (now if new is None else new for now, new in zip(old, ids))
+    return b"# owner: %d\n# group: %d\n" % (uid, gid) + (b"" if flags == b"---" else b"# flags: " + flags + b"\n")
+
+
+# --- what a user who is removed leaves
+
+
+class Left(NamedTuple):
+    """A removed user, with the files that keep the id."""
+
+    name: bytes
+    uid: int
+    owned: List[bytes]  # In path order,
+    named: List[bytes]  # as those whose lists name the id.
+
+
+def left_behind(before: People, after: People, files: Files) -> List[Left]:
+    """The users who are removed and own files afterwards, or are named in lists; files are those after the edits."""
+    present = {user.uid for user in after.users}
+    gone = {user.uid: Left(user.name, user.uid, [], []) for user in reversed(before.users) if user.uid not in present}
+    if gone:
+        for path in sorted(files, key=sorting_key):
+            add_to(gone, path, files[path].body)
+    return [left for left in gone.values() if left.owned or left.named][::-1]
+
+
+def add_to(gone: Dict[int, Left], path: bytes, body: bytes) -> None:
+    owner = OWNER.match(body)
+    if owner is not None and int(owner[1]) in gone:
+        gone[int(owner[1])].owned.append(path)
+    for uid in {int(word) for word in NAMED_USER.findall(body)} & set(gone):
+        gone[uid].named.append(path)
+
+
+def notes(left: Left) -> List[bytes]:
+    """The lines of a report."""
+    name = shown(left.name)
+    found = []
+    if left.owned:
+        found.append(name + b" is removed and still owns " + counted(len(left.owned), "file") + b", first: " + live_name(left.owned[0]))
+    if left.named:
+        found.append(name + b" is removed and still named in the lists of " + counted(len(left.named), "file") + b", first: "
+                     + live_name(left.named[0]))
+    return found
+
+
+def comments(left: Left) -> List[bytes]:
+    """The lines of by_hand, all of them comments: who owns the files next is for a person to decide."""
+    if not left.owned:
+        return []
+    top = shell_word(live_path(folder_of(left.owned)))
+    owned = counted(len(left.owned), "file")
+    return [b"# %s (uid %d) still owns %s. Put the new owner for NEWOWNER:" % (shown(left.name), left.uid, owned),
+            b"# chown -R -h --from=%d NEWOWNER -- %s" % (left.uid, top)]
+
+
+def folder_of(paths: List[bytes]) -> bytes:
+    """The folder that all of them are in, or the one path; its name has no character that ends or hides a line."""
+    first, last = paths[0].split(b"/"), paths[-1].split(b"/")
+    same = []
+    for one, other in zip(first, last):
+        if one != other or not SAFE.match(one):
+            break
+        same.append(one)
+    return b"/".join(same)

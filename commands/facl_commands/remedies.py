@@ -1,0 +1,311 @@
+"""The lines that would do what a refused line was probably meant to do. A word in capital letters is for the person to fill in."""
+from __future__ import annotations
+
+import re
+from typing import Callable, Dict, FrozenSet, List, Optional
+
+from .refused_line import OPTIONS, TOOLS_OF_PLANS, Line, Option, quoted
+
+CLAUSE = re.compile(rb"([ugoa]*)((?:[-+=](?:[rwxXst]*|[ugo]))+)\Z")
+TRIADS = re.compile(rb"[-dlbcps]?(([r-])([w-])([xsS-]))(([r-])([w-])([xsS-]))(([r-])([w-])([xtT-]))[.+]?\Z")
+REDIRECTION = re.compile(rb"\s*\d?(?:>>?|<{1,3})(?:&\d|\s*[^\s|;&<>]+)?")
+PARTS = re.compile(rb"\s*(?:;|&&|\|\|)\s*")
+TOOLS = frozenset(OPTIONS) - set(TOOLS_OF_PLANS)
+
+Remedy = Callable[[Line], List[bytes]]
+
+
+def none(_line: Line) -> List[bytes]:
+    return []
+
+
+def built(*words: bytes) -> bytes:
+    return b" ".join(word if word in PLACEHOLDERS else quoted(word) for word in words)
+
+
+PLACEHOLDERS = (b"USER", b"GROUP", b"FILE", b"PERMS", b"MODE", b"UID", b"NAME", b"NEWFILE")
+
+
+def file_of(line: Line, place: int = 0) -> bytes:
+    return line.operands[place] if len(line.operands) > place else b"FILE"
+
+
+def files_of(line: Line, place: int = 0) -> List[bytes]:
+    return line.operands[place:] or [b"FILE"]
+
+
+def asks(*begin: bytes) -> Remedy:
+    """These words and the line's first FILE."""
+    return lambda line: [built(*begin, file_of(line))]
+
+
+def asks_files(*begin: bytes) -> Remedy:
+    return lambda line: [built(*begin, *files_of(line))]
+
+
+def replaced(pattern: bytes, by: bytes) -> Remedy:
+    """The line with what the pattern is replaced."""
+    return lambda line: [re.sub(pattern, by, line.text)]
+
+
+def is_tool_line(text: bytes) -> bool:
+    return text.split()[:1] != [] and text.split()[0] in OPTIONS
+
+
+def before_pipe(line: Line) -> List[bytes]:
+    return [REDIRECTION.sub(b"", line.text.split(b"|")[0]).strip()]
+
+
+def without_redirection(line: Line) -> List[bytes]:
+    return [REDIRECTION.sub(b"", line.text).strip()]
+
+
+def parts(line: Line) -> List[bytes]:
+    """The commands of one line as lines."""
+    return [part for part in PARTS.split(line.text.rstrip(b"& \t")) if is_tool_line(part)]
+
+
+def single_quotes(line: Line) -> List[bytes]:
+    text = re.sub(rb'"([^"\']*)"', rb"'\1'", line.text)
+    return [] if b'"' in text else [text]
+
+
+def quotes_for_backslash(line: Line) -> List[bytes]:
+    words = re.findall(rb"(?:\\.|[^ \t])+", line.text)
+    return [b" ".join(b"'" + re.sub(rb"\\([ \t])", rb"\1", word) + b"'" if re.search(rb"\\[ \t]", word) else word for word in words)]
+
+
+def escaped_bytes(line: Line) -> List[bytes]:
+    """The line with each byte that is no UTF-8 as an escape, in quotes."""
+    return [line.text.decode("utf-8", "facl-escapes").encode()]
+
+
+def with_quote_escaped(line: Line) -> List[bytes]:
+    is_in_word = re.search(rb"\s\S*\w'\w", line.text) is not None
+    return [line.text.replace(b"'", b"\\047")] if is_in_word and line.text.count(b"'") == 1 else []
+
+
+# --- users and groups
+
+
+def membership(option: bytes) -> Remedy:
+    """Of a tool whose operands are a user and a group."""
+    return lambda line: [built(b"gpasswd", option, *line.operands[:2])]
+
+
+def memberships(line: Line) -> List[bytes]:
+    """Of usermod -aG."""
+    groups = next((option.value for option in line.given if option.name in (b"-G", b"--groups") and option.value), b"")
+    operands = line.operands
+    if not groups and len(operands) > 1:
+        groups, operands = operands[0], operands[1:]
+    return [built(b"gpasswd", b"-a", (operands or [b"USER"])[0], group) for group in (groups or b"GROUP").split(b",")]
+
+
+def members(line: Line) -> List[bytes]:
+    """Of gpasswd -M and groupmems."""
+    group = line.value(b"-g") or (line.operands or [b"GROUP"])[0]
+    names = line.value(b"-M") or line.value(b"-a") or line.value(b"-d") or b"USER"
+    option = b"-d" if line.tool() == b"groupmems" and line.has(b"-d") else b"-a"
+    return [built(b"gpasswd", option, name, group) for name in names.split(b",") if name]
+
+
+def new_user(line: Line) -> List[bytes]:
+    uid, group = line.value(b"-u", b"--uid") or b"UID", line.value(b"-g", b"--gid", b"--ingroup") or b"GROUP"
+    return [built(b"useradd", b"-u", uid, b"-g", group, (line.operands or [b"NAME"])[-1])]
+
+
+def user_first(line: Line) -> List[bytes]:
+    return [built(line.tool(), *[it.name for it in line.given], *line.operands[::-1])]
+
+
+# --- questions
+
+
+def as_user(line: Line) -> List[bytes]:
+    """Of su - USER -c COMMAND and sudo -u USER COMMAND: what the user may do with the last word's file."""
+    named = line.value(b"-u") or next((word for word in line.operands if word != b"-"), b"USER")
+    words = re.sub(rb"['\"\]]", b" ", line.text).split()
+    file = words[-1] if len(words) > 2 and b"/" in words[-1] else b"FILE"
+    return [built(b"can", b"--reach", named, file)]
+
+
+def rest_of_line(line: Line) -> List[bytes]:
+    return [line.text.split(None, 1)[1]] if len(line.words) > 1 and line.words[1][:1] != b"-" else []
+
+
+def found_files(line: Line) -> List[bytes]:
+    """Of find: the files that a user reaches, or a listing."""
+    for word, letter in ((b"-readable", b"r"), (b"-writable", b"w"), (b"-executable", b"x")):
+        if word in line.words:
+            return [built(b"may", b"--reach", b"USER", letter)]
+    start = line.words[1] if len(line.words) > 1 and line.words[1][:1] not in (b"-", b"") else b"FILE"
+    return [built(b"getfacl", b"-R", start)]
+
+
+def listing(line: Line) -> List[bytes]:
+    is_deep = line.has(b"-R", b"--recursive") or line.tool() in (b"tree", b"dir", b"du")
+    return [built(b"getfacl", *[b"-R"] * is_deep, *files_of(line))]
+
+
+def without_words(line: Line) -> List[bytes]:
+    return [built(line.tool(), *[it.name for it in line.given if it.name in OPTIONS[line.tool()]])]
+
+
+def one_file_each(line: Line) -> List[bytes]:
+    """Of a tool that takes one FILE: a name with spaces, or a line for each FILE."""
+    first = 0 if line.tool() in (b"attr", b"creat") else 1
+    head = [line.tool(), *[it.name + b"=" * bool(it.value) + it.value for it in line.given], *line.operands[:first]]
+    files = line.operands[first:]
+    if all(b"/" in file for file in files):
+        return [built(*head, file) for file in files]
+    return [built(*head, b" ".join(files))]
+
+
+def with_placeholders(line: Line) -> List[bytes]:
+    wanted = WORDS_OF_TOOLS[line.tool()].split()
+    operands = line.operands[: len(wanted)]
+    if len(wanted) == 2 and len(operands) == 1 and b"/" in operands[0]:
+        operands = [wanted[0], *operands]
+    return [built(line.tool(), *[it.name for it in line.given], *operands, *wanted[len(operands) :])]
+
+
+# How many operands each tool takes at least.
+WORDS_OF_TOOLS: Dict[bytes, bytes] = {
+    b"can": b"USER FILE", b"who": b"PERMS FILE", b"may": b"USER PERMS", b"why": b"USER FILE", b"getfacl": b"FILE", b"chmod": b"MODE FILE",
+    b"rm": b"FILE", b"attr": b"FILE", b"userdel": b"USER", b"chown": b"USER FILE", b"chgrp": b"GROUP FILE",
+}
+
+
+def nearest_tool(line: Line) -> Optional[bytes]:
+    """The tool whose name is nearly the first word of the line."""
+    import difflib  # Few lines need it.
+
+    word = line.tool().decode("utf-8", "replace").lower()
+    found = difflib.get_close_matches(word, [tool.decode() for tool in sorted(OPTIONS)], 1, 0.75)
+    return found[0].encode() if found else None
+
+
+def with_nearest_tool(line: Line) -> List[bytes]:
+    tool = nearest_tool(line)
+    return [] if tool is None else [line.text.lstrip().replace(line.text.split()[0], tool, 1)]
+
+
+# --- modes
+
+
+def mode_of(line: Line) -> bytes:
+    """The symbolic mode of a line of chmod, also one that looks like an option."""
+    return next((word for word in line.words[1:] if word != b"-R" and all(map(CLAUSE.match, word.split(b",")))), b"")
+
+
+def mode_line(line: Line) -> List[bytes]:
+    """Of chmod with a symbolic mode: one octal mode where each class is given whole, else entries of setfacl."""
+    mode = mode_of(line)
+    clauses = [(found[1], found[2]) for found in map(CLAUSE.match, mode.split(b",")) if found is not None]
+    recursive = [b"-R"] * line.has(b"-R", b"--recursive")
+    files = [word for word in line.operands if word != mode] or [b"FILE"]
+    flags = sum(flag_of(*clause) for clause in clauses)
+    if re.search(rb"[st]", mode):
+        return [built(b"chmod", *recursive, b"%dNNN" % flags, *files)]
+    classes: Dict[bytes, bytes] = {}
+    for clause in clauses:
+        classes.update(permissions_of(*clause))
+    if len(classes) == 3 and all(re.fullmatch(rb"[rwx]*|-", perms) for perms in classes.values()):
+        return [built(b"chmod", *recursive, b"".join(digit_of(classes[name]) for name in (b"u", b"g", b"o")), *files)]
+    lines = [entries_line(recursive, classes, files, False)]
+    return lines + [entries_line(recursive, classes, files, True)] * (b"g" in classes)
+
+
+def flag_of(names: bytes, changes: bytes) -> int:
+    """The digit of the flags that a clause gives."""
+    if changes[:1] == b"-":
+        return 0
+    is_all = names in (b"", b"a")
+    has_s = b"s" in changes
+    return 4 * (has_s and (is_all or b"u" in names)) + 2 * (has_s and (is_all or b"g" in names)) + (b"t" in changes)
+
+
+def permissions_of(names: bytes, changes: bytes) -> Dict[bytes, bytes]:
+    """What a clause gives each class: permissions, where it gives all of them."""
+    letters = {bytes([letter]) for letter in names or b"a"}
+    whole = re.match(rb"=([rwxX]*)\Z", changes)
+    return {name: (whole[1] or b"-") if whole else b"PERMS" for name in (b"u", b"g", b"o") if letters & {name, b"a"}}
+
+
+def digit_of(permissions: bytes) -> bytes:
+    return b"%d" % sum(bit for bit, letter in ((4, b"r"), (2, b"w"), (1, b"x")) if letter in permissions)
+
+
+def entries_line(recursive: List[bytes], classes: Dict[bytes, bytes], files: List[bytes], has_mask: bool) -> bytes:
+    """The entries, with the mask in the place of the owning group where there is one."""
+    tag = {b"u": b"u", b"g": b"m" if has_mask else b"g", b"o": b"o"}
+    entries = b",".join(tag[name] + b"::" + perms for name, perms in classes.items())
+    return built(b"setfacl", *recursive, b"-n", b"-m", entries, *files)
+
+
+def triads_of(line: Line) -> Optional["re.Match[bytes]"]:
+    """The nine letters that ls prints of a mode, in the place of the mode."""
+    return next((found for found in map(TRIADS.match, line.words[1:]) if found is not None), None)
+
+
+def letters_as_digits(line: Line) -> List[bytes]:
+    triads = triads_of(line)
+    if triads is None:
+        return []
+    digits = b"".join(digit_of(triads[place].lower().replace(b"s", b"x").replace(b"t", b"x")) for place in (1, 5, 9))
+    files = [word for word in line.operands if word != triads[0]] or [b"FILE"]
+    return [built(b"chmod", *[b"-R"] * (b"-R" in line.words), digits, *files)]
+
+
+# --- options and entries
+
+# Options of the system's tools without which a line does the same here.
+HARMLESS: Dict[bytes, FrozenSet[bytes]] = {
+    b"getfacl": frozenset((b"-p", b"-t", b"-L", b"-P", b"--absolute-names", b"--tabular", b"--logical", b"--physical")),
+    b"setfacl": frozenset((b"-L", b"-P", b"--logical", b"--physical")), b"userdel": frozenset((b"-r", b"-f", b"--remove", b"--force")),
+    b"chmod": frozenset((b"-v", b"-c", b"-f", b"--verbose", b"--changes", b"--silent", b"--quiet")),
+    b"rm": frozenset((b"-i", b"-I", b"-v")),
+    b"chown": frozenset((b"-v", b"-c", b"-f", b"--verbose", b"--changes", b"--silent", b"--quiet", b"--preserve-root")),
+    b"chgrp": frozenset((b"-v", b"-c", b"-f", b"--verbose", b"--changes", b"--silent", b"--quiet", b"--preserve-root")),
+}
+
+
+def without_harmless(line: Line) -> List[bytes]:
+    """The line without options that say nothing here, where it has no others."""
+    known, harmless = OPTIONS[line.tool()], HARMLESS.get(line.tool(), frozenset())
+    if any(option.name not in known | harmless for option in line.given):
+        return []
+    options = [word for option in line.given if option.name in known for word in words_of_option(option)]
+    return [built(line.tool(), *options, *line.operands)]
+
+
+def words_of_option(option: Option) -> List[bytes]:
+    if option.name.startswith(b"--"):
+        return [option.name + b"=" * bool(option.value) + option.value]
+    return [option.name] + [option.value] * bool(option.value)
+
+
+def joined_entries(line: Line) -> List[bytes]:
+    """The line with entries that are words of their own joined by commas."""
+    words: List[bytes] = []
+    for word in line.words:
+        if words and b":" in word and b":" in words[-1] and b"/" not in word:
+            words[-1] = words[-1].rstrip(b",") + b"," + word
+        else:
+            words.append(word)
+    return [built(*words)]
+
+
+def letters_first(line: Line) -> List[bytes]:
+    """Of -mR: -Rm."""
+    return [re.sub(rb"(\s-)([mx])([Rdnbk]+)(?=\s)", rb"\1\3\2", line.text)]
+
+
+def colons_for_equals(line: Line) -> List[bytes]:
+    """The line with the entries of chmod's form as entries."""
+    return [built(*[word if word[:1] == b"-" or b"/" in word else with_colons(word) for word in line.words])]
+
+
+def with_colons(word: bytes) -> bytes:
+    return re.sub(rb"(?<![^,])([ugo]|user|group|other)=([rwxX-]*)(?=,|\Z)", rb"\1::\2", word).replace(b"=", b":")

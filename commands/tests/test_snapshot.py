@@ -1,0 +1,286 @@
+"""facl-snapshot: what it writes, whom it trusts, and what it says, by a getfacl of its own. What needs root, or a file system
+with lists, is in tools/check/snapshot.sh."""
+from __future__ import annotations
+
+import os
+import re
+import shutil
+import signal
+import stat
+import subprocess
+import sys
+import time
+from typing import Dict, List, Optional
+
+from common import COMMANDS, Case, Done, restore_signals
+from test_each import PRINTER, names_of
+
+SNAPSHOT = os.path.join(COMMANDS, "facl-snapshot")
+FILES = ["dump", "group", "inodes", "links", "passwd"]
+# A getfacl that prints what getfacl -n -p prints of names without lists.
+GETFACL = b"""\
+#!/bin/sh
+while [ "$1" != -- ]; do shift; done
+shift
+exec '%s' -SEB '%s' "$@"
+"""
+# A getent that does something in the folder of the test, and then what getent does.
+GETENT = b"""\
+#!/bin/sh
+%s
+exec "$(PATH=${PATH#*:} && command -v getent)" "$@"
+"""
+
+
+class SnapshotCase(Case):
+    """A test with a small tree, and with a getfacl and a setfacl that need no file system with lists."""
+
+    def setUp(self) -> None:
+        super().setUp()
+        os.chmod(self.folder, 0o755)
+        os.mkdir(self.path("bin"))
+        self.write("printer.py", PRINTER)
+        self.tool("getfacl", GETFACL % (os.fsencode(sys.executable), os.fsencode(self.path("printer.py"))))
+        self.tool("setfacl", b"#!/bin/sh\ncat >/dev/null\n")
+        os.makedirs(self.path("tree/a"))
+        for name in ("tree/a/1", "tree/a/2", "tree/b"):
+            self.write(name, b"")
+
+    def tool(self, name: str, text: bytes) -> None:
+        """Writes a program that comes first on the path."""
+        self.write("bin/" + name, text)
+        os.chmod(self.path("bin/" + name), 0o755)
+
+    def environment(self, **more: str) -> Dict[str, str]:
+        return {**os.environ, "PATH": self.path("bin") + ":" + os.environ["PATH"], "FACL": "true", **more}
+
+    def snapshot(self, *words: str, **more: str) -> Done:
+        done = subprocess.run([SNAPSHOT, *words], cwd=self.folder, env=self.environment(**more), capture_output=True, check=False)
+        return Done(done.returncode, done.stdout, done.stderr)
+
+    def expect_status(self, done: Done, status: int, message: bytes = b"") -> None:
+        self.assertEqual(done.status, status, done)
+        self.assertIn(message, done.messages)
+
+    def expect_nothing_left(self) -> None:
+        self.assertEqual([name for name in os.listdir(self.folder) if re.fullmatch(r".*\.\w{6}", name)], [])
+
+    def inodes(self, name: str) -> List[bytes]:
+        """The records of the file inodes."""
+        text = self.read(name)
+        self.assertTrue(text.endswith(b"\0"))
+        return text[:-1].split(b"\0")
+
+
+class Written(SnapshotCase):
+    def expect_inodes(self, folder: str) -> None:
+        """Each name of the dump has its record, with what lstat has of it."""
+        boot, *records = self.inodes(folder + "/inodes")
+        with open("/proc/sys/kernel/random/boot_id", "rb") as file:
+            self.assertEqual(boot, b"boot " + file.read().strip())
+        names = []
+        for record in records:
+            device, inode, birth, name = record.split(b" ", 3)
+            look = os.lstat(name)
+            self.assertEqual((int(device), int(inode)), (look.st_dev, look.st_ino))
+            self.assertRegex(birth, rb"^[0-9]+\.[0-9]{9}$")
+            self.assertLess(float(birth), time.time() + 1)
+            self.assertEqual(name.endswith(b"/"), stat.S_ISDIR(look.st_mode))
+            names.append(name)
+        self.assertEqual(names, sorted(names))
+        shown = [name.replace(b"\\", b"\\134").replace(b"\n", b"\\012") for name in names]
+        self.assertEqual(shown, names_of(self.read(folder + "/dump")))
+
+    def test_inodes(self) -> None:
+        for name in (b"x\ny", b"back\\slash", b"sp ace ", b"\351", b"\033[31m"):
+            with open(os.fsencode(self.path("tree/a/")) + name, "wb"):
+                pass
+        os.symlink("a", self.path("tree/to_a"))
+        self.expect_status(self.snapshot("new", "tree"), 0)
+        self.expect_inodes("new")
+        self.assertEqual(sorted(os.listdir(self.path("new"))), FILES)
+        above = os.path.realpath(self.folder).count("/") + 1
+        self.expect_status(self.snapshot("--split", str(above + 3), "parts", "tree"), 0)
+        parts = os.listdir(self.path("parts"))
+        self.assertGreater(len(parts), 1)
+        for part in parts:
+            self.expect_inodes("parts/" + part)
+
+    def test_hard_links_have_one_inode(self) -> None:
+        os.link(self.path("tree/a/1"), self.path("tree/c"))
+        self.expect_status(self.snapshot("new", "tree"), 0, b"another name in the snapshot too (see links): 2, first: ")
+        one, two = (os.path.realpath(self.path(name)).encode() for name in ("tree/a/1", "tree/c"))
+        self.assertEqual(self.read("new/links"), one + b"\n" + two + b"\n")
+        same = [record.split(b" ")[:3] for record in self.inodes("new/inodes") if record.endswith((b" " + one, b" " + two))]
+        self.assertEqual(same, [same[0], same[0]])
+
+    def modes(self, folder: str) -> List[int]:
+        return [stat.S_IMODE(os.stat(self.path(name)).st_mode) for name in (folder, *(folder + "/" + name for name in FILES))]
+
+    def test_modes(self) -> None:
+        before = os.umask(0)
+        self.addCleanup(os.umask, before)
+        self.expect_status(self.snapshot("new", "tree"), 0)
+        self.assertEqual(self.modes("new"), [0o700] + [0o600] * 5)
+        self.expect_status(self.snapshot("--group", str(os.getgid()), "shared", "tree"), 0)
+        self.assertEqual(self.modes("shared"), [0o750] + [0o640] * 5)
+        self.assertEqual({os.stat(self.path("shared/" + name)).st_gid for name in FILES}, {os.getgid()})
+        self.expect_status(self.snapshot("--group", "no such group", "other", "tree"), 2, b"no such group: no such group")
+        self.assertFalse(os.path.exists(self.path("other")))
+
+    def test_long_names(self) -> None:
+        """A name that is too long hides no other one."""
+        os.mkdir(self.path("tree/z"))
+        self.write("tree/z/last", b"")
+        here = os.open(self.path("tree/a"), os.O_RDONLY)
+        for _ in range(40):
+            os.mkdir("d" * 250, dir_fd=here)
+            below = os.open("d" * 250, os.O_RDONLY, dir_fd=here)
+            os.close(here)
+            here = below
+        os.close(here)
+        start = os.path.realpath(self.path("tree/a"))
+        short = (4094 - len(start)) // 251
+        done = self.snapshot("new", "tree")
+        shown = b"not recorded: %d, first: %s.." % (40 - short, (start + "/" + "d" * 250)[:200].encode())
+        self.expect_status(done, 1, b"names of more than 4,095 bytes, which are " + shown)
+        names = names_of(self.read("new/dump"))
+        self.assertIn(os.path.realpath(self.path("tree/z/last")).encode(), names)
+        self.assertEqual(sum(b"d" * 250 in name for name in names), short)
+
+    def test_each_name_has_a_record_or_a_message(self) -> None:
+        self.expect_status(self.snapshot("new", "tree"), 0)
+        self.tool("getfacl", self.read("bin/getfacl").replace(b"shift\nexec", b"shift 2\nexec"))
+        self.expect_status(self.snapshot("other", "tree"), 1, b"getfacl has records or messages for ")
+        old = self.read("new/dump")
+        self.expect_status(self.snapshot("new", "tree"), 2, b"new stays as it was")
+        self.assertEqual(self.read("new/dump"), old)
+        self.tool("getfacl", b"#!/bin/sh\nwhile [ $# -gt 3 ]; do echo \"getfacl: $4: no\" >&2; shift; done\nexit 1\n")
+        for name in ("new", "third"):
+            self.expect_status(self.snapshot(name, "tree"), 2, b"no file could be read: getfacl: /: no\n")
+        self.assertFalse(os.path.exists(self.path("third")))
+        self.expect_nothing_left()
+
+    def test_the_environment_changes_nothing(self) -> None:
+        plain = self.read("bin/getfacl")
+        self.tool("getfacl", plain.replace(b"#!/bin/sh\n", b"#!/bin/sh\n[ -z \"${POSIXLY_CORRECT+x}\" ] || exit 1\n"))
+        self.expect_status(self.snapshot("new", "tree", POSIXLY_CORRECT="1", CDPATH="/", QUOTING_STYLE="c", LC_ALL="C.UTF-8"), 0)
+
+
+class Trusted(SnapshotCase):
+    """Folders that others can write; those that belong to others need root."""
+
+    def expect_refused(self, words: List[str], message: bytes) -> None:
+        done = self.snapshot(*words)
+        self.assertEqual((done.status, done.out, done.messages), (2, b"", b"facl-snapshot: " + message + b"\n"))
+        self.expect_nothing_left()
+
+    def test_folders_that_others_can_write(self) -> None:
+        os.makedirs(self.path("open/inner"))
+        os.symlink("open", self.path("leads"))
+        os.symlink("leads/inner/new", self.path("far"))
+        os.chmod(self.path("open"), 0o777)
+        place = os.path.realpath(self.path("open")).encode()
+        for name in ("open/new", "open/inner", "open/inner/new", "leads/new", "far", "leads/../new", self.path("open//inner/./new")):
+            self.expect_refused([name, "tree"], place + b": everybody can write there")
+        os.chmod(self.path("open"), 0o1777)
+        self.expect_refused(["open", "tree"], place + b": everybody can write there")
+        for name in ("open/new", "open/inner", "far"):
+            self.expect_status(self.snapshot(name, "tree"), 0)
+        self.assertEqual(sorted(os.listdir(self.path("open/inner/new"))), FILES)
+
+    def test_a_link_in_a_circle(self) -> None:
+        os.symlink("circle", self.path("circle"))
+        self.expect_refused(["circle/new", "tree"], b"circle/new: has too many symbolic links")
+
+    def test_files_that_are_no_snapshot(self) -> None:
+        os.mkdir(self.path("mine"))
+        self.write("mine/\033[1m\n", b"")
+        self.expect_refused(["mine", "tree"], b"mine: is there, and is no snapshot of yours, or has other files too: \\033[1m\\012")
+
+    def meanwhile(self, command: bytes) -> None:
+        """Has getent do this once, in the folder of the test."""
+        self.tool("getent", GETENT % (b"cd '%s' && [ ! -e done ] && : >done && %s" % (os.fsencode(self.folder), command)))
+
+    def test_files_that_come_meanwhile(self) -> None:
+        self.expect_status(self.snapshot("new", "tree"), 0)
+        os.mkdir(self.path("empty"))
+        old = {name: self.read("new/" + name) for name in FILES}
+        for folder, name in (("new", b"notes"), ("empty", b"notes"), ("empty", b"dump")):
+            self.meanwhile(b"echo mine >%s/%s" % (folder.encode(), name))
+            place = os.path.realpath(self.path(folder)).encode()
+            self.expect_refused([folder, "tree"], b"%s/%s came there meanwhile; %s stays as it was" % (place, name, place))
+            self.assertEqual(self.read("%s/%s" % (folder, name.decode())), b"mine\n")
+            os.remove(self.path("%s/%s" % (folder, name.decode())))
+            os.remove(self.path("done"))
+        self.assertEqual({name: self.read("new/" + name) for name in os.listdir(self.path("new"))}, old)
+        self.meanwhile(b"mv new first && mkdir new")
+        self.expect_refused(["new", "tree"], os.path.realpath(self.path("new")).encode() + b"/ came there meanwhile; %s stays as it was"
+                            % os.path.realpath(self.path("new")).encode())
+
+    def test_files_that_come_too_late_to_be_seen(self) -> None:
+        self.expect_status(self.snapshot("new", "tree"), 0)
+        self.tool("mv", b"#!/bin/sh\n/bin/mv \"$@\" || exit\ncase $5 in */new) echo mine >\"${4%/made}/old/notes\" ;; esac\n")
+        done = self.snapshot("new", "tree")
+        self.expect_status(done, 0, b"warning: files that came into the replaced snapshot meanwhile are in ")
+        place = done.messages.split(b"meanwhile are in ")[1].strip().decode()
+        self.assertEqual((os.listdir(os.path.dirname(place)), os.listdir(place)), (["old"], ["notes"]))
+
+
+class Said(SnapshotCase):
+    def test_names_on_the_terminal(self) -> None:
+        """Control characters, bytes that are no UTF-8, and characters that change the direction of text are escaped."""
+        hidden = ["\a", "\x1b", "\x7f", "\x80", "\x9b", "\u061c", "\u200e", "\u200f", "\u202a", "\u202e", "\u2066", "\u2069"]
+        escaped = [(character.encode(), b"".join(b"\\%03o" % byte for byte in character.encode())) for character in hidden]
+        # an overlong form, a surrogate, a number above the last one, and characters that are cut off
+        for no_text in (b"\xc0\xaf", b"\xed\xa0\x80", b"\xf4\x90\x80\x80", b"\xe2\x80", b"\xff", b"\xc3"):
+            escaped.append((no_text, b"".join(b"\\%03o" % byte for byte in no_text)))
+        plain = "ä\u00a0\u0410\u061b\u200d\u2010\u2029\u202f\u2065\u206a\ud7ff\ue000\uffff\U00010000\U0010ffff~ '".encode()
+        name = b"|".join(raw for raw, _ in escaped) + b"\n" + plain
+        shown = b"|".join(text for _, text in escaped) + b"\\012" + plain
+        self.assertLess(len(name), 256)
+        for words, status, out, message in (
+            ([name, b"tree"], 0, shown + b": ", b""),
+            ([b"new", name + b"x"], 2, b"", b"facl-snapshot: " + shown + b"x: no such file\n"),
+        ):
+            done = subprocess.run([SNAPSHOT.encode(), *words], cwd=self.folder, env=self.environment(), capture_output=True,
+                                  check=False)
+            self.assertEqual((done.returncode, done.stdout[: len(out)], done.stderr), (status, out, message))
+
+    def test_messages_of_other_programs(self) -> None:
+        self.tool("getfacl", self.read("bin/getfacl").replace(b"exec", b"printf 'getfacl: \\033]0;x\\007: no\\n' >&2; shift; exec"))
+        done = self.snapshot("new", "tree")
+        self.expect_status(done, 1, b"the dump lacks them or what is in them: 1, first: getfacl: \\033]0;x\\007: no\n")
+
+    def test_streams(self) -> None:
+        """What is made does not depend on what can be said."""
+        for words, status, program in ((">&-", 5, "true"), ("2>&-", 0, "true"), (">/dev/full 2>/dev/full", 5, "true"),
+                                       (">/dev/full 2>/dev/full", 1, "false"), ("2>&1 | true", 5, "true")):
+            script = '(status=0; "$0" new tree || status=$?; echo $status >status) ' + words
+            subprocess.run(["sh", "-c", script, SNAPSHOT], cwd=self.folder, env=self.environment(FACL=program), capture_output=True,
+                           check=False)
+            self.assertEqual((words, self.read("status")), (words, b"%d\n" % status))
+            self.assertEqual(sorted(os.listdir(self.path("new"))), FILES)
+            shutil.rmtree(self.path("new"))
+
+    def end_by(self, number: Optional[signal.Signals]) -> int:
+        """The status of a snapshot that gets this signal while getent is at work."""
+        running = subprocess.Popen([SNAPSHOT, "new", "tree"], cwd=self.folder, env=self.environment(), stdout=subprocess.DEVNULL,
+                                   stderr=subprocess.DEVNULL, preexec_fn=restore_signals)
+        while not os.path.exists(self.path("at_work")):
+            time.sleep(0.01)
+        if number:
+            running.send_signal(number)
+        status = running.wait()
+        os.remove(self.path("at_work"))
+        return status
+
+    def test_signals(self) -> None:
+        self.expect_status(self.snapshot("new", "tree"), 0)
+        old = os.stat(self.path("new")).st_ino
+        self.tool("getent", GETENT % (b": >'%s'; sleep 0.1" % os.fsencode(self.path("at_work"))))
+        for number in (signal.SIGHUP, signal.SIGINT, signal.SIGQUIT, signal.SIGUSR1, signal.SIGUSR2, signal.SIGALRM, signal.SIGTERM):
+            self.assertEqual((number, self.end_by(number)), (number, 128 + number))
+            self.expect_nothing_left()
+        self.assertEqual(os.stat(self.path("new")).st_ino, old)
+        self.assertEqual(self.end_by(signal.SIGPIPE), 0)
