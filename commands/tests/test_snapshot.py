@@ -2,6 +2,7 @@
 with lists, is in tools/check/snapshot.sh."""
 from __future__ import annotations
 
+import calendar
 import os
 import re
 import shutil
@@ -16,7 +17,7 @@ from common import COMMANDS, Case, Done, restore_signals
 from test_each import PRINTER, names_of
 
 SNAPSHOT = os.path.join(COMMANDS, "facl-snapshot")
-FILES = ["dump", "group", "inodes", "links", "passwd"]
+FILES = ["dump", "group", "inodes", "links", "meta", "passwd"]
 # A getfacl that prints what getfacl -n -p prints of names without lists.
 GETFACL = b"""\
 #!/bin/sh
@@ -106,6 +107,49 @@ class Written(SnapshotCase):
         for part in parts:
             self.expect_inodes("parts/" + part)
 
+    def meta(self, name: str) -> List[List[bytes]]:
+        """The keys and values of a file meta."""
+        text = self.read(name)
+        self.assertTrue(text.endswith(b"\n"))
+        return [line.split(b" ", 1) for line in text[:-1].split(b"\n")]
+
+    def numbers(self, links: int, unread: int, files: int) -> List[List[bytes]]:
+        rows = [len(subprocess.run(["getent", name], capture_output=True, check=True).stdout.splitlines()) for name in ("passwd", "group")]
+        keys = (b"symbolic-links", b"unread", b"users", b"groups", b"files")
+        return [[key, b"%d" % number] for key, number in zip(keys, (links, unread, *rows, files))]
+
+    def test_meta(self) -> None:
+        odd = b"tree/x\ny\\z\r"
+        os.mkdir(os.fsencode(self.folder) + b"/" + odd)
+        os.symlink("a", self.path("tree/to_a"))
+        before = time.time()
+        self.expect_status(self.snapshot("new", "tree", os.fsdecode(odd)), 0)
+        host, date, *rest = self.meta("new/meta")
+        self.assertEqual(host, [b"host", os.uname().nodename.encode()])
+        self.assertEqual(date[0], b"date")
+        taken = calendar.timegm(time.strptime(date[1].decode(), "%Y-%m-%dT%H:%M:%SZ"))
+        self.assertTrue(int(before) <= taken <= time.time(), date)
+        place = os.path.realpath(self.path("tree")).encode()
+        above = place.count(b"/")
+        self.assertEqual(rest, [[b"version", b"0"], [b"folder", place], [b"folder", place + b"/x\\012y\\\\z\\015"],
+                                *self.numbers(1, 0, above + 6)])
+        self.expect_status(self.snapshot("--version"), 0)
+        self.assertEqual(self.snapshot("--version").out, b"facl-snapshot 0\n")
+
+    def test_meta_of_parts(self) -> None:
+        above = os.path.realpath(self.folder).count("/") + 1
+        self.expect_status(self.snapshot("--split", str(above + 3), "parts", "tree"), 0)
+        parts = sorted(os.listdir(self.path("parts")))
+        for part in parts:
+            meta = self.meta("parts/%s/meta" % part)
+            files = len(names_of(self.read("parts/%s/dump" % part)))
+            self.assertEqual(meta[4:], [*self.numbers(0, 0, files), [b"part", b"%s of %03d" % (part.encode(), len(parts))]])
+
+    def test_meta_counts_what_is_unread(self) -> None:
+        self.tool("getfacl", self.read("bin/getfacl").replace(b"exec", b"echo 'getfacl: x: no' >&2; shift; exec"))
+        self.expect_status(self.snapshot("new", "tree"), 1)
+        self.assertIn([b"unread", b"1"], self.meta("new/meta"))
+
     def test_hard_links_have_one_inode(self) -> None:
         os.link(self.path("tree/a/1"), self.path("tree/c"))
         self.expect_status(self.snapshot("new", "tree"), 0, b"another name in the snapshot too (see links): 2, first: ")
@@ -121,9 +165,9 @@ class Written(SnapshotCase):
         before = os.umask(0)
         self.addCleanup(os.umask, before)
         self.expect_status(self.snapshot("new", "tree"), 0)
-        self.assertEqual(self.modes("new"), [0o700] + [0o600] * 5)
+        self.assertEqual(self.modes("new"), [0o700] + [0o600] * 6)
         self.expect_status(self.snapshot("--group", str(os.getgid()), "shared", "tree"), 0)
-        self.assertEqual(self.modes("shared"), [0o750] + [0o640] * 5)
+        self.assertEqual(self.modes("shared"), [0o750] + [0o640] * 6)
         self.assertEqual({os.stat(self.path("shared/" + name)).st_gid for name in FILES}, {os.getgid()})
         self.expect_status(self.snapshot("--group", "no such group", "other", "tree"), 2, b"no such group: no such group")
         self.assertFalse(os.path.exists(self.path("other")))

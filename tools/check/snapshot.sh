@@ -138,7 +138,7 @@ check_replacing() {
     [ "$(stat -c %i "$work/before")" != "$old" ] || fault "the folder was written, and not replaced"
     getfacl -n -p "$work/before" "$work/before/dump" | diff "$work/look" - >&2 || fault "what is replaced had another owner or list"
     getfacl -c -n -p "$work/before/inodes" | diff - "$work/list_of_dump" >&2 || fault "inodes has not the list of dump"
-    rm "$work/before/links" "$work/before/inodes"
+    rm "$work/before/links" "$work/before/inodes" "$work/before/meta"
     take 0 "$work/before" "$work/closed/share/team"
     printf '#!/bin/sh\necho "facl: setup: dump: text line 1: bad row" >&2\nexit 2\n' >"$work/refuses"
     chmod +x "$work/refuses"
@@ -474,7 +474,7 @@ check_large_dump() {
     [ $status -eq 2 ] || fault "status $status where the dump cannot be written"
     warned "facl-snapshot: cannot write dump"
     take 0 "$work/large" "$work/many"
-    for name in links group passwd inodes; do
+    for name in links group passwd inodes meta; do
         [ "$(stat -c %s "$work/large/$name")" -lt 716800 ] || fault "$name is larger than the limit"
     done
     [ "$(stat -c %s "$work/large/dump")" -gt 716800 ] || fault "the dump is smaller than the limit"
