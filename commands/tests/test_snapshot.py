@@ -11,7 +11,7 @@ import stat
 import subprocess
 import sys
 import time
-from typing import Dict, List, Optional
+from typing import Dict, List, Optional, Tuple
 
 from common import COMMANDS, Case, Done, restore_signals
 from test_each import PRINTER, names_of
@@ -132,7 +132,7 @@ class Written(SnapshotCase):
         place = os.path.realpath(self.path("tree")).encode()
         above = place.count(b"/")
         self.assertEqual(rest, [[b"version", b"0"], [b"folder", place], [b"folder", place + b"/x\\012y\\\\z\\015"],
-                                *self.numbers(1, 0, above + 6)])
+                                [b"excluded", b"0"], *self.numbers(1, 0, above + 6)])
         self.expect_status(self.snapshot("--version"), 0)
         self.assertEqual(self.snapshot("--version").out, b"facl-snapshot 0\n")
 
@@ -143,7 +143,38 @@ class Written(SnapshotCase):
         for part in parts:
             meta = self.meta("parts/%s/meta" % part)
             files = len(names_of(self.read("parts/%s/dump" % part)))
-            self.assertEqual(meta[4:], [*self.numbers(0, 0, files), [b"part", b"%s of %03d" % (part.encode(), len(parts))]])
+            number = [b"part", b"%s of %03d" % (part.encode(), len(parts))]
+            self.assertEqual(meta[4:], [[b"excluded", b"0"], *self.numbers(0, 0, files), number])
+
+    def recorded(self, *words: str) -> List[bytes]:
+        """The names below tree of a snapshot by these words."""
+        self.expect_status(self.snapshot(*words, "new", "tree"), 0)
+        start = os.path.realpath(self.path("tree")).encode() + b"/"
+        return [name[len(start):] for name in names_of(self.read("new/dump")) if name.startswith(start) and name != start]
+
+    def test_excluded_names(self) -> None:
+        """By the whole name where the GLOB has a slash, as find -path, and else by the last part, as find -name."""
+        for name in (b"*", b"[x]", b"x", b"-n", b"'q ", b"l\nf", b"\351", b"back\\s"):
+            with open(os.fsencode(self.path("tree/a/")) + name, "wb"):
+                pass
+        everything = [b"a/", b"a/'q ", b"a/*", b"a/-n", b"a/1", b"a/2", b"a/[x]", b"a/back\\134s", b"a/l\\012f", b"a/x", b"a/\351", b"b"]
+        self.assertEqual(sorted(self.recorded()), sorted(everything))
+        cases: List[Tuple[List[str], List[bytes]]] = [
+            (["\\*"], [b"a/*"]), (["[x]"], [b"a/x"]), (["\\[x]"], [b"a/[x]"]), (["-n"], [b"a/-n"]), (["'q "], [b"a/'q "]),
+            (["l\n*"], [b"a/l\\012f"]), ([os.fsdecode(b"\351")], [b"a/\351"]), (["back\\\\s"], [b"a/back\\134s"]),
+            (["1", "b"], [b"a/1", b"b"]), (["*/tree/a/[12]"], [b"a/1", b"a/2"]), (["tree/a"], []), (["*/tree*/1"], [b"a/1"]),
+            (["a/"], everything[:-1]), (["*/tree/a/"], everything[:-1]), (["$(touch made)", "`touch made`", "\";touch made;\""], []),
+        ]
+        for globs, gone in cases:
+            words = [word for glob in globs for word in ("--exclude", glob)]
+            self.assertEqual((globs, sorted(self.recorded(*words))), (globs, sorted(name for name in everything if name not in gone)))
+            meta = self.meta("new/meta")
+            self.assertEqual(len([line for line in meta if line[0] == b"exclude"]), len(globs))
+            self.assertIn([b"excluded", b"%d" % (1 if gone == everything[:-1] else len(gone))], meta)
+        self.assertFalse(os.path.exists(self.path("made")))
+        done = self.snapshot("--exclude", "l\nf", "new", "tree")
+        self.assertIn(b"new: left out by --exclude: 1, first: %s/a/l\\012f\n" % os.path.realpath(self.path("tree")).encode(), done.out)
+        self.assertIn([b"exclude", b"l\\012f"], self.meta("new/meta"))
 
     def test_meta_counts_what_is_unread(self) -> None:
         self.tool("getfacl", self.read("bin/getfacl").replace(b"exec", b"echo 'getfacl: x: no' >&2; shift; exec"))
@@ -290,6 +321,20 @@ class Said(SnapshotCase):
             done = subprocess.run([SNAPSHOT.encode(), *words], cwd=self.folder, env=self.environment(), capture_output=True,
                                   check=False)
             self.assertEqual((done.returncode, done.stdout[: len(out)], done.stderr), (status, out, message))
+
+    def test_quiet(self) -> None:
+        """Only what could not be read, and errors; the status is that without --quiet."""
+        os.link(self.path("tree/a/1"), self.path("tree/c"))
+        words = ("--quiet", "--exclude", "b", "new", "tree")
+        self.assertIn(b"warning: names of files that have another name", self.snapshot(*words[1:]).messages)
+        self.assertEqual(self.snapshot(*words), Done(0, b"", b""))
+        self.assertEqual(self.snapshot(*words, FACL="", PATH=self.path("bin") + ":/usr/bin:/bin"), Done(0, b"", b""))
+        done = self.snapshot(*words, FACL="false")
+        self.assertEqual((done.status, done.out, done.messages[:35]), (2, b"", b"facl-snapshot: false does not load "))
+        self.assertEqual(self.snapshot("--quiet", "new", "absent"), Done(2, b"", b"facl-snapshot: absent: no such file\n"))
+        self.tool("getfacl", self.read("bin/getfacl").replace(b"exec", b"echo 'getfacl: x: no' >&2; shift; exec"))
+        text = b"files or folders that could not be read, so that the dump lacks them or what is in them: 1, first: getfacl: x: no\n"
+        self.assertEqual(self.snapshot("--quiet", "other", "tree"), Done(1, b"", b"facl-snapshot: warning: " + text))
 
     def test_messages_of_other_programs(self) -> None:
         self.tool("getfacl", self.read("bin/getfacl").replace(b"exec", b"printf 'getfacl: \\033]0;x\\007: no\\n' >&2; shift; exec"))

@@ -86,11 +86,10 @@ check_reach() {
 check_words() {
     take 0 --help
     counted "usage: facl-snapshot "
-    for words in '' "$work/other" --group "--frob $work/other $work/closed" --program "--program x"; do
+    for words in '' "$work/other" --group --exclude "--exclude / $work/other /" "--frob $work/other $work/closed" --program "--program x"; do
         # shellcheck disable=SC2086  # the words of a case
         take 2 $words
-        printf 'usage: facl-snapshot [--program FILE] [--split COUNT] [--group GROUP] DIR FOLDER..\n' |
-            diff - "$work/message" >&2 || fault "usage: $words"
+        "$snapshot" --help | head -n 2 | diff - "$work/message" >&2 || fault "usage: $words"
     done
     take 2 --program "$work/absent" "$work/other" "$work/closed"
     warned "facl-snapshot: $work/absent: no such program"
@@ -505,6 +504,46 @@ check_full_disk() {
     [ $full -ge 8 ] || fault "only $full of 16 disks were full"
 }
 
+# is_meta LINE: whether meta of the last snapshot has it
+is_meta() {
+    grep -qxF -- "$1" "$work/before/meta" || fault "meta has no line $1"
+}
+
+# Other file systems below a FOLDER, and those that the kernel makes.
+check_file_systems() {
+    mkdir -p "$work/systems/in" "$work/systems/mount" "$work/systems/kernel" "$work/systems/proc"
+    : >"$work/systems/file"
+    mount -t tmpfs none "$work/systems/mount"
+    mount -t sysfs none "$work/systems/kernel"
+    mount --bind /etc/hostname "$work/systems/file"
+    trap 'umount "$work/systems/mount" "$work/systems/kernel" "$work/systems/file"; clean_up' EXIT
+    mkdir "$work/systems/mount/below"
+    mount --bind "$work/systems/mount" "$work/systems/in"
+    trap 'umount "$work/systems/in" "$work/systems/mount" "$work/systems/kernel" "$work/systems/file"; clean_up' EXIT
+    take 0 --program "$program" "$work/before" "$work/systems"
+    for name in in/ kernel/ mount/; do
+        not_recorded "$work/systems/$name"
+        is_meta "other-file-system $work/systems/$name"
+    done
+    recorded "$work/systems/proc/"
+    counted "left out as other file systems: 3, first: $work/systems/in/"
+    take 0 "$work/before" "$work/systems" "$work/systems/mount/below"
+    recorded "$work/systems/mount/below/"
+    counted "left out as other file systems: 2, first: $work/systems/in/"
+    take 0 --cross-file-systems "$work/before" "$work/systems"
+    recorded "$work/systems/in/below/"
+    recorded "$work/systems/mount/below/"
+    not_recorded "$work/systems/kernel/"
+    not_recorded "$work/systems/kernel/kernel/"
+    counted "left out as other file systems: 1, first: $work/systems/kernel/"
+    for name in /proc /proc/sys /sys/fs "$work/systems/kernel/kernel"; do
+        take 2 "$work/other" "$name"
+        warned "facl-snapshot: $name: is never recorded"
+    done
+    umount "$work/systems/in" "$work/systems/mount" "$work/systems/kernel" "$work/systems/file"
+    trap clean_up EXIT
+}
+
 # Two names of one directory, by a bind mount.
 check_bind_mount() {
     mkdir -p "$work/mount"
@@ -640,6 +679,7 @@ check_as_root() {
     check_unreadable
     check_without_lists
     check_bind_mount
+    check_file_systems
     check_full_disk
 }
 
