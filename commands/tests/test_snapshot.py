@@ -25,11 +25,30 @@ while [ "$1" != -- ]; do shift; done
 shift
 exec '%s' -SEB '%s' "$@"
 """
-# A getent that does something in the folder of the test, and then what getent does.
+# A getent that does something in the folder of the test, and then what getent does; it lists a person in any case.
 GETENT = b"""\
 #!/bin/sh
 %s
+if [ "$*" = passwd ]; then echo ann:x:70001:70001::/:/bin/sh; fi
+if [ "$*" = group ]; then echo ann:x:70001:; fi
 exec "$(PATH=${PATH#*:} && command -v getent)" "$@"
+"""
+# A getent of a directory service that lists few, and an id that knows the groups of users; what they know is in files.
+DIRECTORY = b"""\
+#!/bin/sh
+cd '%s' || exit 3
+kind=$1 status=0
+shift
+[ $# -gt 0 ] || exec cat $kind.list
+echo "$@" >>asked
+shift
+for key; do grep -E "^($key:|[^:]*:[^:]*:$key:)" $kind.all || status=2; done
+exit $status
+"""
+ID = b"""\
+#!/bin/sh
+[ "$1" = -G ] || exec "$(PATH=${PATH#*:} && command -v id)" "$@"
+grep "^$3 " '%s/groups.all' | cut -d ' ' -f 2-
 """
 
 
@@ -42,6 +61,7 @@ class SnapshotCase(Case):
         os.mkdir(self.path("bin"))
         self.write("printer.py", PRINTER)
         self.tool("getfacl", GETFACL % (os.fsencode(sys.executable), os.fsencode(self.path("printer.py"))))
+        self.tool("getent", GETENT % b":")
         self.tool("setfacl", b"#!/bin/sh\ncat >/dev/null\n")
         os.makedirs(self.path("tree/a"))
         for name in ("tree/a/1", "tree/a/2", "tree/b"):
@@ -114,9 +134,10 @@ class Written(SnapshotCase):
         return [line.split(b" ", 1) for line in text[:-1].split(b"\n")]
 
     def numbers(self, links: int, unread: int, files: int) -> List[List[bytes]]:
-        rows = [len(subprocess.run(["getent", name], capture_output=True, check=True).stdout.splitlines()) for name in ("passwd", "group")]
-        keys = (b"symbolic-links", b"unread", b"users", b"groups", b"files")
-        return [[key, b"%d" % number] for key, number in zip(keys, (links, unread, *rows, files))]
+        users, groups = (subprocess.run([self.path("bin/getent"), name], env=self.environment(), capture_output=True, check=True)
+                         .stdout.count(b"\n") for name in ("passwd", "group"))
+        keys = (b"symbolic-links", b"unread", b"files", b"users", b"users-asked-for", b"groups", b"groups-asked-for")
+        return [[key, b"%d" % number] for key, number in zip(keys, (links, unread, files, users, 0, groups, 0))]
 
     def test_meta(self) -> None:
         odd = b"tree/x\ny\\z\r"
@@ -240,6 +261,103 @@ class Written(SnapshotCase):
         plain = self.read("bin/getfacl")
         self.tool("getfacl", plain.replace(b"#!/bin/sh\n", b"#!/bin/sh\n[ -z \"${POSIXLY_CORRECT+x}\" ] || exit 1\n"))
         self.expect_status(self.snapshot("new", "tree", POSIXLY_CORRECT="1", CDPATH="/", QUOTING_STYLE="c", LC_ALL="C.UTF-8"), 0)
+
+
+class People(SnapshotCase):
+    """A directory service that lists few of its users and groups."""
+
+    def setUp(self) -> None:
+        super().setUp()
+        self.tool("getent", DIRECTORY % os.fsencode(self.folder))
+        self.tool("id", ID % os.fsencode(self.folder))
+        self.listed = b"root:x:0:0::/:/bin/sh\nann:x:70001:70001::/:/bin/sh\n"
+        if os.getuid():
+            self.listed += b"me:x:%d:0::/:/bin/sh\n" % os.getuid()
+        self.people = self.listed.count(b"\n") + 3
+        self.users = {name: b"%s:x:%d:%d::/:/bin/sh\n" % (name, number, group) for name, number, group in (
+            (b"bea", 70010, 70100), (b"carl", 70011, 70101), (b"dora", 70012, 70001), (b"eve", 70013, 70104), (b"finn", 70014, 70001))}
+        self.groups = b"root:x:0:\nann:x:70001:finn\n"
+        self.write("passwd.list", self.listed)
+        self.write("passwd.all", self.listed + b"".join(self.users.values()))
+        self.write("group.list", self.groups)
+        self.write("group.all", self.groups + b"prim:x:70100:\nlab:x:70101:carl,4711\nstaff:x:70102:\nmore:x:70103:ann\n"
+                   b"other:x:70104:eve\n")
+        self.write("groups.all", b"bea 70100 70102 70103 70001\ncarl 70101\ndora 70001 70102\nfinn 70001\neve 70104\n")
+        self.lists(b"user:70010:r--\\ngroup:70101:r--")
+
+    def lists(self, lines: bytes) -> None:
+        """Has each list these lines too."""
+        text = GETFACL.replace(b'"$@"', b"\"$@\" | sed 's/^group::/%s\\n&/'").replace(b"exec ", b"")
+        self.tool("getfacl", text.replace(b"%s\\n&", lines.replace(b"%", b"") + b"\\n&") % (
+            os.fsencode(sys.executable), os.fsencode(self.path("printer.py"))))
+
+    def test_those_that_are_named(self) -> None:
+        """Users and groups by their ids, members by their names, and the groups of these users."""
+        done = self.snapshot("new", "tree")
+        self.expect_status(done, 0)
+        found = [self.users[name] for name in (b"bea", b"carl", b"finn")]
+        self.assertEqual(self.read("new/passwd")[:len(self.listed)], self.listed)
+        self.assertEqual(sorted(self.read("new/passwd")[len(self.listed):].splitlines(True)), sorted(found))
+        self.assertEqual(sorted(self.read("new/group").splitlines()), sorted([
+            b"root:x:0:", b"ann:x:70001:finn,bea", b"prim:x:70100:", b"lab:x:70101:carl,4711", b"staff:x:70102:bea",
+            b"more:x:70103:ann,bea"]))
+        text = b"new: %d users, of whom 3 are not in the list of getent: asked for by id or name, 6 groups, "
+        self.assertIn(text % self.people, done.out)
+        self.assertIn(b"\nusers %d\nusers-asked-for 3\ngroups 6\ngroups-asked-for 4\n" % self.people, self.read("new/meta"))
+        asked = self.read("asked").split()
+        self.assertEqual(sorted(asked), sorted([*set(asked) - {b"--"}, *[b"--"] * asked.count(b"--")]), "each is asked for once")
+
+    def test_several_snapshots(self) -> None:
+        above = os.path.realpath(self.folder).count("/") + 1
+        self.expect_status(self.snapshot("--split", str(above + 3), "parts", "tree"), 0)
+        parts = os.listdir(self.path("parts"))
+        self.assertGreater(len(parts), 1)
+        for part in parts:
+            self.assertEqual(self.read("parts/%s/passwd" % part).count(b"\n"), self.people)
+            self.assertIn(b"\nusers %d\n" % self.people, self.read("parts/%s/meta" % part))
+
+    def test_users_of_a_file(self) -> None:
+        self.write("more", b"\ndora\n\nann\n")
+        self.expect_status(self.snapshot("--users", "more", "new", "tree"), 0)
+        self.assertIn(self.users[b"dora"], self.read("new/passwd"))
+        self.assertEqual(self.read("new/passwd").count(b"ann:"), 1)
+        self.assertRegex(self.read("new/group"), rb"(?m)^staff:x:70102:(bea,dora|dora,bea)$")
+        self.assertNotIn(b"eve", self.read("new/passwd") + self.read("new/group"))
+        self.write("more", b"dora\nzoe")
+        self.expect_status(self.snapshot("--users", "more", "other", "tree"), 2, b"facl-snapshot: more: no such user: zoe\n")
+        self.expect_status(self.snapshot("--users", "absent", "other", "tree"), 2, b"absent: cannot be read\n")
+        self.assertFalse(os.path.exists(self.path("other")))
+        self.expect_nothing_left()
+
+    def test_many(self) -> None:
+        """More keys than one call has."""
+        rows = [b"u%d:x:%d:70001::/:/bin/sh\n" % (number, number) for number in range(71000, 72200)]
+        self.write("passwd.all", self.listed + b"".join(rows))
+        self.write("more", b"".join(b"u%d\n" % number for number in range(71000, 72200)))
+        self.tool("getent", DIRECTORY.replace(b"for key; do grep -E ", b"grep -E \"^($(echo \"$*\" | tr ' ' '|')):\" $kind.all; exit\n"
+                                              b"for key; do grep -E ") % os.fsencode(self.folder))
+        self.expect_status(self.snapshot("--users", "more", "new", "tree"), 0)
+        self.assertEqual(self.read("new/passwd"), self.listed + b"".join(rows))
+
+    def test_two_users_with_one_id(self) -> None:
+        self.write("passwd.list", self.listed + b"anna:x:70001:70001::/:/bin/sh\n")
+        done = self.snapshot("new", "tree")
+        self.expect_status(done, 0, b"users with an id that another user has too, as ID NAME: 2, first: 70001 ann\n")
+        self.assertEqual([row[:5] for row in self.read("new/passwd").splitlines() if b":70001:70001:" in row], [b"ann:x", b"anna:"])
+
+    def test_where_they_are_missing(self) -> None:
+        """It says what to do, with --quiet too."""
+        text = b"name those of a directory service by --users FILE, or have it list them"
+        self.write("passwd.list", b"root:x:0:0::/:/bin/sh\na:x:999:1::/:/bin/sh\nnobody:x:65534:1::/:/bin/sh\n")
+        self.write("group.list", b"root:x:0:\n")
+        self.write("passwd.all", b"")
+        self.write("group.all", b"")
+        self.lists(b"other::---")
+        for words in (["new", "tree"], ["--quiet", "new", "tree"]):
+            self.expect_status(self.snapshot(*words), 1, b"facl-snapshot: there are no users but those of the system: " + text)
+        self.write("passwd.list", self.listed)
+        self.lists(b"user:80001:r--\\nuser:80002:r--")
+        self.expect_status(self.snapshot("new", "tree"), 1, b"facl-snapshot: most users that the dump names have no row in passwd: " + text)
 
 
 class Trusted(SnapshotCase):

@@ -16,6 +16,11 @@ top=$(cd "$(dirname "$0")/../.." && pwd)
 line_feed='
 '
 carriage_return=$(printf '\r')
+mkdir "$work/people"
+# A getent that lists a person, whoever else is there.
+printf '#!/bin/sh\n[ "$*" != passwd ] || echo ina:x:70001:0::/:/bin/sh\nexec "%s" "$@"\n' "$(command -v getent)" >"$work/people/getent"
+chmod 755 "$work/people" "$work/people/getent"
+PATH=$work/people:$PATH
 real_path=$PATH
 unset FACL
 snapshot=$top/commands/facl-snapshot
@@ -86,7 +91,7 @@ check_reach() {
 check_words() {
     take 0 --help
     counted "usage: facl-snapshot "
-    for words in '' "$work/other" --group --exclude "--exclude / $work/other /" "--frob $work/other $work/closed" --program "--program x"; do
+    for words in '' "$work/other" --group --exclude "--exclude / $work/other /" "--frob $work/other /" --program "--program x"; do
         # shellcheck disable=SC2086  # the words of a case
         take 2 $words
         "$snapshot" --help | head -n 2 | diff - "$work/message" >&2 || fault "usage: $words"
@@ -267,19 +272,21 @@ with_getent() {
 }
 
 check_rows() {
-    with_getent "root:x:0:0::/:/bin/sh\nines:x:$(id -u):0::/:/bin/sh\nmara:x:1:0::/:/bin/sh\r\n" \
+    with_getent "root:x:0:0::/:/bin/sh\nines:x:$(id -u):0::/:/bin/sh\nmara:x:1:0::/:/bin/sh\r\nina:x:70001:0::/:/bin/sh\n" \
         "root:x:0:\nown:x:$(id -g):\nstaff:x:5:ines,dora,dora\nlab:x:6:emil\n"
     : >"$work/masks/ids"
     setfacl -m u:4711:r,g:4712:r,u:1:r,g:5:r "$work/masks/ids"
     setfacl -d -m u:4713:r "$work/masks"
-    take 0 --program "$program" "$work/before" "$work/masks"
+    take 1 --program "$program" "$work/before" "$work/masks"
+    warned "most users that the dump names have no row in passwd"
     warned "ids in the dump without a row in passwd or group: 4, first: user 4711"
     warned "members of groups without a row in passwd: 2, first: dora"
     warned "rows of passwd with a carriage return, which facl takes for a part of a name: 1, first: mara"
     not_warned "rows of group"
     not_warned "passwd is empty"
     with_getent '' 'staff:x:0:ines\r\nlab:x:6:\n'
-    take 0 --program "$program" "$work/before" "$work/masks"
+    take 1 --program "$program" "$work/before" "$work/masks"
+    warned "there are no users but those of the system: name those of a directory service by --users FILE"
     warned "passwd is empty"
     warned "rows of group with a carriage return, which facl takes for a part of a name: 1, first: staff"
     counted "0 users, 2 groups"
@@ -599,7 +606,7 @@ check_private_groups() {
     with_getent 'root:x:0:0::/:/bin/sh\n' 'root:x:0:\n'
     mkdir "$work/own"
     chmod 775 "$work/own"
-    for rows in 'own:x:7:|own:x:65534:7:::|own:x:65534:7:::' 'own:x:7:own|own:x:65534:7:::|own:x:65534:7:::'; do own_group 0 "$rows"; done
+    for rows in 'own:x:7:|own:x:65534:7:::|own:x:65534:7:::' 'own:x:7:own|own:x:65534:7:::|own:x:65534:7:::'; do own_group 1 "$rows"; done
     for rows in 'own:x:7:mara|own:x:65534:7:::|own:x:65534:7:::' 'staff:x:7:|own:x:65534:7:::|own:x:65534:7:::' \
         'own:x:7:|own:x:65534:8:::|own:x:65534:8:::' 'own:x:7:|own:x:65534:7:::|own:x:65534:7:::\nmara:x:3:7:::'; do
         own_group 2 "$rows"
