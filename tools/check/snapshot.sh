@@ -479,7 +479,8 @@ check_large_dump() {
         >"$work/counts" 2>"$work/message" || status=$?
     [ $status -eq 2 ] || fault "status $status where the dump cannot be written"
     warned "facl-snapshot: cannot write dump"
-    take 0 "$work/large" "$work/many"
+    # Most of the users in the lists have no row.
+    take 1 "$work/large" "$work/many"
     for name in links group passwd inodes meta; do
         [ "$(stat -c %s "$work/large/$name")" -lt 716800 ] || fault "$name is larger than the limit"
     done
@@ -498,7 +499,7 @@ check_full_disk() {
         "$snapshot" --program "$program" "$work/mount/before" "$work/many" >"$work/counts" 2>"$work/message" || status=$?
         [ "$(ls "$work/mount")" = before ] || fault "left behind on a full disk: $(ls "$work/mount")"
         case $status in
-        0) [ "$(grep -c '^# file: ' "$work/mount/before/dump")" -ge 2000 ] || fault "status 0 on a disk of $kilobytes KiB" ;;
+        1) [ "$(grep -c '^# file: ' "$work/mount/before/dump")" -ge 2000 ] || fault "status 1 on a disk of $kilobytes KiB" ;;
         2)
             warned "facl-snapshot: "
             full=$((full + 1))
