@@ -9,7 +9,7 @@ import subprocess
 from types import FrameType
 from typing import Iterator, List, NoReturn, Optional
 
-from . import environment, headings, texts
+from . import VERSION, environment, headings, texts
 from .messages import SIGNALS, Command, Failure, reason
 from .names import shown
 from .program import Answer, Session, find_program
@@ -50,6 +50,7 @@ def parse(words: List[str]) -> argparse.Namespace:
     parser = argparse.ArgumentParser(
         prog="facl-ask", description=HELP, epilog=STATUS, formatter_class=argparse.RawDescriptionHelpFormatter, allow_abbrev=False,
     )
+    parser.add_argument("--version", action="version", version="%(prog)s " + VERSION)
     parser.add_argument("--program", metavar="FILE", help="the program facl; without it $FACL, or facl on the path")
     parser.add_argument("--headings", action="store_true", help="print each question of a script above its answer")
     parser.add_argument("--with-root", action="store_true", help="at the prompt, with --each and --hosts: answers about people have uid 0 too")
@@ -161,7 +162,7 @@ def say_notices(command: Command, source: Source, has_prompt: bool = False) -> N
 
 def prompt(command: Command, program: str, source: Source, with_root: bool) -> int:
     """Answers a person's lines. Only a prompt needs these parts of the package."""
-    from . import manual, overview, terminal
+    from . import manual, meta, overview, terminal
     from .completion import Completer
     from .desk import WORDS_OF_PROMPT, Desk, refuse_early_end
     from .superuser import Superusers, ids_in
@@ -178,7 +179,8 @@ def prompt(command: Command, program: str, source: Source, with_root: bool) -> i
     desk = Desk(lambda: Session(program, source.folder), completer.page, completer, out, dim, superusers)
     with contextlib.closing(desk):
         refuse_early_end(desk.session)
-        out(shown(overview.summary(found, source.shown)) + b"; `help` lists the tools, control-D ends\n")
+        name = meta.named(source.shown, meta.meta_of(source.folder))
+        out(shown(overview.summary(found, name)) + b"; `help` lists the tools, control-D ends\n")
         say_notices(command, source, has_prompt=True)
         for warning in overview.warnings(found):
             command.say(warning)

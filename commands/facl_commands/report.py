@@ -15,7 +15,7 @@ import secrets
 from collections import Counter
 from typing import Dict, Generic, Hashable, Iterable, Iterator, List, NamedTuple, Optional, Set, Tuple, TypeVar
 
-from . import overview, plan, texts
+from . import VERSION, meta, overview, plan, texts
 from .label_answers import Answers, People, ask_labels
 from .messages import Command, Failure, counted
 from .names import shown as shown_bytes
@@ -83,6 +83,7 @@ def parse(words: List[str]) -> argparse.Namespace:
     parser = argparse.ArgumentParser(
         prog="facl-report", description=HELP, epilog=STATUS, formatter_class=argparse.RawDescriptionHelpFormatter, allow_abbrev=False,
     )
+    parser.add_argument("--version", action="version", version="%(prog)s " + VERSION)
     parser.add_argument("--program", metavar="FILE", help="the program facl; without it $FACL, or facl on the path")
     view = parser.add_mutually_exclusive_group()
     view.add_argument("--file-alone", action="store_true", help="open the page with each file judged alone, and not along its path")
@@ -326,7 +327,8 @@ def data_of(program: str, snapshot: Snapshot, tree: Tree, listings: List[Tuple[L
     whos = users_shown(states[0].answers.users, states[-1].answers.users, probes.whos, superusers.names)
     tables = Tables()
     views = [View(state, its, whos, tables) for state, its in zip(states, bodies)]
-    return Builder(tree, whos, views[0], views[-1], tables).data(shown(snapshot.folder), len(listings) > 1, given.file_alone, superusers.names)
+    title = shown(meta.named(snapshot.folder, meta.meta_of(snapshot.folder)))
+    return Builder(tree, whos, views[0], views[-1], tables).data(title, len(listings) > 1, given.file_alone, superusers.names)
 
 
 def say_notices(command: Command, source: Source) -> None:

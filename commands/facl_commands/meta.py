@@ -1,0 +1,49 @@
+"""What a snapshot is of: the host, the time and the folders, as facl-snapshot keeps them in the file `meta`."""
+from __future__ import annotations
+
+import os
+import socket
+from typing import Dict, List, NamedTuple
+
+from .trusted import read_trusted
+
+NAME = b"meta"
+
+
+class Meta(NamedTuple):
+    host: bytes
+    date: bytes  # In UTC.
+    folders: List[bytes]
+
+    def text(self) -> bytes:
+        """In a line of a command: of which host, and when."""
+        return b"of " + self.host + b", " + self.date
+
+
+UNKNOWN = Meta(b"", b"", [])
+
+
+def read_meta(text: bytes) -> Meta:
+    """Lines of a key and a value; UNKNOWN where host or date are not there."""
+    found: Dict[bytes, List[bytes]] = {}
+    for line in text.splitlines():
+        key, _, value = line.partition(b" ")
+        found.setdefault(key, []).append(value)
+    if b"host" not in found or b"date" not in found:
+        return UNKNOWN
+    return Meta(found[b"host"][0], found[b"date"][0], found.get(b"folder", []))
+
+
+def meta_of(folder: bytes) -> Meta:
+    """That of a snapshot; UNKNOWN where it has none."""
+    name = os.path.join(folder, NAME)
+    return read_meta(read_trusted(name)) if os.path.exists(name) else UNKNOWN
+
+
+def is_of_another_host(meta: Meta) -> bool:
+    return meta is not UNKNOWN and meta.host != os.fsencode(socket.gethostname())
+
+
+def named(name: bytes, meta: Meta) -> bytes:
+    """The name of a snapshot, with what it is of."""
+    return name if meta is UNKNOWN else name + b" (" + meta.text() + b")"
