@@ -7,9 +7,9 @@ import json
 import os
 import sys
 from functools import lru_cache
-from typing import Dict, Iterator, List, NamedTuple, Optional
+from typing import Dict, Iterator, List, NamedTuple, Optional, Set
 
-from . import VERSION, by_hand, people, plan_folder, planned, rights
+from . import VERSION, by_hand, no_gain, people, plan_folder, planned, rights
 from .links import EDITS, Links
 from .messages import Command, Failure, counted, named
 from .names import json_text, live_path, shell_word, shown
@@ -24,8 +24,10 @@ PLAIN = bytes(range(0x20, 0x7F)) + b"\t\n"  # What is shown as it is, and what i
 QUESTIONS_WITH_EMPTY_ANSWERS = (b"who", b"may", b"index", b"changes")
 HELP = """\
 Answers the lines of each SCRIPT over a snapshot, as facl does, and prints what would change in who may do what: one
-line for each user and kind of change, with the number of files and the first of them. It reads the snapshot alone, and
-changes nothing on the live system. The SCRIPT - is standard input.
+line for each user and kind of change, with the number of files and the first of them. A right counts where the user can
+get to the file: with search on each directory above. A user who is named by an edit and gains nothing, since a directory
+above is closed, has a line with the edit that opens it. It reads the snapshot alone, and changes nothing on the live
+system. The SCRIPT - is standard input.
 
 What facl-apply needs is written to a folder, SNAPSHOT.plan:
 
@@ -70,6 +72,7 @@ class Outcome(NamedTuple):
     old: Files
     new: Files
     rights: rights.Changes
+    no_gain: List[no_gain.NoGain]
     users: List[bytes]
     asked: List[Asked]
     messages: List[Message]
@@ -87,7 +90,10 @@ def parse(words: List[str]) -> argparse.Namespace:
     parser.add_argument("--version", action="version", version="%(prog)s " + VERSION)
     parser.add_argument("--plan", metavar="DIR", help="the folder of the plan, in place of SNAPSHOT.plan")
     parser.add_argument("--full", action="store_true", help="print each user and file")
-    parser.add_argument("--reach", action="store_true", help="with search on the directories above each file")
+    view = parser.add_mutually_exclusive_group()
+    view.add_argument("--file-alone", action="store_true", help="judge each file alone, also where nobody can get to it")
+    view.add_argument("--reach", action="store_true", help="with search on the directories above each file, as without it")
+    parser.add_argument("--with-root", action="store_true", help="judge users of the id 0 by the lists too")
     parser.add_argument("--json", action="store_true", help="print one JSON object; bytes that are no UTF-8 are escapes")
     parser.add_argument("--keep-going", action="store_true", help="plan the other lines where some were refused")
     parser.add_argument("--group", metavar="GROUP", help="let the members of a group read the plan")
@@ -167,13 +173,23 @@ def answer_scripts(given: argparse.Namespace, snapshot: Snapshot, units: List[Un
         old = list_all(session)
         if b"" not in old.files:
             raise Failure(snapshot.folder + b": has no directories above its files: make a snapshot by facl-snapshot")
-        before = rights.ask_rights(session, old, given.reach, snapshot.passwd)
+        before = rights.ask_rights(session, old, not given.file_alone)
         run = Run(session, snapshot, old.files)
+        people_before = people.People(snapshot.passwd, snapshot.group)
         run.answer_all(units)
         new = list_all(session)
-        after = rights.ask_rights(session, new, given.reach, snapshot.passwd)
+        after = rights.ask_rights(session, new, not given.file_alone)
+        sides = no_gain.Side(old.files, before, people_before), no_gain.Side(new.files, after, run.people)
+        left_out = set() if given.with_root else superusers(people_before) | superusers(run.people)
+        closed = [] if given.file_alone else no_gain.find(session, *sides, left_out)
     users = list(dict.fromkeys([*before.users, *after.users]))
-    return Outcome(old.files, new.files, rights.changes(before, after), users, run.asked, run.messages, run.commands)
+    changes = rights.changes(before, after, left_out)
+    return Outcome(old.files, new.files, changes, closed, users, run.asked, run.messages, run.commands)
+
+
+def superusers(known: people.People) -> Set[bytes]:
+    """Users whom the kernel grants nearly everything, by their names in the index."""
+    return {no_gain.name_in_index(user.name) for user in known.users if user.uid == 0}
 
 
 def shown_lines(text: bytes) -> bytes:
@@ -205,26 +221,44 @@ def full_lines(outcome: Outcome) -> Iterator[bytes]:
         yield shown_lines(text) if is_terminal else text
 
 
-def short_lines(outcome: Outcome) -> Iterator[bytes]:
-    found = rights.kinds(outcome.rights, outcome.users)
-    width = max((len(kind.user) for kind in found), default=0)
-    for user, old, new, count, first in found:
+def short_lines(outcome: Outcome, changes: List[rights.Kind]) -> Iterator[bytes]:
+    """A line for each kind of change, and those of no gain after the user's changes."""
+    rows: Dict[bytes, List[bytes]] = {user: [] for user in outcome.users}
+    width = max([len(it.user) for it in changes] + [len(it.user) for it in outcome.no_gain], default=0)
+    for user, old, new, count, first in changes:
         what = b"%s -> %s" % (old.encode(), new.encode())
-        yield shown(user.ljust(width) + b"  " + what.ljust(13) + b"  " + counted(count, "file").ljust(8) + b"  first: " + first) + b"\n"
+        rows[user].append(user.ljust(width) + b"  " + what.ljust(13) + b"  " + counted(count, "file").ljust(8) + b"  first: " + first)
+    for it in outcome.no_gain:
+        rows[it.user].append(it.user.ljust(width) + b"  no gain        " + counted(it.files, "file").ljust(8) + b"  " + it.text())
+    yield from (shown(line) + b"\n" for lines in rows.values() for line in lines)
 
 
 def summary(changes: Changes, commands: List[bytes], outcome: Outcome) -> bytes:
     parts = [counted(len(changes.changed), "file changes", "files change") + b" owner, group, flags or lists"]
     if commands:
         parts.append(counted(len(commands), "command has to be run", "commands have to be run") + b" by hand")
-    nobody = b"" if outcome.rights.files else b"; nobody may do anything else than before"
-    return b"; ".join(parts) + nobody + b"\n"
+    if not outcome.rights.files:
+        parts.append(b"nobody may do anything else than before")
+    if outcome.rights.left_out:
+        verb = b" is" if len(outcome.rights.left_out) == 1 else b" are"
+        parts.append(b" and ".join(sorted(outcome.rights.left_out)) + verb
+                     + b" left out, whom the kernel grants nearly everything (--with-root)")
+    return shown(b"; ".join(parts)) + b"\n"
 
 
 def rights_json(outcome: Outcome) -> List[Dict[str, object]]:
     return [
         {"user": json_text(user), "from": old, "to": new, "files": count, "first": json_text(first)}
         for user, old, new, count, first in rights.kinds(outcome.rights, outcome.users)
+    ]
+
+
+def no_gain_json(outcome: Outcome) -> List[Dict[str, object]]:
+    return [
+        {"user": json_text(it.user), "files": it.files, "directory": json_text(it.directory),
+         "entries": [json_text(no_gain.shown_entry(entry)) for entry in it.entries], "edit": json_text(it.edit),
+         "closed_below": it.closed}
+        for it in outcome.no_gain
     ]
 
 
@@ -259,6 +293,8 @@ def json_report(outcome: Outcome, given: argparse.Namespace, changes: Changes, c
     report = {
         "plan": None if plan is None else json_text(plan),
         "changes": [] if given.full else rights_json(outcome),
+        "no_gain": no_gain_json(outcome),
+        "left_out": [json_text(user) for user in sorted(outcome.rights.left_out)],
         "records": [json_text(live_path(path)) for path in changes.changed],
         "made": [json_text(live_path(path)) for path in changes.made],
         "removed": [json_text(live_path(path)) for path in changes.removed],
@@ -315,7 +351,9 @@ def say_refused(command: Command, outcome: Outcome, keep_going: bool) -> bool:
 
 def text_report(given: argparse.Namespace, outcome: Outcome, changes: Changes, commands: List[bytes],
                 target: bytes) -> Iterator[bytes]:
-    yield from full_lines(outcome) if given.full else short_lines(outcome)
+    if given.full:
+        yield from full_lines(outcome)
+    yield from short_lines(outcome, [] if given.full else rights.kinds(outcome.rights, outcome.users))
     yield summary(changes, commands, outcome)
     yield shown(target + b": is written" + (b"; next: facl-apply " + shell_word(target) if changes.changed else b"")) + b"\n"
     for command in commands:

@@ -33,9 +33,9 @@ def requests_of(right: bytes) -> Set[bytes]:
 
 
 class Reports(Case):
-    def test_default(self) -> None:
+    def test_file_alone(self) -> None:
         # The mask is recalculated, so that mara gets what her entry has.
-        done = self.plan(b"setfacl -m u:guest:r srv/share/notes\n")
+        done = self.plan(b"setfacl -m u:guest:r srv/share/notes\n", "--file-alone")
         self.expect(done, 0, b"mara   r-- -> rw-     1 file    first: srv/share/notes\n"
                              b"guest  none -> r--    1 file    first: srv/share/notes\n" + ONE_FILE + b"\n" + WRITTEN)
         self.assertEqual(self.read("before.plan/old"), OLD_NOTES)
@@ -46,12 +46,13 @@ class Reports(Case):
         self.assertEqual(sorted(os.listdir(self.folder)), ["before", "before.plan", "edits"])
 
     def test_full(self) -> None:
-        done = self.plan(b"setfacl -m u:guest:r srv/share/notes", "--full")
+        done = self.plan(b"setfacl -m u:guest:r srv/share/notes", "--full", "--file-alone")
         self.expect(done, 0, b"mara\tr--\t->\trw-\tsrv/share/notes\nguest\tnone\t->\tr--\tsrv/share/notes\n"
                     + ONE_FILE + b"\n" + WRITTEN)
 
     def test_kinds_are_counted(self) -> None:
-        done = self.plan(b"chmod 644 srv/share/it\\047s srv/share/-x\nchmod 666 '/srv/share/plan 2 '\n")
+        script = b"chmod 644 srv/share/it\\047s srv/share/-x\nchmod 666 '/srv/share/plan 2 '\n"
+        done = self.plan(script, "--file-alone", "--with-root")
         out = b"".join(
             b"%-5s  none -> %s    %s  first: srv/share/%s\n" % row
             for user in (b"root", b"mara", b"guest")
@@ -62,14 +63,30 @@ class Reports(Case):
         at = out.index(b"mara")
         self.expect(done, 0, out[:at] + ben + out[at:] + b"3 files change owner, group, flags or lists\n" + WRITTEN)
 
-    def test_reach(self) -> None:
-        # Neither may search srv/share.
-        done = self.plan(b"setfacl -m u:guest:r srv/share/notes\n", "--reach")
-        self.expect(done, 0, ONE_FILE + b"; nobody may do anything else than before\n" + WRITTEN)
-        done = self.plan(b"setfacl -m u:guest:r srv/share/notes\nsetfacl -m u:guest:x srv/share\n", "--reach")
+    def test_along_paths(self) -> None:
+        # Neither may search srv/share; mara is not named by the line.
+        done = self.plan(b"setfacl -m u:guest:r srv/share/notes\n")
+        self.expect(done, 0, b"guest  no gain        1 file    srv/share grants no search (other::---); add: setfacl -n -m u:guest:x srv/share\n"
+                    + ONE_FILE + b"; nobody may do anything else than before\n" + WRITTEN)
+        done = self.plan(b"setfacl -m u:guest:r srv/share/notes\nsetfacl -m u:guest:x srv/share\n")
         self.expect(done, 0, b"guest  none -> --x    1 file    first: srv/share\n"
                              b"guest  none -> r--    1 file    first: srv/share/notes\n"
                              b"2 files change owner, group, flags or lists\n" + WRITTEN)
+
+    def test_superusers(self) -> None:
+        self.write("before/passwd", self.read("before/passwd") + b"toor:x:0:0::/:/bin/sh\n")
+        script = b"chmod 604 srv/share/one\nchmod 751 srv/share\n"
+        others = [b"guest  none -> --x    1 file    first: srv/share\n", b"guest  none -> r--    2 files   first: srv/share/one\n"]
+        done = self.plan(script)
+        self.assertEqual([line for line in done.out.splitlines(True) if line[:5] in (b"root ", b"toor ", b"guest")], others)
+        self.assertIn(b"3 files change owner, group, flags or lists; root and toor are left out, whom the kernel grants nearly everything "
+                      b"(--with-root)\n", done.out)
+        self.assertEqual(json.loads(self.plan(script, "--json").out)["left_out"], ["root", "toor"])
+        done = self.plan(script, "--with-root")
+        self.assertIn(b"root   none -> r--    2 files   first: srv/share/one\n", done.out)
+        self.assertNotIn(b"left out", done.out)
+        # Where nothing changes for root there is no word on it.
+        self.assertNotIn(b"left out", self.plan(b"setfacl -m u:guest:r srv/share/notes\n").out)
 
     def test_full_is_what_changes_prints(self) -> None:
         for script in (b"setfacl -m u:guest:r srv/share/notes\nsetfacl -m u:guest:x srv/share\n",
@@ -77,7 +94,7 @@ class Reports(Case):
                        b"useradd -u 2000 -g design nell\ncreat --user=mara --mode=0664 srv/share/drafts/new\nusermod -g staff guest\n"
                        b"chmod 070 srv/share/drafts\n"):
             for option in ("", "--reach"):
-                done = self.plan(script, "--full", *option.split())
+                done = self.plan(script, "--full", "--with-root", option or "--file-alone")
                 rows = [line.split(b"\t") for line in done.out.splitlines() if b"\t->\t" in line]
                 with Session(find_program(None), os.fsencode(self.path("before"))) as session:
                     session.ask(script)
@@ -95,7 +112,7 @@ class Reports(Case):
 
     def test_questions_are_answered(self) -> None:
         done = self.plan(b"who r srv/share/notes\n# why\nsetfacl -m u:guest:r srv/share/notes\nmay guest r\nwho x srv/share/one\n"
-                         b"getfacl -n srv/share/one\n")
+                         b"getfacl -n srv/share/one\n", "--file-alone")
         self.assertEqual(done.status, 0)
         answers = (b"# edits, line 1: who r srv/share/notes\nines\nben\nmara\n\n"
                    b"# edits, line 4: may guest r\n.\nsrv\nsrv/share/notes\n\n"
@@ -106,7 +123,7 @@ class Reports(Case):
         self.assertEqual(self.read("before.plan/new"), NEW_NOTES)
 
     def test_json(self) -> None:
-        done = self.plan(b"setfacl -m u:guest:r srv/share/notes 'srv/share/p\\351q'\ncan guest srv/share/notes\n", "--json")
+        done = self.plan(b"setfacl -m u:guest:r srv/share/notes 'srv/share/p\\351q'\ncan guest srv/share/notes\n", "--json", "--file-alone")
         report = json.loads(done.out)
         self.assertEqual(done.status, 0)
         self.assertEqual(report["plan"], "before.plan")
@@ -195,7 +212,7 @@ class HardLinks(Case):
         self.assertEqual(self.read("before.plan/new"), b"".join(self.RECORD % (name, named) for name in (b"one", b"two")))
 
     def test_an_edit_is_of_all_names(self) -> None:
-        done = self.plan(b"setfacl -m u:guest:r srv/share/two\n")
+        done = self.plan(b"setfacl -m u:guest:r srv/share/two\n", "--file-alone")
         self.expect(done, 0, b"guest  none -> r--    2 files   first: srv/share/one\n"
                              b"2 files change owner, group, flags or lists\n" + WRITTEN)
         self.expect_both(b"user:1009:r--\n")
@@ -358,7 +375,7 @@ class Names(Case):
     def test_what_a_terminal_would_obey(self) -> None:
         name, word, seen = b"z\033[2J\xc2\x9b", b"'srv/share/z\\033[2J\\302\\233'", b"srv/share/z\\033[2J\\302\\233"
         row = b"guest  none -> r--    1 file    first: %s\n" % seen
-        done = self.plan_with(name, b"who r %s\nsetfacl -m u:guest:r %s\n" % (word, word))
+        done = self.plan_with(name, b"who r %s\nsetfacl -m u:guest:r %s\n" % (word, word), "--file-alone")
         self.assertTrue(done.out.startswith(b"# edits, line 1: who r " + word + b"\nines\nben\n\n" + row), done.out)
         done = self.plan(b"getfacl -c %s\nmay ines w\nrm %s\n" % (word, word))
         self.assertIn(b"\nsrv/share/two\n" + seen + b"\n", done.out)
@@ -366,15 +383,15 @@ class Names(Case):
         self.assertNotIn(b"\033", done.out)
 
     def test_scripts_get_names_as_they_are(self) -> None:
-        done = self.plan_with(b"z\033", b"setfacl -m u:guest:r 'srv/share/z\\033'\n", "--full")
+        done = self.plan_with(b"z\033", b"setfacl -m u:guest:r 'srv/share/z\\033'\n", "--full", "--file-alone")
         self.assertTrue(done.out.startswith(b"guest\tnone\t->\tr--\tsrv/share/z\033\n"), done.out)
-        report = json.loads(self.plan(self.read("edits"), "--json").out)
+        report = json.loads(self.plan(self.read("edits"), "--json", "--file-alone").out)
         self.assertEqual(report["changes"][0]["first"], "srv/share/z\033")
 
     def test_full_at_a_terminal(self) -> None:
         self.plan_with(b"z\033", b"setfacl -m u:guest:r 'srv/share/z\\033'\n")
         own, its = os.openpty()
-        words = [os.path.join(COMMANDS, "facl-plan"), "--full", "before", "edits"]
+        words = [os.path.join(COMMANDS, "facl-plan"), "--full", "--file-alone", "before", "edits"]
         self.assertEqual(subprocess.run(words, cwd=self.folder, stdout=its, check=False).returncode, 0)
         os.close(its)
         with open(own, "rb", buffering=0) as terminal:
