@@ -9,7 +9,7 @@ import sys
 from functools import lru_cache
 from typing import Dict, Iterator, List, NamedTuple, Optional, Set
 
-from . import VERSION, by_hand, no_gain, people, plan_folder, planned, rights
+from . import VERSION, by_hand, causes, no_gain, people, plan_folder, planned, rights
 from .links import EDITS, Links
 from .messages import Command, Failure, counted, named
 from .names import json_text, live_path, shell_word, shown
@@ -282,7 +282,8 @@ def full_json(outcome: Outcome) -> str:
 
 def messages_json(found: List[Message], are_warnings: bool) -> List[Dict[str, object]]:
     return [
-        {"script": json_text(it.unit.script), "line": it.unit.number, "message": json_text(it.text)}
+        {"script": json_text(it.unit.script), "line": it.unit.number, "message": json_text(it.text),
+         **({} if are_warnings else {"cause": [json_text(line) for line in cause_of(it)]})}
         for it in found
         if it.is_warning == are_warnings
     ]
@@ -313,10 +314,16 @@ def json_report(outcome: Outcome, given: argparse.Namespace, changes: Changes, c
     return text.encode() + b"\n"
 
 
+def cause_of(message: Message) -> List[bytes]:
+    """What is known of the cause of a refused line."""
+    return [] if message.is_warning or message.is_final else causes.explained(message.unit, message.text)
+
+
 def say_messages(command: Command, outcome: Outcome, scripts: List[Script]) -> None:
     """Refused lines, warnings, and what is likely to surprise."""
     for message in outcome.messages:
         command.say(message.unit.place() + b": " + message.text)
+        command.put(command.messages, b"".join(b"    " + line + b"\n" for line in cause_of(message)))
     for name, text in scripts:
         if b"\r" in text:
             command.say(b"warning: " + name + b": has carriage returns, each of which is a part of its word")

@@ -139,7 +139,9 @@ class Reports(Case):
         done = self.plan(b"setfacl -m u:guest:r srv/share/notes srv/none\n", "--json")
         report = json.loads(done.out)
         self.assertEqual((done.status, report["plan"]), (1, None))
-        self.assertEqual(report["refused"], [{"script": "edits", "line": 1, "message": "setfacl: srv/none: no such file"}])
+        refused, = report["refused"]
+        self.assertTrue(refused.pop("cause")[0].startswith("Paths start at the root of the file system."))
+        self.assertEqual(refused, {"script": "edits", "line": 1, "message": "setfacl: srv/none: no such file"})
 
     def test_json_of_each_file(self) -> None:
         script = b"setfacl -R -m u:guest:r,g:audit:w srv/share\nuserdel mara\nuseradd -u 2000 -g staff 'n\"l'\n"
@@ -158,13 +160,28 @@ class Reports(Case):
 
 
 class RefusedLines(Case):
-    REFUSED = b"facl-plan: edits, line 2: setfacl: entry 1: unknown user\n"
+    CAUSE = b"    No row of the snapshot's passwd has this name. An entry may have an id without a row.\n"
+    REFUSED = b"facl-plan: edits, line 2: setfacl: entry 1: unknown user\n" + CAUSE
 
     def test_nothing_is_written(self) -> None:
         done = self.plan(b"setfacl -m u:guest:r srv/share/notes\nsetfacl -m u:gast:r srv/share/one\n")
         self.expect(done, 1, b"", self.REFUSED + b"facl-plan: 1 line was refused, so nothing is written: mend it, or plan the "
                                                  b"other lines by --keep-going\n")
         self.assertEqual(sorted(os.listdir(self.folder)), ["before", "edits"])
+
+    def test_the_line_that_would_do(self) -> None:
+        done = self.plan(b"setfacl -m u:guest:r srv/share/one\nnamei -l srv/share/one\nsu - guest\nchmod 600 srv/share/one\n")
+        self.assertTrue(done.messages.startswith(
+            b"facl-plan: edits, line 2: facl: unknown tool\n"
+            b"    What decides on each directory of a path is asked of a user:\n"
+            b"      why --reach USER srv/share/one\n"
+            b"facl-plan: edits, line 3: facl: text without end\n"), done.messages)
+        self.assertIn(b"\n    line 4 was taken as the text of line 3, since it has a word -\n", done.messages)
+        report = json.loads(self.plan(self.read("edits"), "--json").out)
+        self.assertEqual(report["refused"][0], {
+            "script": "edits", "line": 2, "message": "facl: unknown tool",
+            "cause": ["What decides on each directory of a path is asked of a user:", "  why --reach USER srv/share/one"],
+        })
 
     def test_keep_going(self) -> None:
         done = self.plan(b"setfacl -m u:guest:r srv/share/notes\nsetfacl -m u:gast:r srv/share/one\n", "--keep-going")
@@ -187,7 +204,7 @@ class RefusedLines(Case):
         self.write("first", b"\nsetfacl -M - srv/share/one\nu:guest:r\n.\nfrob")
         self.write("second", b"# a comment\nfrob 'open\n\xff\n")
         done = self.run_command("facl-plan", ["before", "first", "second"])
-        self.assertEqual(done.messages.split(b"\n")[:3], [
+        self.assertEqual([line for line in done.messages.split(b"\n") if line[:1] == b"f"][:3], [
             b"facl-plan: first, line 5: facl: unknown tool",
             b"facl-plan: second, line 2: facl: open quote",
             b"facl-plan: second, line 3: facl: not UTF-8",
