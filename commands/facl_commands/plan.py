@@ -9,7 +9,7 @@ import sys
 from functools import lru_cache
 from typing import Dict, Iterator, List, NamedTuple, Optional, Set
 
-from . import VERSION, by_hand, causes, no_gain, people, plan_folder, planned, rights
+from . import VERSION, by_hand, causes, no_gain, owners, people, plan_folder, planned, rights
 from .links import EDITS, Links
 from .messages import Command, Failure, counted, named
 from .names import json_text, live_path, shell_word, shown
@@ -77,6 +77,7 @@ class Outcome(NamedTuple):
     asked: List[Asked]
     messages: List[Message]
     commands: List[people.PeopleChange]  # Of users and memberships.
+    left: List[owners.Left]  # Users who are removed, with what they leave.
 
     def refusals(self) -> List[Message]:
         return [message for message in self.messages if not message.is_warning]
@@ -143,14 +144,22 @@ class Run:
             self.messages.append(Message(unit, b"facl: text without end"))
             return
         self.links.before(self.session, unit)
-        answer = self.session.ask(b"".join(line + b"\n" for line in unit.lines))
+        done = owners.restoring(self.session, self.people, unit) if unit.is_of(*owners.TOOLS) else unit
+        if isinstance(done, bytes):
+            self.messages.append(Message(unit, done))
+        else:
+            self.answer_as(unit, done)
+
+    def answer_as(self, unit: Unit, done: Unit) -> None:
+        """Answers a line by the one that does what it asks for, mostly itself."""
+        answer = self.session.ask(b"".join(line + b"\n" for line in done.lines))
         output = answer.output.read()
         refused = any(message != WARNING for message in answer.messages)
         self.messages += [Message(unit, message, message == WARNING) for message in answer.messages]
         if output or unit.is_of(*QUESTIONS_WITH_EMPTY_ANSWERS) and not refused:
             self.asked.append(Asked(unit, output))
         if not refused:
-            self.follow(unit)
+            self.follow(done)
 
     def follow(self, unit: Unit) -> None:
         """What an accepted line means for other names of its files, and for the system's users."""
@@ -184,7 +193,8 @@ def answer_scripts(given: argparse.Namespace, snapshot: Snapshot, units: List[Un
         closed = [] if given.file_alone else no_gain.find(session, *sides, left_out)
     users = list(dict.fromkeys([*before.users, *after.users]))
     changes = rights.changes(before, after, left_out)
-    return Outcome(old.files, new.files, changes, closed, users, run.asked, run.messages, run.commands)
+    left = owners.left_behind(people_before, run.people, new.files)
+    return Outcome(old.files, new.files, changes, closed, users, run.asked, run.messages, run.commands, left)
 
 
 def superusers(known: people.People) -> Set[bytes]:
@@ -280,6 +290,11 @@ def full_json(outcome: Outcome) -> str:
     return "[\n" + ",\n".join(rows) + "\n  ]" if rows else "[]"
 
 
+def left_json(left: owners.Left) -> Dict[str, object]:
+    return {"user": json_text(left.name), "uid": left.uid, "owned": len(left.owned), "named": len(left.named),
+            "first": json_text(live_path((left.owned or left.named)[0]))}
+
+
 def messages_json(found: List[Message], are_warnings: bool) -> List[Dict[str, object]]:
     return [
         {"script": json_text(it.unit.script), "line": it.unit.number, "message": json_text(it.text),
@@ -300,6 +315,7 @@ def json_report(outcome: Outcome, given: argparse.Namespace, changes: Changes, c
         "made": [json_text(live_path(path)) for path in changes.made],
         "removed": [json_text(live_path(path)) for path in changes.removed],
         "by_hand": [json_text(command) for command in commands],
+        "left_behind": [left_json(left) for left in outcome.left],
         "answers": [
             {"script": json_text(unit.script), "line": unit.number, "question": json_text(unit.lines[0]),
              "answer": json_text(output)}
@@ -365,6 +381,8 @@ def text_report(given: argparse.Namespace, outcome: Outcome, changes: Changes, c
     yield shown(target + b": is written" + (b"; next: facl-apply " + shell_word(target) if changes.changed else b"")) + b"\n"
     for command in commands:
         yield shown(b"by hand: " + command) + b"\n"
+    for left in outcome.left:
+        yield from (shown(line) + b"\n" for line in owners.notes(left))
 
 
 def beside(folder: bytes) -> bytes:
@@ -396,7 +414,8 @@ def body(command: Command, words: List[str]) -> int:
             b"old": write_records(outcome.old, changes.changed),
             b"new": write_records(outcome.new, changes.changed),
             b"files": planned.work_text(find_program(given.program), snapshot, changes, outcome.old, outcome.new),
-            b"by_hand": by_hand.script_of(outcome.commands, changes, outcome.old, outcome.new, snapshot.inodes),
+            b"by_hand": by_hand.script_of(outcome.commands, changes, outcome.old, outcome.new, snapshot.inodes)
+            + b"".join(line + b"\n" for left in outcome.left for line in owners.comments(left)),
             b"by_hand_undo": by_hand.undo_script_of(outcome.commands, changes, outcome.old, outcome.new, snapshot.inodes),
         }, group)
         if kept is not None:

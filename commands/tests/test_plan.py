@@ -464,6 +464,47 @@ class Names(Case):
         self.assertTrue(done.messages.startswith(b"facl-plan: standard input, line 1: facl: unknown tool\n"), done.messages)
 
 
+class Owners(Case):
+    BODY = b"user::rw-\ngroup::r--\nother::---\n\n"
+
+    def test_other_names_get_the_owner_too(self) -> None:
+        # The first line gives two a list, which one gets before the second is answered.
+        done = self.plan(b"setfacl -m g::- srv/share/two\nchown guest:audit srv/share/one\nchgrp 300 srv/share/-x\n", "--file-alone")
+        self.assertEqual((done.status, done.messages), (0, b""))
+        body = b"# owner: 1009\n# group: 400\n" + self.BODY.replace(b"r--", b"---")
+        self.assertEqual(self.read("before.plan/new"), b"# file: /srv/share/-x\n# owner: 1001\n# group: 300\n" + self.BODY
+                         + b"# file: /srv/share/one\n" + body + b"# file: /srv/share/two\n" + body)
+        self.assertIn(b"guest  none -> rw-    2 files   first: srv/share/one\n", done.out)
+        self.assertIn(b"guest  none -> r--    1 file    first: srv/share/-x\n", done.out)
+
+    def test_along_paths(self) -> None:
+        done = self.plan(b"chown -R guest srv/share/drafts\n")
+        self.assertIn(b"guest  no gain        2 files   srv/share grants no search (other::---); add: setfacl -n -m u:guest:x srv/share\n",
+                      done.out)
+
+    def test_refused(self) -> None:
+        done = self.plan(b"chown gast srv/share/one\nchgrp staff srv/none\nchown guest srv/share/two\n", "--keep-going")
+        self.assertEqual(done.status, 1)
+        self.assertTrue(done.messages.startswith(b"facl-plan: edits, line 1: chown: gast: no such user\n    "), done.messages)
+        self.assertIn(b"\nfacl-plan: edits, line 2: chgrp: srv/none: no such file\n    ", done.messages)
+        self.assertEqual(self.read("before.plan/new").count(b"# owner: 1009\n"), 2)
+
+    def test_nothing_changes(self) -> None:
+        self.assertEqual(self.plan(b"chown ines srv/share/one\nchgrp staff srv/share/one\n").status, 3)
+
+    def test_a_user_who_leaves_files(self) -> None:
+        done = self.plan(b"userdel mara\n")
+        self.assertEqual(done.out.splitlines()[-3:], [
+            b"by hand: userdel mara", b"mara is removed and still owns 2 files, first: /srv/share/drafts",
+            b"mara is removed and still named in the lists of 1 file, first: /srv/share/notes"])
+        self.assertTrue(self.read("before.plan/by_hand").endswith(b"\n# chown -R -h --from=1003 NEWOWNER -- /srv/share/drafts\n"))
+        done = self.plan(b"userdel mara\nchown -R ines srv/share/drafts\nsetfacl -x u:1003 srv/share/notes\n", "--json")
+        self.assertEqual(json.loads(done.out)["left_behind"], [])
+        done = self.plan(b"userdel mara\nchown -R ines srv/share/drafts\n", "--json")
+        self.assertEqual(json.loads(done.out)["left_behind"],
+                         [{"user": "mara", "uid": 1003, "owned": 0, "named": 1, "first": "/srv/share/notes"}])
+
+
 class BadInput(Case):
     def expect_unusable(self, message: bytes, *words: str) -> None:
         self.expect(self.run_command("facl-plan", list(words)), 2, b"", b"facl-plan: " + message + b"\n")
