@@ -76,11 +76,13 @@ def read_optional(folder: int, shown: bytes, name: bytes) -> bytes:
     return trusted.read_trusted(os.path.join(shown, name)) if has(folder, name) else b""
 
 
-def read_snapshot(folder: bytes) -> Snapshot:
+def read_snapshot(folder: bytes, needs_links: bool = True) -> Snapshot:
+    """A snapshot; one without links, which facl-snapshot did not make, only where these are not needed."""
     descriptor = check_texts(folder)
-    if not has(descriptor, b"links"):
+    if needs_links and not has(descriptor, b"links"):
         raise Failure(folder + b": is no snapshot: links is not in it: make one by facl-snapshot")
-    passwd, group, links = (trusted.read_trusted(os.path.join(folder, name)) for name in (b"passwd", b"group", b"links"))
+    passwd, group = (trusted.read_trusted(os.path.join(folder, name)) for name in (b"passwd", b"group"))
+    links = read_optional(descriptor, folder, b"links")
     inodes = read_optional(descriptor, folder, b"inodes")
     os.close(descriptor)
     try:

@@ -505,6 +505,56 @@ class Owners(Case):
                          [{"user": "mara", "uid": 1003, "owned": 0, "named": 1, "first": "/srv/share/notes"}])
 
 
+class AnyDump(Case):
+    """A folder with the texts of `getfacl -R`, as administrators keep them."""
+
+    OPEN = b"facl-plan: old: the directories above are not recorded, so they are taken as open; hard links are not known"
+    RELATIVE = OPEN + b"; names do not start at the root of the file system, so no plan is written for facl-apply\n"
+    RECORDS = (b"# file: %snotes\n# owner: ines\n# group: staff\nuser::rw-\nuser:mara:rw-\t\t\t#effective:r--\ngroup::r--\nmask::r--\nother::---\n\n"
+               b"# file: %sdrafts\n# owner: mara\n# group: design\n# flags: -s-\nuser::rwx\ngroup::rwx\nother::---\n\n"
+               b"# file: %sdrafts/logo\n# owner: mara\n# group: design\nuser::rw-\ngroup::rw-\nother::---\n\n")
+
+    def plan_of(self, begin: bytes, script: bytes, *options: str) -> Done:
+        if not os.path.exists(self.path("old")):
+            os.mkdir(self.path("old"))
+        for name in ("passwd", "group"):
+            self.write("old/" + name, self.read("before/" + name))
+        self.write("old/dump", self.RECORDS.replace(b"%s", begin))
+        self.write("edits", script)
+        return self.run_command("facl-plan", [*options, "old", "edits"])
+
+    def test_relative_names(self) -> None:
+        done = self.plan_of(b"", b"setfacl -m u:guest:r notes drafts/logo\n")
+        self.expect(done, 0, b"mara   r-- -> rw-     1 file    first: notes\n"
+                             b"guest  none -> r--    1 file    first: notes\n"
+                             b"guest  no gain        1 file    drafts grants no search (other::---); add: setfacl -n -m u:guest:x drafts\n"
+                             b"2 files change owner, group, flags or lists\n", self.RELATIVE)
+        self.assertEqual(sorted(os.listdir(self.folder)), ["before", "edits", "old"])
+
+    def test_files_and_users_of_relative_names(self) -> None:
+        done = self.plan_of(b"", b"rm notes\nuserdel mara\n")
+        self.assertEqual(done.out.splitlines()[-3:], [
+            b"0 files change owner, group, flags or lists; 0 files are made, 1 removed; 1 command has to be run by hand",
+            b"by hand: userdel mara", b"mara is removed and still owns 2 files, first: drafts"])
+        report = json.loads(self.plan_of(b"", b"rm -r drafts\nchown ines:audit notes\n", "--json").out)
+        self.assertEqual((report["plan"], report["records"], report["removed"], report["by_hand"]),
+                         (None, ["notes"], ["drafts", "drafts/logo"], []))
+        self.assertEqual(self.plan_of(b"", b"chown ines notes\n").status, 3)
+        self.assertEqual(self.plan_of(b"", b"rm -r drafts notes\n").status, 0)
+
+    def test_the_folder_itself_is_recorded(self) -> None:
+        self.RECORDS = b"# file: .\n# owner: root\n# group: root\nuser::rwx\ngroup::---\nother::---\n\n" + AnyDump.RECORDS
+        done = self.plan_of(b"", b"setfacl -n -m u:guest:r notes\n")
+        self.assertEqual((done.status, done.messages), (0, self.RELATIVE))
+        self.assertIn(b"guest  no gain        1 file    . grants no search (other::---); add: setfacl -n -m u:guest:x,m::x .\n", done.out)
+
+    def test_whole_names(self) -> None:
+        done = self.plan_of(b"/srv/", b"setfacl -n -m u:guest:r srv/notes\n")
+        self.expect(done, 0, b"guest  none -> r--    1 file    first: srv/notes\n" + ONE_FILE + b"\n"
+                             b"old.plan: is written; next: facl-apply old.plan\n", self.OPEN + b"\n")
+        self.assertEqual(self.read("old.plan/new").count(b"# file: /srv/notes\n"), 1)
+
+
 class BadInput(Case):
     def expect_unusable(self, message: bytes, *words: str) -> None:
         self.expect(self.run_command("facl-plan", list(words)), 2, b"", b"facl-plan: " + message + b"\n")
@@ -525,12 +575,7 @@ class BadInput(Case):
         self.write("edits", b"chmod 600 srv/share/one\n")
         self.expect_unusable(b"absent: no such folder: make a snapshot by facl-snapshot", "absent", "edits")
         self.expect_unusable(b"edits: no such folder: make a snapshot by facl-snapshot", "edits", "edits")
-        os.rename(self.path("before/links"), self.path("links"))
-        self.expect_unusable(b"before: is no snapshot: links is not in it: make one by facl-snapshot", "before", "edits")
-        os.rename(self.path("links"), self.path("before/links"))
         dump = self.read("before/dump")
-        self.write("before/dump", dump[dump.index(b"# file: /srv/share/\n"):])
-        self.expect_unusable(b"before: has no directories above its files: make a snapshot by facl-snapshot", "before", "edits")
         self.write("before/dump", dump[:-23])
         line = dump[: dump.index(b"# file: /srv/share/two")].count(b"\n") + 1
         self.expect_unusable(b"before: the program does not load it: facl: setup: dump: text line %d: access list: group:: missing" % line,

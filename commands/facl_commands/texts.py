@@ -1,0 +1,174 @@
+"""Any dump: a folder with passwd, group and dump alone, or three files by name, also without the directories above its files.
+
+A command calls add_source for its words and opens what is given by opened; then notice has what such a snapshot cannot tell,
+find_tops the files that no recorded directory is above, and list_below listings from these on.
+"""
+from __future__ import annotations
+
+import argparse
+import contextlib
+import os
+import re
+import subprocess
+import tempfile
+from typing import Iterator, List, NamedTuple, Optional, Set
+
+from . import environment
+from .messages import Failure, reason
+from .names import path_order, read_name, read_path, script_word, shown_path
+from .people import rows_of
+from .program import Region, Session
+from .trusted import open_trusted, read_trusted
+
+DUMP = b"dump"
+KINDS = ("user", "group")
+NAMED = {"passwd": re.compile(rb"^(?:#[ \t]*owner:[ ]?|(?:default:)?u(?:ser)?:)([^:\n]+)", re.MULTILINE),
+         "group": re.compile(rb"^(?:#[ \t]*group:[ ]?|(?:default:)?g(?:roup)?:)([^:\n]+)", re.MULTILINE)}
+KEYS_AT_ONCE = 500  # Of getent.
+LIVE_ROOT = re.compile(rb"^[ \t]*#[ \t]*file:[ ]?/+[ \t]*$", re.MULTILINE)
+FILE_NAME = re.compile(rb"^[ \t]*#[ \t]*file:[ ]?(.*)$", re.MULTILINE)
+ROOM = 60_000  # Bytes of names in a line, which may have 65,536.
+NO_FILE = b": no such file"
+
+
+class Source(NamedTuple):
+    """What is asked of."""
+
+    folder: bytes  # Which has passwd, group and dump.
+    shown: bytes  # What a person gave.
+    is_made: bool  # Whether the folder is made here, and goes with the command.
+
+
+def is_dump_given(words: List[str]) -> bool:
+    """Whether --dump is in the place of SNAPSHOT."""
+    options = words[: words.index("--")] if "--" in words else words
+    return any(word == "--dump" or word.startswith("--dump=") for word in options)
+
+
+def add_source(parser: argparse.ArgumentParser, words: List[str], group_option: str = "--group") -> None:
+    """Takes SNAPSHOT, or --dump FILE in its place."""
+    parser.add_argument("--dump", metavar="FILE", help="a file of getfacl -R, in place of SNAPSHOT")
+    parser.add_argument("--passwd", metavar="FILE", help="with --dump: the users; without it those of the system")
+    parser.add_argument(group_option, metavar="FILE", dest="group_file", help="with --dump: the groups; without it those of the system")
+    if is_dump_given(words):
+        parser.set_defaults(snapshot=None)
+    else:
+        parser.add_argument("snapshot", metavar="SNAPSHOT")
+
+
+@contextlib.contextmanager
+def opened(given: argparse.Namespace) -> Iterator[Source]:
+    """A folder with the texts that are given; where they are files, one with links to them, which is removed at the end."""
+    if given.dump is None:
+        if given.passwd is not None or given.group_file is not None:
+            raise Failure(b"--passwd and the file of groups go with --dump: a SNAPSHOT has its own")
+        yield Source(os.fsencode(given.snapshot), os.fsencode(given.snapshot), False)
+        return
+    with tempfile.TemporaryDirectory(prefix="facl.") as work:
+        for name, file in (("dump", given.dump), ("passwd", given.passwd), ("group", given.group_file)):
+            target = os.path.join(work, name)
+            if file is not None:
+                os.close(open_trusted(os.fsencode(file), os.O_RDONLY))
+                os.symlink(os.path.abspath(os.fsencode(file)), os.fsencode(target))
+            else:
+                with open(target, "wb") as made:
+                    made.write(rows_of_system(name, read_trusted(os.fsencode(given.dump))))
+        yield Source(os.fsencode(work), os.fsencode(given.dump), True)
+
+
+def getent(words: List[bytes]) -> bytes:
+    """Rows of the system; keys that nobody has give none."""
+    try:
+        return subprocess.run([b"getent", *words], stdin=subprocess.DEVNULL, stdout=subprocess.PIPE, env=environment.of_called(), check=False).stdout
+    except OSError as error:
+        raise Failure(b"getent: " + reason(error)) from error
+
+
+def rows_of_system(database: str, dump: bytes) -> bytes:
+    """passwd or group of the system, also the rows that it gives only where it is asked for them by a name or id of the dump."""
+    word = database.encode()
+    text = getent([word])
+    known = {field for row in rows_of(text) for field in (row[0], row[2])}
+    lacking = sorted({read_name(match[1].strip()) for match in NAMED[database].finditer(dump)} - known)
+    for start in range(0, len(lacking), KEYS_AT_ONCE):
+        text += getent([word, b"--", *lacking[start : start + KEYS_AT_ONCE]])
+    return text
+
+
+def names_without_row(passwd: bytes, group: bytes, dump: bytes) -> List[bytes]:
+    """The users and groups that a dump names, and that have no row; ids need none."""
+    found: List[bytes] = []
+    for kind, database, rows in zip(KINDS, ("passwd", "group"), (passwd, group)):
+        known = {row[0] for row in rows_of(rows)}
+        names = {read_name(match[1].strip()) for match in NAMED[database].finditer(dump)}
+        found += [kind.encode() + b" " + name for name in sorted(names - known) if not name.isdigit()]
+    return found
+
+
+def notice(folder: bytes, dump: bytes) -> Optional[bytes]:
+    """What a snapshot cannot tell; None where facl-snapshot made it."""
+    found: List[bytes] = []
+    if LIVE_ROOT.search(dump) is None:
+        found.append(b"the directories above are not recorded, so they are taken as open")
+    if not os.path.exists(os.path.join(folder, b"links")):
+        found.append(b"hard links are not known")
+    return b"; ".join(found) or None
+
+
+def has_recorded_above(path: bytes, recorded: Set[bytes]) -> bool:
+    """Whether a directory above a path is recorded."""
+    above = path
+    while b"/" in above:
+        above = above.rpartition(b"/")[0]
+        if above in recorded:
+            return True
+    return False
+
+
+def tops_of(dump: bytes) -> List[bytes]:
+    """The paths that no recorded directory is above, in path order; the root alone where it is recorded."""
+    recorded = {read_path(match[1]) for match in FILE_NAME.finditer(dump)}
+    if b"" in recorded:
+        return [b""]
+    return sorted((path for path in recorded if not has_recorded_above(path, recorded)), key=path_order)
+
+
+def find_tops(session: Session, folder: bytes) -> List[bytes]:
+    """The tops of the files that a session starts with."""
+    if not session.ask(b"getfacl -- .\n").messages:
+        return [b""]
+    return tops_of(read_trusted(os.path.join(folder, DUMP)))
+
+
+def operands_of(paths: List[bytes]) -> List[List[bytes]]:
+    """The words of paths, in groups that a line has room for."""
+    found: List[List[bytes]] = [[]]
+    room = ROOM
+    for path in paths:
+        word = script_word(shown_path(path))
+        if len(word) >= room and found[-1]:
+            found.append([])
+            room = ROOM
+        room -= len(word) + 1
+        found[-1].append(word)
+    return found
+
+
+def list_below(session: Session, tops: List[bytes]) -> List[Region]:
+    """Listings of the files as they are now, in path order, with ids as numbers; a top that is gone has none."""
+    found: List[Region] = []
+    for words in operands_of(tops) if tops else []:
+        answer = session.ask(b"getfacl -R -n -E -- " + b" ".join(words) + b"\n")
+        if not answer.messages:
+            found.append(answer.output)
+        elif not answer.messages[0].endswith(NO_FILE):
+            raise Failure(b"the program refused to list the files: " + answer.messages[0])
+        elif len(words) > 1:
+            found += [region for word in words for region in list_word(session, word)]
+    return found
+
+
+def list_word(session: Session, word: bytes) -> List[Region]:
+    """The listing of one top; none where it is gone."""
+    answer = session.ask(b"getfacl -R -n -E -- " + word + b"\n")
+    return [] if answer.messages else [answer.output]
