@@ -175,8 +175,8 @@ def give_all(command: Command, way: Way, carrier: Carrier, is_whole: bool) -> in
     if left or carrier.is_interrupted() and not way.is_undo:
         say_list(command, left)
         return put_back(command, way, carrier)
-    if is_whole:
-        end(command, way, carrier, plan_folder.UNDONE if way.is_undo else plan_folder.APPLIED)
+    whole = plan_folder.UNDONE if way.is_undo else plan_folder.APPLIED
+    end(command, way, carrier, whole if is_whole else plan_folder.UNDONE_IN_PART)
     command.tell(counted(len(carrier.seen), "file is", "files are") + (b" as before" if way.is_undo else b" as planned"))
     return DONE
 

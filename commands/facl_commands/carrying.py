@@ -11,7 +11,7 @@ from .live import NotFound, OpenFile, Opener, Seen
 from .messages import SIGNALS, reason
 from .names import path_order
 from .snapshot import Identity
-from .way import Look, Way, closes, is_expected, look_at, opens, unexpected
+from .way import Look, Way, closes, is_expected, look_at, opens, unexpected, was_closed
 
 OFTEN = 64  # Files between two looks at the signals that wait.
 
@@ -38,7 +38,7 @@ class Carrier:
         self.folders: Dict[int, int] = {}  # A directory of each file system that was changed.
 
     def add_changed(self, seen: Dict[bytes, Seen]) -> None:
-        if self.way.was_cut_off():
+        if self.way.is_in_part():
             self.changed += [path for path, it in seen.items() if it.record != self.way.start(path)]
 
     def begin(self) -> None:
@@ -56,7 +56,7 @@ class Carrier:
     def run(self) -> Dict[bytes, bytes]:
         """Gives the files their new records; returns those that did not get them, with the reason. A plan that is taken back
         goes on after the first of these; one that is applied ends there, or at a signal, which is no reason."""
-        left = self.give([path for path in self.seen if opens(self.way, path)] if os.geteuid() != 0 else [])
+        left = self.open_all(self.seen) if os.geteuid() != 0 else {}
         while self.later and (self.way.is_undo or not left):
             left.update(self.open_later())
         if left and not self.way.is_undo:
@@ -85,7 +85,21 @@ class Carrier:
         except OSError as error:
             left.update({path: b"is not in the journal, which cannot be written: " + reason(error) for path in seen_ones})
         if self.way.is_undo or not left:
-            left.update(self.give([path for path in seen_ones if opens(self.way, path)]))
+            left.update(self.open_all(seen_ones))
+        return left
+
+    def open_all(self, seen: Dict[bytes, Seen]) -> Dict[bytes, bytes]:
+        """Opens directories to the caller, for the files below: those that the plan opens, and those that a run which was cut off
+        has closed, which get the record of the start again."""
+        left = self.give([path for path in seen if opens(self.way, path)])
+        with Opener() as opener:
+            for path in [path for path, it in seen.items() if self.later and was_closed(self.way, path, it.record)]:
+                try:
+                    self.put_one_back(opener, path)
+                except (NotFound, Mismatch) as error:
+                    left[path] = error.text
+                except OSError as error:
+                    left[path] = reason(error)
         return left
 
     def give(self, paths: Iterable[bytes]) -> Dict[bytes, bytes]:
@@ -115,7 +129,7 @@ class Carrier:
             seen = file.look()
             if seen != self.seen[path]:
                 self.check_again(path, seen)
-            if seen.names > 1 and seen.identity in self.finished:
+            if seen.names > 1 and seen.identity in self.finished and seen.record == self.way.end(path):
                 return
             self.changed.append(path)
             if seen.device not in self.folders:
@@ -130,7 +144,8 @@ class Carrier:
         """Fails where a file is another one than before, or is not as it was."""
         if seen.identity != self.seen[path].identity:
             raise Mismatch(b"was replaced by another file")
-        if seen.identity not in self.finished and not is_expected(self.way, path, seen.record):
+        is_done = seen.identity in self.finished and seen.record == self.way.end(path)  # By another name.
+        if not is_done and not is_expected(self.way, path, seen.record):
             raise Mismatch(b"was changed: " + differences.parts(seen.record, self.way.start(path)))
 
     def remember_folder(self, opener: Opener, device: int) -> None:

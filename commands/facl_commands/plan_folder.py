@@ -14,14 +14,16 @@ import stat
 from contextlib import contextmanager
 from typing import Dict, Iterator, NamedTuple, Optional, Tuple
 
-from . import system, trusted
+from . import lists, system, trusted
 from .messages import SIGNALS, Failure, reason
 
 VERSION = b"facl-plan 2\n"
-NAMES = (b"plan", b"edits", b"old", b"new", b"files", b"by_hand", b"by_hand_undo", b"by_hand_done", b"journal", b"state")
+LOCK = b"lock"  # Nobody but the owner can open it, also where a group reads the plan.
+NAMES = (LOCK, b"plan", b"edits", b"old", b"new", b"files", b"by_hand", b"by_hand_undo", b"by_hand_done", b"journal", b"state")
 NEW = b".new"  # At the end of a name while the file is written.
 # What facl-apply has done, in the file `state`; without it nothing was done.
 APPLYING, APPLIED, UNDOING, UNDONE = b"applying\n", b"applied\n", b"undoing\n", b"undone\n"
+UNDONE_IN_PART = b"undone in part\n"  # Files that somebody had changed were left out.
 CREATE = os.O_WRONLY | os.O_CREAT | os.O_EXCL | os.O_NOFOLLOW | os.O_CLOEXEC
 
 
@@ -71,8 +73,12 @@ class Folder(NamedTuple):
         return next((it for it in sorted(map(os.fsencode, os.listdir(self.descriptor))) if it not in known), None)
 
     def lock(self) -> None:
+        """Locks it until the command ends."""
+        descriptor = self.descriptor
+        if self.has(LOCK):
+            descriptor = os.open(LOCK, os.O_RDONLY | os.O_NOFOLLOW | os.O_CLOEXEC, dir_fd=self.descriptor)
         try:
-            fcntl.flock(self.descriptor, fcntl.LOCK_EX | fcntl.LOCK_NB)
+            fcntl.flock(descriptor, fcntl.LOCK_EX | fcntl.LOCK_NB)
         except BlockingIOError as error:
             raise Failure(self.name + b": another facl-plan or facl-apply is at work on it") from error
 
@@ -207,14 +213,16 @@ def write_plan(target: Target, files: Dict[bytes, bytes], group: Optional[int]) 
     try:
         with signals_wait():
             made = new_folder(place)
+        made[1].write(LOCK, b"")
         made[1].lock()
         for name, text in {b"plan": VERSION, **files}.items():
             made[1].write(name, text)
         share(made[1], group)
         os.fsync(made[1].descriptor)
         with signals_wait():
-            kept = put_in_place(target, made[0])
-            made = None
+            put_in_place(target, made[0])
+            name, made = made[0], None
+            kept = put_away(target, name)
         os.fsync(place.above)
         return kept
     except OSError as error:
@@ -228,13 +236,22 @@ def share(folder: Folder, group: Optional[int]) -> None:
     """Lets the members of a group read it."""
     if group is None:
         return
-    for name in os.listdir(folder.descriptor):
+    for name in set(os.listdir(folder.descriptor)) - {os.fsdecode(LOCK)}:
         descriptor = os.open(name, os.O_RDONLY | os.O_NOFOLLOW | os.O_CLOEXEC, dir_fd=folder.descriptor)
-        os.fchown(descriptor, -1, group)
-        os.fchmod(descriptor, 0o640)
+        share_one(descriptor, group, 0o640)
         os.close(descriptor)
-    os.fchown(folder.descriptor, -1, group)
-    os.fchmod(folder.descriptor, 0o750)
+    share_one(folder.descriptor, group, 0o750)
+
+
+def share_one(descriptor: int, group: int, mode: int) -> None:
+    """Without the list that the folder above gave it, whose users would get what the mode gives the group."""
+    try:
+        os.removexattr(descriptor, lists.ACCESS)
+    except OSError as error:
+        if error.errno not in (errno.ENODATA, errno.ENOTSUP):
+            raise
+    os.fchown(descriptor, -1, group)
+    os.fchmod(descriptor, mode)
 
 
 def remove(place: Place, name: bytes, folder: Folder) -> bool:
@@ -251,33 +268,33 @@ def remove(place: Place, name: bytes, folder: Folder) -> bool:
     return True
 
 
-def put_in_place(target: Target, made: bytes) -> Optional[bytes]:
-    """By one rename, and one before it where a plan is there; returns the name of that one where it is kept."""
+def put_in_place(target: Target, made: bytes) -> None:
+    """By one rename; where a plan is there, the two change places, so that at no moment the name is free."""
     place, old = target
     if old is None:
         system.rename_new(made, place.name, place.above)
-        return None
-    if not old.is_of(place):
+    elif not old.is_of(place):
         raise Failure(place.shown + b": was replaced meanwhile, so nothing is written: run facl-plan again")
+    else:
+        system.exchange(made, place.name, place.above)
+
+
+def put_away(target: Target, name: bytes) -> Optional[bytes]:
+    """Removes the plan that was there, which has this name now; returns its new name where it is kept."""
+    place, old = target
+    if old is None:
+        return None
     is_kept = old.has(b"state") or old.has(b"by_hand_done") or old.others() is not None
-    aside = keep(place) if is_kept else Place(place.above, made + b".old", place.shown)
-    if not is_kept:
-        system.rename_new(place.name, aside.name, place.above)
-    try:
-        system.rename_new(made, place.name, place.above)
-    except OSError:
-        system.rename_new(aside.name, place.name, place.above)
-        raise
-    if not is_kept and not remove(place, aside.name, old):
-        aside, is_kept = keep(Place(place.above, aside.name, aside.shown), place), True
-    return aside.shown if is_kept else None
+    if is_kept or not remove(place, name, old):
+        return keep(place, name).shown
+    return None
 
 
-def keep(place: Place, beside: Optional[Place] = None) -> Place:
-    """Gives what is at a place the first name with a number that is free."""
-    for numbered in (beside or place).numbered():
+def keep(place: Place, name: bytes) -> Place:
+    """Gives what has a name the first one of a place with a number that is free."""
+    for numbered in place.numbered():
         try:
-            system.rename_new(place.name, numbered.name, place.above)
+            system.rename_new(name, numbered.name, place.above)
         except FileExistsError:
             continue
         return numbered

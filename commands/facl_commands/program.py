@@ -12,6 +12,7 @@ from typing import IO, Dict, Iterator, List, NamedTuple, Optional, Type
 
 from .messages import Failure
 
+FILE_LIMIT = 268_435_456  # Bytes of a text that the program loads.
 HOME = os.path.dirname(os.path.dirname(os.path.realpath(__file__)))  # commands/, or PREFIX/lib/facl.
 INSTALLED = os.path.join(HOME, "..", "..", "bin", "facl")
 BUILT = os.path.join(HOME, "..", "crates", "facl_cli", "out", "facl_cli")
@@ -136,6 +137,9 @@ class Session:
         last = messages[-1] if messages else b"status %d" % status
         if last.startswith(b"facl: setup: "):
             return Failure(b"%s: the program does not load it: %s" % (self.folder, last))
+        if last == b"facl: dump: cannot read" and os.path.getsize(os.path.join(self.folder, b"dump")) > FILE_LIMIT:
+            return Failure(self.folder + b": its dump has more than 268,435,456 bytes, the most that the program reads: take several "
+                           b"snapshots by facl-snapshot --split")
         return Failure(b"the program ended early: %s" % last)
 
 

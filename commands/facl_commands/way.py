@@ -34,6 +34,10 @@ class Way(NamedTuple):
     def was_cut_off(self) -> bool:
         return self.state in (plan_folder.APPLYING, plan_folder.UNDOING)
 
+    def is_in_part(self) -> bool:
+        """Whether each file may be as it was, as planned, or between the two."""
+        return self.was_cut_off() or self.state == plan_folder.UNDONE_IN_PART
+
     def boot(self) -> str:
         return self.work.boot if self.journal is None else self.journal.boot
 
@@ -79,6 +83,11 @@ def closes(way: Way, path: bytes) -> bool:
     return search_of(way, path) == (True, False)
 
 
+def was_closed(way: Way, path: bytes, now: Record) -> bool:
+    """Whether a run that was cut off has left a directory closed to the caller which is only to be closed at the end."""
+    return way.is_in_part() and closes(way, path) and not owner_permissions(now.access) & 1
+
+
 def fault_of(way: Way, devices: Devices, path: bytes, seen: Seen) -> Optional[bytes]:
     """Why a file is not the one that the plan is about."""
     file = way.work.files[path]
@@ -110,7 +119,7 @@ def look_at(way: Way, paths: Iterable[bytes]) -> Look:
                 fault = reason(error)
             if fault is None:
                 look.files[path] = seen
-                if not is_root and opens(way, path) and seen.record != way.end(path):
+                if not is_root and (opens(way, path) and seen.record != way.end(path) or was_closed(way, path, seen.record)):
                     opened.append(path)
             else:
                 look.faults[path] = fault
@@ -120,7 +129,7 @@ def look_at(way: Way, paths: Iterable[bytes]) -> Look:
 def is_expected(way: Way, path: bytes, now: Record) -> bool:
     """Whether a file is as it was; after a run that was cut off it may be as planned too, or between the two."""
     start, end = way.start(path), way.end(path)
-    return now == start or way.was_cut_off() and (now == end or live.is_between(now, start, end))
+    return now == start or way.is_in_part() and (now == end or live.is_between(now, start, end))
 
 
 def unexpected(way: Way, look: Look) -> Dict[bytes, bytes]:
@@ -160,6 +169,7 @@ class Obstacles:
         self.drops_capabilities = drops_capabilities
         self.read_only: Dict[int, bool] = {}
         self.has_lists: Dict[int, bool] = {}
+        self.overlays: Dict[int, int] = {}  # As system.overlay_of says.
 
     def of_right(self, path: bytes, seen: Seen) -> Optional[bytes]:
         """Of a caller who is not root."""
@@ -187,8 +197,13 @@ class Obstacles:
         if device not in self.read_only:
             self.read_only[device] = bool(os.fstatvfs(file.descriptor).f_flag & os.ST_RDONLY)
             self.has_lists[device] = file.takes_lists()
+            self.overlays[device] = system.overlay_of(file.descriptor, device)
         if self.read_only[device]:
             return b"is on a file system that is mounted read-only"
+        has_names = seen.names > 1 and not seen.is_directory
+        if self.overlays[device] == system.OF_SEVERAL or has_names and self.overlays[device] == system.OF_ONE:
+            return b"would become another file, since it is " + (b"one of several names" if has_names else b"on another file system") + \
+                   b" in a lower layer of an overlay: chmod it to the mode that it has, and make a new snapshot and a new plan"
         if not self.has_lists[device] and (end.default or not is_minimal(end.access)):
             return b"is on a file system without access control lists"
         if self.drops_capabilities or seen.is_directory or seen.record.ids() == end.ids():
@@ -198,10 +213,11 @@ class Obstacles:
         return None
 
     def has_more(self, seen: Seen, end: Record) -> bool:
-        """Whether a file itself has to be opened: its file system is not known yet, or has an obstacle, or its owner changes."""
+        """Whether a file itself has to be opened: its file system is not known yet, or has an obstacle or is an overlay, or its owner
+        changes."""
         device = seen.device
         is_free = device in self.read_only and self.has_lists[device] and not self.read_only[device]
-        return not is_free or seen.owner != end.owner or seen.group != end.group
+        return not is_free or self.overlays[device] != system.NO_OVERLAY or seen.owner != end.owner or seen.group != end.group
 
     def all(self, look: Look) -> Dict[bytes, bytes]:
         """The obstacles of all files."""

@@ -137,6 +137,17 @@ class ThereAndBack(Tree):
         os.rename(self.make("other"), os.path.join(self.tree, "a"))
         self.expect_not_taken(b": was replaced by another file")
 
+    def test_what_was_left_out_can_be_taken_back_later(self) -> None:
+        self.planned(b"chmod 600 " + self.word("a") + b" " + self.word("b"))
+        self.assertEqual(self.apply().status, 0)
+        os.chmod(os.path.join(self.tree, "b"), 0o444)
+        done = self.apply("--undo", "--leave-changed")
+        self.assertEqual((done.status, done.out, self.mode("a"), self.mode("b")), (0, b"1 file is as before\n", 0o640, 0o444))
+        self.assertEqual(self.read("before.plan/state"), b"undone in part\n")
+        os.chmod(os.path.join(self.tree, "b"), 0o600)
+        self.expect(self.apply("--undo"), 0, b"2 files are as before\n")
+        self.assertEqual((self.mode("b"), self.read("before.plan/state")), (0o640, b"undone\n"))
+
     def test_links_on_the_way(self) -> None:
         self.planned(b"chmod 600 " + self.word("a"))
         os.rename(os.path.join(self.tree, "a"), os.path.join(self.tree, "away"))

@@ -583,6 +583,12 @@ class BadInput(Case):
         os.unlink(self.path("before/dump"))
         self.expect_unusable(b"before: is no snapshot: dump is not in it", "before", "edits")
 
+    def test_a_dump_above_the_limit(self) -> None:
+        self.write("edits", b"chmod 600 srv/share/one\n")
+        os.truncate(self.path("before/dump"), 268_435_457)
+        self.expect_unusable(b"before: its dump has more than 268,435,456 bytes, the most that the program reads: take several snapshots "
+                             b"by facl-snapshot --split", "before", "edits")
+
     def test_scripts(self) -> None:
         self.expect_unusable(b"absent: No such file or directory", "before", "absent")
         self.expect_unusable(b"before: Is a directory", "before", "before")

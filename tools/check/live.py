@@ -34,7 +34,9 @@ from typing import Callable, Dict, List, Optional, Tuple
 
 sys.dont_write_bytecode = True
 sys.path.insert(0, os.path.join(os.path.dirname(os.path.realpath(__file__)), "..", "lib"))
-from live_tree import CHANGING, GROUPS, TEXTS, USERS, Call, Check, Fault, Given, Tree, must, records_of, run, trace, word, write  # noqa: E402
+from live_tree import (  # noqa: E402
+    CHANGING, GROUPS, TEXTS, USERS, Call, Fault, Given, Tree, copy, must, records_of, run, trace, word, write,
+)
 from live_others import Others  # noqa: E402
 from script import at_signals  # noqa: E402
 from session import program_at  # noqa: E402
@@ -298,15 +300,16 @@ class Ways(Others):
         if made is None:
             return
         tree, first = made
-        for what in (self.full_disk, self.read_only, self.nobody_may):
+        for what in (self.full_disk, self.read_only, self.nobody_may):  # The tree stays as it was.
             what(tree, first)
         self.too_large(tree)
+        self.overlay(tree)
 
     def full_disk(self, tree: Tree, first: bytes) -> None:
         """The plan's folder is on a full disk: nothing is touched."""
         place = self.name(b"small")
         with Mounted([b"-t", b"tmpfs", b"-o", b"size=1m,mode=755", b"none"], place):
-            shutil.copytree(self.plan, os.path.join(place, b"plan"))
+            copy(self.plan, os.path.join(place, b"plan"))
             fill(os.path.join(place, b"filled"))
             done = must_say(self.command(b"facl-apply", os.path.join(place, b"plan")), 2, b"nothing is touched")
             if tree.listing() != first or b"No space left" not in done:
@@ -371,6 +374,31 @@ class Ways(Others):
             self.back_to(small, first)
         os.unlink(image)
         self.count("lists that are too large for their file system")
+
+    def overlay(self, tree: Tree) -> None:
+        """Files of a lower layer, which are copied when they are first changed: there and back; one of two names is refused."""
+        layers = self.name(b"layers")
+        with Mounted([b"-t", b"tmpfs", b"none"], layers):
+            for name in (b"lower", b"upper", b"work"):
+                os.mkdir(os.path.join(layers, name))
+            for name in (b"lower/f", b"lower/several"):
+                write(os.path.join(layers, name), b"")
+            os.link(os.path.join(layers, b"lower/several"), os.path.join(layers, b"lower/names"))
+            for script, status in ((b"setfacl -m u:1:r %s\n", 0), (b"setfacl -R -m u:1:r .\n", 2)):
+                self.on_overlay(tree, layers, script, status)
+        self.count("overlays", 2)
+
+    def on_overlay(self, tree: Tree, layers: bytes, script: bytes, status: int) -> None:
+        place = self.name(b"overlay")
+        options = b"lowerdir=%s/lower,upperdir=%s/upper,workdir=%s/work" % (layers, layers, layers)
+        with Mounted([b"-t", b"overlay", b"-o", options, b"none"], place):
+            tree.top = place
+            text = script % word(place + b"/f") if b"%s" in script else script.replace(b" .", b" " + word(place))
+            first = tree.listing()
+            self.planned(tree, text)
+            must(self.apply(), status)
+            must(self.apply(b"--undo"), 0 if status == 0 else 3)
+            self.back_to(tree, first)
 
     # --- by hand
 
@@ -479,7 +507,7 @@ def ask_kernel(user: bytes, file: bytes) -> bytes:
 
 
 PARTS: Dict[str, int] = {
-    "plans": 300, "kills": 4, "moments_of_kills": 10, "signals": 20, "faults": 3, "disks": 2, "hands": 30, "races": 500, "free": 40,
+    "plans": 200, "kills": 3, "moments_of_kills": 10, "signals": 20, "faults": 3, "disks": 2, "hands": 30, "races": 500, "free": 45,
     "watched": 20, "trusted": 1, "locks": 20, "capabilities": 1, "owners": 10, "chains": 1, "large": 0,
 }
 

@@ -26,11 +26,12 @@ import time
 import traceback
 from typing import Callable, Dict, List, NamedTuple, Optional, Set, Tuple
 
-from live_tree import CHANGING, UIDS, USERS, Call, Check, Fault, Held, Traced, Tree, become, must, records_of, run, trace, word, write
+from live_tree import CHANGING, UIDS, USERS, Call, Check, Fault, Held, Traced, Tree, become, copy, must, records_of, run, trace, word, write
 
 MALLORY, BEN, MARA, GUEST = UIDS[0], UIDS[1], UIDS[2], UIDS[3]
 LIBRARY = ctypes.CDLL(None, use_errno=True)
 RENAME_EXCHANGE = 2
+WAYS: List[List[bytes]] = [[], [b"--undo"]]  # The options of each.
 PR_SET_DUMPABLE = 4
 LOOKING = ["openat", "newfstatat", "fstat", "statx", "getxattr", "fstatfs", "flock", "rename", "fsync", "syncfs"]
 States = Dict[bytes, Tuple[object, ...]]
@@ -61,7 +62,7 @@ setfacl -m u:mara:rx,d:u:mara:rx %(o)s/d
 PLANNED = [b"a", b"d", b"d/f", b"z"]
 # What MALLORY exchanges; the last one is a change of its own files.
 EXCHANGES = [(b"a", b"link_a"), (b"d", b"link_d"), (b"a", b"private"), (b"a", b"other"), (b"d", b"root_folder"), (b"z", b"private"),
-             (b"d/f", b"private"), (b"d", b"empty"), (b"", b"")]
+             (b"d/f", b"private"), (b"d", b"empty"), (b"a", b"alike"), (b"", b"")]
 
 
 def exchange(one: bytes, other: bytes) -> bool:
@@ -105,7 +106,8 @@ class Others(Check):
             os.mkdir(os.path.join(self.race, name))
             os.chown(os.path.join(self.race, name), owner, 70100)
             os.chmod(os.path.join(self.race, name), mode)
-        for name, owner, mode in ((b"safe/f", 0, 0o600), (b"safe/a", 0, 0o600), (b"open/a", MALLORY, 0o644), (b"open/d/f", MALLORY, 0o4755),
+        for name, owner, mode in ((b"safe/f", 0, 0o600), (b"safe/a", 0, 0o600), (b"open/a", MALLORY, 0o644),
+                                  (b"open/alike", MALLORY, 0o644), (b"open/d/f", MALLORY, 0o4755),
                                   (b"open/z", BEN, 0o640), (b"open/private", 0, 0o600), (b"open/other", GUEST, 0o600),
                                   (b"open/root_folder/f", 0, 0o600)):
             place = os.path.join(self.race, name)
@@ -120,7 +122,8 @@ class Others(Check):
 
     def hold(self) -> None:
         """Keeps the files open, with what they have before and after the plan."""
-        kept = [b"safe", b"safe/f", b"safe/a", b"open/private", b"open/other", b"open/root_folder", b"open/root_folder/f", b"open/empty"]
+        kept = [b"safe", b"safe/f", b"safe/a", b"open/private", b"open/other", b"open/root_folder", b"open/root_folder/f", b"open/empty",
+                b"open/alike"]
         self.others = Held([os.path.join(self.race, name) for name in kept])
         self.files = Held([os.path.join(self.open, name) for name in PLANNED])
         self.kept, self.old = self.others.states(), self.files.states()
@@ -178,7 +181,10 @@ class Others(Check):
         self.one_race(self.races[seed % 100000])
 
     def one_race(self, race: Race) -> None:
+        reached = []
+
         def act(stop: int) -> None:
+            reached.append(stop)
             if not (stop and not race.one):
                 os.waitpid(child(MALLORY, lambda: self.attack(race)), 0)
 
@@ -189,7 +195,7 @@ class Others(Check):
         self.check_kept(f"{race}")
         self.check_answer(race, done)
         self.tidy(race)
-        self.count(f"races of {race.mode}, status {done.status}")
+        self.count(f"races of {race.mode}, status {done.status}" if reached else "races whose call was not reached")
 
     def attack(self, race: Race) -> None:
         """What MALLORY does; of its own files it makes programs that others run as it."""
@@ -277,7 +283,7 @@ class Others(Check):
             return
         held = Held(tree.files)
         try:
-            for options in ([], [b"--undo"]):
+            for options in WAYS:
                 self.watch(list(held.open.values()), options)
         finally:
             held.close()
@@ -296,7 +302,8 @@ class Others(Check):
         for user, one, other, found in zip(users, before, after, meanwhile):
             for descriptor, first, last, seen in zip(descriptors, one, other, found):
                 if seen - first - last:
-                    raise Fault(f"user {user} saw {seen - first - last} of {os.readlink(b'/proc/self/fd/%d' % descriptor)!r}; {first}, {last}")
+                    name = os.readlink(b"/proc/self/fd/%d" % descriptor)
+                    raise Fault(f"user {user} saw {seen - first - last} of {name!r}; {first}, {last}")
         self.count("moments in which somebody looked", sum(watcher.rounds for watcher in watchers))
         self.count("changes of files that were watched", len(descriptors))
 
@@ -314,17 +321,18 @@ class Others(Check):
             self.tampered(tree, first, what)
         self.tampered_ways(tree, first)
         self.tampered_snapshot()
+        self.name_wanted(tree)
 
     def tampered(self, tree: Tree, first: bytes, what: str) -> None:
         """A plan that somebody else can have written: nothing is touched."""
         kept = self.name(b"kept")
-        shutil.copytree(self.plan, kept, symlinks=True)
+        copy(self.plan, kept)
         TAMPERED[what](self.plan)
         done = self.apply()
         if done.returncode != 2 or b"not trusted" not in done.stderr and b"symbolic links" not in done.stderr:
             raise Fault(f"{what}: status {done.returncode}: {done.stderr!r}")
         planned = self.command(b"facl-plan", self.name(b"before"), self.name(b"edits"))
-        if planned.returncode == 0 and "of another" in what:
+        if planned.returncode == 0 and what.startswith("a folder"):
             raise Fault(f"{what}: facl-plan took it")
         for left in os.listdir(self.work):
             if left.startswith(b"before.plan"):
@@ -338,7 +346,7 @@ class Others(Check):
         folder = self.name(b"folder")
         for owner, mode, status in ((MALLORY, 0o755, 2), (0, 0o775, 2), (0, 0o777, 2), (MALLORY, 0o1777, 2), (0, 0o1777, 0)):
             os.mkdir(folder)
-            shutil.copytree(self.plan, os.path.join(folder, b"plan"))
+            copy(self.plan, os.path.join(folder, b"plan"))
             os.chown(folder, owner, 70100)
             os.chmod(folder, mode)
             must(self.command(b"facl-apply", os.path.join(folder, b"plan")), status)
@@ -351,17 +359,38 @@ class Others(Check):
             self.count("plans in folders of others", 2)
 
     def tampered_snapshot(self) -> None:
-        for name, what in ((b"", b"owner"), (b"", b"mode"), (b"dump", b"owner"), (b"dump", b"mode"), (b"links", b"owner"), (b"passwd", b"mode")):
+        for name, what in ((b"", "owner"), (b"", "mode"), (b"dump", "owner"), (b"dump", "mode"), (b"links", "owner"), (b"passwd", "mode")):
             snapshot = self.name(b"tampered")
-            shutil.copytree(self.name(b"before"), snapshot)
+            copy(self.name(b"before"), snapshot)
             place = os.path.join(snapshot, name)
-            if what == b"owner":
+            if what == "owner":
                 os.chown(place, MALLORY, -1)
             else:
                 os.chmod(place, 0o777 if not name else 0o666)
             must(self.command(b"facl-plan", snapshot, self.name(b"edits")), 2)
             shutil.rmtree(snapshot)
             self.count("snapshots that others could write")
+
+    def name_wanted(self, tree: Tree) -> None:
+        """In a sticky folder another user waits for the name of a plan to be free while facl-plan replaces it."""
+        folder = self.name(b"sticky")
+        os.mkdir(folder)
+        os.chmod(folder, 0o1777)
+        plan = os.path.join(folder, b"plan")
+        words = self.words(b"facl-plan", b"--plan", plan, self.name(b"before"), self.name(b"edits"))
+
+        def take(_stop: int) -> None:
+            os.waitpid(child(MALLORY, lambda: None if os.path.exists(plan) else os.mkdir(plan)), 0)
+
+        for round_number in range(3):
+            must(run(words, variables=self.variables()), 0)
+            done = trace(self, words, ["renameat2", "rename"], ["renameat2:signal=STOP:when=1+"], take)
+            if done.status != 0 or os.stat(plan).st_uid != 0 or len(os.listdir(folder)) != 1 + round_number:
+                raise Fault(f"a name that is wanted: {done}: {os.listdir(folder)}")
+            must(self.command(b"facl-apply", plan), 0)
+            must(self.command(b"facl-apply", b"--undo", plan), 0)
+            self.count("plans whose name is wanted")
+        shutil.rmtree(folder)
 
     # --- locks
 
@@ -404,7 +433,7 @@ class Others(Check):
             found.append(self.command(b"facl-plan", self.name(b"before"), self.name(b"edits")))
             found.append(self.apply())
 
-        for name, call in ((b"facl-apply", "fsync:signal=STOP:when=1+"), (b"facl-plan", "fsync:signal=STOP:when=1..8")):
+        for name, call in ((b"facl-apply", "fsync:signal=STOP:when=1..3+2"), (b"facl-plan", "fsync:signal=STOP:when=1..7+3")):
             words = [self.plan] if name == b"facl-apply" else [self.name(b"before"), self.name(b"edits")]
             done = trace(self, self.words(name, *words), ["fsync"], [call], both)
             if done.status != 0 or not found or any(it.returncode != 2 or b"is at work on it" not in it.stderr for it in found):
@@ -471,14 +500,21 @@ class Others(Check):
             raise Fault(f"applied by the owner under strace: {done}")
         calls = [call for call, _ in done.calls()]
         must(self.command(b"facl-apply", b"--undo", self.plan, user=MALLORY), 0)
-        for call in calls:
-            trace(self, words, CHANGING, [f"{call.name}:signal=KILL:when={call.number}"], user=MALLORY)
-            must(self.command(b"facl-apply", b"--undo", self.plan, user=MALLORY), 0)
+        undo = self.words(b"facl-apply", b"--undo", self.plan)
+        for turn, call in enumerate(calls * 2):
+            is_undo = turn >= len(calls)
+            if is_undo:
+                must(self.command(b"facl-apply", self.plan, user=MALLORY), 0)
+            trace(self, undo if is_undo else words, CHANGING, [f"{call.name}:signal=KILL:when={call.number}"], user=MALLORY)
+            if turn % 2:
+                must(self.command(b"facl-apply", self.plan, user=MALLORY), 0, 3)
+                self.check_tree(tree, self.expected(), "run again by the owner after a kill")
+            must(self.command(b"facl-apply", b"--undo", self.plan, user=MALLORY), 0, 3)
             if tree.listing() != first:
                 raise Fault(f"killed at {call}, as the owner: not undone")
         self.back_to(tree, first)
         self.count("plans that their owner applied")
-        self.count("kills of the owner's facl-apply", len(calls))
+        self.count("kills of the owner's facl-apply and --undo", 2 * len(calls))
 
     # --- sizes
 
@@ -513,7 +549,7 @@ class Others(Check):
         tree = Tree.of(self.given, top, [])
         if not self.planned(tree, b"setfacl -R -m u:mara:rX %s\n" % word(top)):
             raise Fault("no plan")
-        for options in ([], [b"--undo"]):
+        for options in WAYS:
             started = time.monotonic()
             must(run([b"prlimit", b"--nofile=300", *self.words(b"facl-apply", *options, self.plan)]), 0)
             seconds = time.monotonic() - started
@@ -572,8 +608,8 @@ def look_at(descriptor: int, seen: Set[str]) -> None:
 
 
 def as_link(plan: bytes) -> None:
-    os.rename(os.path.join(plan, b"files"), plan + b".files")
-    os.symlink(plan + b".files", os.path.join(plan, b"files"))
+    os.rename(os.path.join(plan, b"files"), os.path.join(plan, b"old_files"))
+    os.symlink(b"old_files", os.path.join(plan, b"files"))
 
 
 def as_fifo(plan: bytes) -> None:
@@ -585,10 +621,15 @@ def listed(plan: bytes, name: bytes) -> None:
     must(run([b"setfacl", b"-m", b"u:70001:rwx", os.path.join(plan, name)]), 0)
 
 
+def for_a_group(plan: bytes) -> None:
+    os.chown(plan, -1, 70100)
+    os.chmod(plan, 0o770)
+
+
 TAMPERED: Dict[str, Callable[[bytes], None]] = {
     "a folder of another user": lambda plan: os.chown(plan, MALLORY, -1),
     "a folder that all can write": lambda plan: os.chmod(plan, 0o777),
-    "a folder that a group can write": lambda plan: (os.chown(plan, -1, 70100), os.chmod(plan, 0o770)) and None,
+    "a folder that a group can write": for_a_group,
     "a folder with a list": lambda plan: listed(plan, b""),
     "a file of another user": lambda plan: os.chown(os.path.join(plan, b"files"), MALLORY, -1),
     "a file that all can write": lambda plan: os.chmod(os.path.join(plan, b"files"), 0o666),

@@ -47,9 +47,15 @@ def become(user: int) -> None:
         os.setresuid(user, user, user)
 
 
-def run(words: List[bytes], text: bytes = b"", user: int = 0, **variables: str) -> "subprocess.CompletedProcess[bytes]":
-    return subprocess.run(words, input=text, capture_output=True, env={**os.environ, **variables}, check=False,
+def run(words: List[bytes], text: bytes = b"", user: int = 0, variables: Optional[Dict[str, str]] = None,
+        ) -> "subprocess.CompletedProcess[bytes]":
+    return subprocess.run(words, input=text, capture_output=True, env={**os.environ, **(variables or {})}, check=False,
                           preexec_fn=lambda: become(user))
+
+
+def copy(folder: bytes, target: bytes) -> None:
+    """Copies a folder with all that is in it, as it is."""
+    must(run([b"cp", b"-a", b"-T", b"--", folder, target]), 0)
 
 
 def must(done: "subprocess.CompletedProcess[bytes]", *statuses: int) -> bytes:
@@ -176,7 +182,8 @@ class Tree:
             lambda: b"setfacl --set %s %s" % (self.whole_list(), both),
             lambda: b"setfacl -b %s" % both,
             lambda: b"setfacl -k %s" % word(folder),
-            lambda: b"chmod %s%o %s" % (b"-R " * (self.chance.random() < 0.3), self.chance.choice([0o750, 0o640, 0o2770, 0o4711, 0o604, 0o1777]), both),
+            lambda: b"chmod %s%o %s" % (b"-R " * (self.chance.random() < 0.3),
+                                        self.chance.choice([0o750, 0o640, 0o2770, 0o4711, 0o604, 0o1777]), both),
             lambda: b"chacl -B %s" % word(place),
             lambda: b"who r %s" % word(place),
         ]
@@ -238,7 +245,7 @@ class Check:
 
     def command(self, name: bytes, *words: bytes, user: int = 0) -> "subprocess.CompletedProcess[bytes]":
         """Runs a command, as a user where one is given."""
-        return run(self.words(name, *words), user=user, **self.variables())
+        return run(self.words(name, *words), user=user, variables=self.variables())
 
     def variables(self) -> Dict[str, str]:
         return {"PATH": os.fsdecode(self.bin) + ":" + os.environ["PATH"], "FACL": self.given.program}
@@ -330,7 +337,7 @@ def trace(check: Check, words: List[bytes], names: List[str], injected: List[str
     was so far, and the command goes on after it."""
     reader, writer = os.pipe()
     os.fchown(writer, user, -1)
-    options = ["strace", "-f", "-qq", "--seccomp-bpf", "-o", f"/dev/fd/{writer}", "-e", "trace=" + ",".join(names)]
+    options = ["strace", "-f", "-qq", "-o", f"/dev/fd/{writer}", "-e", "trace=" + ",".join(names)]
     options += [word for text in injected for word in ("-e", "inject=" + text)]
     lines = []
     stops = 0
