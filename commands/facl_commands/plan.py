@@ -5,6 +5,7 @@ import argparse
 import grp
 import json
 import os
+import re
 import sys
 from functools import lru_cache
 from typing import Dict, Iterator, List, NamedTuple, Optional, Set
@@ -21,6 +22,7 @@ from .trusted import read_trusted
 
 SOMETHING, REFUSED, NOTHING = 0, 1, 3
 WARNING = b"setfacl: warning: default entries dropped"
+RELATIVE_NAME = re.compile(rb"^[ \t]*#[ \t]*file:(?! ?/)", re.MULTILINE)  # In a dump: one that does not start at the root.
 PLAIN = bytes(range(0x20, 0x7F)) + b"\t\n"  # What is shown as it is, and what is between lines.
 QUESTIONS_WITH_EMPTY_ANSWERS = (b"who", b"may", b"index", b"changes")
 HELP = """\
@@ -404,7 +406,7 @@ def say_unknown(command: Command, folder: bytes) -> bool:
     root of the file system."""
     dump = read_trusted(os.path.join(folder, b"dump"))
     found = texts.notice(folder, dump)
-    is_whole = found is None or all(name.startswith(b"/") for name in texts.FILE_NAME.findall(dump))
+    is_whole = found is None or RELATIVE_NAME.search(dump) is None
     if found is not None:
         rest = b"" if is_whole else b"; names do not start at the root of the file system, so no plan is written for facl-apply"
         command.say(folder + b": " + found + rest)

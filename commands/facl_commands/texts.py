@@ -22,11 +22,12 @@ from .trusted import open_trusted, read_trusted
 
 DUMP = b"dump"
 KINDS = ("user", "group")
-NAMED = {"passwd": re.compile(rb"^(?:#[ \t]*owner:[ ]?|(?:default:)?u(?:ser)?:)([^:\n]+)", re.MULTILINE),
-         "group": re.compile(rb"^(?:#[ \t]*group:[ ]?|(?:default:)?g(?:roup)?:)([^:\n]+)", re.MULTILINE)}
+NAMED = {"passwd": re.compile(rb"[ \t]*(?:#[ \t]*owner:[ ]?|(?:d(?:efault)?:)?u(?:ser)?:)([^:#]+)"),
+         "group": re.compile(rb"[ \t]*(?:#[ \t]*group:[ ]?|(?:d(?:efault)?:)?g(?:roup)?:)([^:#]+)")}
 KEYS_AT_ONCE = 500  # Of getent.
-LIVE_ROOT = re.compile(rb"^[ \t]*#[ \t]*file:[ ]?/+[ \t]*$", re.MULTILINE)
-FILE_NAME = re.compile(rb"^[ \t]*#[ \t]*file:[ ]?(.*)$", re.MULTILINE)
+LIVE_ROOT = b"# file: /\n"  # As facl-snapshot writes it.
+FILE_NAME = re.compile(rb"[ \t]*#[ \t]*file:[ ]?(.*)", re.DOTALL)
+PIECE = 1 << 20
 ROOM = 60_000  # Bytes of names in a line, which may have 65,536.
 NO_FILE = b": no such file"
 
@@ -69,7 +70,7 @@ def opened(given: argparse.Namespace) -> Iterator[Source]:
             target = os.path.join(work, name)
             if file is not None:
                 os.close(open_trusted(os.fsencode(file), os.O_RDONLY))
-                os.symlink(os.path.abspath(os.fsencode(file)), os.fsencode(target))
+                os.symlink(os.path.join(os.getcwdb(), os.fsencode(file)), os.fsencode(target))
             else:
                 with open(target, "wb") as made:
                     made.write(rows_of_system(name, read_trusted(os.fsencode(given.dump))))
@@ -84,12 +85,35 @@ def getent(words: List[bytes]) -> bytes:
         raise Failure(b"getent: " + reason(error)) from error
 
 
+def pieces_of(dump: bytes) -> Iterator[List[bytes]]:
+    """The lines of a dump, some at once."""
+    place = 0
+    while place < len(dump):
+        end = dump.find(b"\n", place + PIECE)
+        end = end if end >= 0 else len(dump)
+        yield dump[place:end].split(b"\n")
+        place = end + 1
+
+
+def distinct_lines(dump: bytes) -> Set[bytes]:
+    """The lines of a dump without those of files' names; most of the others are there often."""
+    lines: Set[bytes] = set()
+    for piece in pieces_of(dump):
+        lines.update(line for line in set(piece) if line[:7] != b"# file:")
+    return lines
+
+
+def names_in(database: str, lines: Set[bytes]) -> Set[bytes]:
+    """The users or groups that lines of a dump name, of which some are ids."""
+    return {read_name(match[1].strip()) for match in map(NAMED[database].match, lines) if match is not None}
+
+
 def rows_of_system(database: str, dump: bytes) -> bytes:
     """passwd or group of the system, also the rows that it gives only where it is asked for them by a name or id of the dump."""
     word = database.encode()
     text = getent([word])
     known = {field for row in rows_of(text) for field in (row[0], row[2])}
-    lacking = sorted({read_name(match[1].strip()) for match in NAMED[database].finditer(dump)} - known)
+    lacking = sorted(names_in(database, distinct_lines(dump)) - known)
     for start in range(0, len(lacking), KEYS_AT_ONCE):
         text += getent([word, b"--", *lacking[start : start + KEYS_AT_ONCE]])
     return text
@@ -98,17 +122,17 @@ def rows_of_system(database: str, dump: bytes) -> bytes:
 def names_without_row(passwd: bytes, group: bytes, dump: bytes) -> List[bytes]:
     """The users and groups that a dump names, and that have no row; ids need none."""
     found: List[bytes] = []
+    lines = distinct_lines(dump)
     for kind, database, rows in zip(KINDS, ("passwd", "group"), (passwd, group)):
         known = {row[0] for row in rows_of(rows)}
-        names = {read_name(match[1].strip()) for match in NAMED[database].finditer(dump)}
-        found += [kind.encode() + b" " + name for name in sorted(names - known) if not name.isdigit()]
+        found += [kind.encode() + b" " + name for name in sorted(names_in(database, lines) - known) if not name.isdigit()]
     return found
 
 
 def notice(folder: bytes, dump: bytes) -> Optional[bytes]:
     """What a snapshot cannot tell; None where facl-snapshot made it."""
     found: List[bytes] = []
-    if LIVE_ROOT.search(dump) is None:
+    if not dump.startswith(LIVE_ROOT) and b"\n" + LIVE_ROOT not in dump:
         found.append(b"the directories above are not recorded, so they are taken as open")
     if not os.path.exists(os.path.join(folder, b"links")):
         found.append(b"hard links are not known")
@@ -127,7 +151,8 @@ def has_recorded_above(path: bytes, recorded: Set[bytes]) -> bool:
 
 def tops_of(dump: bytes) -> List[bytes]:
     """The paths that no recorded directory is above, in path order; the root alone where it is recorded."""
-    recorded = {read_path(match[1]) for match in FILE_NAME.finditer(dump)}
+    comments = (line for piece in pieces_of(dump) for line in piece if b"#" in line[:9])
+    recorded = {read_path(match[1]) for match in map(FILE_NAME.match, comments) if match is not None}
     if b"" in recorded:
         return [b""]
     return sorted((path for path in recorded if not has_recorded_above(path, recorded)), key=path_order)
