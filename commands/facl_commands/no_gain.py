@@ -7,6 +7,7 @@ from typing import Dict, FrozenSet, Iterator, List, NamedTuple, Optional, Set, T
 
 from .messages import counted
 from .names import PLAIN_SHELL_WORD, script_word
+from .owners import ESCAPED_IN_NAMES
 from .people import Group, People, User
 from .program import Session
 from .records import Files, sorting_key
@@ -15,8 +16,8 @@ from .rights import NOTHING, SEARCH, Answers, Vector, directory_of
 OWNERS = re.compile(rb"# owner: ([0-9]+)\n# group: ([0-9]+)\n")
 NAMED = re.compile(rb"^(user|group):([0-9]+):(...)$", re.MULTILINE)
 MASK, OWNING_GROUP = re.compile(rb"^mask::(...)$", re.MULTILINE), re.compile(rb"^group::(...)$", re.MULTILINE)
-ESCAPED_IN_NAMES = re.compile(rb"[\\\n\r\t :,#]")  # As the program prints names of users and groups.
 MOST_DIRECTORIES = 8  # So many at most are opened by one line.
+ROOM_FOR_NAMES = 60_000  # Bytes of their words in a line.
 
 
 class Side(NamedTuple):
@@ -128,6 +129,12 @@ class Finder:
         self.old_places = {name: k for k, name in enumerate(old.answers.users)}
         self.groups = groups_by_user(new.people)
         before = groups_by_user(old.people)
+        self.of_uid: Dict[int, List[int]] = {}
+        self.of_gid: Dict[int, List[int]] = {}
+        for place in self.places:
+            self.of_uid.setdefault(self.user(place).uid, []).append(place)
+            for gid in self.groups[self.user(place).name]:
+                self.of_gid.setdefault(gid, []).append(place)
         names = [(k, self.user(k).name) for k in self.places]
         self.joined = {k for k, name in names if name in before and self.groups[name] - before[name]}
 
@@ -137,15 +144,10 @@ class Finder:
     def named(self, old: bytes, new: bytes) -> List[Named]:
         """Those whom a record names otherwise than before, and those who are in a group in which they were not."""
         uids, gids = named_ids(old, new)
-        found = []
-        for place in self.places:
-            user = self.user(place)
-            by_group = gids & self.groups[user.name]
-            if user.uid in uids or place in self.joined:
-                found.append(Named(place, None))
-            elif by_group:
-                found.append(Named(place, min(by_group)))
-        return found
+        found = {place: Named(place, gid) for gid in sorted(gids, reverse=True) for place in self.of_gid.get(gid, ())}
+        found.update((place, Named(place, None)) for uid in uids for place in self.of_uid.get(uid, ()))
+        found.update((place, Named(place, None)) for place in self.joined)
+        return list(found.values())
 
     def gains(self, place: int, old: Optional[Vector], new: Vector) -> bool:
         before = self.old_places.get(self.new.answers.users[place])
@@ -242,9 +244,18 @@ class Asker:
         self.session, self.new = session, new
         self.groups = {group.gid: group for group in reversed(new.people.groups)}
 
-    def no_gain(self, user: User, named: Named, files: int, highest: bytes, closed: Set[bytes]) -> NoGain:
+    def shown(self, paths: List[bytes]) -> List[bytes]:
+        """The directories that one line can open: all of them, or the first, or none whose name a line has no room for."""
+        sizes = [len(script_word(self.new.answers.names[path])) for path in paths[: MOST_DIRECTORIES + 1]]
+        if len(paths) <= MOST_DIRECTORIES and sum(sizes) < ROOM_FOR_NAMES:
+            return paths
+        return paths[:1] if sizes[0] < ROOM_FOR_NAMES else []
+
+    def no_gain(self, user: User, named: Named, files: int, closed: Set[bytes]) -> Optional[NoGain]:
         paths = sorted(closed, key=sorting_key)
-        shown = paths if len(paths) <= MOST_DIRECTORIES else paths[:1]
+        shown = self.shown(paths)
+        if not shown:
+            return None
         names = [self.new.answers.names[path] for path in shown]
         found = ask_entries(self.session, user, names)
         group = None if named.gid is None else self.groups.get(named.gid)
@@ -269,4 +280,5 @@ def find(session: Session, old: Side, new: Side, left_out: Set[bytes]) -> List[N
         totals[key] += number
         groups[key] = named if named.gid is None else groups.get(key, named)
     ordered = sorted(totals, key=lambda key: (key[0], sorting_key(key[1])))
-    return [asker.no_gain(finder.user(key[0]), groups[key], totals[key], key[1], closed[key[0]].closed[key[1]]) for key in ordered]
+    found = (asker.no_gain(finder.user(key[0]), groups[key], totals[key], closed[key[0]].closed[key[1]]) for key in ordered)
+    return [it for it in found if it is not None]

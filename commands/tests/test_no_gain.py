@@ -105,6 +105,16 @@ class Lines(Case):
         self.assertIn(b"a\\054\\040b  none -> r--", self.plan(b"setfacl -m u:1010:r 'it\\047s \\303\\251/f'\n" + edit[5:]).out)
 
 
+    def test_deep_directories(self) -> None:
+        # The names of all of them have no room in a line, so the line opens the first.
+        chain = [b"srv/share" + b"/" + b"/".join([b"d" * 200] * depth) for depth in range(1, 100)]
+        body = b"# owner: 1001\n# group: 100\nuser::rwx\ngroup::r-x\nother::---\n\n"
+        self.write("before/dump", self.read("before/dump") + b"".join(b"# file: /" + path + b"/\n" + body for path in chain))
+        done = self.plan(b"setfacl -n -m u:guest:r " + chain[-1] + b"\n")
+        self.assertTrue(done.out.startswith(b"guest  no gain        1 file    srv/share grants no search (other::---), and 98 directories "
+                                            b"below it grant none; add: setfacl -n -m u:guest:x srv/share\n"), done.out)
+
+
 class Random(Case):
     """The advice opens what it says, and takes nothing from the user on the directories."""
 
