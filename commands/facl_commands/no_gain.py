@@ -125,8 +125,11 @@ class Finder:
     def __init__(self, old: Side, new: Side, left_out: Set[bytes]) -> None:
         self.old, self.new = old, new
         self.users = {name_in_index(user.name): user for user in new.people.users}
-        self.places = [k for k, name in enumerate(new.answers.users) if name in self.users and name not in left_out]
-        self.old_places = {name: k for k, name in enumerate(old.answers.users)}
+        stopped = {k for row in set(new.answers.reached.values()) for k, one in enumerate(row) if not one}
+        self.places = [k for k, name in enumerate(new.answers.users) if k in stopped and name in self.users and name not in left_out]
+        old_places = {name: k for k, name in enumerate(old.answers.users)}
+        self.old_places = [old_places.get(name) for name in new.answers.users]
+        self.lists: Dict[Tuple[FrozenSet[int], FrozenSet[int]], List[Named]] = {}
         self.groups = groups_by_user(new.people)
         before = groups_by_user(old.people)
         self.of_uid: Dict[int, List[int]] = {}
@@ -143,15 +146,26 @@ class Finder:
 
     def named(self, old: bytes, new: bytes) -> List[Named]:
         """Those whom a record names otherwise than before, and those who are in a group in which they were not."""
-        uids, gids = named_ids(old, new)
+        uids, gids = ids = named_ids(old, new)
+        if ids in self.lists:
+            return self.lists[ids]
         found = {place: Named(place, gid) for gid in sorted(gids, reverse=True) for place in self.of_gid.get(gid, ())}
         found.update((place, Named(place, None)) for uid in uids for place in self.of_uid.get(uid, ()))
         found.update((place, Named(place, None)) for place in self.joined)
-        return list(found.values())
+        self.lists[ids] = list(found.values())
+        return self.lists[ids]
 
-    def gains(self, place: int, old: Optional[Vector], new: Vector) -> bool:
-        before = self.old_places.get(self.new.answers.users[place])
-        return bool(new[place] & ~(NOTHING if old is None or before is None else old[before]))
+    def gaining(self, named: List[Named], old: Optional[Vector], new: Vector) -> Tuple[Named, ...]:
+        """Those of them who have more than before on a file alone."""
+        if not named:
+            return ()
+        if old is None:
+            before = bytes([NOTHING]) * len(new)
+        elif self.old.answers.users == self.new.answers.users:
+            before = old
+        else:
+            before = bytes([NOTHING if place is None else old[place] for place in self.old_places])
+        return tuple([it for it in named if new[it.place] & ~before[it.place]])
 
     def counts(self) -> Iterator[Tuple[Named, bytes, int]]:
         """With the directory of the files, as directory_of has it, and their number."""
@@ -164,7 +178,7 @@ class Finder:
                 continue
             if pair not in known:
                 old, new = self.old.answers.alone.get(path), self.new.answers.alone[path]
-                known[pair] = tuple(it for it in self.named(*pair) if self.gains(it.place, old, new))
+                known[pair] = self.gaining(self.named(*pair), old, new)
             if known[pair]:
                 found[known[pair], directory_of(path)] += 1
         for (users, directory), number in found.items():
