@@ -5,15 +5,18 @@ import argparse
 import contextlib
 import os
 import signal
+import subprocess
 from types import FrameType
-from typing import List, NoReturn, Optional
+from typing import Iterator, List, NoReturn, Optional
 
-from . import environment
+from . import environment, headings, texts
 from .messages import SIGNALS, Command, Failure, reason
 from .names import shown
-from .program import Session, find_program
-from .scripts import read_text, read_units
+from .program import Answer, Session, find_program
+from .scripts import Unit, read_text, read_units
 from .snapshot import check_texts
+from .texts import Source
+from .trusted import read_trusted
 
 ANSWERED, REFUSED = 0, 1
 HELP = """\
@@ -24,11 +27,18 @@ lists the tools, tab completes words, each answer comes below its line, and wher
 synopsis and the likely cause. Else it answers standard input.
 
 Where it has one SCRIPT, or standard input that is no terminal, it is the program itself: it prints the same, and ends
-with the same status. With several SCRIPTs a message names the SCRIPT, and its line there.
+with the same status. With several SCRIPTs a message names the SCRIPT, and its line there. With --headings each question
+comes above its answer.
+
+SNAPSHOT may be a folder with passwd, group and dump alone. A dump can be given by --dump FILE too, in place of SNAPSHOT.
+What such a dump cannot tell is said on standard error.
 
 With --each all words are SNAPSHOTs, of parts of one tree, as facl-snapshot --split makes them; HOST:DIR is one on another
 machine. They answer standard input side by side, by GNU parallel, and the answers are joined in the order of paths. A line
 that edits is taken where all its files lie in one of them.
+
+With --hosts all words are servers, NAME:DIR, each with a snapshot DIR of its own. They answer standard input side by side, by
+GNU parallel and ssh, and each line of an answer and each message begins with the NAME. localhost is this machine.
 """
 STATUS = """\
 The exit status is that of facl: 0 where every line was accepted, 1 where some line was refused, 2 where it ended early,
@@ -41,9 +51,13 @@ def parse(words: List[str]) -> argparse.Namespace:
         prog="facl-ask", description=HELP, epilog=STATUS, formatter_class=argparse.RawDescriptionHelpFormatter, allow_abbrev=False,
     )
     parser.add_argument("--program", metavar="FILE", help="the program facl; without it $FACL, or facl on the path")
+    parser.add_argument("--headings", action="store_true", help="print each question of a script above its answer")
+    parser.add_argument("--with-root", action="store_true", help="at the prompt, with --each and --hosts: answers about people have uid 0 too")
     parser.add_argument("--each", action="store_true", help="answer standard input over several SNAPSHOTs side by side")
+    parser.add_argument("--hosts", action="store_true", help="answer standard input over the snapshots of several servers, NAME:DIR")
+    parser.add_argument("--records", action="store_true", help=argparse.SUPPRESS)  # With --part: what it records, too.
     parser.add_argument("--part", action="store_true", help=argparse.SUPPRESS)  # What --each runs for each of them.
-    parser.add_argument("snapshot", metavar="SNAPSHOT")
+    texts.add_source(parser, words)
     parser.add_argument("scripts", metavar="SCRIPT", nargs="*")
     return parser.parse_args(words)
 
@@ -61,8 +75,8 @@ def program_words(program: str, folder: bytes) -> List[bytes]:
     return words
 
 
-def become_program(program: str, folder: bytes, script: str) -> NoReturn:
-    """Goes on as the program, with a script as its standard input."""
+def take_script(script: str) -> None:
+    """Makes a script the standard input."""
     if script != "-":
         try:
             descriptor = os.open(script, os.O_RDONLY)
@@ -70,6 +84,16 @@ def become_program(program: str, folder: bytes, script: str) -> NoReturn:
         except OSError as error:
             raise Failure(os.fsencode(script) + b": " + reason(error)) from error
         os.dup2(descriptor, 0)
+
+
+def run_program(program: str, source: Source) -> int:
+    """Runs the program, and returns its status, where the folder is one that is removed after it."""
+    status = subprocess.run(program_words(program, source.folder), env=environment.of_called(), check=False).returncode
+    return status if status >= 0 else 128 - status
+
+
+def become_program(program: str, folder: bytes) -> NoReturn:
+    """Goes on as the program."""
     words = program_words(program, folder)
     signal.signal(signal.SIGPIPE, signal.SIG_DFL)  # Which Python ignores, and the program need not.
     for number in range(3):
@@ -80,7 +104,13 @@ def become_program(program: str, folder: bytes, script: str) -> NoReturn:
         raise Failure(os.fsencode(program) + b": " + reason(error)) from error
 
 
-def answer_scripts(command: Command, program: str, folder: bytes, names: List[str]) -> int:
+def pieces_of(unit: Unit, answer: Answer, has_headings: bool) -> Iterator[bytes]:
+    """What is printed of an answer."""
+    is_refused = any(b": warning: " not in message for message in answer.messages)
+    return headings.below_heading(unit, answer.output.lines(), is_refused) if has_headings else answer.output.pieces()
+
+
+def answer_scripts(command: Command, program: str, folder: bytes, names: List[str], has_headings: bool) -> int:
     """Answers several scripts one after another; a message names the script."""
     status = ANSWERED
     with Session(program, folder) as session:
@@ -89,7 +119,7 @@ def answer_scripts(command: Command, program: str, folder: bytes, names: List[st
             if unit.is_ended:
                 answer = session.ask(b"".join(line + b"\n" for line in unit.lines))
                 messages = answer.messages
-                for piece in answer.output.pieces():
+                for piece in pieces_of(unit, answer, has_headings):
                     command.write(piece)
             command.flush()
             for message in messages:
@@ -111,25 +141,46 @@ def take_signals() -> None:
             signal.signal(number, signal.default_int_handler if number == signal.SIGINT else leave)
 
 
-def prompt(command: Command, program: str, folder: bytes) -> int:
+def dim(line: bytes) -> bytes:
+    """A line at a terminal that is beside the answers."""
+    if os.environ.get("NO_COLOR") or os.environ.get("TERM", "dumb") == "dumb":
+        return line
+    return b"\x1b[2m" + line.rstrip(b"\n") + b"\x1b[0m\n"
+
+
+def say_notices(command: Command, source: Source, has_prompt: bool = False) -> None:
+    """What answers over this snapshot cannot tell; a prompt warns of empty masks among others."""
+    from . import overview
+
+    dump = read_trusted(os.path.join(source.folder, b"dump"))
+    for text in overview.unknown(source.folder, dump):
+        command.say(source.shown + b": " + text if not text.startswith(b"warning: ") else text)
+    for text in () if has_prompt else overview.masks(dump):
+        command.say(text)
+
+
+def prompt(command: Command, program: str, source: Source, with_root: bool) -> int:
     """Answers a person's lines. Only a prompt needs these parts of the package."""
     from . import manual, overview, terminal
     from .completion import Completer
     from .desk import WORDS_OF_PROMPT, Desk, refuse_early_end
+    from .superuser import Superusers, ids_in
 
-    texts = overview.read_texts(folder)
-    completer = Completer(manual.find_page(), texts.passwd, texts.group, lambda: texts.dump, WORDS_OF_PROMPT)
+    found = overview.read_texts(source.folder)
+    completer = Completer(manual.find_page(), found.passwd, found.group, lambda: found.dump, WORDS_OF_PROMPT)
 
     def out(text: bytes) -> None:
         command.write(text)
         command.flush()
 
     take_signals()
-    desk = Desk(lambda: Session(program, folder), completer.page, completer, out)
+    superusers = Superusers({} if with_root else ids_in(found.passwd))
+    desk = Desk(lambda: Session(program, source.folder), completer.page, completer, out, dim, superusers)
     with contextlib.closing(desk):
         refuse_early_end(desk.session)
-        out(shown(overview.summary(texts)) + b"; `help` lists the tools, control-D ends\n")
-        for warning in overview.warnings(texts):
+        out(shown(overview.summary(found, source.shown)) + b"; `help` lists the tools, control-D ends\n")
+        say_notices(command, source, has_prompt=True)
+        for warning in overview.warnings(found):
             command.say(warning)
         if terminal.find_toolkit() is None:
             command.say(b"without python3-prompt-toolkit, which is not installed: no completion")
@@ -137,21 +188,36 @@ def prompt(command: Command, program: str, folder: bytes) -> int:
     return ANSWERED
 
 
-def body(command: Command, words: List[str]) -> int:
-    given = parse(words)
-    if given.each:
-        from . import each
-
-        return each.body(command, [given.snapshot, *given.scripts], given.program)
-    folder = os.fsencode(given.snapshot)
-    os.close(check_texts(folder))
+def answer_one(command: Command, given: argparse.Namespace, source: Source) -> int:
+    """Answers over one snapshot."""
+    os.close(check_texts(source.folder))
     program = find_program(given.program)
     if given.part:
         from . import part
 
-        return part.write_part(command, program, folder, read_text("-"))
-    if len(given.scripts) > 1:
-        return answer_scripts(command, program, folder, given.scripts)
+        return part.write_part(command, program, source.folder, read_text("-"), given.records)
     if not given.scripts and os.isatty(0) and os.isatty(1):
-        return prompt(command, program, folder)
-    become_program(program, folder, given.scripts[0] if given.scripts else "-")
+        return prompt(command, program, source, given.with_root)
+    if len(given.scripts) > 1 or given.headings:
+        say_notices(command, source)
+        return answer_scripts(command, program, source.folder, given.scripts or ["-"], given.headings)
+    take_script(given.scripts[0] if given.scripts else "-")
+    say_notices(command, source)
+    if source.is_made:
+        return run_program(program, source)
+    become_program(program, source.folder)
+
+
+def body(command: Command, words: List[str]) -> int:
+    given = parse(words)
+    if given.each and given.hosts:
+        raise Failure(b"--each is for parts of one tree, and --hosts for servers: give one of them")
+    if given.each or given.hosts:
+        from . import each, servers
+
+        if given.dump is not None:
+            raise Failure(b"--dump is one dump: make a folder of passwd, group and dump for each of several")
+        answer = each.body if given.each else servers.body
+        return answer(command, [given.snapshot, *given.scripts], given)
+    with texts.opened(given) as source:
+        return answer_one(command, given, source)

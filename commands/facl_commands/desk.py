@@ -2,21 +2,23 @@
 from __future__ import annotations
 
 import re
-from typing import Callable, List, Optional
+from typing import Callable, List, Optional, Set
 
-from . import causes
+from . import causes, stops
 from .completion import Completer
 from .manual import Page
 from .messages import Failure
 from .names import read_path, shown, write_name
-from .program import Answer, Region, Session
+from .program import Answer, Session
 from .scripts import LINE_LIMIT, Unit, is_empty, read_script, takes_text, words_of
+from .superuser import Superusers
 
 Read = Callable[[str], str]  # Reads a line, after a prompt; raises EOFError and KeyboardInterrupt.
 HELP_WORDS, END_WORDS = (b"help", b"?"), (b"quit", b"exit")
 WORDS_OF_PROMPT = ["help", "quit"]
 EMPTY_ANSWERS = {b"who": b"(nobody)\n", **dict.fromkeys((b"may", b"index", b"changes", b"getfacl"), b"(nothing)\n")}
 QUESTIONS = (*EMPTY_ANSWERS, b"can", b"why", b"attr")
+ALONE = b"(each file is judged alone: with --reach after the tool, search on the directories above counts too)\n"
 KEYS = """\
 A line is a tool and its words: `help TOOL` has its options, and `help TOPIC` another section of the manual page.
 Tab completes a word. Control-C ends a line, a text or an answer; control-D or `quit` ends the prompt.
@@ -26,8 +28,14 @@ Tab completes a word. Control-C ends a line, a text or an answer; control-D or `
 class Desk:
     """A session with a person."""
 
-    def __init__(self, start: Callable[[], Session], page: Optional[Page], completer: Completer, out: Callable[[bytes], None]) -> None:
+    def __init__(
+        self, start: Callable[[], Session], page: Optional[Page], completer: Completer, out: Callable[[bytes], None],
+        dim: Callable[[bytes], bytes] = bytes, superusers: Optional[Superusers] = None,
+    ) -> None:
         self.start = start
+        self.superusers = superusers or Superusers({})
+        self.dim = dim  # How a line is written that is beside the answers.
+        self.noted: Set[bytes] = set()  # What was said once.
         self.session = start()
         self.page = page
         self.completer = completer
@@ -91,15 +99,17 @@ class Desk:
         lines = b"".join(line + b"\n" for line in unit.lines)
         try:
             answer = self.session.ask(lines)
+            marked = stops.stops_of(self.session, unit) if stops.is_asked(unit) and not is_refused(answer) else []
         except KeyboardInterrupt:
             self.start_again(b"line %d: given up, and changed nothing\n" % unit.number)
             return
         try:
-            self.show(unit, answer)
+            self.show(unit, answer, marked)
         except KeyboardInterrupt:
             self.out(b"\n(the rest is not shown)\n")
         if not is_refused(answer) and not unit.is_of(*QUESTIONS):
             self.accepted.append(lines)
+            self.superusers.follow(unit)
             self.follow(unit)
 
     def start_again(self, message: bytes) -> None:
@@ -110,19 +120,28 @@ class Desk:
             self.session.ask(lines)
         self.out(message)
 
-    def show(self, unit: Unit, answer: Answer) -> None:
+    def show(self, unit: Unit, answer: Answer, marked: List[bytes]) -> None:
         """An answer below its line."""
-        self.show_region(answer.output)
-        if answer.output.start == answer.output.end and not is_refused(answer) and unit.words:
+        count = 0
+        for printed in self.superusers.rest(unit, answer.output.lines()):
+            self.out(shown(printed) + stops.mark_of(printed, marked) + b"\n")
+            count += 1
+        if not count and not is_refused(answer) and unit.words:
             self.out(EMPTY_ANSWERS.get(unit.words[0], b""))
         for message in answer.messages:
             self.out(b"line %d: %s\n" % (unit.number, shown(message)))
             for line in self.advice(unit, message):
                 self.out(b"    " + line.encode() + b"\n")
+        if unit.is_of(b"can", b"who", b"may") and b"--reach" not in unit.words and not is_refused(answer):
+            self.note(ALONE)
+        if self.superusers.has_left_out:
+            self.note(b"(" + self.superusers.note() + b")\n")
 
-    def show_region(self, region: Region) -> None:
-        for line in region.lines():
-            self.out(shown(line) + b"\n")
+    def note(self, line: bytes) -> None:
+        """Says something once in a session."""
+        if line not in self.noted:
+            self.noted.add(line)
+            self.out(self.dim(line))
 
     def advice(self, unit: Unit, message: bytes) -> List[str]:
         """The synopses of the tool where its words are wrong, and what was probably meant."""

@@ -1,11 +1,12 @@
 """facl-ask --each: a script over several snapshots side by side, by GNU parallel, with the answers joined in path order.
 
-Each snapshot answers the whole script (part.py). A line is then taken where the snapshots agree on it. One that is not
+The snapshots have to be parts of one tree (agreement.py). Each answers the whole script (part.py). A line is then taken where the snapshots agree on it. One that is not
 taken, since its files lie in several snapshots, may have been done by some of them: then all answer the script again,
 without it.
 """
 from __future__ import annotations
 
+import argparse
 import heapq
 import os
 import re
@@ -15,14 +16,15 @@ import signal
 import subprocess
 import sys
 import tempfile
-from typing import IO, Callable, Dict, Iterator, List, NamedTuple, Optional, Set, Tuple
+from typing import IO, Callable, Dict, Iterable, Iterator, List, NamedTuple, Optional, Set, Tuple, Union
 
-from . import environment
+from . import agreement, environment, headings, overview
 from .messages import Command, Failure
 from .names import path_order, read_path, write_name
-from .part import EDITS, Header, read_header
+from .part import EDITS, Head, Header, read_head, read_header
 from .program import HOME, Region
 from .scripts import Unit, read_script, read_text
+from .superuser import Superusers
 
 ANSWERED, REFUSED = 0, 1
 NO_FILE = b": no such file"
@@ -31,6 +33,7 @@ HOST = re.compile(rb"((?:" + NAME_OF_HOST + rb"@)?" + NAME_OF_HOST + rb"):(.*)\Z
 LIKE_HOST = re.compile(rb"[A-Za-z0-9@._-]+:|-[^/]*:")  # What somebody may have meant for one.
 NO_OPERAND = re.compile(rb".*\n|::::?\+?\Z|\Z", re.DOTALL)  # What parallel does not take as it is.
 PEOPLE = (b"gpasswd", b"usermod", b"useradd", b"userdel")
+HERE = b":"  # What parallel calls this machine.
 Item = Tuple[bytes, int, bytes]  # A path, the number of its snapshot, and what is printed for it.
 SEVERAL = b"its files lie in several snapshots; name those of one in a line of its own"
 
@@ -43,8 +46,23 @@ class Answered(NamedTuple):
 
 
 class Part(NamedTuple):
-    folder: bytes
+    """What one snapshot wrote."""
+
+    label: bytes  # The snapshot, as it was given.
+    head: Head
+    files: Region
     answers: Dict[int, Answered]  # By the number of the line.
+
+
+Outcome = Union[List[Part], Failure]  # Of the snapshots on one machine.
+
+
+class Run(NamedTuple):
+    """A run of parallel, with files for what it prints."""
+
+    process: "subprocess.Popen[bytes]"
+    out: IO[bytes]
+    messages: IO[bytes]
 
 
 class Joined(NamedTuple):
@@ -53,6 +71,9 @@ class Joined(NamedTuple):
     output: Iterator[bytes]
     messages: List[bytes]
     is_dropped: bool = False  # Whether the script is answered again without it.
+
+    def is_refused(self) -> bool:
+        return any(b": warning: " not in message for message in self.messages)
 
 
 def hosts_of(folders: List[bytes]) -> Dict[bytes, List[bytes]]:
@@ -64,48 +85,69 @@ def hosts_of(folders: List[bytes]) -> Dict[bytes, List[bytes]]:
             raise Failure(folder + b": a HOST starts with a letter, a digit or _, so that no program takes it for something else")
         if NO_OPERAND.match(match[2] if match else folder):
             raise Failure(folder + b": parallel cannot be given a snapshot of this name: rename the folder")
-        host, name = (match[1], match[2]) if match else (b":", folder)
+        host, name = (match[1], match[2]) if match else (HERE, folder)
         found.setdefault(host, []).append(name)
     return found
 
 
-def parallel_words(host: bytes, folders: List[bytes], program: Optional[str]) -> List[bytes]:
+def parallel_words(host: bytes, folders: List[bytes], options: List[bytes]) -> List[bytes]:
     """GNU parallel's command line, which gives each job all of its standard input."""
     found = shutil.which("parallel")
     if found is None:
         raise Failure(b"GNU parallel is not installed (package parallel)")
     here = [os.fsencode(sys.executable), b"-I", os.fsencode(os.path.join(HOME, "facl-ask"))]
-    command = (here if host == b":" else [b"facl-ask"]) + [b"--part"]
-    if program is not None:
-        command += [b"--program", os.fsencode(program)]
+    command = (here if host == HERE else [b"facl-ask"]) + [b"--part", *options]
     words = [b"--will-cite", b"--keep-order", b"--pipe", b"--tee", b"--jobs", b"%d" % len(folders), b"--sshlogin", host]
     quoted = [os.fsencode(shlex.quote(os.fsdecode(word))) for word in command]
     return [os.fsencode(found), *words, b" ".join(quoted) + b" -- {}", b":::", *folders]
 
 
-def run_parts(hosts: Dict[bytes, List[bytes]], program: Optional[str], script: bytes, work: str) -> List[Part]:
-    """Runs all snapshots side by side, and reads what they wrote."""
+def program_option(program: Optional[str]) -> List[bytes]:
+    return [] if program is None else [b"--program", os.fsencode(program)]
+
+
+def start(words: List[bytes], work: str) -> Run:
+    """Starts parallel with the script as its standard input."""
+    called = {**environment.of_called(), "LC_ALL": "C", "PARALLEL_SHELL": "/bin/sh", "PARALLEL_HOME": work, "TMPDIR": work}
+    out, messages = tempfile.TemporaryFile(dir=work), tempfile.TemporaryFile(dir=work)
+    with open(os.path.join(work, "script"), "rb") as given:
+        process = subprocess.Popen(words, stdin=given, stdout=out, stderr=messages, env=called, preexec_fn=leave_quit_to_us)
+    return Run(process, out, messages)
+
+
+def run_hosts(hosts: Dict[bytes, List[bytes]], options: List[bytes], script: bytes, work: str) -> Dict[bytes, Outcome]:
+    """Runs all snapshots side by side, and reads what they wrote; by machine."""
     with open(os.path.join(work, "script"), "wb") as file:
         file.write(script + b"\n")
-    runs: List[Tuple["subprocess.Popen[bytes]", IO[bytes], IO[bytes]]] = []
-    called = {**environment.of_called(), "LC_ALL": "C", "PARALLEL_SHELL": "/bin/sh", "PARALLEL_HOME": work, "TMPDIR": work}
+    runs: Dict[bytes, Run] = {}
     try:
         for host, names in hosts.items():
-            out, messages = tempfile.TemporaryFile(dir=work), tempfile.TemporaryFile(dir=work)
-            with open(os.path.join(work, "script"), "rb") as given:
-                words = parallel_words(host, names, program)
-                run = subprocess.Popen(words, stdin=given, stdout=out, stderr=messages, env=called, preexec_fn=leave_quit_to_us)
-                runs.append((run, out, messages))
-        parts: List[Part] = []
-        for run, out, messages in runs:
-            run.wait()
-            parts += read_parts(out, run.returncode, messages)
+            runs[host] = start(parallel_words(host, names, options), work)
+        return {host: outcome_of(run, host, len(hosts[host])) for host, run in runs.items()}
     finally:
-        for run, _, _ in runs:
-            end(run)
-    wanted = sum(map(len, hosts.values()))
-    if len(parts) != wanted:
-        raise Failure(b"%d of %d snapshots did not answer" % (wanted - len(parts), wanted))
+        for run in runs.values():
+            end(run.process)
+
+
+def outcome_of(run: Run, host: bytes, wanted: int) -> Outcome:
+    """Waits for a run, and reads what it wrote."""
+    run.process.wait()
+    try:
+        parts = read_parts(run, host)
+        if len(parts) != wanted:
+            raise Failure(b"%d of %d snapshots did not answer" % (wanted - len(parts), wanted))
+        return parts
+    except Failure as failure:
+        return failure
+
+
+def run_parts(hosts: Dict[bytes, List[bytes]], options: List[bytes], script: bytes, work: str) -> List[Part]:
+    """The answers of all snapshots."""
+    parts: List[Part] = []
+    for host, outcome in run_hosts(hosts, options, script, work).items():
+        if isinstance(outcome, Failure):
+            raise Failure((b"" if host == HERE else host + b": ") + outcome.text)
+        parts += outcome
     return parts
 
 
@@ -124,10 +166,11 @@ def end(run: "subprocess.Popen[bytes]") -> None:
             pass
 
 
-def read_parts(out: IO[bytes], status: int, messages: IO[bytes]) -> List[Part]:
+def read_parts(run: Run, host: bytes) -> List[Part]:
     """The places of the answers in what one run of parallel wrote."""
-    messages.seek(0)
-    said = [line for line in messages.read().splitlines() if line]
+    out, status = run.out, run.process.returncode
+    run.messages.seek(0)
+    said = [line for line in run.messages.read().splitlines() if line]
     if status != 0:
         raise Failure(said[0].replace(b"facl-ask: ", b"", 1) if said else b"parallel ended with status %d" % status)
     out.seek(0)
@@ -138,18 +181,30 @@ def read_parts(out: IO[bytes], status: int, messages: IO[bytes]) -> List[Part]:
         if not line:
             break
         if line.startswith(b'{"part": '):
-            parts.append(Part(line, {}))
+            parts.append(open_part(out, line, host))
             is_open = True
         elif line == b"end\n":
             is_open = False
         else:
             header = read_header(line)
-            start = out.tell()
+            place = out.tell()
             out.seek(header.size + 1, os.SEEK_CUR)
-            parts[-1].answers[header.line] = Answered(header, Region(out, start, start + header.size))
+            parts[-1].answers[header.line] = Answered(header, Region(out, place, place + header.size))
     if is_open:
         raise Failure(b"a snapshot did not answer to the end")
     return parts
+
+
+def open_part(out: IO[bytes], line: bytes, host: bytes) -> Part:
+    """A part, of which the first line is read."""
+    try:
+        head = read_head(line)
+    except (KeyError, ValueError) as error:
+        raise Failure(b"the facl-ask there is of another version than the one here") from error
+    place = out.tell()
+    out.seek(head.size, os.SEEK_CUR)
+    label = head.folder if host == HERE else host + b":" + head.folder
+    return Part(label, head, Region(out, place, place + head.size), {})
 
 
 def path_key(name: bytes) -> bytes:
@@ -290,33 +345,86 @@ def without(script: bytes, units: List[Unit], dropped: Set[int]) -> bytes:
     return b"\n".join(lines)
 
 
-def body(command: Command, folders: List[str], program: Optional[str]) -> int:
+def say_notices(command: Command, parts: List[Part]) -> None:
+    """What the snapshots cannot tell, each of it once, and how many lists with an empty mask they have."""
+    known: Dict[bytes, bytes] = {}
+    for part in parts:
+        for text in part.head.unknown:
+            known.setdefault(text, part.label)
+    for text, label in known.items():
+        command.say(label + b": " + text)
+    names = sorted({name for part in parts for name in part.head.masks}, key=lambda name: path_order(read_path(name)))
+    if names:
+        command.say(overview.warning_of(overview.EMPTY_MASKS, names))
+
+
+def check_agreement(parts: List[Part]) -> None:
+    """Fails where snapshots are not parts of one tree."""
+    fault = agreement.disagreement([agreement.Recorded(it.label, it.head.users, it.head.groups, it.files) for it in parts])
+    if fault is not None:
+        raise Failure(fault + b", so they are no parts of one tree: ask servers by --hosts NAME:DIR..")
+
+
+def superusers_of(parts: List[Part], with_root: bool) -> Superusers:
+    """Who is left out of answers about people."""
+    ids = {name.encode("latin-1"): number for part in parts for name, number in part.head.users.items()}
+    return Superusers({} if with_root else ids)
+
+
+def body(command: Command, folders: List[str], given: argparse.Namespace) -> int:
     """Answers standard input over all snapshots."""
     hosts = hosts_of([os.fsencode(it) for it in folders])
     script = read_text("-")
     units = read_script(b"standard input", script)
     dropped: Dict[int, Joined] = {}
+    options = [b"--records"] if len(folders) > 1 else []
     with tempfile.TemporaryDirectory(prefix="facl-ask.") as work:
         while True:
-            parts = run_parts(hosts, program, without(script, units, set(dropped)), work)
+            parts = run_parts(hosts, [*options, *program_option(given.program)], without(script, units, set(dropped)), work)
+            check_agreement(parts)
+            if not dropped:
+                say_notices(command, parts)
+            options = []
             joined: Dict[int, Joined] = dict(dropped)
             for unit in units:
                 if unit.number not in joined:
                     joined[unit.number] = join(unit, [part.answers[unit.number] for part in parts])
             new = next((unit.number for unit in units if joined[unit.number].is_dropped and unit.number not in dropped), None)
             if new is None:
-                return write(command, units, joined)
+                return write(command, units, joined, superusers_of(parts, given.with_root), given.headings)
             dropped[new] = joined[new]
 
 
-def write(command: Command, units: List[Unit], joined: Dict[int, Joined]) -> int:
+def lines_of(pieces: Iterable[bytes]) -> Iterator[bytes]:
+    """The lines of a text that comes in pieces."""
+    rest = b""
+    for piece in pieces:
+        *whole, rest = (rest + piece).split(b"\n")
+        yield from whole
+
+
+def pieces_of(unit: Unit, answer: Joined, superusers: Superusers, has_headings: bool) -> Iterator[bytes]:
+    """What is printed of an answer."""
+    if has_headings:
+        return headings.below_heading(unit, superusers.rest(unit, lines_of(answer.output)), answer.is_refused())
+    if superusers.is_about_people(unit):
+        return (line + b"\n" for line in superusers.rest(unit, lines_of(answer.output)))
+    return answer.output
+
+
+def write(command: Command, units: List[Unit], joined: Dict[int, Joined], superusers: Superusers, has_headings: bool) -> int:
     status = ANSWERED
     for unit in units:
-        for text in joined[unit.number].output:
+        answer = joined[unit.number]
+        for text in pieces_of(unit, answer, superusers, has_headings):
             command.write(text)
         command.flush()
-        for message in joined[unit.number].messages:
+        for message in answer.messages:
             command.put(command.messages, b"line %d: %s\n" % (unit.number, message))
             status = status if b": warning: " in message else REFUSED
         command.put(command.messages)
+        if not answer.is_refused():
+            superusers.follow(unit)
+    if superusers.has_left_out:
+        command.say(superusers.note())
     return status

@@ -8,8 +8,9 @@ import os
 import re
 from typing import Iterator, List, NamedTuple, Set
 
+from . import texts as source_texts
 from .messages import counted
-from .names import live_name, read_path
+from .names import live_name
 from .people import rows_of
 from .records import EMPTY_MASK, OTHERS_WITH_SOMETHING
 from .snapshot import NEEDED, read_links
@@ -18,6 +19,7 @@ from .trusted import read_trusted
 FILE_NAME = re.compile(rb"^# file: (.*)$", re.MULTILINE)
 GROUP_IDS = re.compile(rb"^(?:# group: |(?:default:)?group:)([0-9]+)(?:$|:)", re.MULTILINE)
 USER_IDS = re.compile(rb"^(?:# owner: |(?:default:)?user:)([0-9]+)(?:$|:)", re.MULTILINE)
+EMPTY_MASKS = b"lists with an empty mask whose others have something, which Linux grants to named users and groups too, and facl does not"
 
 
 class Texts(NamedTuple):
@@ -36,18 +38,20 @@ def read_texts(folder: bytes) -> Texts:
     return Texts(folder, passwd, group, dump, read_trusted(links) if os.path.exists(links) else b"")
 
 
-def summary(texts: Texts) -> bytes:
+def summary(texts: Texts, name: bytes) -> bytes:
     users, groups = (len(rows_of(text)) for text in (texts.passwd, texts.group))
     files = sum(1 for _ in FILE_NAME.finditer(texts.dump))
-    return b"%s: %s, %s, %s" % (texts.folder, counted(users, "user"), counted(groups, "group"), counted(files, "file"))
+    return b"%s: %s, %s, %s" % (name, counted(users, "user"), counted(groups, "group"), counted(files, "file"))
 
 
 def open_empty_masks(dump: bytes) -> Iterator[bytes]:
     """The files that have an empty mask, and something for others."""
+    if b"\nmask::---\n" not in dump:  # Which is quicker to see.
+        return
     for mask in EMPTY_MASK.finditer(dump):
         start = dump.rfind(b"# file: ", 0, mask.start())
         end = dump.find(b"\n\n", mask.end())
-        if OTHERS_WITH_SOMETHING.search(dump[start : end + 1]):
+        if OTHERS_WITH_SOMETHING.search(dump[start : end if end >= 0 else len(dump)]):
             yield dump[start + len(b"# file: ") : dump.index(b"\n", start)]
 
 
@@ -70,13 +74,17 @@ def rows_with_returns(text: bytes) -> List[bytes]:
     return [row.split(b":")[0] for row in text.split(b"\n") if b"\r" in row]
 
 
+def warning_of(text: bytes, names: List[bytes]) -> bytes:
+    """A warning with a number and the first name."""
+    return b"warning: %s: %d, first: %s" % (text, len(names), names[0])
+
+
 def warnings(texts: Texts) -> Iterator[bytes]:
     """Each with a number and the first name."""
     found = [
         (b"names of files that have another name in the snapshot too (see links)",
          [live_name(path) for names in read_links(texts.links) for path in names]),
-        (b"lists with an empty mask whose others have something, which Linux grants to named users and groups too, and facl does not",
-         list(open_empty_masks(texts.dump))),
+        (EMPTY_MASKS, list(open_empty_masks(texts.dump))),
         (b"ids in the dump without a row in passwd or group", ids_without_row(texts)),
         (b"members of groups without a row in passwd", members_without_row(texts)),
         (b"rows of passwd with a carriage return, which facl takes for a part of a name", rows_with_returns(texts.passwd)),
@@ -84,8 +92,24 @@ def warnings(texts: Texts) -> Iterator[bytes]:
     ]
     for text, names in found:
         if names:
-            yield b"warning: %s: %d, first: %s" % (text, len(names), names[0])
+            yield warning_of(text, names)
     if not rows_of(texts.passwd):
         yield b"warning: passwd is empty: who, may and index will name nobody"
-    if FILE_NAME.search(texts.dump) and not any(read_path(match[1]) == b"" for match in FILE_NAME.finditer(texts.dump)):
-        yield b"warning: the directories above are not recorded, so --reach does not judge them"
+
+
+def unknown(folder: bytes, dump: bytes) -> Iterator[bytes]:
+    """What a snapshot that facl-snapshot did not make cannot tell, and the names in it that have no row."""
+    found = source_texts.notice(folder, dump)
+    if found is not None:
+        yield found
+        passwd, group = (read_trusted(os.path.join(folder, name)) for name in (b"passwd", b"group"))
+        names = source_texts.names_without_row(passwd, group, dump)
+        if names:
+            yield warning_of(b"users and groups in the dump without a row, with which the program does not load it", names)
+
+
+def masks(dump: bytes) -> Iterator[bytes]:
+    """The warning of empty masks, where there are any."""
+    names = list(open_empty_masks(dump))
+    if names:
+        yield warning_of(EMPTY_MASKS, names)

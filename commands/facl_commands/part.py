@@ -1,23 +1,50 @@
-"""The answers of one snapshot of several: what `facl-ask --part` writes for `facl-ask --each`.
+"""The answers of one snapshot of several: what `facl-ask --part` writes for `facl-ask --each` and `--hosts`.
 
-Each line of the script that does something gives a header, which is a line of JSON, and then the bytes that the program
-printed, with a line feed. Names in a header are bytes, a letter for each.
+First comes a line of JSON about the snapshot, with --records what it records (agreement.py), and then for each line of the
+script that does something a header, which is a line of JSON, and the bytes that the program printed, with a line feed. Names in
+JSON are bytes, a letter for each.
 """
 from __future__ import annotations
 
 import json
+import os
 import re
 from typing import Dict, List, NamedTuple, Optional
 
+from . import agreement, overview, texts
 from .completion import OPERANDS, VALUES
 from .messages import Command
 from .names import read_name, script_word
+from .people import rows_of
 from .program import Session
 from .scripts import Unit, read_script
+from .trusted import read_trusted
 
 EDITS = ("setfacl", "chacl", "chmod", "creat", "rm", "setattr")
 OF_FILES = (*EDITS, "getfacl", "attr", "why")  # Tools that take several FILEs, or edit one.
 RECORD = re.compile(rb"^[ \t]*#[ \t]*file:[ ]?(.*)$", re.MULTILINE)
+
+
+class Head(NamedTuple):
+    """The first line: the snapshot, and the ids of its users and groups by their names."""
+
+    folder: bytes
+    users: Dict[str, int]
+    groups: Dict[str, int]
+    unknown: List[bytes]  # What it cannot tell.
+    masks: List[bytes]  # Files with an empty mask, and something for others.
+    size: int  # Of what it records, which comes next.
+
+    def write(self) -> bytes:
+        unknown, masks = ([it.decode("latin-1") for it in texts_of] for texts_of in (self.unknown, self.masks))
+        fields = {"users": self.users, "groups": self.groups, "unknown": unknown, "masks": masks, "size": self.size}
+        return json.dumps({"part": self.folder.decode("latin-1"), **fields}).encode() + b"\n"
+
+
+def read_head(line: bytes) -> Head:
+    fields = json.loads(line)
+    unknown, masks = ([it.encode("latin-1") for it in fields[name]] for name in ("unknown", "masks"))
+    return Head(fields["part"].encode("latin-1"), fields["users"], fields["groups"], unknown, masks, fields["size"])
 
 
 class Header(NamedTuple):
@@ -112,11 +139,24 @@ def answer(command: Command, session: Session, unit: Unit) -> None:
     command.write(b"\n")
 
 
-def write_part(command: Command, program: str, folder: bytes, script: bytes) -> int:
+def ids_of(folder: bytes, name: bytes) -> Dict[str, int]:
+    """The ids in passwd or group, by name."""
+    return {row[0].decode("latin-1"): int(row[2]) for row in rows_of(read_trusted(os.path.join(folder, name)))}
+
+
+def head_of(folder: bytes, size: int) -> Head:
+    dump = read_trusted(os.path.join(folder, b"dump"))
+    unknown, masks = list(overview.unknown(folder, dump)), list(overview.open_empty_masks(dump))
+    return Head(folder, ids_of(folder, b"passwd"), ids_of(folder, b"group"), unknown, masks, size)
+
+
+def write_part(command: Command, program: str, folder: bytes, script: bytes, has_records: bool) -> int:
     """Answers a script over one snapshot, between a first and a last line of our own."""
     with Session(program, folder) as session:
         session.ask(b"")
-        command.write(json.dumps({"part": folder.decode("latin-1")}).encode() + b"\n")
+        listings = texts.list_below(session, texts.find_tops(session, folder)) if has_records else []
+        files = b"".join(agreement.blocks_of(listings))
+        command.write(head_of(folder, len(files)).write() + files)
         for unit in read_script(b"", script):
             answer(command, session, unit)
         command.write(b"end\n")

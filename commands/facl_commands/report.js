@@ -14,7 +14,7 @@ const files = parents.length;
 const SEVERAL = -2, NONE = -1;
 const sizes = new Int32Array(files), changes = new Int32Array(files), depths = new Int32Array(files), opens = new Uint8Array(files), alike = new Uint8Array(files);
 const openGroups = new Set(); // Of files that are alike, by their directory and their rights.
-let rows = 0, who = 0, alongPaths = false, changesAlone = false, search = "", chosen = NONE;
+let rows = 0, who = 0, alongPaths = !data.alone, changesAlone = false, search = "", chosen = NONE;
 
 function element(name, properties, ...inner) {
   const made = Object.assign(document.createElement(name), properties);
@@ -267,8 +267,8 @@ function draw() {
   drawSide();
 }
 
-function choice(text, change) {
-  const box = element("input", {type: "checkbox"});
+function choice(text, checked, change) {
+  const box = element("input", {type: "checkbox", checked});
   box.onchange = () => { change(box.checked); draw(); };
   return element("label", {}, box, text);
 }
@@ -287,9 +287,10 @@ function start() {
   const field = element("input", {type: "search", id: "search", placeholder: "name", autocomplete: "off"});
   field.oninput = () => { search = field.value; draw(); };
   const bar = element("div", {className: "bar"}, element("label", {}, "What may ", select, " do"),
-    choice("along paths", it => { alongPaths = it; }), element("label", {}, "Find ", field));
-  if (data.script) bar.append(choice("changes alone", it => { changesAlone = it; if (it) openChanges(); }));
+    choice("along paths", alongPaths, it => { alongPaths = it; }), element("label", {}, "Find ", field));
+  if (data.script) bar.append(choice("changes alone", changesAlone, it => { changesAlone = it; if (it) openChanges(); }));
   const counts = files + " files, " + data.whos.filter(it => it[0] === "user").length + " users"
+    + (data.without.length ? " (without " + data.without.join(", ") + ")" : "")
     + (data.script ? ", " + Object.keys(changed).length + " files changed" : "");
   document.body.append(element("header", {}, element("h1", {textContent: data.title + ": " + counts}), bar),
     element("main", {}, element("div", {id: "tree"}), element("div", {id: "side"})));

@@ -13,9 +13,9 @@ import os
 import re
 import secrets
 from collections import Counter
-from typing import Dict, Generic, Hashable, Iterable, Iterator, List, NamedTuple, Tuple, TypeVar
+from typing import Dict, Generic, Hashable, Iterable, Iterator, List, NamedTuple, Optional, Set, Tuple, TypeVar
 
-from . import plan
+from . import overview, plan, texts
 from .label_answers import Answers, People, ask_labels
 from .messages import Command, Failure, counted
 from .names import shown as shown_bytes
@@ -27,6 +27,9 @@ from .program import Session, find_program
 from .records import File, Files
 from .scripts import Unit, read_units
 from .snapshot import Snapshot, read_snapshot
+from .superuser import Superusers, ids_in
+from .texts import Source
+from .trusted import read_trusted
 
 HERE = os.path.dirname(os.path.realpath(__file__))
 WRITTEN, REFUSED = 0, 1
@@ -34,8 +37,8 @@ ABSENT = b"00"  # In the place of a byte of `index`, which always grants the req
 GREATEST_ID = 4_294_967_294
 HELP = """\
 Writes one page of HTML, to standard output or to a new FILE: a tree of the files of a snapshot, in which the rights of a
-user or a group are shown by colour, on each file or along its path; the list of a file, and who may do what with it, by
-which entries; with SCRIPTs, what their edits change. The page needs no network. The SCRIPT - is standard input.
+user or a group are shown by colour, along the path of each file or on the file alone; the list of a file, and who may do what
+with it, by which entries; with SCRIPTs, what their edits change. The page needs no network. The SCRIPT - is standard input.
 """
 STATUS = """\
 The exit status is 0 where the page is written; 1 where lines were refused: then none is; 2 where the words, the snapshot
@@ -81,8 +84,12 @@ def parse(words: List[str]) -> argparse.Namespace:
         prog="facl-report", description=HELP, epilog=STATUS, formatter_class=argparse.RawDescriptionHelpFormatter, allow_abbrev=False,
     )
     parser.add_argument("--program", metavar="FILE", help="the program facl; without it $FACL, or facl on the path")
+    view = parser.add_mutually_exclusive_group()
+    view.add_argument("--file-alone", action="store_true", help="open the page with each file judged alone, and not along its path")
+    view.add_argument("--reach", action="store_true", help="open it along paths, as it does without a word")
+    parser.add_argument("--with-root", action="store_true", help="also the users of uid 0, to whom the kernel grants nearly everything")
     parser.add_argument("--output", metavar="FILE", help="write the page to a new file that its owner alone may read")
-    parser.add_argument("snapshot", metavar="SNAPSHOT")
+    texts.add_source(parser, words)
     parser.add_argument("scripts", metavar="SCRIPT", nargs="*")
     return parser.parse_args(words)
 
@@ -239,11 +246,12 @@ class Builder:
         lists = [now.get(number) for number in range(len(self.tables.lists.values))]
         return list(lists), {number: it for number, it in before.items() if it != lists[number]}
 
-    def data(self, title: str, has_script: bool) -> Dict[str, object]:
+    def data(self, title: str, has_script: bool, is_alone: bool = False, left_out: Iterable[bytes] = ()) -> Dict[str, object]:
         files = self.files()
         decisions, before = self.all_decisions()
         return {
-            "title": title, "script": has_script, "whos": [[who.kind, shown(who.name)] for who in self.whos], "start": self.start,
+            "title": title, "script": has_script, "alone": is_alone, "without": sorted(map(shown, left_out)),
+            "whos": [[who.kind, shown(who.name)] for who in self.whos], "start": self.start,
             "files": files, "rows": self.tables.rows.values, "lists": [text for text, _ in self.tables.lists.values],
             "reaches": self.tables.reaches.values, "entries": self.tables.entries.values, "decisions": decisions, "before": before,
         }
@@ -268,12 +276,9 @@ def page_of(data: Dict[str, object]) -> bytes:
     return (PAGE % {"policy": policy, "style": style, "data": text, "script": script}).encode("utf-8")
 
 
-def list_files(session: Session) -> Iterator[Record]:
-    """The files as they are now; none where the root was removed, which removes all."""
-    answer = session.ask(b"getfacl -R -n -E .\n")
-    if answer.messages and not answer.messages[0].endswith(b": no such file"):
-        raise Failure(b"the program refused to list the files: " + answer.messages[0])
-    return records_of(answer.output)
+def list_files(session: Session, tops: List[bytes]) -> Iterator[Record]:
+    """The files as they are now; none where the tops were removed, which removes all."""
+    return (record for region in texts.list_below(session, tops) for record in records_of(region))
 
 
 def keep(records: Iterator[Record], wanted: List[List[bytes]], kept: Files) -> Iterator[Record]:
@@ -294,9 +299,9 @@ def answer_scripts(command: Command, run: plan.Run, units: List[Unit]) -> int:
     return sum(not message.is_warning for message in run.messages)
 
 
-def users_shown(old: List[bytes], new: List[bytes], probes: List[Who]) -> List[Who]:
+def users_shown(old: List[bytes], new: List[bytes], probes: List[Who], left_out: Set[bytes]) -> List[Who]:
     """Users first, then groups, then everybody."""
-    others = {who.user for who in probes}
+    others = {who.user for who in probes} | left_out
     users = old + [user for user in new if user not in set(old)]
     return [Who("user", user, user) for user in users if user not in others] + probes
 
@@ -305,7 +310,8 @@ def changes_of_people(units: List[Unit]) -> bytes:
     return b"".join(unit.lines[0] + b"\n" for unit in units if unit.is_of(*CHANGES))
 
 
-def data_of(program: str, snapshot: Snapshot, tree: Tree, listings: List[Tuple[Listing, Labels]], units: List[Unit]) -> Dict[str, object]:
+def data_of(program: str, snapshot: Snapshot, tree: Tree, listings: List[Tuple[Listing, Labels]], units: List[Unit],
+            given: argparse.Namespace) -> Dict[str, object]:
     """The data of the page, of one listing, or of two with scripts between them."""
     bodies = [labels.bodies() for _, labels in listings]
     changes = changes_of_people(units)
@@ -314,34 +320,53 @@ def data_of(program: str, snapshot: Snapshot, tree: Tree, listings: List[Tuple[L
         State(listing, ask_labels(program, People(snapshot.passwd, snapshot.group, lines + probes.lines), its))
         for (listing, _), its, lines in zip(listings, bodies, (b"", changes))
     ]
-    whos = users_shown(states[0].answers.users, states[-1].answers.users, probes.whos)
+    superusers = Superusers({} if given.with_root else ids_in(snapshot.passwd))
+    for unit in units:
+        superusers.follow(unit)
+    whos = users_shown(states[0].answers.users, states[-1].answers.users, probes.whos, superusers.names)
     tables = Tables()
     views = [View(state, its, whos, tables) for state, its in zip(states, bodies)]
-    return Builder(tree, whos, views[0], views[-1], tables).data(shown(snapshot.folder), len(listings) > 1)
+    return Builder(tree, whos, views[0], views[-1], tables).data(shown(snapshot.folder), len(listings) > 1, given.file_alone, superusers.names)
+
+
+def say_notices(command: Command, source: Source) -> None:
+    dump = read_trusted(os.path.join(source.folder, b"dump"))
+    for text in (*overview.unknown(source.folder, dump), *overview.masks(dump)):
+        command.say(text if text.startswith(b"warning: ") else source.shown + b": " + text)
+
+
+def page_over(command: Command, given: argparse.Namespace, source: Source) -> Optional[bytes]:
+    """The page; None where lines were refused."""
+    snapshot = read_snapshot(source.folder, needs_links=False)
+    program = find_program(given.program)
+    units = read_units(given.scripts)
+    say_notices(command, source)
+    tree = Tree()
+    linked: Files = {}
+    with Session(program, snapshot.folder) as session:
+        labels = Labels()
+        tops = texts.find_tops(session, snapshot.folder)
+        listings = [(tree.add(keep(list_files(session, tops), snapshot.links, linked), labels), labels)]
+        if not tree.names:
+            raise Failure(source.shown + b": has no files: make a snapshot by facl-snapshot")
+        if given.scripts:
+            refusals = answer_scripts(command, plan.Run(session, snapshot, linked), units)
+            if refusals:
+                command.say(counted(refusals, "line was", "lines were") + b" refused, so no page is written")
+                return None
+            labels = Labels()
+            listings.append((tree.add(list_files(session, tops), labels), labels))
+    return page_of(data_of(program, snapshot._replace(folder=source.shown), tree, listings, units, given))
 
 
 def body(command: Command, words: List[str]) -> int:
     given = parse(words)
     target = NewFile(os.fsencode(given.output)) if given.output is not None else None
     command.goes_on = target is not None
-    snapshot = read_snapshot(os.fsencode(given.snapshot))
-    program = find_program(given.program)
-    units = read_units(given.scripts)
-    tree = Tree()
-    linked: Files = {}
-    with Session(program, snapshot.folder) as session:
-        labels = Labels()
-        listings = [(tree.add(keep(list_files(session), snapshot.links, linked), labels), labels)]
-        if not tree.names:
-            raise Failure(snapshot.folder + b": has no directories above its files: make a snapshot by facl-snapshot")
-        if given.scripts:
-            refusals = answer_scripts(command, plan.Run(session, snapshot, linked), units)
-            if refusals:
-                command.say(counted(refusals, "line was", "lines were") + b" refused, so no page is written")
-                return REFUSED
-            labels = Labels()
-            listings.append((tree.add(list_files(session), labels), labels))
-    page = page_of(data_of(program, snapshot, tree, listings, units))
+    with texts.opened(given) as source:
+        page = page_over(command, given, source)
+    if page is None:
+        return REFUSED
     if target is None:
         command.write(page)
     else:

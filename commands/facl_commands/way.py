@@ -5,7 +5,7 @@ import os
 import stat
 from typing import Dict, Iterable, List, NamedTuple, Optional, Tuple
 
-from . import differences, live, plan_folder, planned, system
+from . import differences, live, looking, plan_folder, planned, system
 from .lists import Record, is_minimal, owner_permissions
 from .live import NotFound, OpenFile, Opener, Seen
 from .messages import reason
@@ -103,27 +103,37 @@ def look_at(way: Way, paths: Iterable[bytes]) -> Look:
     for later, until it is open."""
     look = Look({}, {}, [])
     devices = Devices(way.boot(), system.boot())
+    if os.geteuid() == 0:
+        names = list(paths)
+        for path, found in zip(names, looking.look_at_all(names)):
+            take(way, devices, look, path, found)
+        return look
     opened: List[bytes] = []  # The directories that the plan opens to the caller.
-    is_root = os.geteuid() == 0
     with Opener() as opener:
         for path in paths:
-            if opened and any(path.startswith(it + b"/") for it in opened):
+            if any(path.startswith(it + b"/") for it in opened):
                 look.later.append(path)
-                continue
-            try:
-                seen = opener.look(path)
-                fault = fault_of(way, devices, path, seen)
-            except NotFound as error:
-                fault = error.text
-            except OSError as error:
-                fault = reason(error)
-            if fault is None:
-                look.files[path] = seen
-                if not is_root and (opens(way, path) and seen.record != way.end(path) or was_closed(way, path, seen.record)):
-                    opened.append(path)
-            else:
-                look.faults[path] = fault
+            elif take(way, devices, look, path, looking.look_at_one(opener, path)) and is_closed(way, path, look.files[path].record):
+                opened.append(path)
     return look
+
+
+def take(way: Way, devices: Devices, look: Look, path: bytes, found: looking.Found) -> bool:
+    """Takes what was found of a path; whether it is the file that the plan is about."""
+    if isinstance(found, bytes):
+        look.faults[path] = found
+        return False
+    fault = fault_of(way, devices, path, found)
+    if fault is not None:
+        look.faults[path] = fault
+        return False
+    look.files[path] = found
+    return True
+
+
+def is_closed(way: Way, path: bytes, now: Record) -> bool:
+    """Whether a directory is closed to the caller until the plan opens it, or is closed too early."""
+    return opens(way, path) and now != way.end(path) or was_closed(way, path, now)
 
 
 def is_expected(way: Way, path: bytes, now: Record) -> bool:

@@ -1,7 +1,7 @@
 "use strict";
 // Opens a page of facl-report with a stand-in for a browser's document, and prints what its side shows of each file, as JSON:
 // by path the kind, the right, the names and the reason of each line; first of the files alone, then along their paths. With
-// TEXT it searches for that, chooses the first file that is found, and prints what is shown then, along paths.
+// TEXT it searches for that, chooses the first file that is found, and prints what is shown then, as the page opens.
 //
 // usage: node page.js PAGE [TEXT]
 const fs = require("fs");
@@ -48,9 +48,9 @@ function sides() {
   }));
 }
 
-function chooseAlongPaths() {
+function chooseAlongPaths(checked) {
   const label = body.all(it => it.name === "label" && it.children[1] === "along paths")[0];
-  label.children[0].checked = true;
+  label.children[0].checked = checked;
   label.children[0].onchange();
 }
 
@@ -59,14 +59,14 @@ function find(text) {
   byId("search").oninput();
   const name = byId("tree").all(it => it.className.split(" ")[0] === "name")[0];
   name.onclick();
-  chooseAlongPaths();
   return {row: name.textContent, count: byId("tree").children.at(-1).textContent, side: side()};
 }
 
 if (process.argv.length > 3) console.log(JSON.stringify(find(process.argv[3])));
 else {
   openAll();
+  chooseAlongPaths(false);
   const alone = sides();
-  chooseAlongPaths();
+  chooseAlongPaths(true);
   console.log(JSON.stringify([alone, sides()]));
 }

@@ -2,6 +2,7 @@
 from __future__ import annotations
 
 import importlib.util
+import json
 import os
 import pty
 import re
@@ -20,14 +21,17 @@ from common import COMMANDS, HERE, Case, outside_the_gate, restore_signals, take
 sys.path.insert(0, COMMANDS)
 
 from facl_commands import completion, manual, overview, terminal  # noqa: E402
-from facl_commands.desk import WORDS_OF_PROMPT, Desk  # noqa: E402
+from facl_commands.desk import ALONE, WORDS_OF_PROMPT, Desk  # noqa: E402
 from facl_commands.messages import Failure  # noqa: E402
 from facl_commands.names import shown  # noqa: E402
 from facl_commands.program import Session, find_program  # noqa: E402
 from facl_commands.snapshot import check_texts  # noqa: E402
+from facl_commands.superuser import Superusers  # noqa: E402
 
 SHARE = os.fsencode(os.path.join(HERE, "snapshots", "share"))
 SCRIPT = b"who r srv/share/notes\nfrob\nsetfacl -d -m d:u:guest:r,u:guest:x srv/share/drafts\nmay guest r\nwho 'open\n\xff\ngetfacl -M - x\nindex"
+
+UNKNOWN = b"the directories above are not recorded, so they are taken as open; hard links are not known\n"
 
 
 def completer(folder: bytes = SHARE) -> completion.Completer:
@@ -94,7 +98,8 @@ class AsTheProgram(Case):
     def test_the_session_of_readme(self) -> None:
         demo = os.path.join(COMMANDS, "..", "demo")
         with open(os.path.join(demo, "plan.stdout"), "rb") as file:
-            self.expect(self.run_command("facl-ask", [demo, os.path.join(demo, "plan")]), 0, file.read())
+            done = self.run_command("facl-ask", [demo, os.path.join(demo, "plan")])
+            self.expect(done, 0, file.read(), b"facl-ask: " + os.fsencode(demo) + b": " + UNKNOWN)
 
     def test_several_scripts(self) -> None:
         self.write("first", b"# one\nfrob\nsetfacl -m u:guest:r srv/share/one\nsetfacl -M - srv/share/two\nu:guest:r")
@@ -107,6 +112,24 @@ class AsTheProgram(Case):
         self.write("second", b"may guest w\n")
         self.expect(self.run_command("facl-ask", ["before", "second", "second"]), 0, b"")
 
+    def test_headings(self) -> None:
+        """They are those of facl-plan, which refuses no line of these."""
+        questions = (b"who r srv/share/one\n\nmay guest w\nmay ines r\ngetfacl srv/share/one srv\ngetfacl -c srv\nchanges\n# x\nwho --reach r srv\n"
+                     b"who x srv/share/one\nwhy mara srv/share/notes\n")
+        self.write("edits", questions)
+        wanted = self.run_command("facl-plan", ["--json", "before", "edits"])
+        self.assertEqual(wanted.status, 3)
+        for name in ("edits", "standard input"):
+            words = ["--headings", "before", "edits" if name == "edits" else "-"]
+            done = self.run_command("facl-ask", words, questions)
+            lines = b"".join(b"# %s, line %d: %s\n" % (name.encode(), it["line"], it["question"].encode())
+                             + (it["answer"].encode() or b"(nothing)\n") + (b"" if it["answer"].endswith("\n\n") else b"\n")
+                             for it in json.loads(wanted.out)["answers"])
+            self.expect(done, 0, lines.replace(b"\\\\351", b"\\351"))
+        self.assertEqual(len(json.loads(wanted.out)["answers"]), 9)
+        self.expect(self.run_command("facl-ask", ["--headings", "before"], b"frob\nchmod 600 srv/share/one\nwho z srv\n"), 1, b"",
+                    b"standard input, line 1: facl: unknown tool\nstandard input, line 3: who: usage\n")
+
     def test_bad_words(self) -> None:
         for words, message in ((["absent"], b"absent: no such folder: make a snapshot by facl-snapshot"),
                                (["before", "absent"], b"absent: No such file or directory"),
@@ -118,6 +141,85 @@ class AsTheProgram(Case):
         self.expect(self.run_command("facl-ask", ["before"]), 2, b"", b"facl-ask: before: is no snapshot: group is not in it\n")
         self.assertEqual(self.run_command("facl-ask", []).status, 2)
         self.assertEqual(self.run_command("facl-ask", ["--help"]).status, 0)
+
+
+class AnyDump(Case):
+    """A folder of three texts, and texts by name."""
+
+    DUMP = b"""\
+# file: project
+# owner: ines
+# group: staff
+user::rwx
+group::r-x
+other::---
+
+# file: project/notes
+# owner: mara
+# group: staff
+user::rw-
+user:guest:rw-
+group::---
+mask::---
+other::r--
+
+"""
+    MASKS = (b"facl-ask: warning: lists with an empty mask whose others have something, which Linux grants to named users and groups too, and "
+             b"facl does not: 1, first: project/notes\n")
+    QUESTIONS = b"may ben 0\ncan mara project/notes\n"
+    ANSWERS = b"project\nproject/notes\n-w- r-- rw-\n"
+
+    def setUp(self) -> None:
+        super().setUp()
+        self.write("acls", self.DUMP)
+        os.mkdir(self.path("folder"))
+        self.write("folder/dump", self.DUMP)
+        for name in ("passwd", "group"):
+            shutil.copy(self.path("before/" + name), self.path("folder"))
+        self.write("questions", self.QUESTIONS)
+        os.mkdir(self.path("temporary"))
+
+    def test_a_folder(self) -> None:
+        wanted = b"facl-ask: folder: " + UNKNOWN + self.MASKS
+        self.expect(self.run_command("facl-ask", ["folder"], self.QUESTIONS), 0, self.ANSWERS, wanted)
+        self.expect(self.run_command("facl-ask", ["folder", "questions"]), 0, self.ANSWERS, wanted)
+        self.expect(self.run_command("facl-ask", ["folder", "questions", "questions"]), 0, self.ANSWERS * 2, wanted)
+        self.write("folder/links", b"")
+        self.write("folder/dump", b"# file: /\n# owner: ines\n# group: staff\nuser::rwx\ngroup::r-x\nother::--x\n")
+        self.expect(self.run_command("facl-ask", ["folder"], b"can ben .\n"), 0, b"--x r-- r-x\n")
+
+    def test_texts_by_name(self) -> None:
+        words = ["--dump", "acls", "--passwd", "before/passwd", "--group", "before/group"]
+        environment = {"TMPDIR": self.path("temporary")}
+        wanted = b"facl-ask: acls: " + UNKNOWN + self.MASKS
+        cases: List[Tuple[List[str], bytes]] = [([], self.QUESTIONS), (["-"], self.QUESTIONS), (["questions"], b"")]
+        for more, text in cases:
+            self.expect(self.run_command("facl-ask", [*words, *more], text, environment), 0, self.ANSWERS, wanted)
+        self.expect(self.run_command("facl-ask", words, b"frob\n", environment), 1, b"", wanted + b"line 1: facl: unknown tool\n")
+        self.assertEqual(os.listdir(self.path("temporary")), [])
+
+    def test_people_of_the_system(self) -> None:
+        os.mkdir(self.path("bin"))
+        self.write("bin/getent", b"#!/bin/sh\ncase $*:$1 in passwd:*|group:*) grep -v -e ^ines: -e ^staff: before/$1;; *:passwd) grep ^ines: before/passwd;;\n"
+                   b"*) grep ^staff: before/group;; esac\necho \"$*\" >>asked\n")
+        os.chmod(self.path("bin/getent"), 0o755)
+        environment = {"PATH": self.path("bin") + ":" + os.environ["PATH"], "TMPDIR": self.path("temporary")}
+        done = self.run_command("facl-ask", ["--dump", "acls"], self.QUESTIONS, environment)
+        self.expect(done, 0, self.ANSWERS, b"facl-ask: acls: " + UNKNOWN + self.MASKS)
+        self.assertEqual(self.read("asked"), b"passwd\npasswd -- ines\ngroup\ngroup -- staff\n")
+
+    def test_names_without_a_row(self) -> None:
+        self.write("folder/dump", self.DUMP.replace(b"user:guest", b"user:gone"))
+        self.expect(self.run_command("facl-ask", ["folder"], self.QUESTIONS), 2, b"", b"facl-ask: folder: " + UNKNOWN
+                    + b"facl-ask: warning: users and groups in the dump without a row, with which the program does not load it: 1, first: user gone\n"
+                    + self.MASKS + b"facl: setup: dump: text line 12: unknown user\n")
+
+    def test_words(self) -> None:
+        for words, message in ((["--dump", "absent"], b"absent: No such file or directory"), (["--dump", "acls", "--passwd", "absent"], b"absent: No such"),
+                               (["--passwd", "before/passwd", "before"], b"go with --dump"), (["--dump", "acls", "--each", "a"], b"one dump")):
+            done = self.run_command("facl-ask", words)
+            self.assertEqual((done.status, done.out), (2, b""))
+            self.assertIn(message, done.messages)
 
 
 class Manual(unittest.TestCase):
@@ -204,7 +306,7 @@ class Overview(Case):
                             b"# file: /srv/share/one\n# owner: 1001\n# group: 88\nuser::rw-\nuser:1009:r--\ngroup::r--\nmask::---\nother::r--")
         self.write("before/dump", dump)
         texts = overview.read_texts(os.fsencode(self.path("before")))
-        self.assertTrue(overview.summary(texts).endswith(b"before: 5 users, 5 groups, 14 files"), overview.summary(texts))
+        self.assertEqual(overview.summary(texts, b"name"), b"name: 5 users, 5 groups, 14 files")
         self.assertEqual(list(overview.warnings(texts)), [
             b"warning: names of files that have another name in the snapshot too (see links): 2, first: /srv/share/one",
             b"warning: lists with an empty mask whose others have something, which Linux grants to named users and groups too, and "
@@ -219,7 +321,6 @@ class Overview(Case):
             self.write("before/" + name, text)
         self.assertEqual(list(overview.warnings(overview.read_texts(os.fsencode(self.path("before"))))), [
             b"warning: passwd is empty: who, may and index will name nobody",
-            b"warning: the directories above are not recorded, so --reach does not judge them",
         ])
         with self.assertRaises(Failure):
             check_texts(os.fsencode(self.path("absent")))
@@ -228,10 +329,15 @@ class Overview(Case):
 class Prompt(unittest.TestCase):
     """What is printed for lines, without a terminal."""
 
+    noted = [ALONE]  # What was said once before.
+    without: Dict[bytes, int] = {}  # Of whom those of id 0 are left out.
+
     def desk(self) -> Desk:
         self.printed: List[bytes] = []
         known = completer()
-        desk = Desk(lambda: Session(find_program(None), SHARE), known.page, known, self.printed.append)
+        desk = Desk(lambda: Session(find_program(None), SHARE), known.page, known, self.printed.append, lambda line: b"~" + line,
+                    Superusers(self.without))
+        desk.noted.update(self.noted)
         self.addCleanup(desk.close)
         return desk
 
@@ -264,6 +370,28 @@ class Prompt(unittest.TestCase):
                          b"(nothing)\n# file: srv/share/notes\nuser:mara:rw-\t\t\t#effective:r--\n\n"
                          b"mara gains -w-,rw- srv/share/notes\nguest gains r-- srv/share/notes\n"
                          b"# file: srv/share/notes\nuser:mara:rw-\n\n(nothing)\n(nothing)\n\n")
+
+    def test_what_is_said_once(self) -> None:
+        self.noted = []
+        self.assertEqual(self.ask("who --reach r srv/share/one", "can ines srv", "getfacl -s srv", "who", "who w srv", "may guest w"),
+                         b"ines\nben\n--x r-- r-x\n~" + ALONE + b"(nothing)\nline 4: who: usage\n    who [--reach] PERMS FILE\n    A word is "
+                         b"missing.\nroot\n(nothing)\n\n")
+
+    def test_the_superuser(self) -> None:
+        self.without = {b"root": 0, b"ines": 1001}
+        note = b"~(left out of who, index and changes: root, to whom the kernel grants nearly everything; --with-root for all)\n"
+        self.assertEqual(self.ask("who w srv/share/one", "can root srv", "who w srv", "who r srv", "setfacl -m u:ines:- srv", "changes"),
+                         b"ines\n--x -w- -wx r-- r-x rw- rwx\n(nobody)\n" + note + b"ines\nben\nmara\nguest\nines loses --x,r--,r-x srv\n\n")
+
+    def test_where_the_user_is_stopped(self) -> None:
+        mark = b"    <-- here is no search: nothing below is reached\n"
+        share = b"# file: srv/share\nother::---\n\n"
+        answer = self.ask("why --reach guest srv/share/one srv/share/drafts/logo.svg srv", "why guest srv/share srv/share/one",
+                          "setfacl -m u:guest:x srv/share", "why --reach guest srv/share/drafts/logo.svg")
+        blocks = answer.split(b"\n\n")
+        self.assertEqual([block.split(b"\n")[0] + b"\n" for block in blocks if b"<--" in block],
+                         [share.split(b"\n")[0] + mark, b"# file: srv/share/drafts" + mark])
+        self.assertEqual(answer.count(b"# file: srv\n"), 2)
 
     def test_refused_lines(self) -> None:
         self.assertEqual(self.ask('who r "srv/share/plan 2 "', "who r share/one", "", "frob", "chmod u+w srv/share/one"), (
@@ -399,18 +527,18 @@ class Terminal(Case):
                     break
         self.assertEqual(self.run_of.wait(60), status)
 
-    def session(self) -> None:
+    def session(self, dim: bytes = b"") -> None:
         self.expect_output(b"before: 5 users, 5 groups, ")
         self.expect_output(b"warning: names of files that have another name in the snapshot too (see links): 2")
         self.expect_output(b"1>")
         self.send(b"who x srv/share/one\r")
-        self.expect_output(b"(nobody)\r\n")
+        self.expect_output(b"(nobody)\r\n" + dim + b"(each file is judged alone")
         self.expect_output(b"2>")
 
     @unittest.skipUnless(importlib.util.find_spec("prompt_toolkit"), "prompt_toolkit is not installed")
     def test_prompt_toolkit(self) -> None:
-        self.start({})
-        self.session()
+        self.start({"NO_COLOR": ""})
+        self.session(b"\x1b[2m")
         self.send(b"can i\t")
         self.expect_output(b"nes")
         self.send(b"srv/share/o\t")
@@ -446,7 +574,7 @@ class Terminal(Case):
     @unittest.skipUnless(importlib.util.find_spec("prompt_toolkit"), "prompt_toolkit is not installed")
     def test_signals(self) -> None:
         os.mkdir(self.path("temporary"))
-        self.expect_nothing_left({"TMPDIR": self.path("temporary")})
+        self.expect_nothing_left({"TMPDIR": self.path("temporary"), "NO_COLOR": "1"})
 
     def test_signals_without_prompt_toolkit(self) -> None:
         os.mkdir(self.path("temporary"))

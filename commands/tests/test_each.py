@@ -1,7 +1,8 @@
-"""facl-snapshot --split, by a getfacl and a getent of its own; and facl-ask --each, by GNU parallel, beside one session."""
+"""facl-snapshot --split, by a getfacl and a getent of its own; facl-ask --each, by GNU parallel, beside one session; and --hosts."""
 from __future__ import annotations
 
 import os
+import re
 import shutil
 import signal
 import stat
@@ -10,15 +11,16 @@ import sys
 import tempfile
 import time
 import unittest
-from typing import Dict, List
+from typing import Dict, List, Optional
 
 from common import COMMANDS, HERE, Case, Done, outside_the_gate, restore_signals
 
 sys.path.insert(0, COMMANDS)
 
-from facl_commands import each, part  # noqa: E402
+from facl_commands import agreement, each, part, servers, texts  # noqa: E402
+from facl_commands.messages import Failure  # noqa: E402
 from facl_commands.names import path_order, read_path  # noqa: E402
-from facl_commands.program import Region  # noqa: E402
+from facl_commands.program import Region, Session, find_program  # noqa: E402
 from facl_commands.scripts import read_script  # noqa: E402
 
 GETFACL = b"""\
@@ -109,11 +111,11 @@ class Split(Case):
         self.assertEqual(self.snapshot("--split", count, "parts", "tree").status, 0)
         self.assertEqual(self.read("parts/001/passwd"), self.read("people/passwd"))
         self.assertEqual(self.read("parts/002/group"), self.read("people/group"))
-        self.assertEqual(sorted(os.listdir(self.path("parts/001"))), ["dump", "group", "inodes", "links", "passwd"])
+        self.assertEqual(sorted(os.listdir(self.path("parts/001"))), ["dump", "group", "inodes", "links", "meta", "passwd"])
         self.assertEqual(self.snapshot("--split", "1000", "parts", "tree").status, 0)
         self.assertEqual(os.listdir(self.path("parts")), ["001"])
         self.assertEqual(self.snapshot("parts", "tree").status, 0)
-        self.assertEqual(sorted(os.listdir(self.path("parts"))), ["dump", "group", "inodes", "links", "passwd"])
+        self.assertEqual(sorted(os.listdir(self.path("parts"))), ["dump", "group", "inodes", "links", "meta", "passwd"])
         self.assertEqual(self.snapshot("--split", count, "parts", "tree").status, 0)
         self.write("parts/001/other", b"")
         self.assertEqual(self.snapshot("--split", count, "parts", "tree").status, 2)
@@ -157,6 +159,107 @@ class Joined(unittest.TestCase):
     def test_reasons_are_in_path_order(self) -> None:
         first, second = b"# file: srv\nother::r-x\n\n", b"# file: srv/a\nuser:ben:r--\n\n"
         self.assertEqual(self.joined(b"why --reach ben srv/a", first + second, first), first + second)
+
+
+class Agreement(unittest.TestCase):
+    """What two snapshots may not have if they are parts of one tree."""
+
+    def recorded(self, label: bytes, files: Dict[bytes, bytes], users: Dict[str, int], groups: Dict[str, int]) -> agreement.Recorded:
+        file = tempfile.TemporaryFile()
+        self.addCleanup(file.close)
+        file.write(b"".join(b"# file: " + name + b"\n" + body + b"\n" for name, body in files.items()))
+        file.flush()
+        size = file.tell()
+        blocks = b"".join(agreement.blocks_of([Region(file, 0, size)]))
+        file.write(blocks)
+        file.flush()
+        return agreement.Recorded(label, users, groups, Region(file, size, size + len(blocks)))
+
+    def expect(self, wanted: Optional[bytes], first: Dict[bytes, bytes], second: Dict[bytes, bytes], users: Dict[str, int] = {},
+               groups: Dict[str, int] = {}) -> None:
+        parts = [self.recorded(b"a", first, {"ines": 1, "ben": 2}, {"staff": 5}), self.recorded(b"b", second, users, groups)]
+        self.assertEqual(agreement.disagreement(parts), wanted)
+
+    def test_files(self) -> None:
+        one, two = b"user::rwx\n", b"user::rw-\n"
+        self.expect(None, {b".": one, b"srv": one, b"srv/a/": one}, {b".": one, b"srv": one, b"srv/b": two, b"srv/a": one})
+        self.expect(b"/srv/a\\012b: is recorded differently in a and in b", {b"srv/c": one, b"srv/a\\012b": two}, {b"srv/c": two, b"srv/a\\012b": one})
+        self.expect(b"/: is recorded differently in a and in b", {b".": one, b"x": one}, {b".": two, b"x": two})
+        self.expect(b"/a/c: is recorded differently in a and in b", {b"a": one, b"a b": one, b"a/c": one}, {b"a": one, b"a b": two, b"a/c": two})
+        self.expect(None, {}, {b"x": one})
+
+    def test_ids(self) -> None:
+        self.expect(None, {}, {}, {"ines": 1, "mara": 2}, {"ben": 7, "staff": 5})
+        self.expect(b"user ben: has the id 2 in a and 3 in b", {}, {}, {"ben": 3})
+        self.expect(b"group staff: has the id 5 in a and 6 in b", {}, {}, {}, {"staff": 6})
+
+
+class Tops(Case):
+    """Dumps in which the directories above are not recorded."""
+
+    def test_tops(self) -> None:
+        self.assertEqual(texts.tops_of(b"# file: srv/b/c\n\n# file: srv/b\n\n#file:srv/a\\012/\n\n# file: srv-x\n\n# file: srv/b c\n"),
+                         [b"srv/a\n", b"srv/b", b"srv/b c", b"srv-x"])
+        self.assertEqual(texts.tops_of(b"# file: .\n\n# file: a\n"), [b""])
+        self.assertEqual(texts.tops_of(b""), [])
+
+    def test_operands(self) -> None:
+        paths = [b"%09d" % number for number in range(15000)]
+        groups = texts.operands_of(paths)
+        self.assertEqual([word.strip(b"'") for words in groups for word in words], paths)
+        self.assertLess(max(len(b" ".join(words)) for words in groups), texts.ROOM)
+        self.assertEqual(texts.operands_of([b"x" * 70000, b"a"]), [[b"'" + b"x" * 70000 + b"'"], [b"'a'"]])
+
+    def test_listings(self) -> None:
+        dump = self.read("before/dump")
+        self.write("before/dump", dump[dump.index(b"# file: /srv/share/") :].replace(b"# file: /srv/share/\n", b"# file: /srv/other\n"))
+        folder = os.fsencode(self.path("before"))
+        with Session(find_program(None), folder) as session:
+            tops = texts.find_tops(session, folder)
+            self.assertEqual((len(tops), tops[0]), (11, b"srv/other"))
+            whole = b"".join(region.read() for region in texts.list_below(session, tops))
+            self.assertEqual(names_of(whole)[0], b"srv/other")
+            self.assertEqual(len(names_of(whole)), len(names_of(dump)) - 2)
+            session.ask_surely(b"rm srv/share/one")
+            self.assertEqual(len(names_of(b"".join(region.read() for region in texts.list_below(session, tops)))), len(names_of(whole)) - 1)
+
+
+class Servers(Case):
+    """facl-ask --hosts."""
+
+    def test_words(self) -> None:
+        self.assertEqual(servers.read_servers([b"srva:mon", b"me@srvb:/b c", b"localhost:x:y"]),
+                         [servers.Server(b"srva", b"mon"), servers.Server(b"me@srvb", b"/b c"), servers.Server(b"localhost", b"x:y")])
+        self.assertEqual([it.host() for it in servers.read_servers([b"srva:mon", b"localhost:x"])], [b"srva", b":"])
+        for word, text in ((b"-oProxyCommand=x:mon", b"NAME starts with a letter"), (b"me@-F:x", b"NAME starts with a letter"),
+                           (b"mon", b"a server is NAME:DIR"), (b"srva:", b"parallel cannot"), (b"srva:a\nb", b"parallel cannot"),
+                           (b"srva::::", b"parallel cannot"), (b"srva:fri", b"is the second snapshot of srva")):
+            with self.assertRaises(Failure) as caught:
+                servers.read_servers([b"srva:mon", word] if b"second" in text else [word])
+            self.assertIn(text, caught.exception.text)
+        self.assertEqual(self.run_command("facl-ask", ["--hosts", "--each", "a:b"]).status, 2)
+
+    @outside_the_gate
+    @unittest.skipUnless(shutil.which("parallel"), "GNU parallel is not installed")
+    def test_answers(self) -> None:
+        shutil.copytree(self.path("before"), self.path("other"))
+        self.write("other/group", self.read("before/group").replace(b"audit:x:400:ben", b"audit:x:400:"))
+        os.mkdir(self.path("bin"))
+        self.write("bin/ssh", b"#!/bin/sh\nwhile :; do case $1 in srv[ab]) break;; down) echo no route >&2; exit 255;; esac; shift; done\n"
+                   b"shift\n[ \"$1\" != -- ] || shift\nexec sh -c \"$*\"\n")
+        os.chmod(self.path("bin/ssh"), stat.S_IRWXU)
+        os.symlink(os.path.join(COMMANDS, "facl-ask"), self.path("bin/facl-ask"))
+        environment = {"PATH": self.path("bin") + ":" + os.environ["PATH"], "PARALLEL_SSH": self.path("bin/ssh")}
+        script = b"who r srv/share/one\nfrob\ngpasswd -d ben audit\nwho r srv/share/two"
+        words = ["--hosts", "srva:" + self.path("before"), "localhost:before", "srvb:" + self.path("other")]
+        done = self.run_command("facl-ask", words, script, environment)
+        self.expect(done, 1, b"".join(name + b": " + user + b"\n" for name in (b"srva", b"localhost", b"srvb") for user in (b"ines", b"ben"))
+                    + b"".join(name + b": " + user + b"\n" for name in (b"srva", b"localhost", b"srvb") for user in (b"ines", b"ben")),
+                    b"srva: line 2: facl: unknown tool\nlocalhost: line 2: facl: unknown tool\nsrvb: line 2: facl: unknown tool\n"
+                    b"srvb: line 3: gpasswd: not a member\n")
+        done = self.run_command("facl-ask", ["--hosts", "down:x", "srva:" + self.path("before"), "localhost:absent"], b"who w srv/share/one\n",
+                                environment)
+        self.expect(done, 2, b"srva: ines\n", b"down: no route\nlocalhost: absent: no such folder: make a snapshot by facl-snapshot\n")
 
 
 class Files(unittest.TestCase):
@@ -233,7 +336,7 @@ class Each(Case):
             self.write(name + "/links", b"")
 
     def each(self, script: bytes, *parts: str) -> Done:
-        return self.run_command("facl-ask", ["--each", *(parts or ("1", "2", "3"))], script)
+        return self.run_command("facl-ask", ["--each", "--with-root", *(parts or ("1", "2", "3"))], script)
 
     def expect_as_one(self, script: bytes) -> None:
         self.assertEqual(self.each(script), self.run_command("facl-ask", ["before"], script))
@@ -273,6 +376,40 @@ class Each(Case):
         self.expect(self.each(b"gpasswd -d ben audit\ncan ben srv/share/one\n"), 1, b"r--\n",
                     b"line 1: gpasswd: the snapshots have other users or groups\n")
 
+    def test_the_superuser(self) -> None:
+        script = b"who x srv\nindex\nchmod 700 srv/share\nchanges\nuserdel root\nuseradd -u 0 -g staff toor\nwho x srv\n"
+        script += b"index\ncan toor srv\nmay toor 0\n"
+        whole, done = self.each(script), self.run_command("facl-ask", ["--each", "1", "2", "3"], script)
+        lines = [line for line in whole.out.splitlines(True) if not re.match(b"(.. )?(root|toor)[ \n]", line)]
+        self.assertLess(len(lines), len(whole.out.splitlines()))
+        self.expect(done, 0, b"".join(lines), b"facl-ask: left out of who, index and changes: root, toor, to whom the kernel grants nearly "
+                    b"everything; --with-root for all\n")
+        self.expect(self.run_command("facl-ask", ["--each", "1", "2"], b"may guest w\ncan root srv/share\n"), 0, b"none\n")
+
+    def test_headings_and_notices(self) -> None:
+        mask = b"user:1009:r--\nmask::---\nother::r--\n"
+        for name in ("1", "2", "3"):
+            dump = self.read(name + "/dump").replace(b"# file: /srv/share/\n", b"# file: /srv/share\n")
+            self.write(name + "/dump", re.sub(b"(# file: /srv/share/(?:one|two)\n(?:#.*\n)*user::rw-\n)[^#]*", b"\\1group::r--\n" + mask + b"\n", dump))
+        os.unlink(self.path("2/links"))
+        done = self.run_command("facl-ask", ["--headings", "--each", "1", "2", "3"], b"may guest w\nwho w srv/share/one\nfrob\nchanges\n")
+        self.expect(done, 1, b"# standard input, line 1: may guest w\n(nothing)\n\n# standard input, line 2: who w srv/share/one\nines\n\n"
+                    b"# standard input, line 4: changes\n(nothing)\n\n",
+                    b"facl-ask: 2: hard links are not known\nfacl-ask: warning: lists with an empty mask whose others have something, which Linux "
+                    b"grants to named users and groups too, and facl does not: 2, first: /srv/share/one\nline 3: facl: unknown tool\n")
+        done = self.run_command("facl-ask", ["--headings", "--hosts", "localhost:2"], b"may guest w\ncan ines srv\nfrob\n")
+        self.assertEqual((done.status, done.out), (1, b"# standard input, line 1: may guest w\nlocalhost: (nothing)\n\n# standard input, line 2: can ines srv\n"
+                         b"localhost: --x r-- r-x\n\n"))
+        self.assertEqual(done.messages.splitlines()[0], b"localhost: hard links are not known")
+
+    def test_no_parts_of_one_tree(self) -> None:
+        self.write("2/dump", self.read("2/dump").replace(b"# file: /srv/\n# owner: 0", b"# file: /srv/\n# owner: 1001"))
+        servers_instead = b", so they are no parts of one tree: ask servers by --hosts NAME:DIR..\n"
+        self.expect(self.each(b"index\n"), 2, b"", b"facl-ask: /srv: is recorded differently in 1 and in 2" + servers_instead)
+        self.expect(self.each(b"can ines srv\n", "2"), 0, self.run_command("facl-ask", ["2"], b"can ines srv\n").out)
+        self.write("3/passwd", self.read("3/passwd").replace(b"ben:x:1002:", b"ben:x:1012:"))
+        self.expect(self.each(b"index\n", "1", "3"), 2, b"", b"facl-ask: user ben: has the id 1002 in 1 and 1012 in 3" + servers_instead)
+
     def test_bad_snapshots(self) -> None:
         self.expect(self.each(b"index\n", "1", "absent"), 2, b"", b"facl-ask: absent: no such folder: make a snapshot by facl-snapshot\n")
         self.write("2/dump", b"frob\n")
@@ -289,7 +426,7 @@ class Each(Case):
         os.chmod(self.path("bin/ssh"), stat.S_IRWXU)
         os.symlink(os.path.join(COMMANDS, "facl-ask"), self.path("bin/facl-ask"))
         environment = {"PATH": self.path("bin") + ":" + os.environ["PATH"], "PARALLEL_SSH": self.path("bin/ssh")}
-        words = ["--each", "1", "machine:" + self.path("2"), "3"]
+        words = ["--each", "--with-root", "1", "machine:" + self.path("2"), "3"]
         done = self.run_command("facl-ask", words, b"index\n", environment)
         self.assertEqual(done, self.run_command("facl-ask", ["before"], b"index\n"))
         self.assertIn(b"machine\n", self.read("called"))

@@ -78,8 +78,9 @@ class Random(Case):
         return paths
 
     def page(self, *scripts: str) -> Node:
-        done = self.run_command("facl-report", ["before", *scripts])
-        self.assertEqual((done.status, done.messages), (0, b""))
+        done = self.run_command("facl-report", ["--with-root", "before", *scripts])
+        warnings = [line for line in done.messages.splitlines() if b": warning: lists with an empty mask whose others have" not in line]
+        self.assertEqual((done.status, warnings), (0, []))
         self.write("page.html", done.out)
         return read_data(done.out)
 

@@ -39,7 +39,7 @@ class Report(Case):
         for place, text in enumerate(scripts):
             names.append("script%d" % place)
             self.write(names[-1], text)
-        done = self.run_command("facl-report", ["before", *names])
+        done = self.run_command("facl-report", ["--with-root", "before", *names])
         self.assertEqual((done.status, done.messages), (0, b""))
         return done.out.decode(), read_data(done.out)
 
@@ -121,6 +121,45 @@ class Report(Case):
         self.write("before/passwd", b"")
         _, data = self.report()
         self.assertEqual({kind for kind, _ in places_of(data)}, {"group", "everybody"})
+
+    def test_any_dump(self) -> None:
+        demo = os.path.join(COMMANDS, "..", "demo")
+        self.write("edits", b"setfacl -m u:guest:x project\nrm -r project/drafts\n")
+        texts = ["--dump", os.path.join(demo, "dump"), "--passwd", os.path.join(demo, "passwd"), "--group", os.path.join(demo, "group")]
+        for words, name in (([demo], demo), (texts, texts[1])):
+            done = self.run_command("facl-report", [*words, "edits"])
+            self.assertEqual((done.status, done.messages), (0, b"facl-report: " + os.fsencode(name) + b": the directories above are not recorded, "
+                                                            b"so they are taken as open; hard links are not known\n"))
+            data = read_data(done.out)
+            self.assertEqual(data["title"], name)
+            nodes = nodes_of(data)
+            self.assertEqual((data["files"]["names"][0], len(nodes)), ("project", 9))
+            self.assertTrue(granted(data, nodes["."], places_of(data)["user", "guest"], 1))
+        self.write("edits", b"rm -r project\n")
+        self.assertEqual(read_data(self.run_command("facl-report", [demo, "edits"]).out)["files"]["records"], [-1] * 9)
+
+    def test_the_superuser(self) -> None:
+        self.write("edits", b"userdel root\nuseradd -u 0 -g staff toor\n")
+        for words, users, without in (("before", ["ines", "ben", "mara", "guest"], ["root"]),
+                                      ("before edits", ["ines", "ben", "mara", "guest"], ["root", "toor"]),
+                                      ("--with-root before", ["root", "ines", "ben", "mara", "guest"], [])):
+            data = read_data(self.run_command("facl-report", words.split()).out)
+            self.assertEqual(([name for kind, name in data["whos"] if kind == "user"], data["without"]), (users, without))
+            self.assertIn(["group", "root"], data["whos"])
+
+    def test_empty_masks(self) -> None:
+        self.write("before/dump", self.read("before/dump").replace(b"user::rw-\ngroup::r--\nother::---\n",
+                                                                   b"user::rw-\nuser:1009:r--\ngroup::r--\nmask::---\nother::r--\n", 1))
+        done = self.run_command("facl-report", ["before"])
+        self.assertEqual(done.status, 0)
+        self.assertIn(b"facl-report: warning: lists with an empty mask whose others have something", done.messages)
+
+    def test_how_it_opens(self) -> None:
+        cases: List[Tuple[List[str], bool]] = [([], False), (["--reach"], False), (["--file-alone"], True)]
+        for words, is_alone in cases:
+            data = read_data(self.run_command("facl-report", [*words, "before"]).out)
+            self.assertEqual(data["alone"], is_alone)
+        self.assertEqual(self.run_command("facl-report", ["--reach", "--file-alone", "before"]).status, 2)
 
     def test_a_new_file(self) -> None:
         wanted = self.run_command("facl-report", ["before"])
@@ -280,6 +319,9 @@ class Deep(Case):
         self.assertEqual(done["side"][0], path[:1000] + " \u2026 " + path[-1000:])
         reason = "by other::--- of " + path[:120] + " \u2026 " + path[-122:-2]
         self.assertEqual(done["side"][1], [["Users", "rwx", "ines", "by other::r-x"], ["Users", "none", "ben", reason]])
+        self.write("page.html", report.page_of({**self.page(), "alone": True}))
+        done = json.loads(subprocess.run(words, capture_output=True, check=True, timeout=60).stdout)
+        self.assertEqual(done["side"][1], [["Users", "rwx", "ines, ben", "by other::r-x"]])
 
 
 if __name__ == "__main__":

@@ -114,6 +114,7 @@ def check_share(driver: Any, program: str, work: str, pictures: Optional[str]) -
     file = os.path.join(work, "share.html")
     write_page(program, SHARE, script, file)
     page = Page(driver, file)
+    page.click("along paths")  # Off, where it was on.
     page.choose("guest")
     page.open_all()
     expect(page.row("notes")[1:] == ["none>r--", "changed"], "notes: %r" % page.row("notes"))
@@ -186,7 +187,6 @@ def check_chain(driver: Any, program: str, work: str, levels: int) -> None:
     path = leaf[:120] + " \u2026 " + leaf[-120:]
     expect([row[0] for row in page.rows()] == [path, ""], "the search of a chain: %r" % page.rows())
     page.click(path)
-    page.click("along paths")
     page.choose("u1")
     expect("group::r-- of /d/d/" in page.side(), "the side of a chain: %s" % page.side())
     expect(page.row(path)[1] == "none", "the leaf of a chain: %r" % page.row(path))

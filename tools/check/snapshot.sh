@@ -16,6 +16,11 @@ top=$(cd "$(dirname "$0")/../.." && pwd)
 line_feed='
 '
 carriage_return=$(printf '\r')
+mkdir "$work/people"
+# A getent that lists a person, whoever else is there.
+printf '#!/bin/sh\n[ "$*" != passwd ] || echo ina:x:70001:0::/:/bin/sh\nexec "%s" "$@"\n' "$(command -v getent)" >"$work/people/getent"
+chmod 755 "$work/people" "$work/people/getent"
+PATH=$work/people:$PATH
 real_path=$PATH
 unset FACL
 snapshot=$top/commands/facl-snapshot
@@ -86,11 +91,10 @@ check_reach() {
 check_words() {
     take 0 --help
     counted "usage: facl-snapshot "
-    for words in '' "$work/other" --group "--frob $work/other $work/closed" --program "--program x"; do
+    for words in '' "$work/other" --group --exclude "--exclude / $work/other /" "--frob $work/other /" --program "--program x"; do
         # shellcheck disable=SC2086  # the words of a case
         take 2 $words
-        printf 'usage: facl-snapshot [--program FILE] [--split COUNT] [--group GROUP] DIR FOLDER..\n' |
-            diff - "$work/message" >&2 || fault "usage: $words"
+        "$snapshot" --help | head -n 2 | diff - "$work/message" >&2 || fault "usage: $words"
     done
     take 2 --program "$work/absent" "$work/other" "$work/closed"
     warned "facl-snapshot: $work/absent: no such program"
@@ -138,7 +142,7 @@ check_replacing() {
     [ "$(stat -c %i "$work/before")" != "$old" ] || fault "the folder was written, and not replaced"
     getfacl -n -p "$work/before" "$work/before/dump" | diff "$work/look" - >&2 || fault "what is replaced had another owner or list"
     getfacl -c -n -p "$work/before/inodes" | diff - "$work/list_of_dump" >&2 || fault "inodes has not the list of dump"
-    rm "$work/before/links" "$work/before/inodes"
+    rm "$work/before/links" "$work/before/inodes" "$work/before/meta"
     take 0 "$work/before" "$work/closed/share/team"
     printf '#!/bin/sh\necho "facl: setup: dump: text line 1: bad row" >&2\nexit 2\n' >"$work/refuses"
     chmod +x "$work/refuses"
@@ -268,19 +272,21 @@ with_getent() {
 }
 
 check_rows() {
-    with_getent "root:x:0:0::/:/bin/sh\nines:x:$(id -u):0::/:/bin/sh\nmara:x:1:0::/:/bin/sh\r\n" \
+    with_getent "root:x:0:0::/:/bin/sh\nines:x:$(id -u):0::/:/bin/sh\nmara:x:1:0::/:/bin/sh\r\nina:x:70001:0::/:/bin/sh\n" \
         "root:x:0:\nown:x:$(id -g):\nstaff:x:5:ines,dora,dora\nlab:x:6:emil\n"
     : >"$work/masks/ids"
     setfacl -m u:4711:r,g:4712:r,u:1:r,g:5:r "$work/masks/ids"
     setfacl -d -m u:4713:r "$work/masks"
-    take 0 --program "$program" "$work/before" "$work/masks"
+    take 1 --program "$program" "$work/before" "$work/masks"
+    warned "most users that the dump names have no row in passwd"
     warned "ids in the dump without a row in passwd or group: 4, first: user 4711"
     warned "members of groups without a row in passwd: 2, first: dora"
     warned "rows of passwd with a carriage return, which facl takes for a part of a name: 1, first: mara"
     not_warned "rows of group"
     not_warned "passwd is empty"
     with_getent '' 'staff:x:0:ines\r\nlab:x:6:\n'
-    take 0 --program "$program" "$work/before" "$work/masks"
+    take 1 --program "$program" "$work/before" "$work/masks"
+    warned "there are no users but those of the system: name those of a directory service by --users FILE"
     warned "passwd is empty"
     warned "rows of group with a carriage return, which facl takes for a part of a name: 1, first: staff"
     counted "0 users, 2 groups"
@@ -473,8 +479,9 @@ check_large_dump() {
         >"$work/counts" 2>"$work/message" || status=$?
     [ $status -eq 2 ] || fault "status $status where the dump cannot be written"
     warned "facl-snapshot: cannot write dump"
-    take 0 "$work/large" "$work/many"
-    for name in links group passwd inodes; do
+    # Most of the users in the lists have no row.
+    take 1 "$work/large" "$work/many"
+    for name in links group passwd inodes meta; do
         [ "$(stat -c %s "$work/large/$name")" -lt 716800 ] || fault "$name is larger than the limit"
     done
     [ "$(stat -c %s "$work/large/dump")" -gt 716800 ] || fault "the dump is smaller than the limit"
@@ -492,7 +499,7 @@ check_full_disk() {
         "$snapshot" --program "$program" "$work/mount/before" "$work/many" >"$work/counts" 2>"$work/message" || status=$?
         [ "$(ls "$work/mount")" = before ] || fault "left behind on a full disk: $(ls "$work/mount")"
         case $status in
-        0) [ "$(grep -c '^# file: ' "$work/mount/before/dump")" -ge 2000 ] || fault "status 0 on a disk of $kilobytes KiB" ;;
+        1) [ "$(grep -c '^# file: ' "$work/mount/before/dump")" -ge 2000 ] || fault "status 1 on a disk of $kilobytes KiB" ;;
         2)
             warned "facl-snapshot: "
             full=$((full + 1))
@@ -503,6 +510,46 @@ check_full_disk() {
         unmounted
     done
     [ $full -ge 8 ] || fault "only $full of 16 disks were full"
+}
+
+# is_meta LINE: whether meta of the last snapshot has it
+is_meta() {
+    grep -qxF -- "$1" "$work/before/meta" || fault "meta has no line $1"
+}
+
+# Other file systems below a FOLDER, and those that the kernel makes.
+check_file_systems() {
+    mkdir -p "$work/systems/in" "$work/systems/mount" "$work/systems/kernel" "$work/systems/proc"
+    : >"$work/systems/file"
+    mount -t tmpfs none "$work/systems/mount"
+    mount -t sysfs none "$work/systems/kernel"
+    mount --bind /etc/hostname "$work/systems/file"
+    trap 'umount "$work/systems/mount" "$work/systems/kernel" "$work/systems/file"; clean_up' EXIT
+    mkdir "$work/systems/mount/below"
+    mount --bind "$work/systems/mount" "$work/systems/in"
+    trap 'umount "$work/systems/in" "$work/systems/mount" "$work/systems/kernel" "$work/systems/file"; clean_up' EXIT
+    take 0 --program "$program" "$work/before" "$work/systems"
+    for name in in/ kernel/ mount/; do
+        not_recorded "$work/systems/$name"
+        is_meta "other-file-system $work/systems/$name"
+    done
+    recorded "$work/systems/proc/"
+    counted "left out as other file systems: 3, first: $work/systems/in/"
+    take 0 "$work/before" "$work/systems" "$work/systems/mount/below"
+    recorded "$work/systems/mount/below/"
+    counted "left out as other file systems: 2, first: $work/systems/in/"
+    take 0 --cross-file-systems "$work/before" "$work/systems"
+    recorded "$work/systems/in/below/"
+    recorded "$work/systems/mount/below/"
+    not_recorded "$work/systems/kernel/"
+    not_recorded "$work/systems/kernel/kernel/"
+    counted "left out as other file systems: 1, first: $work/systems/kernel/"
+    for name in /proc /proc/sys /sys/fs "$work/systems/kernel/kernel"; do
+        take 2 "$work/other" "$name"
+        warned "facl-snapshot: $name: is never recorded"
+    done
+    umount "$work/systems/in" "$work/systems/mount" "$work/systems/kernel" "$work/systems/file"
+    trap clean_up EXIT
 }
 
 # Two names of one directory, by a bind mount.
@@ -560,7 +607,7 @@ check_private_groups() {
     with_getent 'root:x:0:0::/:/bin/sh\n' 'root:x:0:\n'
     mkdir "$work/own"
     chmod 775 "$work/own"
-    for rows in 'own:x:7:|own:x:65534:7:::|own:x:65534:7:::' 'own:x:7:own|own:x:65534:7:::|own:x:65534:7:::'; do own_group 0 "$rows"; done
+    for rows in 'own:x:7:|own:x:65534:7:::|own:x:65534:7:::' 'own:x:7:own|own:x:65534:7:::|own:x:65534:7:::'; do own_group 1 "$rows"; done
     for rows in 'own:x:7:mara|own:x:65534:7:::|own:x:65534:7:::' 'staff:x:7:|own:x:65534:7:::|own:x:65534:7:::' \
         'own:x:7:|own:x:65534:8:::|own:x:65534:8:::' 'own:x:7:|own:x:65534:7:::|own:x:65534:7:::\nmara:x:3:7:::'; do
         own_group 2 "$rows"
@@ -640,6 +687,7 @@ check_as_root() {
     check_unreadable
     check_without_lists
     check_bind_mount
+    check_file_systems
     check_full_disk
 }
 

@@ -1,0 +1,118 @@
+"""facl-ask --hosts: a script over a snapshot of each of several servers, by GNU parallel and ssh.
+
+Each line that a server prints, and each of its messages, begins with the server's name, so that the lines can be searched and
+sorted by it.
+"""
+from __future__ import annotations
+
+import argparse
+import os
+import tempfile
+from typing import Dict, Iterator, List, NamedTuple
+
+from . import headings, overview
+from .each import HERE, HOST, NO_OPERAND, Answered, Part, is_refused, program_option, run_hosts, superusers_of
+from .messages import UNUSABLE, Command, Failure
+from .names import shown
+from .scripts import Unit, read_script, read_text
+from .superuser import Superusers
+
+ANSWERED, REFUSED = 0, 1
+THIS = b"localhost"  # The name of this machine, which needs no ssh.
+
+
+class Server(NamedTuple):
+    name: bytes  # As it was given.
+    folder: bytes
+
+    def host(self) -> bytes:
+        """What parallel calls the machine."""
+        return HERE if self.name == THIS else self.name
+
+
+def read_servers(words: List[bytes]) -> List[Server]:
+    """The servers; a name is that of a HOST of --each."""
+    found: Dict[bytes, Server] = {}
+    for word in words:
+        match = HOST.match(word)
+        if match is None:
+            raise Failure(word + b": a server is NAME:DIR, and NAME starts with a letter, a digit or _")
+        if NO_OPERAND.match(match[2]):
+            raise Failure(word + b": parallel cannot be given a snapshot of this name: rename the folder")
+        if match[1] in found:
+            raise Failure(word + b": is the second snapshot of " + match[1] + b": ask each of one server in a run of its own")
+        found[match[1]] = Server(match[1], match[2])
+    return list(found.values())
+
+
+def write_messages(command: Command, server: Server, number: int, messages: List[bytes]) -> None:
+    command.flush()
+    for message in messages:
+        command.put(command.messages, server.name + b": line %d: %s\n" % (number, message))
+    command.put(command.messages)
+
+
+def say_notices(command: Command, server: Server, part: Part) -> None:
+    """What its snapshot cannot tell, and its empty masks."""
+    found = [*part.head.unknown, *([overview.warning_of(overview.EMPTY_MASKS, part.head.masks)] if part.head.masks else [])]
+    for text in found:
+        command.put(command.messages, server.name + b": " + shown(text) + b"\n")
+    command.put(command.messages)
+
+
+def answer_lines(unit: Unit, server: Server, answered: Answered, superusers: Superusers, has_headings: bool) -> Iterator[bytes]:
+    """The lines of a server's answer, each of which begins with its name."""
+    lines = superusers.rest(unit, answered.output.lines())
+    for line in headings.lines_to_show(unit, lines, is_refused(answered)) if has_headings else lines:
+        yield server.name + b": " + line + b"\n"
+
+
+class Printer:
+    """What the servers answered, line by line of the script, and of each line server by server."""
+
+    def __init__(self, command: Command, parts: Dict[Server, Part], given: argparse.Namespace) -> None:
+        self.command, self.parts, self.has_headings = command, parts, given.headings
+        self.superusers = {server: superusers_of([part], given.with_root) for server, part in parts.items()}
+        self.status = ANSWERED
+
+    def write_line(self, unit: Unit) -> None:
+        """What all servers say to a line, below its heading where somebody answers it."""
+        has_heading = not self.has_headings
+        for server, part in self.parts.items():
+            answered, superusers = part.answers[unit.number], self.superusers[server]
+            text = b"".join(answer_lines(unit, server, answered, superusers, self.has_headings))
+            self.command.write(text if has_heading or not text else headings.heading(unit) + text)
+            has_heading = has_heading or text != b""
+            write_messages(self.command, server, unit.number, answered.header.messages)
+            if is_refused(answered):
+                self.status = REFUSED
+            else:
+                superusers.follow(unit)
+        self.command.write(b"\n" if self.has_headings and has_heading else b"")
+
+    def say_who_is_left_out(self) -> None:
+        """Once, of all servers."""
+        found = next((it for it in self.superusers.values() if it.has_left_out), None)
+        if found is not None:
+            self.command.say(found.note())
+
+
+def body(command: Command, words: List[str], given: argparse.Namespace) -> int:
+    """Answers standard input over all servers. One that does not answer leaves the answers of the others as they are."""
+    servers = read_servers([os.fsencode(word) for word in words])
+    script = read_text("-")
+    with tempfile.TemporaryDirectory(prefix="facl-ask.") as work:
+        outcomes = run_hosts({it.host(): [it.folder] for it in servers}, program_option(given.program), script, work)
+        failures = {it: found for it in servers for found in [outcomes[it.host()]] if isinstance(found, Failure)}
+        parts = {it: found[0] for it in servers for found in [outcomes[it.host()]] if not isinstance(found, Failure)}
+        for server, part in parts.items():
+            say_notices(command, server, part)
+        printer = Printer(command, parts, given)
+        for unit in read_script(b"standard input", script):
+            printer.write_line(unit)
+        printer.say_who_is_left_out()
+    command.flush()
+    for server, failure in failures.items():
+        command.put(command.messages, server.name + b": " + shown(failure.text) + b"\n")
+    command.put(command.messages)
+    return UNUSABLE if failures else printer.status
