@@ -5,27 +5,32 @@ import argparse
 import grp
 import json
 import os
+import re
 import sys
 from functools import lru_cache
-from typing import Dict, Iterator, List, NamedTuple, Optional
+from typing import Dict, Iterator, List, NamedTuple, Optional, Set
 
-from . import VERSION, by_hand, people, plan_folder, planned, rights
+from . import VERSION, by_hand, causes, no_gain, owners, people, plan_folder, planned, rights, texts
 from .links import EDITS, Links
 from .messages import Command, Failure, counted, named
-from .names import json_text, live_path, shell_word, shown
+from .names import json_text, live_path, shell_word, shown, shown_path
 from .program import Session, find_program
-from .records import Changes, Files, compare, has_open_empty_mask, list_all, write_records
+from .records import Changes, Files, Listing, compare, has_open_empty_mask, list_files, write_records
 from .scripts import Unit, read_script
 from .snapshot import Snapshot, read_snapshot
+from .trusted import read_trusted
 
 SOMETHING, REFUSED, NOTHING = 0, 1, 3
 WARNING = b"setfacl: warning: default entries dropped"
+RELATIVE_NAME = re.compile(rb"^[ \t]*#[ \t]*file:(?! ?/)", re.MULTILINE)  # In a dump: one that does not start at the root.
 PLAIN = bytes(range(0x20, 0x7F)) + b"\t\n"  # What is shown as it is, and what is between lines.
 QUESTIONS_WITH_EMPTY_ANSWERS = (b"who", b"may", b"index", b"changes")
 HELP = """\
 Answers the lines of each SCRIPT over a snapshot, as facl does, and prints what would change in who may do what: one
-line for each user and kind of change, with the number of files and the first of them. It reads the snapshot alone, and
-changes nothing on the live system. The SCRIPT - is standard input.
+line for each user and kind of change, with the number of files and the first of them. A right counts where the user can
+get to the file: with search on each directory above. A user who is named by an edit and gains nothing, since a directory
+above is closed, has a line with the edit that opens it. It reads the snapshot alone, and changes nothing on the live
+system. The SCRIPT - is standard input.
 
 What facl-apply needs is written to a folder, SNAPSHOT.plan:
 
@@ -70,10 +75,16 @@ class Outcome(NamedTuple):
     old: Files
     new: Files
     rights: rights.Changes
+    no_gain: List[no_gain.NoGain]
     users: List[bytes]
     asked: List[Asked]
     messages: List[Message]
     commands: List[people.PeopleChange]  # Of users and memberships.
+    left: List[owners.Left]  # Users who are removed, with what they leave.
+    is_whole: bool  # Whether names start at the root of the file system.
+
+    def name_of(self, path: bytes) -> bytes:
+        return live_path(path) if self.is_whole else shown_path(path)
 
     def refusals(self) -> List[Message]:
         return [message for message in self.messages if not message.is_warning]
@@ -87,7 +98,10 @@ def parse(words: List[str]) -> argparse.Namespace:
     parser.add_argument("--version", action="version", version="%(prog)s " + VERSION)
     parser.add_argument("--plan", metavar="DIR", help="the folder of the plan, in place of SNAPSHOT.plan")
     parser.add_argument("--full", action="store_true", help="print each user and file")
-    parser.add_argument("--reach", action="store_true", help="with search on the directories above each file")
+    view = parser.add_mutually_exclusive_group()
+    view.add_argument("--file-alone", action="store_true", help="judge each file alone, also where nobody can get to it")
+    view.add_argument("--reach", action="store_true", help="with search on the directories above each file, as without it")
+    parser.add_argument("--with-root", action="store_true", help="judge users of the id 0 by the lists too")
     parser.add_argument("--json", action="store_true", help="print one JSON object; bytes that are no UTF-8 are escapes")
     parser.add_argument("--keep-going", action="store_true", help="plan the other lines where some were refused")
     parser.add_argument("--group", metavar="GROUP", help="let the members of a group read the plan")
@@ -137,14 +151,22 @@ class Run:
             self.messages.append(Message(unit, b"facl: text without end"))
             return
         self.links.before(self.session, unit)
-        answer = self.session.ask(b"".join(line + b"\n" for line in unit.lines))
+        done = owners.restoring(self.session, self.people, unit) if unit.is_of(*owners.TOOLS) else unit
+        if isinstance(done, bytes):
+            self.messages.append(Message(unit, done))
+        else:
+            self.answer_as(unit, done)
+
+    def answer_as(self, unit: Unit, done: Unit) -> None:
+        """Answers a line by the one that does what it asks for, mostly itself."""
+        answer = self.session.ask(b"".join(line + b"\n" for line in done.lines))
         output = answer.output.read()
         refused = any(message != WARNING for message in answer.messages)
         self.messages += [Message(unit, message, message == WARNING) for message in answer.messages]
         if output or unit.is_of(*QUESTIONS_WITH_EMPTY_ANSWERS) and not refused:
             self.asked.append(Asked(unit, output))
         if not refused:
-            self.follow(unit)
+            self.follow(done)
 
     def follow(self, unit: Unit) -> None:
         """What an accepted line means for other names of its files, and for the system's users."""
@@ -157,23 +179,33 @@ class Run:
                 self.messages.append(Message(unit, b"names of one file get different lists: " + shown, is_final=True))
 
 
-def all_files(session: Session) -> Files:
-    """The files as they are now; none where the root was removed, which removes all."""
-    return list_all(session).files
+def list_below(session: Session, tops: List[bytes]) -> Listing:
+    """The files as they are now, from those on that no recorded directory is above."""
+    return list_files(b"".join(region.read() for region in texts.list_below(session, tops)))
 
 
-def answer_scripts(given: argparse.Namespace, snapshot: Snapshot, units: List[Unit]) -> Outcome:
+def answer_scripts(given: argparse.Namespace, snapshot: Snapshot, units: List[Unit], is_whole: bool = True) -> Outcome:
     with Session(find_program(given.program), snapshot.folder) as session:
-        old = list_all(session)
-        if b"" not in old.files:
-            raise Failure(snapshot.folder + b": has no directories above its files: make a snapshot by facl-snapshot")
-        before = rights.ask_rights(session, old, given.reach, snapshot.passwd)
+        tops = texts.find_tops(session, snapshot.folder)
+        old = list_below(session, tops)
+        before = rights.ask_rights(session, old, not given.file_alone)
         run = Run(session, snapshot, old.files)
+        people_before = people.People(snapshot.passwd, snapshot.group)
         run.answer_all(units)
-        new = list_all(session)
-        after = rights.ask_rights(session, new, given.reach, snapshot.passwd)
+        new = list_below(session, tops)
+        after = rights.ask_rights(session, new, not given.file_alone)
+        sides = no_gain.Side(old.files, before, people_before), no_gain.Side(new.files, after, run.people)
+        left_out = set() if given.with_root else superusers(people_before) | superusers(run.people)
+        closed = [] if given.file_alone else no_gain.find(session, *sides, left_out)
     users = list(dict.fromkeys([*before.users, *after.users]))
-    return Outcome(old.files, new.files, rights.changes(before, after), users, run.asked, run.messages, run.commands)
+    changes = rights.changes(before, after, left_out)
+    left = owners.left_behind(people_before, run.people, new.files)
+    return Outcome(old.files, new.files, changes, closed, users, run.asked, run.messages, run.commands, left, is_whole)
+
+
+def superusers(known: people.People) -> Set[bytes]:
+    """Users whom the kernel grants nearly everything, by their names in the index."""
+    return {no_gain.name_in_index(user.name) for user in known.users if user.uid == 0}
 
 
 def shown_lines(text: bytes) -> bytes:
@@ -205,26 +237,46 @@ def full_lines(outcome: Outcome) -> Iterator[bytes]:
         yield shown_lines(text) if is_terminal else text
 
 
-def short_lines(outcome: Outcome) -> Iterator[bytes]:
-    found = rights.kinds(outcome.rights, outcome.users)
-    width = max((len(kind.user) for kind in found), default=0)
-    for user, old, new, count, first in found:
+def short_lines(outcome: Outcome, changes: List[rights.Kind]) -> Iterator[bytes]:
+    """A line for each kind of change, and those of no gain after the user's changes."""
+    rows: Dict[bytes, List[bytes]] = {user: [] for user in outcome.users}
+    width = max([len(it.user) for it in changes] + [len(it.user) for it in outcome.no_gain], default=0)
+    for user, old, new, count, first in changes:
         what = b"%s -> %s" % (old.encode(), new.encode())
-        yield shown(user.ljust(width) + b"  " + what.ljust(13) + b"  " + counted(count, "file").ljust(8) + b"  first: " + first) + b"\n"
+        rows[user].append(user.ljust(width) + b"  " + what.ljust(13) + b"  " + counted(count, "file").ljust(8) + b"  first: " + first)
+    for it in outcome.no_gain:
+        rows[it.user].append(it.user.ljust(width) + b"  no gain        " + counted(it.files, "file").ljust(8) + b"  " + it.text())
+    yield from (shown(line) + b"\n" for lines in rows.values() for line in lines)
 
 
 def summary(changes: Changes, commands: List[bytes], outcome: Outcome) -> bytes:
     parts = [counted(len(changes.changed), "file changes", "files change") + b" owner, group, flags or lists"]
+    if not outcome.is_whole and (changes.made or changes.removed):
+        parts.append(counted(len(changes.made), "file is", "files are") + b" made, %d removed" % len(changes.removed))
     if commands:
         parts.append(counted(len(commands), "command has to be run", "commands have to be run") + b" by hand")
-    nobody = b"" if outcome.rights.files else b"; nobody may do anything else than before"
-    return b"; ".join(parts) + nobody + b"\n"
+    if not outcome.rights.files:
+        parts.append(b"nobody may do anything else than before")
+    if outcome.rights.left_out:
+        verb = b" is" if len(outcome.rights.left_out) == 1 else b" are"
+        parts.append(b" and ".join(sorted(outcome.rights.left_out)) + verb
+                     + b" left out, whom the kernel grants nearly everything (--with-root)")
+    return shown(b"; ".join(parts)) + b"\n"
 
 
 def rights_json(outcome: Outcome) -> List[Dict[str, object]]:
     return [
         {"user": json_text(user), "from": old, "to": new, "files": count, "first": json_text(first)}
         for user, old, new, count, first in rights.kinds(outcome.rights, outcome.users)
+    ]
+
+
+def no_gain_json(outcome: Outcome) -> List[Dict[str, object]]:
+    return [
+        {"user": json_text(it.user), "files": it.files, "directory": json_text(it.directory),
+         "entries": [json_text(no_gain.shown_entry(entry)) for entry in it.entries], "edit": json_text(it.edit),
+         "closed_below": it.closed}
+        for it in outcome.no_gain
     ]
 
 
@@ -246,9 +298,15 @@ def full_json(outcome: Outcome) -> str:
     return "[\n" + ",\n".join(rows) + "\n  ]" if rows else "[]"
 
 
+def left_json(left: owners.Left, first: bytes) -> Dict[str, object]:
+    return {"user": json_text(left.name), "uid": left.uid, "owned": len(left.owned), "named": len(left.named),
+            "first": json_text(first)}
+
+
 def messages_json(found: List[Message], are_warnings: bool) -> List[Dict[str, object]]:
     return [
-        {"script": json_text(it.unit.script), "line": it.unit.number, "message": json_text(it.text)}
+        {"script": json_text(it.unit.script), "line": it.unit.number, "message": json_text(it.text),
+         **({} if are_warnings else {"cause": [json_text(line) for line in cause_of(it)]})}
         for it in found
         if it.is_warning == are_warnings
     ]
@@ -259,10 +317,13 @@ def json_report(outcome: Outcome, given: argparse.Namespace, changes: Changes, c
     report = {
         "plan": None if plan is None else json_text(plan),
         "changes": [] if given.full else rights_json(outcome),
-        "records": [json_text(live_path(path)) for path in changes.changed],
-        "made": [json_text(live_path(path)) for path in changes.made],
-        "removed": [json_text(live_path(path)) for path in changes.removed],
+        "no_gain": no_gain_json(outcome),
+        "left_out": [json_text(user) for user in sorted(outcome.rights.left_out)],
+        "records": [json_text(outcome.name_of(path)) for path in changes.changed],
+        "made": [json_text(outcome.name_of(path)) for path in changes.made],
+        "removed": [json_text(outcome.name_of(path)) for path in changes.removed],
         "by_hand": [json_text(command) for command in commands],
+        "left_behind": [left_json(left, outcome.name_of((left.owned or left.named)[0])) for left in outcome.left],
         "answers": [
             {"script": json_text(unit.script), "line": unit.number, "question": json_text(unit.lines[0]),
              "answer": json_text(output)}
@@ -277,20 +338,26 @@ def json_report(outcome: Outcome, given: argparse.Namespace, changes: Changes, c
     return text.encode() + b"\n"
 
 
+def cause_of(message: Message) -> List[bytes]:
+    """What is known of the cause of a refused line."""
+    return [] if message.is_warning or message.is_final else causes.explained(message.unit, message.text)
+
+
 def say_messages(command: Command, outcome: Outcome, scripts: List[Script]) -> None:
     """Refused lines, warnings, and what is likely to surprise."""
     for message in outcome.messages:
         command.say(message.unit.place() + b": " + message.text)
+        command.put(command.messages, b"".join(b"    " + line + b"\n" for line in cause_of(message)))
     for name, text in scripts:
         if b"\r" in text:
             command.say(b"warning: " + name + b": has carriage returns, each of which is a part of its word")
 
 
-def warn_of_empty_masks(command: Command, changes: Changes, new: Files) -> None:
-    found = [path for path in changes.changed if has_open_empty_mask(new[path])]
+def warn_of_empty_masks(command: Command, changes: Changes, outcome: Outcome) -> None:
+    found = [path for path in changes.changed if has_open_empty_mask(outcome.new[path])]
     if found:
         command.say(b"warning: lists with an empty mask whose others have something, which Linux grants to named users and "
-                    b"groups too, and facl does not: %d, first: %s" % (len(found), live_path(found[0])))
+                    b"groups too, and facl does not: %d, first: %s" % (len(found), outcome.name_of(found[0])))
 
 
 def group_of(word: str) -> int:
@@ -314,12 +381,18 @@ def say_refused(command: Command, outcome: Outcome, keep_going: bool) -> bool:
 
 
 def text_report(given: argparse.Namespace, outcome: Outcome, changes: Changes, commands: List[bytes],
-                target: bytes) -> Iterator[bytes]:
-    yield from full_lines(outcome) if given.full else short_lines(outcome)
+                target: Optional[bytes]) -> Iterator[bytes]:
+    if given.full:
+        yield from full_lines(outcome)
+    yield from short_lines(outcome, [] if given.full else rights.kinds(outcome.rights, outcome.users))
     yield summary(changes, commands, outcome)
-    yield shown(target + b": is written" + (b"; next: facl-apply " + shell_word(target) if changes.changed else b"")) + b"\n"
+    if target is not None:
+        yield shown(target + b": is written" + (b"; next: facl-apply " + shell_word(target) if changes.changed else b"")) + b"\n"
     for command in commands:
         yield shown(b"by hand: " + command) + b"\n"
+    for left in outcome.left:
+        lines = [line if outcome.is_whole else line.replace(b", first: /", b", first: ") for line in owners.notes(left)]
+        yield from (shown(line) + b"\n" for line in lines)
 
 
 def beside(folder: bytes) -> bytes:
@@ -328,39 +401,64 @@ def beside(folder: bytes) -> bytes:
     return (os.path.abspath(folder) if os.path.basename(name) in (b"", b".", b"..") else name) + b".plan"
 
 
+def say_unknown(command: Command, folder: bytes) -> bool:
+    """Says what a snapshot that facl-snapshot did not make cannot tell; whether there can be a plan, which has names from the
+    root of the file system."""
+    dump = read_trusted(os.path.join(folder, b"dump"))
+    found = texts.notice(folder, dump)
+    is_whole = found is None or RELATIVE_NAME.search(dump) is None
+    if found is not None:
+        rest = b"" if is_whole else b"; names do not start at the root of the file system, so no plan is written for facl-apply"
+        command.say(folder + b": " + found + rest)
+    return is_whole
+
+
+def plan_files(given: argparse.Namespace, snapshot: Snapshot, scripts: List[Script], outcome: Outcome, changes: Changes) -> Dict[bytes, bytes]:
+    of_people = outcome.commands, changes, outcome.old, outcome.new, snapshot.inodes
+    comments = [line + b"\n" for left in outcome.left for line in owners.comments(left)]
+    return {
+        b"edits": b"".join(script.text for script in scripts),
+        b"old": write_records(outcome.old, changes.changed),
+        b"new": write_records(outcome.new, changes.changed),
+        b"files": planned.work_text(find_program(given.program), snapshot, changes, outcome.old, outcome.new),
+        b"by_hand": by_hand.script_of(*of_people) + b"".join(comments),
+        b"by_hand_undo": by_hand.undo_script_of(*of_people),
+    }
+
+
 def body(command: Command, words: List[str]) -> int:
     given = parse(words)
-    snapshot = read_snapshot(os.fsencode(given.snapshot))
+    snapshot = read_snapshot(os.fsencode(given.snapshot), needs_links=False)
     name = os.fsencode(given.plan) if given.plan else beside(snapshot.folder)
     group = None if given.group is None else group_of(given.group)
     target = plan_folder.open_target(name)
     scripts = read_scripts(given.scripts)
-    units = [unit for name, text in scripts for unit in read_script(name, text)]
-    outcome = answer_scripts(given, snapshot, units)
+    units = [unit for name_of_script, text in scripts for unit in read_script(name_of_script, text)]
+    is_whole = say_unknown(command, snapshot.folder)
+    outcome = answer_scripts(given, snapshot, units, is_whole)
     changes = compare(outcome.old, outcome.new)
-    commands = by_hand.commands_of(outcome.commands, changes, outcome.old, outcome.new)
+    commands = by_hand.commands_of(outcome.commands, changes if is_whole else Changes([], [], []), outcome.old, outcome.new)
     say_messages(command, outcome, scripts)
     if not given.json:
         command.write(answers_text(outcome.asked))
-    has_work = bool(changes.changed or commands)
-    is_written = not say_refused(command, outcome, given.keep_going) and has_work
-    if is_written:
-        warn_of_empty_masks(command, changes, outcome.new)
-        kept = plan_folder.write_plan(target, {
-            b"edits": b"".join(script.text for script in scripts),
-            b"old": write_records(outcome.old, changes.changed),
-            b"new": write_records(outcome.new, changes.changed),
-            b"files": planned.work_text(find_program(given.program), snapshot, changes, outcome.old, outcome.new),
-            b"by_hand": by_hand.script_of(outcome.commands, changes, outcome.old, outcome.new, snapshot.inodes),
-            b"by_hand_undo": by_hand.undo_script_of(outcome.commands, changes, outcome.old, outcome.new, snapshot.inodes),
-        }, group)
+    has_work = bool(changes.changed or changes.made or changes.removed or commands)
+    is_shown = not say_refused(command, outcome, given.keep_going) and has_work
+    written = name if is_shown and is_whole else None
+    if is_shown:
+        warn_of_empty_masks(command, changes, outcome)
+    if written is not None:
+        kept = plan_folder.write_plan(target, plan_files(given, snapshot, scripts, outcome, changes), group)
         if kept is not None:
             command.say(b"the plan that was there is " + kept + b" now")
     if given.json:
-        command.write(json_report(outcome, given, changes, commands, name if is_written else None))
-    elif is_written:
-        for part in text_report(given, outcome, changes, commands, name):
+        command.write(json_report(outcome, given, changes, commands, written))
+    elif is_shown:
+        for part in text_report(given, outcome, changes, commands, written):
             command.write(part)
+    return status_of(command, outcome, has_work)
+
+
+def status_of(command: Command, outcome: Outcome, has_work: bool) -> int:
     if outcome.refusals():
         return REFUSED
     if not has_work:

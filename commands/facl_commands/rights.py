@@ -2,22 +2,20 @@
 
 What a user may do with a file depends on its owner, group and list alone, which are lines of its record: files with one
 record are judged alike, so that of each of these one block of `index` is read. Along a path, what is in one directory is
-reached by the same users.
+reached by the same users: those who have search on it, and on each recorded directory above.
 """
 from __future__ import annotations
 
-from hashlib import blake2b
-from typing import Dict, Iterator, List, NamedTuple, Optional, Tuple
+from typing import Collection, Dict, Iterator, List, NamedTuple, Optional, Set, Tuple
 
 from .messages import Failure
-from .names import script_word
-from .people import uid_of_row
 from .program import Region, Session
 from .records import Listing, sorting_key
 
 ABSENT = "absent"  # Of a file or a user that is not there.
 REQUESTS = ["---", "--x", "-w-", "-wx", "r--", "r-x", "rw-", "rwx"]
 NOTHING = 1  # The byte of `index` that grants no more than the request for nothing.
+SEARCH = 1 << 1  # Its bit of the request for search.
 Vector = bytes  # A byte of `index` for each user, on one file.
 
 
@@ -26,7 +24,9 @@ class Answers(NamedTuple):
 
     names: Dict[bytes, bytes]  # By path: the name as the program prints it.
     users: List[bytes]
-    vectors: Dict[bytes, Vector]  # By path, in path order.
+    alone: Dict[bytes, Vector]  # By path, in path order: on each file alone.
+    reached: Dict[bytes, bytes]  # By directory, as directory_of has it: for each user 1 who can get to what is in it, else 0.
+    vectors: Dict[bytes, Vector]  # By path: what counts, along paths or on each file alone.
 
 
 class Difference(NamedTuple):
@@ -46,10 +46,12 @@ class Group:
 
 
 class Changes(NamedTuple):
-    """The groups, in the order of their first files; and each file with its group, in path order."""
+    """The groups, in the order of their first files; each file with its group, in path order; and those users of whom there
+    would be more, but that they are left out."""
 
     groups: List[Group]
     files: List[Tuple[bytes, Group]]
+    left_out: Set[bytes]
 
 
 class Kind(NamedTuple):
@@ -118,24 +120,29 @@ def directory_of(path: bytes) -> bytes:
     return path.rpartition(b"/")[0] + b"/" if path else b""
 
 
-def ask_reached(session: Session, listing: Listing, users: List[bytes], passwd: bytes) -> Dict[bytes, bytes]:
-    """By directory: for each user 1 where the user can get to what is in it, else 0. The request for nothing asks that; the
-    first file in a directory answers for all. Users with one answer have it read once."""
-    examples: Dict[bytes, bytes] = {}
-    for path, name in zip(listing.files, listing.names):
-        examples.setdefault(directory_of(path), name)
-    known: Dict[bytes, bytes] = {}
-    columns: List[bytes] = []
-    for user in users:
-        word = uid_of_row(passwd, user) if user.isdigit() else user
-        text = session.ask_surely(b"may --reach -- " + script_word(word) + b" 0").read()
-        digest = blake2b(text).digest()
-        if digest not in known:
-            reached = set(text.split(b"\n"))
-            known[digest] = bytes([name in reached for name in examples.values()])
-        columns.append(known[digest])
-    rows = map(bytes, zip(*columns)) if columns else iter([b""] * len(examples))
-    return dict(zip(examples, rows))
+def reached_of(vectors: Dict[bytes, Vector], users: int) -> Dict[bytes, bytes]:
+    """By directory: for each user 1 who can get to what is in it, else 0."""
+    found = {b"": b"\1" * users}
+    known: Dict[Tuple[bytes, Vector], bytes] = {}
+    for path in vectors:
+        for directory in directories_to_find(directory_of(path), found):
+            above, vector = found[directory_of(directory[:-1])], vectors.get(directory[:-1])
+            if vector is None:  # It is not recorded, and asks for nothing.
+                found[directory] = above
+                continue
+            if (above, vector) not in known:
+                known[above, vector] = bytes([one if byte & SEARCH else 0 for one, byte in zip(above, vector)])
+            found[directory] = known[above, vector]
+    return found
+
+
+def directories_to_find(directory: bytes, found: Dict[bytes, bytes]) -> List[bytes]:
+    """The directory and those above it that are not found yet, the highest first."""
+    wanted = []
+    while directory not in found:
+        wanted.append(directory)
+        directory = directory_of(directory[:-1])
+    return wanted[::-1]
 
 
 def along_path(vector: Vector, reached: bytes) -> Vector:
@@ -143,22 +150,26 @@ def along_path(vector: Vector, reached: bytes) -> Vector:
     return bytes([byte if is_reached else NOTHING for byte, is_reached in zip(vector, reached)])
 
 
-def ask_rights(session: Session, listing: Listing, along_paths: bool, passwd: bytes) -> Answers:
+def ask_rights(session: Session, listing: Listing, along_paths: bool) -> Answers:
     """Asks what all users may do with all files that are listed."""
     table = session.ask_surely(b"index")
     users = users_of(table)
     of_record = read_table(table, users, listing)
     names = dict(zip(listing.files, listing.names))
-    vectors = {path: of_record[file.body] for path, file in listing.files.items()}
-    if along_paths:
-        reached = ask_reached(session, listing, users, passwd)
-        known: Dict[Tuple[Vector, bytes], Vector] = {}
-        for path, vector in vectors.items():
-            pair = vector, reached[directory_of(path)]
-            if pair not in known:
-                known[pair] = along_path(*pair)
-            vectors[path] = known[pair]
-    return Answers(names, users, vectors)
+    alone = {path: of_record[file.body] for path, file in listing.files.items()}
+    reached = reached_of(alone, len(users))
+    return Answers(names, users, alone, reached, along_paths_of(alone, reached) if along_paths else alone)
+
+
+def along_paths_of(alone: Dict[bytes, Vector], reached: Dict[bytes, bytes]) -> Dict[bytes, Vector]:
+    known: Dict[Tuple[Vector, bytes], Vector] = {}
+    found = {}
+    for path, vector in alone.items():
+        pair = vector, reached[directory_of(path)]
+        if pair not in known:
+            known[pair] = along_path(*pair)
+        found[path] = known[pair]
+    return found
 
 
 def differing(old: Dict[bytes, int], new: Dict[bytes, int]) -> Iterator[Difference]:
@@ -181,9 +192,9 @@ def paths_of(old: Answers, new: Answers) -> List[bytes]:
     return first if first == list(new.names) else sorted({**old.names, **new.names}, key=sorting_key)
 
 
-def changes(old: Answers, new: Answers) -> Changes:
-    """What differs. Two files with the same rights before and after are alike."""
-    found = Changes([], [])
+def changes(old: Answers, new: Answers, left_out: Collection[bytes] = ()) -> Changes:
+    """What differs, for all users but those who are left out. Two files with the same rights before and after are alike."""
+    found = Changes([], [], set())
     known: Dict[Tuple[Optional[Vector], Optional[Vector]], Group] = {}
     before_of, after_of = old.vectors.get, new.vectors.get
     for path in paths_of(old, new):
@@ -191,7 +202,9 @@ def changes(old: Answers, new: Answers) -> Changes:
         group = known.get(pair)
         if group is None:
             before, after = by_user(old.users, pair[0]), by_user(new.users, pair[1])
-            group = known[pair] = Group(list(differing(before, after)))
+            differences = list(differing(before, after))
+            found.left_out.update(it.user for it in differences if it.user in left_out)
+            group = known[pair] = Group([it for it in differences if it.user not in left_out])
             found.groups.append(group)
         if group.differences:
             name = new.names.get(path) or old.names[path]

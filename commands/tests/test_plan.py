@@ -33,9 +33,9 @@ def requests_of(right: bytes) -> Set[bytes]:
 
 
 class Reports(Case):
-    def test_default(self) -> None:
+    def test_file_alone(self) -> None:
         # The mask is recalculated, so that mara gets what her entry has.
-        done = self.plan(b"setfacl -m u:guest:r srv/share/notes\n")
+        done = self.plan(b"setfacl -m u:guest:r srv/share/notes\n", "--file-alone")
         self.expect(done, 0, b"mara   r-- -> rw-     1 file    first: srv/share/notes\n"
                              b"guest  none -> r--    1 file    first: srv/share/notes\n" + ONE_FILE + b"\n" + WRITTEN)
         self.assertEqual(self.read("before.plan/old"), OLD_NOTES)
@@ -46,12 +46,13 @@ class Reports(Case):
         self.assertEqual(sorted(os.listdir(self.folder)), ["before", "before.plan", "edits"])
 
     def test_full(self) -> None:
-        done = self.plan(b"setfacl -m u:guest:r srv/share/notes", "--full")
+        done = self.plan(b"setfacl -m u:guest:r srv/share/notes", "--full", "--file-alone")
         self.expect(done, 0, b"mara\tr--\t->\trw-\tsrv/share/notes\nguest\tnone\t->\tr--\tsrv/share/notes\n"
                     + ONE_FILE + b"\n" + WRITTEN)
 
     def test_kinds_are_counted(self) -> None:
-        done = self.plan(b"chmod 644 srv/share/it\\047s srv/share/-x\nchmod 666 '/srv/share/plan 2 '\n")
+        script = b"chmod 644 srv/share/it\\047s srv/share/-x\nchmod 666 '/srv/share/plan 2 '\n"
+        done = self.plan(script, "--file-alone", "--with-root")
         out = b"".join(
             b"%-5s  none -> %s    %s  first: srv/share/%s\n" % row
             for user in (b"root", b"mara", b"guest")
@@ -62,14 +63,30 @@ class Reports(Case):
         at = out.index(b"mara")
         self.expect(done, 0, out[:at] + ben + out[at:] + b"3 files change owner, group, flags or lists\n" + WRITTEN)
 
-    def test_reach(self) -> None:
-        # Neither may search srv/share.
-        done = self.plan(b"setfacl -m u:guest:r srv/share/notes\n", "--reach")
-        self.expect(done, 0, ONE_FILE + b"; nobody may do anything else than before\n" + WRITTEN)
-        done = self.plan(b"setfacl -m u:guest:r srv/share/notes\nsetfacl -m u:guest:x srv/share\n", "--reach")
+    def test_along_paths(self) -> None:
+        # Neither may search srv/share; mara is not named by the line.
+        done = self.plan(b"setfacl -m u:guest:r srv/share/notes\n")
+        self.expect(done, 0, b"guest  no gain        1 file    srv/share grants no search (other::---); add: setfacl -n -m u:guest:x srv/share\n"
+                    + ONE_FILE + b"; nobody may do anything else than before\n" + WRITTEN)
+        done = self.plan(b"setfacl -m u:guest:r srv/share/notes\nsetfacl -m u:guest:x srv/share\n")
         self.expect(done, 0, b"guest  none -> --x    1 file    first: srv/share\n"
                              b"guest  none -> r--    1 file    first: srv/share/notes\n"
                              b"2 files change owner, group, flags or lists\n" + WRITTEN)
+
+    def test_superusers(self) -> None:
+        self.write("before/passwd", self.read("before/passwd") + b"toor:x:0:0::/:/bin/sh\n")
+        script = b"chmod 604 srv/share/one\nchmod 751 srv/share\n"
+        others = [b"guest  none -> --x    1 file    first: srv/share\n", b"guest  none -> r--    2 files   first: srv/share/one\n"]
+        done = self.plan(script)
+        self.assertEqual([line for line in done.out.splitlines(True) if line[:5] in (b"root ", b"toor ", b"guest")], others)
+        self.assertIn(b"3 files change owner, group, flags or lists; root and toor are left out, whom the kernel grants nearly everything "
+                      b"(--with-root)\n", done.out)
+        self.assertEqual(json.loads(self.plan(script, "--json").out)["left_out"], ["root", "toor"])
+        done = self.plan(script, "--with-root")
+        self.assertIn(b"root   none -> r--    2 files   first: srv/share/one\n", done.out)
+        self.assertNotIn(b"left out", done.out)
+        # Where nothing changes for root there is no word on it.
+        self.assertNotIn(b"left out", self.plan(b"setfacl -m u:guest:r srv/share/notes\n").out)
 
     def test_full_is_what_changes_prints(self) -> None:
         for script in (b"setfacl -m u:guest:r srv/share/notes\nsetfacl -m u:guest:x srv/share\n",
@@ -77,7 +94,7 @@ class Reports(Case):
                        b"useradd -u 2000 -g design nell\ncreat --user=mara --mode=0664 srv/share/drafts/new\nusermod -g staff guest\n"
                        b"chmod 070 srv/share/drafts\n"):
             for option in ("", "--reach"):
-                done = self.plan(script, "--full", *option.split())
+                done = self.plan(script, "--full", "--with-root", option or "--file-alone")
                 rows = [line.split(b"\t") for line in done.out.splitlines() if b"\t->\t" in line]
                 with Session(find_program(None), os.fsencode(self.path("before"))) as session:
                     session.ask(script)
@@ -95,7 +112,7 @@ class Reports(Case):
 
     def test_questions_are_answered(self) -> None:
         done = self.plan(b"who r srv/share/notes\n# why\nsetfacl -m u:guest:r srv/share/notes\nmay guest r\nwho x srv/share/one\n"
-                         b"getfacl -n srv/share/one\n")
+                         b"getfacl -n srv/share/one\n", "--file-alone")
         self.assertEqual(done.status, 0)
         answers = (b"# edits, line 1: who r srv/share/notes\nines\nben\nmara\n\n"
                    b"# edits, line 4: may guest r\n.\nsrv\nsrv/share/notes\n\n"
@@ -106,7 +123,7 @@ class Reports(Case):
         self.assertEqual(self.read("before.plan/new"), NEW_NOTES)
 
     def test_json(self) -> None:
-        done = self.plan(b"setfacl -m u:guest:r srv/share/notes 'srv/share/p\\351q'\ncan guest srv/share/notes\n", "--json")
+        done = self.plan(b"setfacl -m u:guest:r srv/share/notes 'srv/share/p\\351q'\ncan guest srv/share/notes\n", "--json", "--file-alone")
         report = json.loads(done.out)
         self.assertEqual(done.status, 0)
         self.assertEqual(report["plan"], "before.plan")
@@ -122,7 +139,9 @@ class Reports(Case):
         done = self.plan(b"setfacl -m u:guest:r srv/share/notes srv/none\n", "--json")
         report = json.loads(done.out)
         self.assertEqual((done.status, report["plan"]), (1, None))
-        self.assertEqual(report["refused"], [{"script": "edits", "line": 1, "message": "setfacl: srv/none: no such file"}])
+        refused, = report["refused"]
+        self.assertTrue(refused.pop("cause")[0].startswith("Paths start at the root of the file system."))
+        self.assertEqual(refused, {"script": "edits", "line": 1, "message": "setfacl: srv/none: no such file"})
 
     def test_json_of_each_file(self) -> None:
         script = b"setfacl -R -m u:guest:r,g:audit:w srv/share\nuserdel mara\nuseradd -u 2000 -g staff 'n\"l'\n"
@@ -141,13 +160,28 @@ class Reports(Case):
 
 
 class RefusedLines(Case):
-    REFUSED = b"facl-plan: edits, line 2: setfacl: entry 1: unknown user\n"
+    CAUSE = b"    No row of the snapshot's passwd has this name. An entry may have an id without a row.\n"
+    REFUSED = b"facl-plan: edits, line 2: setfacl: entry 1: unknown user\n" + CAUSE
 
     def test_nothing_is_written(self) -> None:
         done = self.plan(b"setfacl -m u:guest:r srv/share/notes\nsetfacl -m u:gast:r srv/share/one\n")
         self.expect(done, 1, b"", self.REFUSED + b"facl-plan: 1 line was refused, so nothing is written: mend it, or plan the "
                                                  b"other lines by --keep-going\n")
         self.assertEqual(sorted(os.listdir(self.folder)), ["before", "edits"])
+
+    def test_the_line_that_would_do(self) -> None:
+        done = self.plan(b"setfacl -m u:guest:r srv/share/one\nnamei -l srv/share/one\nsu - guest\nchmod 600 srv/share/one\n")
+        self.assertTrue(done.messages.startswith(
+            b"facl-plan: edits, line 2: facl: unknown tool\n"
+            b"    What decides on each directory of a path is asked of a user:\n"
+            b"      why --reach USER srv/share/one\n"
+            b"facl-plan: edits, line 3: facl: text without end\n"), done.messages)
+        self.assertIn(b"\n    line 4 was taken as the text of line 3, since it has a word -\n", done.messages)
+        report = json.loads(self.plan(self.read("edits"), "--json").out)
+        self.assertEqual(report["refused"][0], {
+            "script": "edits", "line": 2, "message": "facl: unknown tool",
+            "cause": ["What decides on each directory of a path is asked of a user:", "  why --reach USER srv/share/one"],
+        })
 
     def test_keep_going(self) -> None:
         done = self.plan(b"setfacl -m u:guest:r srv/share/notes\nsetfacl -m u:gast:r srv/share/one\n", "--keep-going")
@@ -170,7 +204,7 @@ class RefusedLines(Case):
         self.write("first", b"\nsetfacl -M - srv/share/one\nu:guest:r\n.\nfrob")
         self.write("second", b"# a comment\nfrob 'open\n\xff\n")
         done = self.run_command("facl-plan", ["before", "first", "second"])
-        self.assertEqual(done.messages.split(b"\n")[:3], [
+        self.assertEqual([line for line in done.messages.split(b"\n") if line[:1] == b"f"][:3], [
             b"facl-plan: first, line 5: facl: unknown tool",
             b"facl-plan: second, line 2: facl: open quote",
             b"facl-plan: second, line 3: facl: not UTF-8",
@@ -195,7 +229,7 @@ class HardLinks(Case):
         self.assertEqual(self.read("before.plan/new"), b"".join(self.RECORD % (name, named) for name in (b"one", b"two")))
 
     def test_an_edit_is_of_all_names(self) -> None:
-        done = self.plan(b"setfacl -m u:guest:r srv/share/two\n")
+        done = self.plan(b"setfacl -m u:guest:r srv/share/two\n", "--file-alone")
         self.expect(done, 0, b"guest  none -> r--    2 files   first: srv/share/one\n"
                              b"2 files change owner, group, flags or lists\n" + WRITTEN)
         self.expect_both(b"user:1009:r--\n")
@@ -358,7 +392,7 @@ class Names(Case):
     def test_what_a_terminal_would_obey(self) -> None:
         name, word, seen = b"z\033[2J\xc2\x9b", b"'srv/share/z\\033[2J\\302\\233'", b"srv/share/z\\033[2J\\302\\233"
         row = b"guest  none -> r--    1 file    first: %s\n" % seen
-        done = self.plan_with(name, b"who r %s\nsetfacl -m u:guest:r %s\n" % (word, word))
+        done = self.plan_with(name, b"who r %s\nsetfacl -m u:guest:r %s\n" % (word, word), "--file-alone")
         self.assertTrue(done.out.startswith(b"# edits, line 1: who r " + word + b"\nines\nben\n\n" + row), done.out)
         done = self.plan(b"getfacl -c %s\nmay ines w\nrm %s\n" % (word, word))
         self.assertIn(b"\nsrv/share/two\n" + seen + b"\n", done.out)
@@ -366,15 +400,15 @@ class Names(Case):
         self.assertNotIn(b"\033", done.out)
 
     def test_scripts_get_names_as_they_are(self) -> None:
-        done = self.plan_with(b"z\033", b"setfacl -m u:guest:r 'srv/share/z\\033'\n", "--full")
+        done = self.plan_with(b"z\033", b"setfacl -m u:guest:r 'srv/share/z\\033'\n", "--full", "--file-alone")
         self.assertTrue(done.out.startswith(b"guest\tnone\t->\tr--\tsrv/share/z\033\n"), done.out)
-        report = json.loads(self.plan(self.read("edits"), "--json").out)
+        report = json.loads(self.plan(self.read("edits"), "--json", "--file-alone").out)
         self.assertEqual(report["changes"][0]["first"], "srv/share/z\033")
 
     def test_full_at_a_terminal(self) -> None:
         self.plan_with(b"z\033", b"setfacl -m u:guest:r 'srv/share/z\\033'\n")
         own, its = os.openpty()
-        words = [os.path.join(COMMANDS, "facl-plan"), "--full", "before", "edits"]
+        words = [os.path.join(COMMANDS, "facl-plan"), "--full", "--file-alone", "before", "edits"]
         self.assertEqual(subprocess.run(words, cwd=self.folder, stdout=its, check=False).returncode, 0)
         os.close(its)
         with open(own, "rb", buffering=0) as terminal:
@@ -430,6 +464,97 @@ class Names(Case):
         self.assertTrue(done.messages.startswith(b"facl-plan: standard input, line 1: facl: unknown tool\n"), done.messages)
 
 
+class Owners(Case):
+    BODY = b"user::rw-\ngroup::r--\nother::---\n\n"
+
+    def test_other_names_get_the_owner_too(self) -> None:
+        # The first line gives two a list, which one gets before the second is answered.
+        done = self.plan(b"setfacl -m g::- srv/share/two\nchown guest:audit srv/share/one\nchgrp 300 srv/share/-x\n", "--file-alone")
+        self.assertEqual((done.status, done.messages), (0, b""))
+        body = b"# owner: 1009\n# group: 400\n" + self.BODY.replace(b"r--", b"---")
+        self.assertEqual(self.read("before.plan/new"), b"# file: /srv/share/-x\n# owner: 1001\n# group: 300\n" + self.BODY
+                         + b"# file: /srv/share/one\n" + body + b"# file: /srv/share/two\n" + body)
+        self.assertIn(b"guest  none -> rw-    2 files   first: srv/share/one\n", done.out)
+        self.assertIn(b"guest  none -> r--    1 file    first: srv/share/-x\n", done.out)
+
+    def test_along_paths(self) -> None:
+        done = self.plan(b"chown -R guest srv/share/drafts\n")
+        self.assertIn(b"guest  no gain        2 files   srv/share grants no search (other::---); add: setfacl -n -m u:guest:x srv/share\n",
+                      done.out)
+
+    def test_refused(self) -> None:
+        done = self.plan(b"chown gast srv/share/one\nchgrp staff srv/none\nchown guest srv/share/two\n", "--keep-going")
+        self.assertEqual(done.status, 1)
+        self.assertTrue(done.messages.startswith(b"facl-plan: edits, line 1: chown: gast: no such user\n    "), done.messages)
+        self.assertIn(b"\nfacl-plan: edits, line 2: chgrp: srv/none: no such file\n    ", done.messages)
+        self.assertEqual(self.read("before.plan/new").count(b"# owner: 1009\n"), 2)
+
+    def test_nothing_changes(self) -> None:
+        self.assertEqual(self.plan(b"chown ines srv/share/one\nchgrp staff srv/share/one\n").status, 3)
+
+    def test_a_user_who_leaves_files(self) -> None:
+        done = self.plan(b"userdel mara\n")
+        self.assertEqual(done.out.splitlines()[-3:], [
+            b"by hand: userdel mara", b"mara is removed and still owns 2 files, first: /srv/share/drafts",
+            b"mara is removed and still named in the lists of 1 file, first: /srv/share/notes"])
+        self.assertTrue(self.read("before.plan/by_hand").endswith(b"\n# chown -R -h --from=1003 NEWOWNER -- /srv/share/drafts\n"))
+        done = self.plan(b"userdel mara\nchown -R ines srv/share/drafts\nsetfacl -x u:1003 srv/share/notes\n", "--json")
+        self.assertEqual(json.loads(done.out)["left_behind"], [])
+        done = self.plan(b"userdel mara\nchown -R ines srv/share/drafts\n", "--json")
+        self.assertEqual(json.loads(done.out)["left_behind"],
+                         [{"user": "mara", "uid": 1003, "owned": 0, "named": 1, "first": "/srv/share/notes"}])
+
+
+class AnyDump(Case):
+    """A folder with the texts of `getfacl -R`, as administrators keep them."""
+
+    OPEN = b"facl-plan: old: the directories above are not recorded, so they are taken as open; hard links are not known"
+    RELATIVE = OPEN + b"; names do not start at the root of the file system, so no plan is written for facl-apply\n"
+    RECORDS = (b"# file: %snotes\n# owner: ines\n# group: staff\nuser::rw-\nuser:mara:rw-\t\t\t#effective:r--\ngroup::r--\nmask::r--\nother::---\n\n"
+               b"# file: %sdrafts\n# owner: mara\n# group: design\n# flags: -s-\nuser::rwx\ngroup::rwx\nother::---\n\n"
+               b"# file: %sdrafts/logo\n# owner: mara\n# group: design\nuser::rw-\ngroup::rw-\nother::---\n\n")
+
+    def plan_of(self, begin: bytes, script: bytes, *options: str) -> Done:
+        if not os.path.exists(self.path("old")):
+            os.mkdir(self.path("old"))
+        for name in ("passwd", "group"):
+            self.write("old/" + name, self.read("before/" + name))
+        self.write("old/dump", self.RECORDS.replace(b"%s", begin))
+        self.write("edits", script)
+        return self.run_command("facl-plan", [*options, "old", "edits"])
+
+    def test_relative_names(self) -> None:
+        done = self.plan_of(b"", b"setfacl -m u:guest:r notes drafts/logo\n")
+        self.expect(done, 0, b"mara   r-- -> rw-     1 file    first: notes\n"
+                             b"guest  none -> r--    1 file    first: notes\n"
+                             b"guest  no gain        1 file    drafts grants no search (other::---); add: setfacl -n -m u:guest:x drafts\n"
+                             b"2 files change owner, group, flags or lists\n", self.RELATIVE)
+        self.assertEqual(sorted(os.listdir(self.folder)), ["before", "edits", "old"])
+
+    def test_files_and_users_of_relative_names(self) -> None:
+        done = self.plan_of(b"", b"rm notes\nuserdel mara\n")
+        self.assertEqual(done.out.splitlines()[-3:], [
+            b"0 files change owner, group, flags or lists; 0 files are made, 1 removed; 1 command has to be run by hand",
+            b"by hand: userdel mara", b"mara is removed and still owns 2 files, first: drafts"])
+        report = json.loads(self.plan_of(b"", b"rm -r drafts\nchown ines:audit notes\n", "--json").out)
+        self.assertEqual((report["plan"], report["records"], report["removed"], report["by_hand"]),
+                         (None, ["notes"], ["drafts", "drafts/logo"], []))
+        self.assertEqual(self.plan_of(b"", b"chown ines notes\n").status, 3)
+        self.assertEqual(self.plan_of(b"", b"rm -r drafts notes\n").status, 0)
+
+    def test_the_folder_itself_is_recorded(self) -> None:
+        self.RECORDS = b"# file: .\n# owner: root\n# group: root\nuser::rwx\ngroup::---\nother::---\n\n" + AnyDump.RECORDS
+        done = self.plan_of(b"", b"setfacl -n -m u:guest:r notes\n")
+        self.assertEqual((done.status, done.messages), (0, self.RELATIVE))
+        self.assertIn(b"guest  no gain        1 file    . grants no search (other::---); add: setfacl -n -m u:guest:x,m::x .\n", done.out)
+
+    def test_whole_names(self) -> None:
+        done = self.plan_of(b"/srv/", b"setfacl -n -m u:guest:r srv/notes\n")
+        self.expect(done, 0, b"guest  none -> r--    1 file    first: srv/notes\n" + ONE_FILE + b"\n"
+                             b"old.plan: is written; next: facl-apply old.plan\n", self.OPEN + b"\n")
+        self.assertEqual(self.read("old.plan/new").count(b"# file: /srv/notes\n"), 1)
+
+
 class BadInput(Case):
     def expect_unusable(self, message: bytes, *words: str) -> None:
         self.expect(self.run_command("facl-plan", list(words)), 2, b"", b"facl-plan: " + message + b"\n")
@@ -450,12 +575,7 @@ class BadInput(Case):
         self.write("edits", b"chmod 600 srv/share/one\n")
         self.expect_unusable(b"absent: no such folder: make a snapshot by facl-snapshot", "absent", "edits")
         self.expect_unusable(b"edits: no such folder: make a snapshot by facl-snapshot", "edits", "edits")
-        os.rename(self.path("before/links"), self.path("links"))
-        self.expect_unusable(b"before: is no snapshot: links is not in it: make one by facl-snapshot", "before", "edits")
-        os.rename(self.path("links"), self.path("before/links"))
         dump = self.read("before/dump")
-        self.write("before/dump", dump[dump.index(b"# file: /srv/share/\n"):])
-        self.expect_unusable(b"before: has no directories above its files: make a snapshot by facl-snapshot", "before", "edits")
         self.write("before/dump", dump[:-23])
         line = dump[: dump.index(b"# file: /srv/share/two")].count(b"\n") + 1
         self.expect_unusable(b"before: the program does not load it: facl: setup: dump: text line %d: access list: group:: missing" % line,

@@ -7,8 +7,8 @@ It makes a tree of N files (100,000) in directories of a thousand, in a folder o
 removes at the end. The files belong to N users (30), who are those of a getent of its own, so that no account is made;
 every tenth file has a named user. One line changes all of them: `setfacl -R -m u:guest:rX`. In each of the runs (3) all
 steps come one after another: `getfacl -R -n`, `setfacl --restore` of all records as they are, facl-snapshot, facl-plan,
-facl-plan --reach, facl-apply, facl-apply --undo. It prints, as a table in Markdown, the median of the seconds of each step, how many
-times as long as both of the system's tools that is, and the most memory of the largest of its processes.
+facl-plan --file-alone, facl-apply, facl-apply --undo. It prints, as a table in Markdown, the median of the seconds of each step, how
+many times as long as both of the system's tools that is, and the most memory of the largest of its processes.
 
 The exit status is 1 where a step fails, 2 where the words are others or it is not run as root.
 """
@@ -122,7 +122,8 @@ def steps_of(place: Place, number: int) -> Dict[str, Callable[[], Figures]]:
         "setfacl --restore": lambda: measured(place, ["setfacl", "--restore=" + records]),
         "facl-snapshot": lambda: measured(place, [command["facl-snapshot"], "before", place.tree()]),
         "facl-plan": lambda: measured(place, [command["facl-plan"], "--plan", plan, "before", "edits"]),
-        "facl-plan --reach": lambda: measured(place, [command["facl-plan"], "--reach", "--plan", plan + ".reach", "before", "edits"]),
+        "facl-plan --file-alone": lambda: measured(
+            place, [command["facl-plan"], "--file-alone", "--plan", plan + ".alone", "before", "edits"]),
         "facl-apply": lambda: measured(place, [command["facl-apply"], plan]),
         "facl-apply --undo": lambda: measured(place, [command["facl-apply"], "--undo", plan]),
     }
