@@ -6,7 +6,7 @@ import os
 from collections import Counter
 from typing import Dict, List
 
-from . import VERSION, differences, live, plan_folder, planned
+from . import VERSION, differences, live, meta, plan_folder, planned
 from .carrying import Carrier
 from .messages import Command, Failure, counted, reason
 from .names import live_name, path_order, shell_word
@@ -112,6 +112,12 @@ def warn_of_inodes(command: Command, way: Way) -> None:
                     b"lists is not known")
 
 
+def warn_of_host(command: Command, way: Way) -> None:
+    about = meta.read_meta(way.folder.read(meta.NAME)) if way.folder.has(meta.NAME) else meta.UNKNOWN
+    if meta.is_of_another_host(about):
+        command.say(b"warning: the snapshot is " + about.text() + b", which is another host than this one")
+
+
 def warn_of_names(command: Command, look: Look) -> None:
     plain = {path: seen for path, seen in look.files.items() if seen.names > 1 and not seen.is_directory}
     names = Counter(seen.identity for seen in plain.values())
@@ -207,6 +213,7 @@ def body(command: Command, words: List[str]) -> int:
     if nothing_to_do(command, way):
         tell_all(command, rest if not way.is_undo else [])
         return NOTHING
+    warn_of_host(command, way)
     look = look_at(way, way.work.files)
     changed = unexpected(way, look)
     say_cut_off(command, way, look)

@@ -3,8 +3,9 @@ from __future__ import annotations
 
 import os
 import socket
-from typing import Dict, List, NamedTuple
+from typing import Dict, List, NamedTuple, Optional
 
+from .names import json_text
 from .trusted import read_trusted
 
 NAME = b"meta"
@@ -34,10 +35,22 @@ def read_meta(text: bytes) -> Meta:
     return Meta(found[b"host"][0], found[b"date"][0], found.get(b"folder", []))
 
 
+def text_of(folder: bytes) -> bytes:
+    """The file of a snapshot or plan; empty where it has none."""
+    name = os.path.join(folder, NAME)
+    return read_trusted(name) if os.path.exists(name) else b""
+
+
 def meta_of(folder: bytes) -> Meta:
     """That of a snapshot; UNKNOWN where it has none."""
-    name = os.path.join(folder, NAME)
-    return read_meta(read_trusted(name)) if os.path.exists(name) else UNKNOWN
+    return read_meta(text_of(folder))
+
+
+def fields_of(folder: bytes) -> Dict[str, Optional[str]]:
+    """For JSON."""
+    meta = meta_of(folder)
+    known = (None, None) if meta is UNKNOWN else (json_text(meta.host), json_text(meta.date))
+    return dict(zip(("host", "date"), known))
 
 
 def is_of_another_host(meta: Meta) -> bool:

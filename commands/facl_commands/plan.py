@@ -10,7 +10,7 @@ import sys
 from functools import lru_cache
 from typing import Dict, Iterator, List, NamedTuple, Optional, Set
 
-from . import VERSION, by_hand, causes, no_gain, owners, people, plan_folder, planned, rights, texts
+from . import VERSION, by_hand, causes, meta, no_gain, owners, people, plan_folder, planned, rights, texts
 from .links import EDITS, Links
 from .messages import Command, Failure, counted, named
 from .names import json_text, live_path, shell_word, shown, shown_path
@@ -315,6 +315,7 @@ def messages_json(found: List[Message], are_warnings: bool) -> List[Dict[str, ob
 def json_report(outcome: Outcome, given: argparse.Namespace, changes: Changes, commands: List[bytes],
                 plan: Optional[bytes]) -> bytes:
     report = {
+        "snapshot": meta.fields_of(os.fsencode(given.snapshot)),
         "plan": None if plan is None else json_text(plan),
         "changes": [] if given.full else rights_json(outcome),
         "no_gain": no_gain_json(outcome),
@@ -423,6 +424,7 @@ def plan_files(given: argparse.Namespace, snapshot: Snapshot, scripts: List[Scri
         b"files": planned.work_text(find_program(given.program), snapshot, changes, outcome.old, outcome.new),
         b"by_hand": by_hand.script_of(*of_people) + b"".join(comments),
         b"by_hand_undo": by_hand.undo_script_of(*of_people),
+        meta.NAME: meta.text_of(snapshot.folder),
     }
 
 
@@ -453,6 +455,9 @@ def body(command: Command, words: List[str]) -> int:
     if given.json:
         command.write(json_report(outcome, given, changes, commands, written))
     elif is_shown:
+        about = meta.meta_of(snapshot.folder)
+        if about is not meta.UNKNOWN:
+            command.tell(meta.named(snapshot.folder, about))
         for part in text_report(given, outcome, changes, commands, written):
             command.write(part)
     return status_of(command, outcome, has_work)
