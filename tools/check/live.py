@@ -42,7 +42,7 @@ from script import at_signals  # noqa: E402
 from session import program_at  # noqa: E402
 
 WRITES = ["fsync", "syncfs", "rename", "unlink", "unlinkat", "openat"]
-KNOWN = {b"plan", b"edits", b"old", b"new", b"files", b"by_hand", b"by_hand_undo", b"by_hand_made", b"journal", b"state"}
+KNOWN = {b"plan", b"lock", b"meta", b"edits", b"old", b"new", b"files", b"by_hand", b"by_hand_undo", b"by_hand_done", b"journal", b"state"}
 
 
 class Ways(Others):
