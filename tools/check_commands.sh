@@ -1,6 +1,6 @@
 #!/bin/sh
 # Tests of the commands in commands/: what needs only the program, over stored snapshots. It makes its files in a folder of
-# its own, takes half a minute, and ends with the line `N passed, M failed`; the exit status is 0 where none failed.
+# its own, takes one to three minutes, and ends with the line `N passed, M failed`; the exit status is 0 where none failed.
 #
 # usage: tools/check_commands.sh [--all] [PROGRAM]      PROGRAM: one that is built; without it crates/facl_cli/out/facl_cli
 #

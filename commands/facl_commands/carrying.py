@@ -3,7 +3,7 @@ from __future__ import annotations
 
 import os
 import signal
-from typing import Dict, Iterable, List, Optional, Set
+from typing import Callable, Dict, Iterable, List, Optional, Set
 
 from . import differences, live, plan_folder, planned, system
 from .lists import Record
@@ -92,14 +92,8 @@ class Carrier:
         """Opens directories to the caller, for the files below: those that the plan opens, and those that a run which was cut off
         has closed, which get the record of the start again."""
         left = self.give([path for path in seen if opens(self.way, path)])
-        with Opener() as opener:
-            for path in [path for path, it in seen.items() if self.later and was_closed(self.way, path, it.record)]:
-                try:
-                    self.put_one_back(opener, path)
-                except (NotFound, Mismatch) as error:
-                    left[path] = error.text
-                except OSError as error:
-                    left[path] = reason(error)
+        if self.later:
+            left.update(self.give_back(path for path, it in seen.items() if was_closed(self.way, path, it.record)))
         return left
 
     def give(self, paths: Iterable[bytes]) -> Dict[bytes, bytes]:
@@ -108,20 +102,10 @@ class Carrier:
             for number, path in enumerate(paths):
                 if not self.way.is_undo and (left or number % OFTEN == 0 and self.is_interrupted()):
                     break
-                fault = self.fault_of_giving(opener, path)
+                fault = fault_of(self.give_one, opener, path)
                 if fault is not None:
                     left[path] = fault
         return left
-
-    def fault_of_giving(self, opener: Opener, path: bytes) -> Optional[bytes]:
-        """Gives a file its new record; returns why it did not get it."""
-        try:
-            self.give_one(opener, path)
-        except (NotFound, Mismatch) as error:
-            return error.text
-        except OSError as error:
-            return reason(error)
-        return None
 
     def give_one(self, opener: Opener, path: bytes) -> None:
         file = opener.open(path)
@@ -161,15 +145,16 @@ class Carrier:
 
     def put_back(self) -> Dict[bytes, bytes]:
         """Gives back the old records, the last first; returns the files that did not get them."""
+        return self.give_back(reversed(list(dict.fromkeys(self.changed))))
+
+    def give_back(self, paths: Iterable[bytes]) -> Dict[bytes, bytes]:
+        """Gives files the records of the start; returns those that did not get them, with the reason."""
         left: Dict[bytes, bytes] = {}
         with Opener() as opener:
-            for path in reversed(list(dict.fromkeys(self.changed))):
-                try:
-                    self.put_one_back(opener, path)
-                except (NotFound, Mismatch) as error:
-                    left[path] = error.text
-                except OSError as error:
-                    left[path] = reason(error)
+            for path in paths:
+                fault = fault_of(self.put_one_back, opener, path)
+                if fault is not None:
+                    left[path] = fault
         return left
 
     def put_one_back(self, opener: Opener, path: bytes) -> None:
@@ -187,6 +172,17 @@ class Carrier:
         for folder in self.folders.values():
             system.write_out(folder)
         plan_folder.set_state(self.way.folder, state)
+
+
+def fault_of(step: Callable[[Opener, bytes], None], opener: Opener, path: bytes) -> Optional[bytes]:
+    """Does something with a file; returns why it could not be done."""
+    try:
+        step(opener, path)
+    except (NotFound, Mismatch) as error:
+        return error.text
+    except OSError as error:
+        return reason(error)
+    return None
 
 
 def change(file: OpenFile, now: Record, end: Record, is_directory: bool) -> None:
