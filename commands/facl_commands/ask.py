@@ -113,6 +113,8 @@ def pieces_of(unit: Unit, answer: Answer, has_headings: bool) -> Iterator[bytes]
 
 def answer_scripts(command: Command, program: str, folder: bytes, names: List[str], has_headings: bool) -> int:
     """Answers several scripts one after another; a message names the script."""
+    from .causes import explained
+
     status = ANSWERED
     with Session(program, folder) as session:
         for unit in read_units(names):
@@ -125,6 +127,7 @@ def answer_scripts(command: Command, program: str, folder: bytes, names: List[st
             command.flush()
             for message in messages:
                 command.put(command.messages, unit.place() + b": " + message + b"\n")
+                command.explain(explained(unit, message))
                 status = status if b": warning: " in message else REFUSED
             command.put(command.messages)
     return status

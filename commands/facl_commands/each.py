@@ -19,6 +19,7 @@ import tempfile
 from typing import IO, Callable, Dict, Iterable, Iterator, List, NamedTuple, Optional, Set, Tuple, Union
 
 from . import agreement, environment, headings, overview
+from .causes import explained
 from .messages import Command, Failure
 from .names import path_order, read_path, write_name
 from .part import EDITS, Head, Header, read_head, read_header
@@ -421,6 +422,7 @@ def write(command: Command, units: List[Unit], joined: Dict[int, Joined], superu
         command.flush()
         for message in answer.messages:
             command.put(command.messages, b"line %d: %s\n" % (unit.number, message))
+            command.explain(explained(unit, message))
             status = status if b": warning: " in message else REFUSED
         command.put(command.messages)
         if not answer.is_refused():

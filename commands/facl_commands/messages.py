@@ -7,7 +7,7 @@ import os
 import signal
 import sys
 from types import FrameType
-from typing import IO, Callable, List, NoReturn, Optional
+from typing import IO, Callable, Iterable, List, NoReturn, Optional
 
 from .names import shown
 
@@ -75,6 +75,11 @@ class Command:
     def write(self, text: bytes) -> None:
         """A part of the report, as it is."""
         self.put(self.out, text)
+
+    def explain(self, lines: Iterable[bytes], begin: bytes = b"") -> None:
+        """Lines below a message."""
+        for line in lines:
+            self.put(self.messages, begin + b"    " + line + b"\n")
 
     def tell(self, line: bytes) -> None:
         """A line of the report that a person reads."""

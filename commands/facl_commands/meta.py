@@ -46,9 +46,8 @@ def meta_of(folder: bytes) -> Meta:
     return read_meta(text_of(folder))
 
 
-def fields_of(folder: bytes) -> Dict[str, Optional[str]]:
+def fields_of(meta: Meta) -> Dict[str, Optional[str]]:
     """For JSON."""
-    meta = meta_of(folder)
     known = (None, None) if meta is UNKNOWN else (json_text(meta.host), json_text(meta.date))
     return dict(zip(("host", "date"), known))
 

@@ -82,6 +82,7 @@ class Outcome(NamedTuple):
     commands: List[people.PeopleChange]  # Of users and memberships.
     left: List[owners.Left]  # Users who are removed, with what they leave.
     is_whole: bool  # Whether names start at the root of the file system.
+    about: meta.Meta  # What the snapshot is of.
 
     def name_of(self, path: bytes) -> bytes:
         return live_path(path) if self.is_whole else shown_path(path)
@@ -106,7 +107,7 @@ def parse(words: List[str]) -> argparse.Namespace:
     parser.add_argument("--keep-going", action="store_true", help="plan the other lines where some were refused")
     parser.add_argument("--group", metavar="GROUP", help="let the members of a group read the plan")
     parser.add_argument("--program", metavar="FILE", help="the program facl; without it $FACL, or facl on the path")
-    parser.add_argument("snapshot", metavar="SNAPSHOT")
+    texts.add_source(parser, words, "--groups")
     parser.add_argument("scripts", metavar="SCRIPT", nargs="+")
     return parser.parse_args(words)
 
@@ -200,7 +201,8 @@ def answer_scripts(given: argparse.Namespace, snapshot: Snapshot, units: List[Un
     users = list(dict.fromkeys([*before.users, *after.users]))
     changes = rights.changes(before, after, left_out)
     left = owners.left_behind(people_before, run.people, new.files)
-    return Outcome(old.files, new.files, changes, closed, users, run.asked, run.messages, run.commands, left, is_whole)
+    return Outcome(old.files, new.files, changes, closed, users, run.asked, run.messages, run.commands, left, is_whole,
+                   meta.meta_of(snapshot.folder))
 
 
 def superusers(known: people.People) -> Set[bytes]:
@@ -315,7 +317,7 @@ def messages_json(found: List[Message], are_warnings: bool) -> List[Dict[str, ob
 def json_report(outcome: Outcome, given: argparse.Namespace, changes: Changes, commands: List[bytes],
                 plan: Optional[bytes]) -> bytes:
     report = {
-        "snapshot": meta.fields_of(os.fsencode(given.snapshot)),
+        "snapshot": meta.fields_of(outcome.about),
         "plan": None if plan is None else json_text(plan),
         "changes": [] if given.full else rights_json(outcome),
         "no_gain": no_gain_json(outcome),
@@ -402,15 +404,15 @@ def beside(folder: bytes) -> bytes:
     return (os.path.abspath(folder) if os.path.basename(name) in (b"", b".", b"..") else name) + b".plan"
 
 
-def say_unknown(command: Command, folder: bytes) -> bool:
+def say_unknown(command: Command, source: texts.Source) -> bool:
     """Says what a snapshot that facl-snapshot did not make cannot tell; whether there can be a plan, which has names from the
     root of the file system."""
-    dump = read_trusted(os.path.join(folder, b"dump"))
-    found = texts.notice(folder, dump)
+    dump = read_trusted(os.path.join(source.folder, b"dump"))
+    found = texts.notice(source.folder, dump)
     is_whole = found is None or RELATIVE_NAME.search(dump) is None
     if found is not None:
         rest = b"" if is_whole else b"; names do not start at the root of the file system, so no plan is written for facl-apply"
-        command.say(folder + b": " + found + rest)
+        command.say(source.shown + b": " + found + rest)
     return is_whole
 
 
@@ -430,13 +432,18 @@ def plan_files(given: argparse.Namespace, snapshot: Snapshot, scripts: List[Scri
 
 def body(command: Command, words: List[str]) -> int:
     given = parse(words)
-    snapshot = read_snapshot(os.fsencode(given.snapshot), needs_links=False)
-    name = os.fsencode(given.plan) if given.plan else beside(snapshot.folder)
+    with texts.opened(given) as source:
+        return plan_over(command, given, source)
+
+
+def plan_over(command: Command, given: argparse.Namespace, source: texts.Source) -> int:
+    snapshot = read_snapshot(source.folder, needs_links=False)
+    name = os.fsencode(given.plan) if given.plan else beside(source.shown)
     group = None if given.group is None else group_of(given.group)
     target = plan_folder.open_target(name)
     scripts = read_scripts(given.scripts)
     units = [unit for name_of_script, text in scripts for unit in read_script(name_of_script, text)]
-    is_whole = say_unknown(command, snapshot.folder)
+    is_whole = say_unknown(command, source)
     outcome = answer_scripts(given, snapshot, units, is_whole)
     changes = compare(outcome.old, outcome.new)
     commands = by_hand.commands_of(outcome.commands, changes if is_whole else Changes([], [], []), outcome.old, outcome.new)
@@ -455,9 +462,8 @@ def body(command: Command, words: List[str]) -> int:
     if given.json:
         command.write(json_report(outcome, given, changes, commands, written))
     elif is_shown:
-        about = meta.meta_of(snapshot.folder)
-        if about is not meta.UNKNOWN:
-            command.tell(meta.named(snapshot.folder, about))
+        if outcome.about is not meta.UNKNOWN:
+            command.tell(meta.named(source.shown, outcome.about))
         for part in text_report(given, outcome, changes, commands, written):
             command.write(part)
     return status_of(command, outcome, has_work)

@@ -12,6 +12,7 @@ from typing import Dict, Iterator, List, NamedTuple
 
 from . import headings, overview
 from .each import HERE, HOST, NO_OPERAND, Answered, Part, is_refused, program_option, run_hosts, superusers_of
+from .causes import explained
 from .messages import UNUSABLE, Command, Failure
 from .names import shown
 from .scripts import Unit, read_script, read_text
@@ -45,10 +46,11 @@ def read_servers(words: List[bytes]) -> List[Server]:
     return list(found.values())
 
 
-def write_messages(command: Command, server: Server, number: int, messages: List[bytes]) -> None:
+def write_messages(command: Command, server: Server, unit: Unit, messages: List[bytes]) -> None:
     command.flush()
     for message in messages:
-        command.put(command.messages, server.name + b": line %d: %s\n" % (number, message))
+        command.put(command.messages, server.name + b": line %d: %s\n" % (unit.number, message))
+        command.explain(explained(unit, message), server.name + b": ")
     command.put(command.messages)
 
 
@@ -83,7 +85,7 @@ class Printer:
             text = b"".join(answer_lines(unit, server, answered, superusers, self.has_headings))
             self.command.write(text if has_heading or not text else headings.heading(unit) + text)
             has_heading = has_heading or text != b""
-            write_messages(self.command, server, unit.number, answered.header.messages)
+            write_messages(self.command, server, unit, answered.header.messages)
             if is_refused(answered):
                 self.status = REFUSED
             else:

@@ -555,6 +555,19 @@ class AnyDump(Case):
         self.assertEqual(self.read("old.plan/new").count(b"# file: /srv/notes\n"), 1)
 
 
+class ADumpByName(Case):
+    def test_the_same_plan(self) -> None:
+        self.write("edits", b"setfacl -m u:guest:r srv/share/notes\n")
+        for name in ("dump", "passwd", "group"):
+            self.write("its_" + name, self.read("before/" + name))
+        words = ["--dump", "its_dump", "--passwd", "its_passwd", "--groups", "its_group", "edits"]
+        by_name, by_folder = self.run_command("facl-plan", words), self.run_command("facl-plan", ["before", "edits"])
+        self.assertEqual(by_name.status, 0, by_name.messages)
+        self.assertEqual(by_name.out.replace(b"its_dump.plan", b"before.plan"), by_folder.out)
+        self.assertEqual(self.read("its_dump.plan/new"), self.read("before.plan/new"))
+        self.assertEqual(self.run_command("facl-plan", ["--passwd", "its_passwd", "before", "edits"]).status, 2)
+
+
 class BadInput(Case):
     def expect_unusable(self, message: bytes, *words: str) -> None:
         self.expect(self.run_command("facl-plan", list(words)), 2, b"", b"facl-plan: " + message + b"\n")
