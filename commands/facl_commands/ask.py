@@ -6,6 +6,7 @@ import contextlib
 import os
 import signal
 import subprocess
+import termios
 from types import FrameType
 from typing import Iterator, List, NoReturn, Optional
 
@@ -145,6 +146,17 @@ def take_signals() -> None:
             signal.signal(number, signal.default_int_handler if number == signal.SIGINT else leave)
 
 
+@contextlib.contextmanager
+def kept_terminal() -> Iterator[None]:
+    """The terminal is set as before in the end, however the reader of a line ends."""
+    before = termios.tcgetattr(0)
+    try:
+        yield
+    finally:
+        with contextlib.suppress(termios.error):  # It may be gone.
+            termios.tcsetattr(0, termios.TCSADRAIN, before)
+
+
 def dim(line: bytes) -> bytes:
     """A line at a terminal that is beside the answers."""
     if os.environ.get("NO_COLOR") or os.environ.get("TERM", "dumb") == "dumb":
@@ -180,7 +192,7 @@ def prompt(command: Command, program: str, source: Source, with_root: bool) -> i
     take_signals()
     superusers = Superusers({} if with_root else ids_in(found.passwd))
     desk = Desk(lambda: Session(program, source.folder), completer.page, completer, out, dim, superusers)
-    with contextlib.closing(desk):
+    with kept_terminal(), contextlib.closing(desk):
         refuse_early_end(desk.session)
         name = meta.named(source.shown, meta.meta_of(source.folder))
         out(shown(overview.summary(found, name)) + b"; `help` lists the tools, control-D ends\n")
