@@ -232,10 +232,11 @@ class Files(Scripts):
         self.write_scripts(["d/gone"])
         name = os.fsdecode(b"-p \xe9\n")
         os.rename(self.path("plan"), self.path(name))
-        done = subprocess.run(["sh", "./" + name + "/by_hand"], cwd=self.folder, capture_output=True, check=False)
+        variables = {**os.environ, "PATH": self.path("bin") + ":" + os.environ["PATH"]}
+        done = subprocess.run(["sh", "./" + name + "/by_hand"], cwd=self.folder, env=variables, capture_output=True, check=False)
         self.assertEqual((done.returncode, done.stderr, self.names("d")), (0, b"", ["stays"]))
         with open(self.path(name + "/by_hand"), "rb") as script:
-            done = subprocess.run(["sh"], stdin=script, cwd=self.folder, capture_output=True, check=False)
+            done = subprocess.run(["sh"], stdin=script, cwd=self.folder, env=variables, capture_output=True, check=False)
         self.assertEqual((done.returncode, done.stderr), (1, b"by_hand: run it by its name: sh PLAN/by_hand\n"))
 
     def test_a_folder_that_is_a_link_now(self) -> None:
