@@ -20,8 +20,8 @@ outside_the_gate = unittest.skipUnless("ALL_TESTS" in os.environ, "only with --a
 
 
 def restore_signals() -> None:
-    """In a child: signals end it, also where the tests run in the background, with SIGINT ignored."""
-    for number in (signal.SIGHUP, signal.SIGINT, signal.SIGTERM):
+    """In a child: signals end it, also where the tests run in the background, with SIGINT and SIGQUIT ignored."""
+    for number in (signal.SIGHUP, signal.SIGINT, signal.SIGQUIT, signal.SIGTERM):
         signal.signal(number, signal.SIG_DFL)
 
 

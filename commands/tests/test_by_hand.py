@@ -9,7 +9,7 @@ import sys
 import unittest
 from typing import Dict, List, Optional, Sequence
 
-from common import COMMANDS, Case, Done
+from common import COMMANDS, Case, Done, restore_signals
 
 sys.path.insert(0, COMMANDS)
 
@@ -177,7 +177,8 @@ class Scripts(Case):
 
     def run_script(self, name: str, shell: str = "sh") -> Done:
         path = self.path("bin") + ":" + os.environ["PATH"]
-        done = subprocess.run([shell, self.path("plan/" + name)], capture_output=True, env={**os.environ, "PATH": path}, check=False)
+        done = subprocess.run([shell, self.path("plan/" + name)], capture_output=True, env={**os.environ, "PATH": path},
+                              preexec_fn=restore_signals, check=False)
         return Done(done.returncode, done.stdout, done.stderr)
 
     def expect_run(self, name: str, status: int, message: str = "", shell: str = "sh") -> None:
