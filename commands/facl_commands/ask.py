@@ -8,13 +8,13 @@ import signal
 import subprocess
 import termios
 from types import FrameType
-from typing import Iterator, List, NoReturn, Optional
+from typing import Dict, Iterator, List, NoReturn, Optional
 
 from . import VERSION, environment, headings, texts
 from .messages import SIGNALS, Command, Failure, reason
 from .names import shown
 from .program import Answer, Session, find_program
-from .scripts import Unit, read_text, read_units
+from .scripts import Unit, read_script, read_text, read_units
 from .snapshot import check_texts
 from .texts import Source
 from .trusted import read_trusted
@@ -28,7 +28,7 @@ lists the tools, tab completes words, each answer comes below its line, and wher
 synopsis and the likely cause. Else it answers standard input.
 
 Where it has one SCRIPT, or standard input that is no terminal, it is the program itself: it prints the same, and ends
-with the same status. With several SCRIPTs a message names the SCRIPT, and its line there. With --headings each question
+with the same status; below a message about a SCRIPT comes its likely cause. With several SCRIPTs a message names the SCRIPT, and its line there. With --headings each question
 comes above its answer.
 
 SNAPSHOT may be a folder with passwd, group and dump alone. A dump can be given by --dump FILE too, in place of SNAPSHOT.
@@ -92,6 +92,30 @@ def run_program(program: str, source: Source) -> int:
     """Runs the program, and returns its status, where the folder is one that is removed after it."""
     status = subprocess.run(program_words(program, source.folder), env=environment.of_called(), check=False).returncode
     return status if status >= 0 else 128 - status
+
+
+def units_of_input() -> Dict[int, Unit]:
+    """The lines of a script that is the standard input, by their numbers; none where it can be read once alone."""
+    try:
+        text = os.pread(0, os.fstat(0).st_size, 0)
+    except OSError:
+        return {}
+    return {unit.number: unit for unit in read_script(b"", text)}
+
+
+def run_explained(command: Command, program: str, source: Source) -> int:
+    """Runs the program over a script by name, and returns its status; below each message comes what was probably meant."""
+    from .causes import explained_by_number
+
+    units: Optional[Dict[int, Unit]] = None
+    with subprocess.Popen(program_words(program, source.folder), stderr=subprocess.PIPE, env=environment.of_called()) as run:
+        assert run.stderr is not None
+        for line in run.stderr:
+            units = units_of_input() if units is None else units
+            command.put(command.messages, line)
+            command.explain(explained_by_number(units, line.rstrip(b"\n")))
+            command.put(command.messages)
+    return run.returncode if run.returncode >= 0 else 128 - run.returncode
 
 
 def become_program(program: str, folder: bytes) -> NoReturn:
@@ -220,6 +244,8 @@ def answer_one(command: Command, given: argparse.Namespace, source: Source) -> i
         return answer_scripts(command, program, source.folder, given.scripts or ["-"], given.headings)
     take_script(given.scripts[0] if given.scripts else "-")
     say_notices(command, source)
+    if given.scripts and given.scripts[0] != "-":
+        return run_explained(command, program, source)
     if source.is_made:
         return run_program(program, source)
     become_program(program, source.folder)
