@@ -6,9 +6,9 @@ import os
 from collections import Counter
 from typing import Dict, List
 
-from . import VERSION, differences, live, meta, plan_folder, planned
+from . import differences, live, meta, plan_folder, planned
 from .carrying import Carrier
-from .messages import Command, Failure, counted, reason
+from .messages import Command, Failure, counted, parser_of, reason
 from .names import live_name, path_order, shell_word
 from .way import Look, Obstacles, Way, look_at, read_way, unexpected
 
@@ -33,11 +33,7 @@ they were nor as they should be: they are named; 5 where it is done, and that co
 
 
 def parse(words: List[str]) -> argparse.Namespace:
-    parser = argparse.ArgumentParser(
-        prog="facl-apply", description=HELP, epilog=STATUS, formatter_class=argparse.RawDescriptionHelpFormatter,
-        allow_abbrev=False,
-    )
-    parser.add_argument("--version", action="version", version="%(prog)s " + VERSION)
+    parser = parser_of("facl-apply", HELP, STATUS)
     parser.add_argument("--dry-run", action="store_true", help="compare, say which files would be changed, and stop")
     parser.add_argument("--undo", action="store_true", help="give the files their old records, with the same comparisons")
     parser.add_argument("--leave-changed", action="store_true",

@@ -10,14 +10,14 @@ import termios
 from types import FrameType
 from typing import Dict, Iterator, List, NoReturn, Optional
 
-from . import VERSION, environment, headings, texts
-from .messages import SIGNALS, Command, Failure, reason
+from . import overview, texts
+from .answering import answer_unit, below_heading, is_refused, write_messages
+from .messages import SIGNALS, Command, Failure, parser_of, reason
 from .names import shown
-from .program import Answer, Session, find_program
-from .scripts import Unit, read_script, read_text, read_units
+from .program import Session, environment_of_called, find_program
+from .scripts import Unit, read_script, read_text
 from .snapshot import check_texts
 from .texts import Source
-from .trusted import read_trusted
 
 ANSWERED, REFUSED = 0, 1
 HELP = """\
@@ -48,11 +48,7 @@ or where the words, the snapshot or a script cannot be used. A prompt ends with 
 
 
 def parse(words: List[str]) -> argparse.Namespace:
-    parser = argparse.ArgumentParser(
-        prog="facl-ask", description=HELP, epilog=STATUS, formatter_class=argparse.RawDescriptionHelpFormatter, allow_abbrev=False,
-    )
-    parser.add_argument("--version", action="version", version="%(prog)s " + VERSION)
-    parser.add_argument("--program", metavar="FILE", help="the program facl; without it $FACL, or facl on the path")
+    parser = parser_of("facl-ask", HELP, STATUS)
     parser.add_argument("--headings", action="store_true", help="print each question of a script above its answer")
     parser.add_argument("--with-root", action="store_true", help="at the prompt, with --each and --hosts: answers about people have uid 0 too")
     parser.add_argument("--each", action="store_true", help="answer standard input over several SNAPSHOTs side by side")
@@ -90,7 +86,7 @@ def take_script(script: str) -> None:
 
 def run_program(program: str, source: Source) -> int:
     """Runs the program, and returns its status, where the folder is one that is removed after it."""
-    status = subprocess.run(program_words(program, source.folder), env=environment.of_called(), check=False).returncode
+    status = subprocess.run(program_words(program, source.folder), env=environment_of_called(), check=False).returncode
     return status if status >= 0 else 128 - status
 
 
@@ -108,7 +104,7 @@ def run_explained(command: Command, program: str, source: Source) -> int:
     from .causes import explained_by_number
 
     units: Optional[Dict[int, Unit]] = None
-    with subprocess.Popen(program_words(program, source.folder), stderr=subprocess.PIPE, env=environment.of_called()) as run:
+    with subprocess.Popen(program_words(program, source.folder), stderr=subprocess.PIPE, env=environment_of_called()) as run:
         assert run.stderr is not None
         for line in run.stderr:
             units = units_of_input() if units is None else units
@@ -125,36 +121,21 @@ def become_program(program: str, folder: bytes) -> NoReturn:
     for number in range(3):
         os.set_inheritable(number, True)  # Also one that was closed: the program is not to find it closed.
     try:
-        os.execve(program, words, environment.of_called())
+        os.execve(program, words, environment_of_called())
     except OSError as error:
         raise Failure(os.fsencode(program) + b": " + reason(error)) from error
 
 
-def pieces_of(unit: Unit, answer: Answer, has_headings: bool) -> Iterator[bytes]:
-    """What is printed of an answer."""
-    is_refused = any(b": warning: " not in message for message in answer.messages)
-    return headings.below_heading(unit, answer.output.lines(), is_refused) if has_headings else answer.output.pieces()
-
-
 def answer_scripts(command: Command, program: str, folder: bytes, names: List[str], has_headings: bool) -> int:
     """Answers several scripts one after another; a message names the script."""
-    from .causes import explained
-
     status = ANSWERED
     with Session(program, folder) as session:
-        for unit in read_units(names):
-            messages = [b"facl: text without end"]
-            if unit.is_ended:
-                answer = session.ask(b"".join(line + b"\n" for line in unit.lines))
-                messages = answer.messages
-                for piece in pieces_of(unit, answer, has_headings):
-                    command.write(piece)
-            command.flush()
-            for message in messages:
-                command.put(command.messages, unit.place() + b": " + message + b"\n")
-                command.explain(explained(unit, message))
-                status = status if b": warning: " in message else REFUSED
-            command.put(command.messages)
+        for unit in [unit for name in names for unit in read_text(name).units()]:
+            output, messages = answer_unit(session, unit)
+            for piece in below_heading(unit, output.lines(), messages) if has_headings else output.pieces():
+                command.write(piece)
+            write_messages(command, unit.place(), unit, messages)
+            status = REFUSED if is_refused(messages) else status
     return status
 
 
@@ -188,20 +169,9 @@ def dim(line: bytes) -> bytes:
     return b"\x1b[2m" + line.rstrip(b"\n") + b"\x1b[0m\n"
 
 
-def say_notices(command: Command, source: Source, has_prompt: bool = False) -> None:
-    """What answers over this snapshot cannot tell; a prompt warns of empty masks among others."""
-    from . import overview
-
-    dump = read_trusted(os.path.join(source.folder, b"dump"))
-    for text in overview.unknown(source.folder, dump):
-        command.say(source.shown + b": " + text if not text.startswith(b"warning: ") else text)
-    for text in () if has_prompt else overview.masks(dump):
-        command.say(text)
-
-
 def prompt(command: Command, program: str, source: Source, with_root: bool) -> int:
     """Answers a person's lines. Only a prompt needs these parts of the package."""
-    from . import manual, meta, overview, terminal
+    from . import manual, meta, terminal
     from .completion import Completer
     from .desk import WORDS_OF_PROMPT, Desk, refuse_early_end
     from .superuser import Superusers, ids_in
@@ -220,7 +190,7 @@ def prompt(command: Command, program: str, source: Source, with_root: bool) -> i
         refuse_early_end(desk.session)
         name = meta.named(source.shown, meta.meta_of(source.folder))
         out(shown(overview.summary(found, name)) + b"; `help` lists the tools, control-D ends\n")
-        say_notices(command, source, has_prompt=True)
+        overview.say_notices(command, source, has_masks=False)
         for warning in overview.warnings(found):
             command.say(warning)
         if terminal.find_toolkit() is None:
@@ -240,10 +210,10 @@ def answer_one(command: Command, given: argparse.Namespace, source: Source) -> i
     if not given.scripts and os.isatty(0) and os.isatty(1):
         return prompt(command, program, source, given.with_root)
     if len(given.scripts) > 1 or given.headings:
-        say_notices(command, source)
+        overview.say_notices(command, source)
         return answer_scripts(command, program, source.folder, given.scripts or ["-"], given.headings)
     take_script(given.scripts[0] if given.scripts else "-")
-    say_notices(command, source)
+    overview.say_notices(command, source)
     if given.scripts and given.scripts[0] != "-":
         return run_explained(command, program, source)
     if source.is_made:

@@ -3,12 +3,13 @@ message."""
 from __future__ import annotations
 
 import re
-from typing import Dict, List, Optional, Tuple
+from typing import Dict, List, Optional
 
 from .cause_rows import TABLE, Cause
 from .names import json_text, shown
-from .refused_line import LONG_OF_SHORT, OPTIONS, Line, line_of
+from .refused_line import Line, line_of
 from .scripts import TEXT_WORDS, Unit
+from .tools import OPTIONS, options_of_tool, split
 
 __all__ = ["TABLE", "advice", "explained", "explained_by_number", "find_cause"]
 
@@ -24,14 +25,7 @@ def advice_of(cause: Cause, line: Line) -> bytes:
     known = OPTIONS.get(line.tool(), frozenset())
     options = b", ".join(dict.fromkeys(it.name for it in line.given if it.name not in known))
     text = cause.advice.encode().replace(b"{tool}", line.tool()).replace(b"{options}", options)
-    shortest = known - set(LONG_OF_SHORT.get(line.tool(), {}).values())
-    names: List[bytes] = sorted(shortest, key=option_order)
-    return text.replace(b"{known}", b", ".join(names) or b"no option")
-
-
-def option_order(name: bytes) -> Tuple[bool, bytes, bytes]:
-    """Short options first, by their letters, a small one before the capital one."""
-    return len(name) > 2, name.lower(), name.swapcase()
+    return text.replace(b"{known}", b", ".join(options_of_tool(line.tool(), has_long=False)) or b"no option")
 
 
 def advice(line: bytes, message: bytes) -> Optional[str]:
@@ -66,16 +60,12 @@ def explained_by_number(units: Dict[int, Unit], message: bytes) -> List[bytes]:
 def swallowed(unit: Unit) -> List[bytes]:
     """Says of lines that a refused line took, where nobody meant them as its text."""
     taken = len(unit.lines) - 1
-    if taken == 0 or unit.is_ended and is_meant(unit.words):
+    # A line takes its text by an option of setfacl, or is one of load.
+    names = (b"-M", b"-X", b"--modify-file", b"--remove-file", b"--set-file", b"--restore")
+    is_option = unit.is_of(b"setfacl") and any(it.name in names and it.value == b"-" for it in split(unit.words).given)
+    if taken == 0 or unit.is_ended and (is_option or unit.is_of(b"load")):
         return []
     word = next((word for word in unit.words[1:] if word in TEXT_WORDS), None)
     which = b"line %d was" % (unit.number + 1) if taken == 1 else b"lines %d to %d were" % (unit.number + 1, unit.number + taken)
     why = b"" if word is None else b", since it has a word " + word
     return [which + b" taken as the text of line %d" % unit.number + why]
-
-
-def is_meant(words: List[bytes]) -> bool:
-    """Whether a line takes its text by an option of setfacl, or is one of load."""
-    options = line_of(b" ".join(words)).given if words[:1] == [b"setfacl"] else []
-    names = (b"-M", b"-X", b"--modify-file", b"--remove-file", b"--set-file", b"--restore")
-    return words[:1] == [b"load"] or any(it.name in names and it.value == b"-" for it in options)

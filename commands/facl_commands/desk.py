@@ -5,6 +5,7 @@ import re
 from typing import Callable, List, Optional, Set
 
 from . import causes, stops
+from .answering import NO_FILE, is_refused
 from .completion import Completer
 from .manual import Page
 from .messages import Failure
@@ -12,12 +13,11 @@ from .names import read_path, shown, write_name
 from .program import Answer, Session
 from .scripts import LINE_LIMIT, Unit, is_empty, read_script, takes_text, words_of
 from .superuser import Superusers
+from .tools import EMPTY_ANSWERS, QUESTIONS
 
 Read = Callable[[str], str]  # Reads a line, after a prompt; raises EOFError and KeyboardInterrupt.
 HELP_WORDS, END_WORDS = (b"help", b"?"), (b"quit", b"exit")
 WORDS_OF_PROMPT = ["help", "quit"]
-EMPTY_ANSWERS = {b"who": b"(nobody)\n", **dict.fromkeys((b"may", b"index", b"changes", b"getfacl"), b"(nothing)\n")}
-QUESTIONS = (*EMPTY_ANSWERS, b"can", b"why", b"attr")
 ALONE = b"(each file is judged alone: with --reach after the tool, search on the directories above counts too)\n"
 KEYS = """\
 A line is a tool and its words: `help TOOL` has its options, and `help TOPIC` another section of the manual page.
@@ -99,7 +99,7 @@ class Desk:
         lines = b"".join(line + b"\n" for line in unit.lines)
         try:
             answer = self.session.ask(lines)
-            marked = stops.stops_of(self.session, unit) if stops.is_asked(unit) and not is_refused(answer) else []
+            marked = stops.stops_of(self.session, unit) if stops.is_asked(unit) and not is_refused(answer.messages) else []
         except KeyboardInterrupt:
             self.start_again(b"line %d: given up, and changed nothing\n" % unit.number)
             return
@@ -107,7 +107,7 @@ class Desk:
             self.show(unit, answer, marked)
         except KeyboardInterrupt:
             self.out(b"\n(the rest is not shown)\n")
-        if not is_refused(answer) and not unit.is_of(*QUESTIONS):
+        if not is_refused(answer.messages) and not unit.is_of(*QUESTIONS):
             self.accepted.append(lines)
             self.superusers.follow(unit)
             self.follow(unit)
@@ -126,13 +126,13 @@ class Desk:
         for printed in self.superusers.rest(unit, answer.output.lines()):
             self.out(shown(printed) + stops.mark_of(printed, marked) + b"\n")
             count += 1
-        if not count and not is_refused(answer) and unit.words:
+        if not count and not is_refused(answer.messages) and unit.words:
             self.out(EMPTY_ANSWERS.get(unit.words[0], b""))
         for message in answer.messages:
             self.out(b"line %d: %s\n" % (unit.number, shown(message)))
             for line in self.advice(unit, message):
                 self.out(b"    " + line.encode() + b"\n")
-        if unit.is_of(b"can", b"who", b"may") and b"--reach" not in unit.words and not is_refused(answer):
+        if unit.is_of(b"can", b"who", b"may") and b"--reach" not in unit.words and not is_refused(answer.messages):
             self.note(ALONE)
         if self.superusers.has_left_out:
             self.note(b"(" + self.superusers.note() + b")\n")
@@ -182,10 +182,6 @@ class Desk:
         else:
             text = self.page.sections.get(topic.lower(), "There is no tool and no section of this name: `help` lists them.\n")
         self.out(text.encode())
-
-
-def is_refused(answer: Answer) -> bool:
-    return any(b": warning: " not in message for message in answer.messages)
 
 
 def overview_of(page: Page) -> str:

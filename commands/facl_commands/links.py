@@ -11,14 +11,13 @@ from bisect import bisect_left
 from itertools import takewhile
 from typing import Dict, Iterator, List, Optional, Set
 
-from .names import read_path, script_word, shown_path
-from .people import CHANGES
+from . import program
+from .names import read_path, script_word, shown_path, sorting_key
 from .program import Session
-from .records import File, Files, list_all, read_listing, sorting_key, write_record
+from .records import File, Files, list_all, read_listing, write_record
 from .scripts import LINE_LIMIT, Unit
+from .tools import CHANGES_OF_PEOPLE, WITH_FILES
 
-EDITS = (b"setfacl", b"chacl", b"chmod", b"setattr", b"creat", b"rm")
-OF_WORDS = (*EDITS, b"getfacl", b"attr", b"can", b"who", b"why")  # These look at files that their words name.
 # A word that sends a line to whole subtrees: the option alone, or among letters before one that has a value.
 RECURSIVE = re.compile(rb"--recursive\Z|-[^-mxMX]*[rR]")
 RECORD = re.compile(rb"\s*#\s*file: ?(.*)", re.DOTALL)  # The first line of a record of a restore.
@@ -54,8 +53,8 @@ class Links:
 
     def touched(self, unit: Unit) -> Set[bytes]:
         """The names that a line can touch or look at."""
-        if not unit.is_of(*OF_WORDS):
-            return set() if unit.is_of(*CHANGES) else set(self.places)
+        if not unit.is_of(*WITH_FILES):
+            return set() if unit.is_of(*CHANGES_OF_PEOPLE) else set(self.places)
         named = paths_in(unit)
         found = {path for path in named if path in self.places}
         if any(map(RECURSIVE.match, unit.words[1:])):
@@ -89,7 +88,7 @@ class Links:
     def set_list(self, session: Session, entries: bytes, names: List[bytes]) -> None:
         head = b"setfacl -n --set=%s --" % entries
         for part in parts_of(names, len(head)):
-            session.ask_surely(head + b"".join(map(word_of, part)))
+            session.ask_surely(b" ".join([head, *map(word_of, part)]))
 
     def follow(self, session: Session, unit: Unit) -> Optional[List[bytes]]:
         """After an edit: each name of a file has what one of them got. Where two names of a file got different lists, nothing
@@ -152,11 +151,11 @@ def directory_above(paths: List[bytes]) -> bytes:
 
 
 def word_of(path: bytes) -> bytes:
-    return b" " + script_word(shown_path(path))
+    return script_word(shown_path(path))
 
 
 def question(paths: List[bytes]) -> bytes:
-    return QUESTION + b"".join(map(word_of, paths)) + b"\n"
+    return b" ".join([QUESTION, *map(word_of, paths)]) + b"\n"
 
 
 def list_to_set(old: bytes, new: bytes) -> bytes:
@@ -169,14 +168,4 @@ def list_to_set(old: bytes, new: bytes) -> bytes:
 
 def parts_of(paths: List[bytes], head: int = len(QUESTION)) -> Iterator[List[bytes]]:
     """The names in their order, as many in each part as a line has room for, after a head of so many bytes."""
-    part: List[bytes] = []
-    size = head
-    for path in paths:
-        length = len(word_of(path))
-        if part and size + length > LINE_LIMIT:
-            yield part
-            part, size = [], head
-        part.append(path)
-        size += length
-    if part:
-        yield part
+    return program.parts_of(paths, LINE_LIMIT - head, word_of)

@@ -36,6 +36,11 @@ def path_order(path: bytes) -> List[bytes]:
     return path.split(b"/") if path else []
 
 
+def sorting_key(path: bytes) -> bytes:
+    """The same as bytes: no component has a NUL byte."""
+    return path.replace(b"/", b"\0")
+
+
 def parent_of(path: bytes) -> bytes:
     return path.rpartition(b"/")[0]
 

@@ -6,11 +6,11 @@ from collections import Counter
 from typing import Dict, FrozenSet, Iterator, List, NamedTuple, Optional, Set, Tuple
 
 from .messages import counted
-from .names import PLAIN_SHELL_WORD, script_word
+from .names import PLAIN_SHELL_WORD, script_word, sorting_key
 from .owners import ESCAPED_IN_NAMES
 from .people import Group, People, User
 from .program import Session
-from .records import Files, sorting_key
+from .records import Files
 from .rights import NOTHING, SEARCH, Answers, Vector, directory_of
 
 OWNERS = re.compile(rb"# owner: ([0-9]+)\n# group: ([0-9]+)\n")

@@ -9,11 +9,12 @@ import re
 from typing import Iterator, List, NamedTuple, Set
 
 from . import texts as source_texts
-from .messages import counted
+from .messages import Command, counted
 from .names import live_name
 from .people import rows_of
 from .records import EMPTY_MASK, OTHERS_WITH_SOMETHING
 from .snapshot import NEEDED, read_links
+from .texts import Source
 from .trusted import read_trusted
 
 FILE_NAME = re.compile(rb"^# file: (.*)$", re.MULTILINE)
@@ -108,8 +109,11 @@ def unknown(folder: bytes, dump: bytes) -> Iterator[bytes]:
             yield warning_of(b"users and groups in the dump without a row, with which the program does not load it", names)
 
 
-def masks(dump: bytes) -> Iterator[bytes]:
-    """The warning of empty masks, where there are any."""
-    names = list(open_empty_masks(dump))
+def say_notices(command: Command, source: Source, has_masks: bool = True) -> None:
+    """What answers over this snapshot cannot tell, and the warning of empty masks, where there are any."""
+    dump = read_trusted(os.path.join(source.folder, b"dump"))
+    for text in unknown(source.folder, dump):
+        command.say(source.shown + b": " + text if not text.startswith(b"warning: ") else text)
+    names = list(open_empty_masks(dump)) if has_masks else []
     if names:
-        yield warning_of(EMPTY_MASKS, names)
+        command.say(warning_of(EMPTY_MASKS, names))

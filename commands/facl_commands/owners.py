@@ -6,13 +6,12 @@ import re
 from typing import Dict, Iterable, Iterator, List, NamedTuple, Optional, Tuple, Union
 
 from .messages import counted
-from .names import SAFE, live_name, live_path, read_name, script_word, shell_word, shown, shown_path
+from .names import SAFE, live_name, live_path, read_name, script_word, shell_word, shown, shown_path, sorting_key
 from .people import People
 from .program import Session
-from .records import File, Files, read_listing, sorting_key, write_records
+from .records import File, Files, read_listing, write_records
 from .scripts import LINE_LIMIT, WORD, Unit, takes_text
 
-TOOLS = (b"chown", b"chgrp")
 RESTORE = b"setfacl --restore=-"
 TEXT_LIMIT = 60 << 20  # A run of the program takes 64 MiB, of which others have a part.
 NO_ID = 0xFFFFFFFF  # chown(2) takes it for "stays".

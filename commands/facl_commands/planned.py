@@ -3,15 +3,13 @@ its new one. And what it found when it began, the journal."""
 from __future__ import annotations
 
 import json
-import os
 import re
-import tempfile
 from typing import Dict, Iterable, List, NamedTuple, Optional, Tuple
 
 from .lists import Record
 from .messages import Failure
 from .names import path_order
-from .program import Session
+from .program import session_over
 from .records import Changes, Files
 from .snapshot import Identity, Snapshot
 
@@ -40,22 +38,15 @@ class Work(NamedTuple):
 def ask_records(program: str, bodies: Iterable[bytes]) -> Dict[bytes, Record]:
     """The records that bodies of listings are; their lists as the program prints their bytes. Each is asked of once."""
     known = list(dict.fromkeys(bodies))
-    with tempfile.TemporaryDirectory(prefix="facl-plan.") as folder:
-        for name, text in (("passwd", b""), ("group", b""), ("dump", dump_of(known))):
-            with open(os.path.join(folder, name), "wb") as file:
-                file.write(text)
-        with Session(program, os.fsencode(folder)) as session:
-            found: List[Tuple[bytes, bytes]] = []
-            for place in range(0, len(known), PORTION):
-                lines = b"\n".join(b"attr %d" % number for number in range(place, min(place + PORTION, len(known))))
-                found += ATTRIBUTES.findall(session.ask_surely(lines).read())
+    # Directories that have these bodies; their names are their numbers.
+    dump = b"".join(b"# file: %d/\n%s\n" % (number, body) for number, body in enumerate(known))
+    found: List[Tuple[bytes, bytes]] = []
+    with session_over(program, b"", b"", dump) as session:
+        for place in range(0, len(known), PORTION):
+            lines = b"\n".join(b"attr %d" % number for number in range(place, min(place + PORTION, len(known))))
+            found += ATTRIBUTES.findall(session.ask_surely(lines).read())
     assert len(found) == len(known)
     return {body: record_of(body, *lists) for body, lists in zip(known, found)}
-
-
-def dump_of(bodies: List[bytes]) -> bytes:
-    """A dump of directories that have these bodies; their names are their numbers."""
-    return b"".join(b"# file: %d/\n%s\n" % (number, body) for number, body in enumerate(bodies))
 
 
 def record_of(body: bytes, access: bytes, default: bytes) -> Record:

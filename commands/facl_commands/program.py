@@ -1,17 +1,19 @@
 """Runs the program over a snapshot, and asks it line by line."""
 from __future__ import annotations
 
+import contextlib
 import os
 import secrets
 import shutil
 import subprocess
-import sys
 import tempfile
 from types import TracebackType
-from typing import IO, Dict, Iterator, List, NamedTuple, Optional, Type
+from typing import IO, Callable, Dict, Iterable, Iterator, List, NamedTuple, Optional, Type
 
 from .messages import Failure
 
+# What would have a called program take other words, or read other files, than it is given.
+LEFT_OUT = ("POSIXLY_CORRECT", "PYTHONPATH", "PYTHONHOME", "PERL5LIB", "PERL5OPT", "PARALLEL")
 FILE_LIMIT = 268_435_456  # Bytes of a text that the program loads.
 HOME = os.path.dirname(os.path.dirname(os.path.realpath(__file__)))  # commands/, or PREFIX/lib/facl.
 INSTALLED = os.path.join(HOME, "..", "..", "bin", "facl")
@@ -64,9 +66,8 @@ class Answer(NamedTuple):
     messages: List[bytes]
 
 
-def small_environment() -> Dict[str, str]:
-    """What the program is started with, whatever the caller's environment has."""
-    return {"LC_ALL": "C", "PATH": os.environ.get("PATH", os.defpath)}
+def environment_of_called() -> Dict[str, str]:
+    return {name: value for name, value in os.environ.items() if name not in LEFT_OUT}
 
 
 class Session:
@@ -80,10 +81,10 @@ class Session:
         words = [program, "--passwd", "passwd", "--group", "group", "--dump", "dump"]
         self.folder = folder
         self.number = 0
-        self.output = tempfile.TemporaryFile(prefix=os.path.basename(sys.argv[0]) + ".")
+        self.output = tempfile.TemporaryFile(prefix="facl-session.")
         self.run = subprocess.Popen(
-            words, cwd=folder, env=small_environment(), stdin=subprocess.PIPE, stdout=self.output, stderr=subprocess.PIPE,
-            start_new_session=True,
+            words, cwd=folder, env={"LC_ALL": "C", "PATH": os.environ.get("PATH", os.defpath)}, stdin=subprocess.PIPE,
+            stdout=self.output, stderr=subprocess.PIPE, start_new_session=True,
         )
 
     def __enter__(self) -> Session:
@@ -114,7 +115,8 @@ class Session:
                 raise self.early_end(messages)
             messages.append(message.rstrip(b"\n"))
         region = Region(self.output, start, os.fstat(self.output.fileno()).st_size)
-        return Answer(region, [without_number(message, first) for message in messages])
+        begin = b"line %d: " % first  # The number is that of our own stream of lines.
+        return Answer(region, [it[len(begin) :] if it.startswith(begin) else it for it in messages])
 
     def ask_surely(self, line: bytes) -> Region:
         """Answers a line of our own, which cannot be refused."""
@@ -143,7 +145,28 @@ class Session:
         return Failure(b"the program ended early: %s" % last)
 
 
-def without_number(message: bytes, first: int) -> bytes:
-    """A message without the number of the line, which is that of our own stream of lines."""
-    begin = b"line %d: " % first
-    return message[len(begin) :] if message.startswith(begin) else message
+@contextlib.contextmanager
+def session_over(program: str, passwd: bytes, group: bytes, dump: bytes) -> Iterator[Session]:
+    """A session over texts, which are in a folder of their own as long as it goes on."""
+    with tempfile.TemporaryDirectory(prefix="facl-texts.") as folder:
+        for name, text in (("passwd", passwd), ("group", group), ("dump", dump)):
+            with open(os.path.join(folder, name), "wb") as file:
+                file.write(text)
+        with Session(program, os.fsencode(folder)) as session:
+            yield session
+
+
+def parts_of(items: Iterable[bytes], room: int, word_of: Callable[[bytes], bytes] = bytes) -> Iterator[List[bytes]]:
+    """Items in their order, as many in each part as a line has room for, with a blank for the word of each; one that is too long
+    is alone."""
+    part: List[bytes] = []
+    size = 0
+    for item in items:
+        length = len(word_of(item)) + 1
+        if part and size + length > room:
+            yield part
+            part, size = [], 0
+        part.append(item)
+        size += length
+    if part:
+        yield part

@@ -6,7 +6,7 @@ from functools import lru_cache
 from typing import Dict, Iterable, List, NamedTuple, Tuple
 
 from .messages import Failure
-from .names import read_path, script_word, shown_path, write_name
+from .names import read_path, script_word, shown_path, sorting_key, write_name
 from .program import Session
 
 EMPTY_MASK = re.compile(rb"^mask::---$", re.MULTILINE)
@@ -57,11 +57,6 @@ def write_records(files: Files, paths: Iterable[bytes]) -> bytes:
         else:
             parts += (b"# file: /", path, b"\n", body, b"\n")
     return b"".join(parts)
-
-
-def sorting_key(path: bytes) -> bytes:
-    """What paths are sorted by: no component has a NUL byte, so that these are in the order of the components."""
-    return path.replace(b"/", b"\0")
 
 
 def path_of(name: bytes) -> bytes:

@@ -15,21 +15,21 @@ import secrets
 from collections import Counter
 from typing import Dict, Generic, Hashable, Iterable, Iterator, List, NamedTuple, Optional, Set, Tuple, TypeVar
 
-from . import VERSION, meta, overview, plan, texts
+from . import meta, overview, plan, texts
 from .label_answers import Answers, People, ask_labels
-from .messages import Command, Failure, counted
+from .messages import Command, Failure, counted, parser_of
 from .names import shown as shown_bytes
 from .names import write_name
 from .new_file import NewFile
 from .page_tree import ABOVE, GONE, Labels, Listing, Record, Tree, records_of
-from .people import CHANGES, rows_of
+from .people import rows_of
 from .program import Session, find_program
 from .records import File, Files
-from .scripts import Unit, read_units
+from .scripts import Unit, read_text
 from .snapshot import Snapshot, read_snapshot
 from .superuser import Superusers, ids_in
 from .texts import Source
-from .trusted import read_trusted
+from .tools import CHANGES_OF_PEOPLE
 
 HERE = os.path.dirname(os.path.realpath(__file__))
 WRITTEN, REFUSED = 0, 1
@@ -80,11 +80,7 @@ class Who(NamedTuple):
 
 
 def parse(words: List[str]) -> argparse.Namespace:
-    parser = argparse.ArgumentParser(
-        prog="facl-report", description=HELP, epilog=STATUS, formatter_class=argparse.RawDescriptionHelpFormatter, allow_abbrev=False,
-    )
-    parser.add_argument("--version", action="version", version="%(prog)s " + VERSION)
-    parser.add_argument("--program", metavar="FILE", help="the program facl; without it $FACL, or facl on the path")
+    parser = parser_of("facl-report", HELP, STATUS)
     view = parser.add_mutually_exclusive_group()
     view.add_argument("--file-alone", action="store_true", help="open the page with each file judged alone, and not along its path")
     view.add_argument("--reach", action="store_true", help="open it along paths, as it does without a word")
@@ -307,15 +303,11 @@ def users_shown(old: List[bytes], new: List[bytes], probes: List[Who], left_out:
     return [Who("user", user, user) for user in users if user not in others] + probes
 
 
-def changes_of_people(units: List[Unit]) -> bytes:
-    return b"".join(unit.lines[0] + b"\n" for unit in units if unit.is_of(*CHANGES))
-
-
 def data_of(program: str, snapshot: Snapshot, tree: Tree, listings: List[Tuple[Listing, Labels]], units: List[Unit],
             given: argparse.Namespace) -> Dict[str, object]:
     """The data of the page, of one listing, or of two with scripts between them."""
     bodies = [labels.bodies() for _, labels in listings]
-    changes = changes_of_people(units)
+    changes = b"".join(unit.lines[0] + b"\n" for unit in units if unit.is_of(*CHANGES_OF_PEOPLE))
     probes = Probes(snapshot, [body for its in bodies for body in its], changes)
     states = [
         State(listing, ask_labels(program, People(snapshot.passwd, snapshot.group, lines + probes.lines), its))
@@ -331,18 +323,12 @@ def data_of(program: str, snapshot: Snapshot, tree: Tree, listings: List[Tuple[L
     return Builder(tree, whos, views[0], views[-1], tables).data(title, len(listings) > 1, given.file_alone, superusers.names)
 
 
-def say_notices(command: Command, source: Source) -> None:
-    dump = read_trusted(os.path.join(source.folder, b"dump"))
-    for text in (*overview.unknown(source.folder, dump), *overview.masks(dump)):
-        command.say(text if text.startswith(b"warning: ") else source.shown + b": " + text)
-
-
 def page_over(command: Command, given: argparse.Namespace, source: Source) -> Optional[bytes]:
     """The page; None where lines were refused."""
     snapshot = read_snapshot(source.folder, needs_links=False)
     program = find_program(given.program)
-    units = read_units(given.scripts)
-    say_notices(command, source)
+    units = [unit for name in given.scripts for unit in read_text(name).units()]
+    overview.say_notices(command, source)
     tree = Tree()
     linked: Files = {}
     with Session(program, snapshot.folder) as session:

@@ -10,7 +10,8 @@ from typing import Collection, Dict, Iterator, List, NamedTuple, Optional, Set, 
 
 from .messages import Failure
 from .program import Region, Session
-from .records import Listing, sorting_key
+from .names import sorting_key
+from .records import Listing
 
 ABSENT = "absent"  # Of a file or a user that is not there.
 REQUESTS = ["---", "--x", "-w-", "-wx", "r--", "r-x", "rw-", "rwx"]

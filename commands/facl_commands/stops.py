@@ -4,9 +4,9 @@ from __future__ import annotations
 from typing import List
 
 from .names import parent_of, read_path, script_word, shown_path
-from .part import operands_of
 from .program import Session
 from .scripts import Unit
+from .tools import split
 
 HEAD = b"# file: "
 MARK = b"    <-- here is no search: nothing below is reached"
@@ -34,7 +34,7 @@ def has_search(session: Session, user: bytes, path: bytes) -> bool:
 
 def stops_of(session: Session, unit: Unit) -> List[bytes]:
     """The first directory above each FILE of a line on which its user is not granted search."""
-    user, *files = operands_of(unit.words)
+    user, *files = split(unit.words).operands
     found: List[bytes] = []
     for file in files:
         way = above(read_path(file))

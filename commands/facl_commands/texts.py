@@ -13,11 +13,10 @@ import subprocess
 import tempfile
 from typing import Iterator, List, NamedTuple, Optional, Set
 
-from . import environment
 from .messages import Failure, reason
 from .names import path_order, read_name, read_path, script_word, shown_path
 from .people import rows_of
-from .program import Region, Session
+from .program import Region, Session, environment_of_called, parts_of
 from .trusted import open_trusted, read_trusted
 
 DUMP = b"dump"
@@ -29,7 +28,6 @@ LIVE_ROOT = b"# file: /\n"  # As facl-snapshot writes it.
 FILE_NAME = re.compile(rb"[ \t]*#[ \t]*file:[ ]?(.*)", re.DOTALL)
 PIECE = 1 << 20
 ROOM = 60_000  # Bytes of names in a line, which may have 65,536.
-NO_FILE = b": no such file"
 
 
 class Source(NamedTuple):
@@ -47,7 +45,8 @@ def is_dump_given(words: List[str]) -> bool:
 
 
 def add_source(parser: argparse.ArgumentParser, words: List[str], group_option: str = "--group") -> None:
-    """Takes SNAPSHOT, or --dump FILE in its place."""
+    """Takes SNAPSHOT, or --dump FILE in its place; and which program is to answer."""
+    parser.add_argument("--program", metavar="FILE", help="the program facl; without it $FACL, or facl on the path")
     parser.add_argument("--dump", metavar="FILE", help="a file of getfacl -R, in place of SNAPSHOT")
     parser.add_argument("--passwd", metavar="FILE", help="with --dump: the users; without it those of the system")
     parser.add_argument(group_option, metavar="FILE", dest="group_file", help="with --dump: the groups; without it those of the system")
@@ -80,7 +79,8 @@ def opened(given: argparse.Namespace) -> Iterator[Source]:
 def getent(words: List[bytes]) -> bytes:
     """Rows of the system; keys that nobody has give none."""
     try:
-        return subprocess.run([b"getent", *words], stdin=subprocess.DEVNULL, stdout=subprocess.PIPE, env=environment.of_called(), check=False).stdout
+        return subprocess.run([b"getent", *words], stdin=subprocess.DEVNULL, stdout=subprocess.PIPE, env=environment_of_called(),
+                              check=False).stdout
     except OSError as error:
         raise Failure(b"getent: " + reason(error)) from error
 
@@ -167,33 +167,19 @@ def find_tops(session: Session, folder: bytes) -> List[bytes]:
 
 def operands_of(paths: List[bytes]) -> List[List[bytes]]:
     """The words of paths, in groups that a line has room for."""
-    found: List[List[bytes]] = [[]]
-    room = ROOM
-    for path in paths:
-        word = script_word(shown_path(path))
-        if len(word) >= room and found[-1]:
-            found.append([])
-            room = ROOM
-        room -= len(word) + 1
-        found[-1].append(word)
-    return found
+    return list(parts_of([script_word(shown_path(path)) for path in paths], ROOM))
 
 
 def list_below(session: Session, tops: List[bytes]) -> List[Region]:
     """Listings of the files as they are now, in path order, with ids as numbers; a top that is gone has none."""
-    found: List[Region] = []
-    for words in operands_of(tops) if tops else []:
-        answer = session.ask(b"getfacl -R -n -E -- " + b" ".join(words) + b"\n")
-        if not answer.messages:
-            found.append(answer.output)
-        elif not answer.messages[0].endswith(NO_FILE):
-            raise Failure(b"the program refused to list the files: " + answer.messages[0])
-        elif len(words) > 1:
-            found += [region for word in words for region in list_word(session, word)]
-    return found
+    return [region for words in operands_of(tops) for region in list_words(session, words)]
 
 
-def list_word(session: Session, word: bytes) -> List[Region]:
-    """The listing of one top; none where it is gone."""
-    answer = session.ask(b"getfacl -R -n -E -- " + word + b"\n")
-    return [] if answer.messages else [answer.output]
+def list_words(session: Session, words: List[bytes]) -> List[Region]:
+    """The listings of some tops, one by one where not all of them are there."""
+    answer = session.ask(b"getfacl -R -n -E -- " + b" ".join(words) + b"\n")
+    if not answer.messages:
+        return [answer.output]
+    if not answer.messages[0].endswith(b": no such file"):
+        raise Failure(b"the program refused to list the files: " + answer.messages[0])
+    return [region for word in words for region in list_words(session, [word])] if len(words) > 1 else []

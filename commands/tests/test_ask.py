@@ -20,7 +20,7 @@ from common import COMMANDS, HERE, Case, Done, outside_the_gate, restore_signals
 
 sys.path.insert(0, COMMANDS)
 
-from facl_commands import completion, manual, overview, terminal  # noqa: E402
+from facl_commands import completion, manual, overview, terminal, tools  # noqa: E402
 from facl_commands.desk import ALONE, WORDS_OF_PROMPT, Desk  # noqa: E402
 from facl_commands.messages import Failure  # noqa: E402
 from facl_commands.names import shown  # noqa: E402
@@ -243,9 +243,9 @@ class Manual(unittest.TestCase):
                 self.assertNotEqual(session.ask(name.encode() + b" --frob\n.\n").messages[0], b"facl: unknown tool")
 
     def test_options(self) -> None:
-        self.assertEqual(self.page.tools["getfacl"].options[:7], ["-a", "-c", "-e", "-E", "-n", "-R", "-s"])
-        self.assertIn("--restore", self.page.tools["setfacl"].options)
-        self.assertEqual(self.page.tools["may"].options, ["--reach"])
+        self.assertEqual(tools.options_of_tool(b"getfacl")[:7], [b"-a", b"-c", b"-e", b"-E", b"-n", b"-R", b"-s"])
+        self.assertIn(b"--restore", tools.options_of_tool(b"setfacl"))
+        self.assertEqual(tools.options_of_tool(b"may"), [b"--reach"])
 
     def test_no_macro_is_left(self) -> None:
         for text in [*self.page.sections.values(), *(tool.text for tool in self.page.tools.values())]:
