@@ -1,7 +1,7 @@
 """Answers of the program to the lines of a script: which messages refuse a line, and how answers and messages are printed."""
 from __future__ import annotations
 
-from typing import Iterable, Iterator, List
+from typing import Iterable, Iterator, List, Optional
 
 from .messages import Command
 from .names import shown
@@ -31,14 +31,16 @@ def answer_unit(session: Session, unit: Unit) -> Answer:
     return session.ask(unit.text())
 
 
-def write_messages(command: Command, place: bytes, unit: Unit, messages: List[bytes], begin: bytes = b"") -> None:
-    """The messages of a line, after what was printed so far, each with its place, and below it what was probably meant."""
+def write_messages(command: Command, place: bytes, unit: Unit, messages: List[bytes], begin: Optional[bytes] = b"") -> None:
+    """The messages of a line, after what was printed so far, each with its place; below it, after a beginning, what was probably
+    meant."""
     command.flush()
     for message in messages:
-        from .causes import explained  # Few runs need it.
-
         command.put(command.messages, place + b": " + message + b"\n")
-        command.explain(explained(unit, message), begin)
+        if begin is not None:
+            from .causes import explained  # Few runs need it.
+
+            command.explain(explained(unit, message), begin)
     command.put(command.messages)
 
 

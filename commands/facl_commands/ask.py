@@ -8,15 +8,16 @@ import signal
 import subprocess
 import termios
 from types import FrameType
-from typing import Dict, Iterator, List, NoReturn, Optional
+from typing import Callable, Dict, Iterable, Iterator, List, NoReturn, Optional
 
 from . import overview, texts
 from .answering import answer_unit, below_heading, is_refused, write_messages
 from .messages import SIGNALS, Command, Failure, parser_of, reason
 from .names import shown
 from .program import Session, environment_of_called, find_program
-from .scripts import Unit, read_script, read_text
+from .scripts import Unit, read_script, read_text, read_units
 from .snapshot import check_texts
+from .stops import marked
 from .texts import Source
 
 ANSWERED, REFUSED = 0, 1
@@ -126,17 +127,29 @@ def become_program(program: str, folder: bytes) -> NoReturn:
         raise Failure(os.fsencode(program) + b": " + reason(error)) from error
 
 
-def answer_scripts(command: Command, program: str, folder: bytes, names: List[str], has_headings: bool) -> int:
-    """Answers several scripts one after another; a message names the script."""
-    status = ANSWERED
+def answer_units(
+    command: Command, program: str, folder: bytes, units: Iterable[Unit], has_headings: bool = False, is_explained: bool = True,
+    place_of: Callable[[Unit], bytes] = lambda unit: unit.place(),
+) -> int:
+    """Answers lines one after another; at a terminal `why --reach` says where the user is stopped."""
+    status, is_terminal = ANSWERED, os.isatty(1)
     with Session(program, folder) as session:
-        for unit in [unit for name in names for unit in read_text(name).units()]:
+        for unit in units:
             output, messages = answer_unit(session, unit)
-            for piece in below_heading(unit, output.lines(), messages) if has_headings else output.pieces():
+            lines = marked(unit, output.lines()) if is_terminal else output.lines()
+            pieces = (line + b"\n" for line in lines) if is_terminal else output.pieces()
+            for piece in below_heading(unit, lines, messages) if has_headings else pieces:
                 command.write(piece)
-            write_messages(command, unit.place(), unit, messages)
+            write_messages(command, place_of(unit), unit, messages, b"" if is_explained else None)
             status = REFUSED if is_refused(messages) else status
     return status
+
+
+def answer_input(command: Command, program: str, folder: bytes, is_explained: bool) -> int:
+    """Answers the lines of standard input, each when it is read."""
+    with open(0, "rb", closefd=False) as file:
+        units = read_units(b"", (line[:-1] if line.endswith(b"\n") else line for line in file))
+        return answer_units(command, program, folder, units, False, is_explained, lambda unit: b"line %d" % unit.number)
 
 
 def leave(number: int, _frame: Optional[FrameType]) -> None:
@@ -211,10 +224,14 @@ def answer_one(command: Command, given: argparse.Namespace, source: Source) -> i
         return prompt(command, program, source, given.with_root)
     if len(given.scripts) > 1 or given.headings:
         overview.say_notices(command, source)
-        return answer_scripts(command, program, source.folder, given.scripts or ["-"], given.headings)
-    take_script(given.scripts[0] if given.scripts else "-")
+        units = [unit for name in given.scripts or ["-"] for unit in read_text(name).units()]
+        return answer_units(command, program, source.folder, units, given.headings)
+    is_named = given.scripts not in ([], ["-"])
+    take_script(given.scripts[0] if is_named else "-")
     overview.say_notices(command, source)
-    if given.scripts and given.scripts[0] != "-":
+    if os.isatty(1):
+        return answer_input(command, program, source.folder, is_named)
+    if is_named:
         return run_explained(command, program, source)
     if source.is_made:
         return run_program(program, source)

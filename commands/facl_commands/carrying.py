@@ -3,7 +3,7 @@ from __future__ import annotations
 
 import os
 import signal
-from typing import Callable, Dict, Iterable, List, Optional, Set
+from typing import Callable, Dict, Iterable, List, Set
 
 from . import differences, live, plan_folder, planned, system
 from .lists import Record
@@ -93,18 +93,27 @@ class Carrier:
         has closed, which get the record of the start again."""
         left = self.give([path for path in seen if opens(self.way, path)])
         if self.later:
-            left.update(self.give_back(path for path, it in seen.items() if was_closed(self.way, path, it.record)))
+            closed = (path for path, it in seen.items() if was_closed(self.way, path, it.record))
+            left.update(self.walk(self.put_one_back, closed, is_whole=True))
         return left
 
     def give(self, paths: Iterable[bytes]) -> Dict[bytes, bytes]:
+        return self.walk(self.give_one, paths, is_whole=self.way.is_undo)
+
+    def walk(self, step: Callable[[Opener, bytes], None], paths: Iterable[bytes], is_whole: bool) -> Dict[bytes, bytes]:
+        """Does something with each file; returns those with which it could not be done, with the reason. A walk that is not to be
+        whole ends after the first of these, or at a signal."""
         left: Dict[bytes, bytes] = {}
         with Opener() as opener:
             for number, path in enumerate(paths):
-                if not self.way.is_undo and (left or number % OFTEN == 0 and self.is_interrupted()):
+                if not is_whole and (left or number % OFTEN == 0 and self.is_interrupted()):
                     break
-                fault = fault_of(self.give_one, opener, path)
-                if fault is not None:
-                    left[path] = fault
+                try:
+                    step(opener, path)
+                except (NotFound, Mismatch) as error:
+                    left[path] = error.text
+                except OSError as error:
+                    left[path] = reason(error)
         return left
 
     def give_one(self, opener: Opener, path: bytes) -> None:
@@ -145,19 +154,10 @@ class Carrier:
 
     def put_back(self) -> Dict[bytes, bytes]:
         """Gives back the old records, the last first; returns the files that did not get them."""
-        return self.give_back(reversed(list(dict.fromkeys(self.changed))))
-
-    def give_back(self, paths: Iterable[bytes]) -> Dict[bytes, bytes]:
-        """Gives files the records of the start; returns those that did not get them, with the reason."""
-        left: Dict[bytes, bytes] = {}
-        with Opener() as opener:
-            for path in paths:
-                fault = fault_of(self.put_one_back, opener, path)
-                if fault is not None:
-                    left[path] = fault
-        return left
+        return self.walk(self.put_one_back, reversed(list(dict.fromkeys(self.changed))), is_whole=True)
 
     def put_one_back(self, opener: Opener, path: bytes) -> None:
+        """Gives a file the record of the start."""
         file = opener.open(path)
         try:
             seen = file.look()
@@ -172,17 +172,6 @@ class Carrier:
         for folder in self.folders.values():
             system.write_out(folder)
         plan_folder.set_state(self.way.folder, state)
-
-
-def fault_of(step: Callable[[Opener, bytes], None], opener: Opener, path: bytes) -> Optional[bytes]:
-    """Does something with a file; returns why it could not be done."""
-    try:
-        step(opener, path)
-    except (NotFound, Mismatch) as error:
-        return error.text
-    except OSError as error:
-        return reason(error)
-    return None
 
 
 def change(file: OpenFile, now: Record, end: Record, is_directory: bool) -> None:

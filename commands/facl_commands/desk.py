@@ -4,7 +4,7 @@ from __future__ import annotations
 import re
 from typing import Callable, List, Optional, Set
 
-from . import causes, stops
+from . import causes
 from .answering import NO_FILE, is_refused
 from .completion import Completer
 from .manual import Page
@@ -12,6 +12,7 @@ from .messages import Failure
 from .names import read_path, shown, write_name
 from .program import Answer, Session
 from .scripts import LINE_LIMIT, Unit, is_empty, read_script, takes_text, words_of
+from .stops import marked
 from .superuser import Superusers
 from .tools import EMPTY_ANSWERS, QUESTIONS
 
@@ -96,19 +97,17 @@ class Desk:
 
     def answer(self, unit: Unit) -> None:
         """Answers a line with its text."""
-        lines = b"".join(line + b"\n" for line in unit.lines)
         try:
-            answer = self.session.ask(lines)
-            marked = stops.stops_of(self.session, unit) if stops.is_asked(unit) and not is_refused(answer.messages) else []
+            answer = self.session.ask(unit.text())
         except KeyboardInterrupt:
             self.start_again(b"line %d: given up, and changed nothing\n" % unit.number)
             return
         try:
-            self.show(unit, answer, marked)
+            self.show(unit, answer)
         except KeyboardInterrupt:
             self.out(b"\n(the rest is not shown)\n")
         if not is_refused(answer.messages) and not unit.is_of(*QUESTIONS):
-            self.accepted.append(lines)
+            self.accepted.append(unit.text())
             self.superusers.follow(unit)
             self.follow(unit)
 
@@ -120,11 +119,11 @@ class Desk:
             self.session.ask(lines)
         self.out(message)
 
-    def show(self, unit: Unit, answer: Answer, marked: List[bytes]) -> None:
+    def show(self, unit: Unit, answer: Answer) -> None:
         """An answer below its line."""
         count = 0
-        for printed in self.superusers.rest(unit, answer.output.lines()):
-            self.out(shown(printed) + stops.mark_of(printed, marked) + b"\n")
+        for printed in self.superusers.rest(unit, marked(unit, answer.output.lines())):
+            self.out(shown(printed) + b"\n")
             count += 1
         if not count and not is_refused(answer.messages) and unit.words:
             self.out(EMPTY_ANSWERS.get(unit.words[0], b""))

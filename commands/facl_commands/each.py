@@ -19,7 +19,8 @@ from .names import path_order, read_path, sorting_key, write_name
 from .program import Region
 from .records import path_of
 from .scripts import Unit, read_text
-from .side_by_side import HERE, Answered, Part, hosts_of, program_option, run_hosts
+from .side_by_side import HERE, Answered, Part, program_option, run_hosts
+from .side_by_side import hosts_of as hosts_of
 from .superuser import Superusers
 from .tools import CHANGES_OF_PEOPLE, EDITS, split
 

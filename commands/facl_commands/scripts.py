@@ -3,7 +3,7 @@ from __future__ import annotations
 
 import os
 import re
-from typing import List, NamedTuple, Optional
+from typing import Iterable, Iterator, List, NamedTuple, Optional
 
 from .messages import Failure, reason
 
@@ -51,26 +51,31 @@ def takes_text(words: List[bytes]) -> bool:
     return words[:1] == [b"load"] or any(word in TEXT_WORDS for word in words[1:])
 
 
-def read_script(name: bytes, content: bytes) -> List[Unit]:
-    """The units of a script, without its blank lines and comments."""
-    lines = content.split(b"\n")
-    if lines[-1] == b"":
-        lines.pop()
-    units = []
-    place = 0
-    while place < len(lines):
-        begin, line = place, lines[place]
-        place, is_ended = place + 1, True
+def read_units(name: bytes, lines: Iterable[bytes]) -> Iterator[Unit]:
+    """The units of lines, one by one, without blank lines and comments."""
+    rest = iter(lines)
+    count = 0
+    for line in rest:
+        count += 1
+        number, taken, is_ended = count, [line], True
         words = None if len(line) > LINE_LIMIT else words_of(line)
         if len(line) <= LINE_LIMIT and is_empty(line):
             continue
         if words is not None and takes_text(words):
-            try:
-                place = lines.index(b".", place) + 1
-            except ValueError:
-                place, is_ended = len(lines), False
-        units.append(Unit(name, begin + 1, words or [], lines[begin:place], is_ended))
-    return units
+            is_ended = False
+            for text in rest:
+                taken.append(text)
+                is_ended = text == b"."
+                if is_ended:
+                    break
+        count = number + len(taken) - 1
+        yield Unit(name, number, words or [], taken, is_ended)
+
+
+def read_script(name: bytes, content: bytes) -> List[Unit]:
+    """The units of a script."""
+    lines = content.split(b"\n")
+    return list(read_units(name, lines if lines[-1] else lines[:-1]))
 
 
 class Script(NamedTuple):
