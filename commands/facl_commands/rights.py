@@ -6,6 +6,8 @@ reached by the same users: those who have search on it, and on each recorded dir
 """
 from __future__ import annotations
 
+import re
+import struct
 from typing import Collection, Dict, Iterator, List, NamedTuple, Optional, Set, Tuple
 
 from .messages import Failure
@@ -17,6 +19,9 @@ ABSENT = "absent"  # Of a file or a user that is not there.
 REQUESTS = ["---", "--x", "-w-", "-wx", "r--", "r-x", "rw-", "rwx"]
 NOTHING = 1  # The byte of `index` that grants no more than the request for nothing.
 SEARCH = 1 << 1  # Its bit of the request for search.
+HAS_SEARCH = bytes([byte >> 1 & 1 for byte in range(256)])  # Of a byte of `index`.
+ALL_OR_NOTHING = bytes([NOTHING]) + bytes([255]) * 255
+NOT_ZERO = re.compile(rb"[^\0]")
 Vector = bytes  # A byte of `index` for each user, on one file.
 
 
@@ -75,6 +80,20 @@ def granted(byte: int) -> str:
 GRANTED = [granted(byte) for byte in range(256)]
 
 
+def lanes(numbers: bytes) -> int:
+    """Bytes as one number, to reckon with all of them at once."""
+    return int.from_bytes(numbers, "little")
+
+
+def both(one: bytes, other: bytes) -> bytes:
+    return (lanes(one) & lanes(other)).to_bytes(len(one), "little")
+
+
+def places_in(numbers: bytes) -> Iterator[int]:
+    """The places of bytes that are not 0."""
+    return (found.start() for found in NOT_ZERO.finditer(numbers))
+
+
 def users_of(table: Region) -> List[bytes]:
     """The users of an index, in their order: those of its first file."""
     users: List[bytes] = []
@@ -88,28 +107,21 @@ def users_of(table: Region) -> List[bytes]:
     return users
 
 
-def vector_in(block: bytes, name: bytes, users: List[bytes], known: Dict[bytes, Vector]) -> Vector:
-    """The bytes in the lines of one file, of which each has two digits, a user and the name. Without the name, lines that
-    have the same digits are the same text, which is read once."""
-    text = block.replace(b" " + name + b"\n", b"\n")
-    if text not in known:
-        rows = text.split(b"\n")[:-1]
-        if [row[3:] for row in rows] != users:
-            raise Failure(b"the program does not list the users and files of `index` in their order: " + name)
-        known[text] = bytes([int(row[:2], 16) for row in rows])
-    return known[text]
-
-
 def read_table(table: Region, users: List[bytes], listing: Listing) -> Dict[bytes, Vector]:
-    """For each record what `index` has of the first file that has it. All lines of a file have one length but for the user."""
+    """For each record what `index` has of the first file that has it. All lines of a file have one length but for the user; without
+    the name, the digits have the same places in each file's lines."""
     found: Dict[bytes, Vector] = {}
-    known: Dict[bytes, Vector] = {}
-    fixed = sum(len(user) + len(b"XX  \n") for user in users)
+    ends = [b" " + user + b"\n" for user in users]
+    digits, rest = (struct.Struct("".join(form % len(end) for end in ends)) for form in ("2s%dx", "2x%ds"))
+    fixed = digits.size + len(users)  # With the blank before each name.
     place = table.start
     for name, file in zip(listing.names, listing.files.values()):
         end = place + fixed + len(users) * len(name)
         if file.body not in found:
-            found[file.body] = vector_in(Region(table.file, place, end).read(), name, users, known)
+            text = Region(table.file, place, end).read().replace(b" " + name + b"\n", b"\n")
+            if len(text) != digits.size or list(rest.unpack(text)) != ends:
+                raise Failure(b"the program does not list the users and files of `index` in their order: " + name)
+            found[file.body] = bytes.fromhex(b"".join(digits.unpack(text)).decode())
         place = end
     if place != table.end:
         raise Failure(b"the program does not list the files of `index` as getfacl does")
@@ -132,7 +144,7 @@ def reached_of(vectors: Dict[bytes, Vector], users: int) -> Dict[bytes, bytes]:
                 found[directory] = above
                 continue
             if (above, vector) not in known:
-                known[above, vector] = bytes([one if byte & SEARCH else 0 for one, byte in zip(above, vector)])
+                known[above, vector] = both(above, vector.translate(HAS_SEARCH))
             found[directory] = known[above, vector]
     return found
 
@@ -147,8 +159,8 @@ def directories_to_find(directory: bytes, found: Dict[bytes, bytes]) -> List[byt
 
 
 def along_path(vector: Vector, reached: bytes) -> Vector:
-    """What is granted along a path: nothing to those who cannot get there."""
-    return bytes([byte if is_reached else NOTHING for byte, is_reached in zip(vector, reached)])
+    """What is granted along a path: nothing to those who cannot get there. The request for nothing is granted to all."""
+    return both(vector, reached.translate(ALL_OR_NOTHING))
 
 
 def ask_rights(session: Session, listing: Listing, along_paths: bool) -> Answers:
@@ -173,18 +185,24 @@ def along_paths_of(alone: Dict[bytes, Vector], reached: Dict[bytes, bytes]) -> D
     return found
 
 
-def differing(old: Dict[bytes, int], new: Dict[bytes, int]) -> Iterator[Difference]:
-    """The users with other rights. One who is absent, or to whom the file is, has none."""
-    for user in [*old, *(user for user in new if user not in old)]:
+def differing(users: List[bytes], old: Dict[bytes, int], new: Dict[bytes, int]) -> Iterator[Difference]:
+    """Those of the users with other rights. One who is absent, or to whom the file is, has none."""
+    for user in users:
         before = GRANTED[old[user]] if user in old else ABSENT
         after = GRANTED[new[user]] if user in new else ABSENT
         if before != after and {before, after} != {ABSENT, "none"}:
             yield Difference(user, before, after)
 
 
-def by_user(users: List[bytes], vector: Optional[Vector]) -> Dict[bytes, int]:
-    """The bytes of each user; of no user where there is no file."""
-    return {} if vector is None else dict(zip(users, vector))
+def differences(old: Answers, new: Answers, before: Optional[Vector], after: Optional[Vector]) -> List[Difference]:
+    """What differs between the bytes of all users; without a file there are none."""
+    if old.users == new.users and before is not None and after is not None:
+        places = list(places_in((lanes(before) ^ lanes(after)).to_bytes(len(after), "little")))
+        users, bytes_of = [old.users[k] for k in places], [{old.users[k]: it[k] for k in places} for it in (before, after)]
+    else:
+        bytes_of = [{} if it is None else dict(zip(side.users, it)) for side, it in ((old, before), (new, after))]
+        users = [*bytes_of[0], *(user for user in bytes_of[1] if user not in bytes_of[0])]
+    return list(differing(users, *bytes_of))
 
 
 def paths_of(old: Answers, new: Answers) -> List[bytes]:
@@ -202,10 +220,9 @@ def changes(old: Answers, new: Answers, left_out: Collection[bytes] = ()) -> Cha
         pair = before_of(path), after_of(path)
         group = known.get(pair)
         if group is None:
-            before, after = by_user(old.users, pair[0]), by_user(new.users, pair[1])
-            differences = list(differing(before, after))
-            found.left_out.update(it.user for it in differences if it.user in left_out)
-            group = known[pair] = Group([it for it in differences if it.user not in left_out])
+            its = differences(old, new, *pair)
+            found.left_out.update(it.user for it in its if it.user in left_out)
+            group = known[pair] = Group([it for it in its if it.user not in left_out])
             found.groups.append(group)
         if group.differences:
             name = new.names.get(path) or old.names[path]
