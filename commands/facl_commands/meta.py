@@ -2,7 +2,6 @@
 from __future__ import annotations
 
 import os
-import socket
 from typing import Dict, List, NamedTuple, Optional
 
 from .names import json_text
@@ -53,7 +52,7 @@ def fields_of(meta: Meta) -> Dict[str, Optional[str]]:
 
 
 def is_of_another_host(meta: Meta) -> bool:
-    return meta is not UNKNOWN and meta.host != os.fsencode(socket.gethostname())
+    return meta is not UNKNOWN and meta.host != os.fsencode(os.uname().nodename)
 
 
 def named(name: bytes, meta: Meta) -> bytes:

@@ -3,7 +3,6 @@ from __future__ import annotations
 
 import errno
 import os
-import secrets
 import signal
 
 from . import system, trusted
@@ -32,7 +31,7 @@ class NewFile:
     def write(self, text: bytes) -> None:
         """Makes the file with this text. Where that fails, or is interrupted, nothing is left behind; once the file has its
         name, signals wait for the end of the command."""
-        made = b".facl-" + secrets.token_hex(16).encode()
+        made = b".facl-" + os.urandom(16).hex().encode()
         try:
             descriptor = os.open(made, os.O_WRONLY | os.O_CREAT | os.O_EXCL | os.O_NOFOLLOW | os.O_CLOEXEC, PRIVATE, dir_fd=self.folder)
             with open(descriptor, "wb") as file:

@@ -197,7 +197,7 @@ def say_unknown(command: Command, source: texts.Source) -> bool:
 
 
 def plan_files(
-    given: argparse.Namespace, snapshot: Snapshot, scripts: List[Script], outcome: Outcome, changes: Changes
+    program: str, snapshot: Snapshot, scripts: List[Script], outcome: Outcome, changes: Changes
 ) -> Dict[bytes, bytes]:
     of_people = outcome.commands, changes, outcome.old, outcome.new, snapshot.inodes
     comments = [line + b"\n" for left in outcome.left for line in owners.comments(left)]
@@ -205,7 +205,7 @@ def plan_files(
         b"edits": b"".join(text + b"\n" * (text[-1:] not in (b"", b"\n")) for _, text in scripts),
         b"old": write_records(outcome.old, changes.changed),
         b"new": write_records(outcome.new, changes.changed),
-        b"files": planned.work_text(find_program(given.program), snapshot, changes, outcome.old, outcome.new),
+        b"files": planned.work_text(program, snapshot, changes, outcome.old, outcome.new),
         b"by_hand": by_hand.script_of(*of_people) + b"".join(comments),
         b"by_hand_undo": by_hand.undo_script_of(*of_people),
         meta.NAME: meta.text_of(snapshot.folder),
@@ -238,7 +238,7 @@ def plan_over(command: Command, given: argparse.Namespace, source: texts.Source)
     if is_shown:
         warn_of_empty_masks(command, changes, outcome)
     if written is not None:
-        kept = plan_folder.write_plan(target, plan_files(given, snapshot, scripts, outcome, changes), group)
+        kept = plan_folder.write_plan(target, plan_files(find_program(given.program), snapshot, scripts, outcome, changes), group)
         if kept is not None:
             command.say(b"the plan that was there is " + kept + b" now")
     if given.json:

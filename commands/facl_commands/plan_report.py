@@ -7,7 +7,7 @@ import os
 from functools import lru_cache
 from typing import Dict, Iterable, Iterator, List, NamedTuple, Optional
 
-from . import causes, meta, no_gain, owners, people, rights
+from . import meta, no_gain, owners, people, rights
 from .answering import below_heading
 from .messages import counted
 from .names import json_text, live_path, shell_word, shown, shown_path
@@ -34,7 +34,11 @@ class Message(NamedTuple):
 
     def cause(self) -> List[bytes]:
         """What is known of the cause of a refused line."""
-        return [] if self.is_warning or self.is_final else causes.explained(self.unit, self.text)
+        if self.is_warning or self.is_final:
+            return []
+        from .causes import explained  # Few runs need it.
+
+        return explained(self.unit, self.text)
 
 
 class Outcome(NamedTuple):

@@ -4,14 +4,15 @@ from __future__ import annotations
 
 import json
 import re
-from typing import Dict, Iterable, List, NamedTuple, Optional, Tuple
+from typing import TYPE_CHECKING, Dict, Iterable, List, NamedTuple, Optional, Tuple
 
 from .lists import Record
 from .messages import Failure
 from .names import path_order
-from .program import session_over
-from .records import Changes, Files
 from .snapshot import Identity, Snapshot
+
+if TYPE_CHECKING:
+    from .records import Changes, Files
 
 HEAD_OF_RECORD = re.compile(rb"# owner: ([0-9]+)\n# group: ([0-9]+)\n(?:# flags: ([s-])([s-])([t-])\n)?")
 ATTRIBUTES = re.compile(rb"system\.posix_acl_access=0x([0-9a-f]+)\n(?:system\.posix_acl_default=0x([0-9a-f]+)\n)?\n")
@@ -37,6 +38,8 @@ class Work(NamedTuple):
 
 def ask_records(program: str, bodies: Iterable[bytes]) -> Dict[bytes, Record]:
     """The records that bodies of listings are; their lists as the program prints their bytes. Each is asked of once."""
+    from .program import session_over  # facl-apply needs none.
+
     known = list(dict.fromkeys(bodies))
     # Directories that have these bodies; their names are their numbers.
     dump = b"".join(b"# file: %d/\n%s\n" % (number, body) for number, body in enumerate(known))

@@ -3,7 +3,6 @@ from __future__ import annotations
 
 import contextlib
 import os
-import secrets
 import shutil
 import subprocess
 import tempfile
@@ -100,7 +99,7 @@ class Session:
     def ask(self, lines: bytes) -> Answer:
         """Answers whole lines with their texts: one line that is a unit, or lines without messages."""
         assert self.run.stderr is not None
-        token = secrets.token_hex(16).encode()
+        token = os.urandom(16).hex().encode()
         start = os.fstat(self.output.fileno()).st_size
         first = self.number + 1
         self.number += lines.count(b"\n") + 1

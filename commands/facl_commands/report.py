@@ -11,7 +11,6 @@ import hashlib
 import json
 import os
 import re
-import secrets
 from collections import Counter
 from typing import Dict, Generic, Hashable, Iterable, Iterator, List, NamedTuple, Optional, Set, Tuple, TypeVar
 
@@ -117,7 +116,7 @@ class Probes:
         wanted = [("group", row[0], row) for row in groups if row[2] in named]
         wanted += [("everybody", b"everybody", unnamed)] if unnamed else []
         ids = unused_ids(snapshot.passwd, [*bodies, changes])
-        token = secrets.token_hex(8).encode()
+        token = os.urandom(8).hex().encode()
         self.whos = [Who(kind, name, b"probe-%s-%d" % (token, place)) for place, (kind, name, _) in enumerate(wanted)]
         self.lines = b"".join(
             b"useradd -u %d -g %s -- %s\n" % (next(ids), row[2], who.user) for who, (_, _, row) in zip(self.whos, wanted)
