@@ -5,7 +5,6 @@ in it. Only the lines of directories that several have are read.
 """
 from __future__ import annotations
 
-import itertools
 from hashlib import blake2b
 from typing import Dict, Iterable, Iterator, List, NamedTuple, Optional, Tuple
 
@@ -29,7 +28,7 @@ def blocks_of(listings: Iterable[Region]) -> Iterator[bytes]:
     """The line of each directory, with names as the program prints them."""
     inside: Dict[bytes, List[bytes]] = {}
     known: Dict[bytes, bytes] = {}
-    for record in itertools.chain.from_iterable(map(texts_of_records, listings)):
+    for record in (record for listing in listings for record in listing.records()):
         first, _, body = record.partition(b"\n")
         checksum = known.get(body)
         if checksum is None:
@@ -38,13 +37,6 @@ def blocks_of(listings: Iterable[Region]) -> Iterator[bytes]:
         inside.setdefault(above, []).append(checksum + name)
     for above, files in inside.items():
         yield above + b"\0" + b"\0".join(files) + b"\n"
-
-
-def texts_of_records(listing: Region) -> Iterator[bytes]:
-    rest = b""
-    for piece in listing.pieces():
-        *whole, rest = (rest + piece).split(b"\n\n")
-        yield from whole
 
 
 def directories_of(files: Region) -> Iterator[Tuple[bytes, Region]]:

@@ -10,13 +10,14 @@ import argparse
 import heapq
 import os
 import tempfile
-from typing import Callable, Dict, Iterable, Iterator, List, NamedTuple, Optional, Set, Tuple
+from typing import Callable, Dict, Iterator, List, NamedTuple, Optional, Set, Tuple
 
 from . import agreement, overview
 from .answering import NO_FILE, below_heading, is_refused, lacks_file, write_messages
 from .messages import Command, Failure
 from .names import path_order, read_path, sorting_key, write_name
-from .program import Region
+from .page_tree import HEAD
+from .program import Region, lines_of
 from .records import path_of
 from .scripts import Unit, read_text
 from .side_by_side import HERE, Answered, Part, program_option, run_hosts
@@ -50,24 +51,15 @@ def path_key(name: bytes) -> bytes:
     return sorting_key(path_of(name))
 
 
-def record_items(place: int, region: Region) -> Iterator[Item]:
-    """The records of a listing, each of which ends in an empty line."""
-    lines: List[bytes] = []
-    for line in region.lines():
-        lines.append(line)
-        if not line:
-            yield path_key(lines[0][len(b"# file: ") :]), place, b"\n".join(lines) + b"\n"
-            lines = []
-
-
 def items_of(unit: Unit, place: int, region: Region) -> Optional[Iterator[Item]]:
     """What a line printed, file by file; None where it names no files."""
     name_of = NAMES_IN_LINES.get(unit.tool())
     if name_of is not None:
         return ((path_key(name_of(line)), place, line + b"\n") for line in region.lines())
     if unit.is_of(b"getfacl", b"attr", b"why"):
-        start = region._replace(end=min(region.end, region.start + 8)).read()
-        return record_items(place, region) if start in (b"", b"# file: ") else None
+        start = region._replace(end=min(region.end, region.start + len(HEAD))).read()
+        if start in (b"", HEAD):
+            return ((path_key(it.partition(b"\n")[0][len(HEAD) :]), place, it + b"\n\n") for it in region.records())
     return None
 
 
@@ -205,14 +197,6 @@ def body(command: Command, folders: List[str], given: argparse.Namespace) -> int
             if new is None:
                 return write(command, units, joined, superusers_of(parts, given.with_root), given.headings)
             dropped[new] = joined[new]
-
-
-def lines_of(pieces: Iterable[bytes]) -> Iterator[bytes]:
-    """The lines of a text that comes in pieces."""
-    rest = b""
-    for piece in pieces:
-        *whole, rest = (rest + piece).split(b"\n")
-        yield from whole
 
 
 def pieces_of(unit: Unit, answer: Joined, superusers: Superusers, has_headings: bool) -> Iterator[bytes]:

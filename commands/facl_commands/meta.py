@@ -47,8 +47,7 @@ def meta_of(folder: bytes) -> Meta:
 
 def fields_of(meta: Meta) -> Dict[str, Optional[str]]:
     """For JSON."""
-    known = (None, None) if meta is UNKNOWN else (json_text(meta.host), json_text(meta.date))
-    return dict(zip(("host", "date"), known))
+    return {name: None if meta is UNKNOWN else json_text(text) for name, text in (("host", meta.host), ("date", meta.date))}
 
 
 def is_of_another_host(meta: Meta) -> bool:

@@ -7,13 +7,12 @@ from typing import Dict, FrozenSet, Iterator, List, NamedTuple, Optional, Set, T
 
 from .messages import counted
 from .names import PLAIN_SHELL_WORD, script_word, sorting_key
-from .owners import ESCAPED_IN_NAMES
+from .owners import ESCAPED_IN_NAMES, OWNER
 from .people import Group, People, User
 from .program import Session
 from .records import Files
 from .rights import NOTHING, SEARCH, Answers, directory_of, lanes, places_in
 
-OWNERS = re.compile(rb"# owner: ([0-9]+)\n# group: ([0-9]+)\n")
 NAMED = re.compile(rb"^(user|group):([0-9]+):(...)$", re.MULTILINE)
 MASK, OWNING_GROUP = re.compile(rb"^mask::(...)$", re.MULTILINE), re.compile(rb"^group::(...)$", re.MULTILINE)
 ONE_OR_NONE = bytes([0]) + bytes([1]) * 255
@@ -99,7 +98,7 @@ class Closed:
 def named_ids(old: bytes, new: bytes) -> Tuple[FrozenSet[int], FrozenSet[int]]:
     """The ids of users and groups that a record names otherwise than before: by an entry, as the owner or the owning group."""
     entries = set(NAMED.findall(new)) - set(NAMED.findall(old))
-    before, after = OWNERS.match(old), OWNERS.match(new)
+    before, after = OWNER.match(old), OWNER.match(new)
     assert after is not None
     ids: Dict[bytes, Set[int]] = {b"user": set(), b"group": set()}
     for kind, number, _ in entries:
@@ -250,7 +249,7 @@ def id_word(name: bytes, number: int) -> bytes:
 
 def entry_of_group(body: bytes, group: Group, granted: bytes) -> Tuple[bytes, bytes]:
     """What the entry of a group begins with, and its permissions so far, or what others have."""
-    owners, owning = OWNERS.match(body), OWNING_GROUP.search(body)
+    owners, owning = OWNER.match(body), OWNING_GROUP.search(body)
     assert owners is not None and owning is not None
     if int(owners[2]) == group.gid:
         return b"g::", owning[1]

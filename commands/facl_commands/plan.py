@@ -5,7 +5,7 @@ import argparse
 import grp
 import os
 import re
-from typing import Dict, List, Set, Union
+from typing import Dict, List, Union
 
 from . import by_hand, meta, no_gain, overview, owners, people, plan_folder, planned, rights, texts
 from .answering import WARNING, answer_unit, is_refused
@@ -128,18 +128,13 @@ def answer_scripts(given: argparse.Namespace, snapshot: Snapshot, units: List[Un
         new = list_below(session, tops)
         after = rights.ask_rights(session, new, not given.file_alone)
         sides = no_gain.Side(old.files, before, people_before), no_gain.Side(new.files, after, run.people)
-        left_out = set() if given.with_root else superusers(people_before) | superusers(run.people)
+        users = [] if given.with_root else people_before.users + run.people.users
+        left_out = {no_gain.name_in_index(user.name) for user in users if user.uid == 0}
         closed = [] if given.file_alone else no_gain.find(session, *sides, left_out)
-    users = list(dict.fromkeys([*before.users, *after.users]))
     changes = rights.changes(before, after, left_out)
     left = owners.left_behind(people_before, run.people, new.files)
-    return Outcome(old.files, new.files, changes, closed, users, run.asked, run.messages, run.commands, left, is_whole,
-                   meta.meta_of(snapshot.folder))
-
-
-def superusers(known: people.People) -> Set[bytes]:
-    """Users whom the kernel grants nearly everything, by their names in the index."""
-    return {no_gain.name_in_index(user.name) for user in known.users if user.uid == 0}
+    return Outcome(old.files, new.files, changes, closed, list(dict.fromkeys([*before.users, *after.users])), run.asked, run.messages,
+                   run.commands, left, is_whole, meta.meta_of(snapshot.folder))
 
 
 def say_messages(command: Command, outcome: Outcome, scripts: List[Script]) -> None:

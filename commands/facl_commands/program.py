@@ -33,6 +33,14 @@ def find_program(given: Optional[str]) -> str:
     return os.path.abspath(found)
 
 
+def lines_of(pieces: Iterable[bytes], end: bytes = b"\n") -> Iterator[bytes]:
+    """The lines of a text that comes in pieces, without their ends."""
+    rest = b""
+    for piece in pieces:
+        *whole, rest = (rest + piece).split(end)
+        yield from whole
+
+
 class Region(NamedTuple):
     """A part of what the program printed."""
 
@@ -50,12 +58,13 @@ class Region(NamedTuple):
             place += len(piece)
             yield piece
 
-    def lines(self) -> Iterator[bytes]:
-        """Its lines, without their line feeds."""
-        rest = b""
-        for piece in self.pieces():
-            *whole, rest = (rest + piece).split(b"\n")
-            yield from whole
+    def lines(self, end: bytes = b"\n") -> Iterator[bytes]:
+        """Its lines, without their ends."""
+        return lines_of(self.pieces(), end)
+
+    def records(self) -> Iterator[bytes]:
+        """The records of a listing, without the empty line after each and the end of the last one."""
+        return self.lines(b"\n\n")
 
 
 class Answer(NamedTuple):
