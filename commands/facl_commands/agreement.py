@@ -1,7 +1,8 @@
-"""Whether snapshots are parts of one tree: they record no path with different records, and no user or group with different ids.
+"""Whether snapshots are parts of one tree: they record no path with different records, and no user or group with
+different ids.
 
-Each part writes what it records (blocks_of): a line for each directory, with the name and a checksum of the record of each file
-in it. Only the lines of directories that several have are read.
+Each part writes what it records (blocks_of): a line for each directory, with the name and a checksum of the record of
+each file in it. Only the lines of directories that several have are read.
 """
 from __future__ import annotations
 

@@ -1,4 +1,5 @@
-"""Answers of the program to the lines of a script: which messages refuse a line, and how answers and messages are printed."""
+"""Answers of the program to the lines of a script: which messages refuse a line, and how answers and messages are
+printed."""
 from __future__ import annotations
 
 from typing import Iterable, Iterator, List, Optional
@@ -31,9 +32,10 @@ def answer_unit(session: Session, unit: Unit) -> Answer:
     return session.ask(unit.text())
 
 
-def write_messages(command: Command, place: bytes, unit: Unit, messages: List[bytes], begin: Optional[bytes] = b"") -> None:
-    """The messages of a line, after what was printed so far, each with its place; below it, after a beginning, what was probably
-    meant."""
+def write_messages(command: Command, place: bytes, unit: Unit, messages: List[bytes],
+                   begin: Optional[bytes] = b"") -> None:
+    """The messages of a line, after what was printed so far, each with its place; below it, after a beginning, what was
+    probably meant."""
     command.flush()
     for message in messages:
         command.put(command.messages, place + b": " + message + b"\n")

@@ -18,25 +18,26 @@ HELP = """\
 Gives the files of a PLAN, which facl-plan wrote, their new owners, groups, flags and access control lists. Run it as
 root, or as the owner of all of them.
 
-First the files are compared with what they were when the plan was made: where somebody changed or replaced one meanwhile,
-they are named, and nothing is touched. Then each gets its new record, and is compared with the plan: where one differs,
-it is named, and all get their old records back. So they do where the command is interrupted. Where it is killed, run it
-again, to go on or with --undo: PLAN has what it was about.
+First the files are compared with what they were when the plan was made: where somebody changed or replaced one
+meanwhile, they are named, and nothing is touched. Then each gets its new record, and is compared with the plan: where
+one differs, it is named, and all get their old records back. So they do where the command is interrupted. Where it is
+killed, run it again, to go on or with --undo: PLAN has what it was about.
 
-Each file is opened once, without following a symbolic link, and is known by its descriptor from then on: whatever others
-do to its name, no other file is changed. What a plan cannot do is in PLAN/by_hand, which is not run.
+Each file is opened once, without following a symbolic link, and is known by its descriptor from then on: whatever
+others do to its name, no other file is changed. What a plan cannot do is in PLAN/by_hand, which is not run.
 """
 STATUS = """\
-The exit status is 0 where it is done, and 3 where there is nothing to do; 1 where it is not done, and the files are as
-they were; 2 where the words, the plan or the system do not allow it, and nothing is touched; 4 where files are neither as
-they were nor as they should be: they are named; 5 where it is done, and that could not be written.
+The exit status is 0 where it is done, and 3 where there is nothing to do; 1 where it is not done, and the files are
+as they were; 2 where the words, the plan or the system do not allow it, and nothing is touched; 4 where files are
+neither as they were nor as they should be: they are named; 5 where it is done, and that could not be written.
 """
 
 
 def parse(words: List[str]) -> argparse.Namespace:
     parser = parser_of("facl-apply", HELP, STATUS)
     parser.add_argument("--dry-run", action="store_true", help="compare, say which files would be changed, and stop")
-    parser.add_argument("--undo", action="store_true", help="give the files their old records, with the same comparisons")
+    parser.add_argument("--undo", action="store_true",
+                        help="give the files their old records, with the same comparisons")
     parser.add_argument("--leave-changed", action="store_true",
                         help="with --undo: leave out files that somebody changed or removed since")
     parser.add_argument("--drop-capabilities", action="store_true",
@@ -92,7 +93,8 @@ def nothing_to_do(command: Command, way: Way) -> bool:
 
 def warn_of_inodes(command: Command, way: Way) -> None:
     if way.journal is None and planned.NOWHERE in (file.identity for file in way.work.files.values()):
-        command.say(b"warning: the snapshot has no inodes, so a file that was replaced by one of the same owner, group, flags and "
+        command.say(b"warning: the snapshot has no inodes, so a file that was replaced by one of the same owner, "
+                    b"group, flags and "
                     b"lists is not known")
 
 
@@ -112,11 +114,13 @@ def warn_of_names(command: Command, look: Look) -> None:
 
 
 def end(command: Command, way: Way, carrier: Carrier, state: bytes) -> None:
-    """Where the state of the plan cannot be written, it looks like one that was cut off, and --undo goes all the same."""
+    """Where the state of the plan cannot be written, it looks like one that was cut off, and --undo goes all the
+    same."""
     try:
         carrier.end(state)
     except OSError as error:
-        command.say(way.folder.name + b": cannot be written: " + reason(error) + b"; facl-apply will say that it was cut off")
+        command.say(way.folder.name + b": cannot be written: " + reason(error)
+                    + b"; facl-apply will say that it was cut off")
 
 
 def put_back(command: Command, way: Way, carrier: Carrier) -> int:
@@ -131,19 +135,21 @@ def put_back(command: Command, way: Way, carrier: Carrier) -> int:
 
 def say_in_part(command: Command, way: Way, left: Dict[bytes, bytes]) -> int:
     say_list(command, way, left)
-    command.say(counted(len(left), "file is", "files are") + b" not as before: mend what keeps facl-apply from it, then run "
+    command.say(counted(len(left), "file is", "files are")
+                + b" not as before: mend what keeps facl-apply from it, then run "
                 b"facl-apply --undo " + shell_word(way.folder.name))
     return IN_PART
 
 
 def carry_out(command: Command, way: Way, carrier: Carrier, is_whole: bool) -> int:
-    """Gives the files their new records, or the old ones back. A signal waits until one of these is done; it is the status
-    only where the files are as they were, since else 0 or 4 says more."""
+    """Gives the files their new records, or the old ones back. A signal waits until one of these is done; it is the
+    status only where the files are as they were, since else 0 or 4 says more."""
     with plan_folder.signals_wait():
         try:
             carrier.begin()
         except OSError as error:
-            raise Failure(way.folder.name + b": cannot be written: " + reason(error) + b"; nothing is touched") from error
+            raise Failure(way.folder.name + b": cannot be written: " + reason(error)
+                          + b"; nothing is touched") from error
         status = give_all(command, way, carrier, is_whole)
         if status != NOT_DONE:
             plan_folder.drop_signals()
@@ -159,13 +165,14 @@ def give_all(command: Command, way: Way, carrier: Carrier, is_whole: bool) -> in
         return put_back(command, way, carrier)
     whole = plan_folder.UNDONE if way.is_undo else plan_folder.APPLIED
     end(command, way, carrier, whole if is_whole else plan_folder.UNDONE_IN_PART)
-    command.tell(counted(len(carrier.seen), "file is", "files are") + (b" as before" if way.is_undo else b" as planned"))
+    command.tell(counted(len(carrier.seen), "file is", "files are")
+                 + (b" as before" if way.is_undo else b" as planned"))
     return DONE
 
 
 def by_hand(way: Way) -> List[bytes]:
-    """The line that names what is to be done by hand, where there is something. It is made before anything is touched: a script
-    that cannot be read has no part in what is said of the files."""
+    """The line that names what is to be done by hand, where there is something. It is made before anything is touched:
+    a script that cannot be read has no part in what is said of the files."""
     name = b"by_hand_undo" if way.is_undo else b"by_hand"
     is_there = way.folder.has(name) and way.folder.read(name)
     return [b"still to be done by hand: sh " + shell_word(way.file(name))] if is_there else []

@@ -24,36 +24,39 @@ ANSWERED, REFUSED = 0, 1
 HELP = """\
 Answers questions and edits over a snapshot, by the program facl.
 
-With SCRIPTs it answers their lines; the SCRIPT - is standard input. Without one, at a terminal, it is a prompt: `help`
-lists the tools, tab completes words, each answer comes below its line, and where a line is refused for its words, the
-synopsis and the likely cause. Else it answers standard input.
+With SCRIPTs it answers their lines; the SCRIPT - is standard input. Without one, at a terminal, it is a prompt:
+`help` lists the tools, tab completes words, each answer comes below its line, and where a line is refused for its
+words, the synopsis and the likely cause. Else it answers standard input.
 
 Where it has one SCRIPT, or standard input that is no terminal, it is the program itself: it prints the same, and ends
-with the same status; below a message about a SCRIPT comes its likely cause. With several SCRIPTs a message names the SCRIPT, and its line there. With --headings each question
-comes above its answer.
+with the same status; below a message about a SCRIPT comes its likely cause. With several SCRIPTs a message names the
+SCRIPT, and its line there. With --headings each question comes above its answer.
 
-SNAPSHOT may be a folder with passwd, group and dump alone. A dump can be given by --dump FILE too, in place of SNAPSHOT.
-What such a dump cannot tell is said on standard error.
+SNAPSHOT may be a folder with passwd, group and dump alone. A dump can be given by --dump FILE too, in place of
+SNAPSHOT. What such a dump cannot tell is said on standard error.
 
-With --each all words are SNAPSHOTs, of parts of one tree, as facl-snapshot --split makes them; HOST:DIR is one on another
-machine. They answer standard input side by side, by GNU parallel, and the answers are joined in the order of paths. A line
-that edits is taken where all its files lie in one of them.
+With --each all words are SNAPSHOTs, of parts of one tree, as facl-snapshot --split makes them; HOST:DIR is one on
+another machine. They answer standard input side by side, by GNU parallel, and the answers are joined in the order of
+paths. A line that edits is taken where all its files lie in one of them.
 
-With --hosts all words are servers, NAME:DIR, each with a snapshot DIR of its own. They answer standard input side by side, by
-GNU parallel and ssh, and each line of an answer and each message begins with the NAME. localhost is this machine.
+With --hosts all words are servers, NAME:DIR, each with a snapshot DIR of its own. They answer standard input side by
+side, by GNU parallel and ssh, and each line of an answer and each message begins with the NAME. localhost is this
+machine.
 """
 STATUS = """\
-The exit status is that of facl: 0 where every line was accepted, 1 where some line was refused, 2 where it ended early,
-or where the words, the snapshot or a script cannot be used. A prompt ends with 0.
+The exit status is that of facl: 0 where every line was accepted, 1 where some line was refused, 2 where it ended
+early, or where the words, the snapshot or a script cannot be used. A prompt ends with 0.
 """
 
 
 def parse(words: List[str]) -> argparse.Namespace:
     parser = parser_of("facl-ask", HELP, STATUS)
     parser.add_argument("--headings", action="store_true", help="print each question of a script above its answer")
-    parser.add_argument("--with-root", action="store_true", help="at the prompt, with --each and --hosts: answers about people have uid 0 too")
+    parser.add_argument("--with-root", action="store_true",
+                        help="at the prompt, with --each and --hosts: answers about people have uid 0 too")
     parser.add_argument("--each", action="store_true", help="answer standard input over several SNAPSHOTs side by side")
-    parser.add_argument("--hosts", action="store_true", help="answer standard input over the snapshots of several servers, NAME:DIR")
+    parser.add_argument("--hosts", action="store_true",
+                        help="answer standard input over the snapshots of several servers, NAME:DIR")
     parser.add_argument("--records", action="store_true", help=argparse.SUPPRESS)  # With --part: what it records, too.
     parser.add_argument("--part", action="store_true", help=argparse.SUPPRESS)  # What --each runs for each of them.
     texts.add_source(parser, words)
@@ -62,7 +65,8 @@ def parse(words: List[str]) -> argparse.Namespace:
 
 
 def program_words(program: str, folder: bytes) -> List[bytes]:
-    """The program's command line; it takes no words that are not UTF-8, so the command changes to a folder of such a name."""
+    """The program's command line; it takes no words that are not UTF-8, so the command changes to a folder of such a
+    name."""
     try:
         folder.decode("utf-8")
     except UnicodeDecodeError:
@@ -101,11 +105,13 @@ def units_of_input() -> Dict[int, Unit]:
 
 
 def run_explained(command: Command, program: str, source: Source) -> int:
-    """Runs the program over a script by name, and returns its status; below each message comes what was probably meant."""
+    """Runs the program over a script by name, and returns its status; below each message comes what was probably
+    meant."""
     from .causes import explained_by_number
 
     units: Optional[Dict[int, Unit]] = None
-    with subprocess.Popen(program_words(program, source.folder), stderr=subprocess.PIPE, env=environment_of_called()) as run:
+    with subprocess.Popen(program_words(program, source.folder), stderr=subprocess.PIPE,
+                          env=environment_of_called()) as run:
         assert run.stderr is not None
         for line in run.stderr:
             units = units_of_input() if units is None else units
@@ -128,7 +134,8 @@ def become_program(program: str, folder: bytes) -> NoReturn:
 
 
 def answer_units(
-    command: Command, program: str, folder: bytes, units: Iterable[Unit], has_headings: bool = False, is_explained: bool = True,
+    command: Command, program: str, folder: bytes, units: Iterable[Unit], has_headings: bool = False,
+    is_explained: bool = True,
     place_of: Callable[[Unit], bytes] = lambda unit: unit.place(),
 ) -> int:
     """Answers lines one after another; at a terminal `why --reach` says where the user is stopped."""
@@ -157,8 +164,8 @@ def leave(number: int, _frame: Optional[FrameType]) -> None:
 
 
 def take_signals() -> None:
-    """At a prompt control-C ends a line, and not the command; the other signals end it as the one exception that prompt_toolkit's
-    loop of events lets through at any moment."""
+    """At a prompt control-C ends a line, and not the command; the other signals end it as the one exception that
+    prompt_toolkit's loop of events lets through at any moment."""
     for number in SIGNALS:
         if signal.getsignal(number) != signal.SIG_IGN:
             signal.signal(number, signal.default_int_handler if number == signal.SIGINT else leave)

@@ -1,12 +1,14 @@
-"""What a restore cannot do, as commands that a person reads, as a script of sh that does it, and as one that takes it back.
+"""What a restore cannot do, as commands that a person reads, as a script of sh that does it, and as one that takes it
+back.
 
-The things of a plan have numbers from 1 in the order in which by_hand does them: changes of users and groups, files that go,
-files that are made. The two scripts know them by these in the file by_hand_done, in which by_hand notes what it has done.
-"""
+The things of a plan have numbers from 1 in the order in which by_hand does them: changes of users and groups, files
+that go, files that are made. The two scripts know them by these in the file by_hand_done, in which by_hand notes what
+it has done. """
 from __future__ import annotations
 
 from typing import Dict, List, NamedTuple, Tuple
 
+from . import by_hand_files, by_hand_undo
 from . import by_hand_texts as texts
 from .messages import counted
 from .names import live_path, parent_of, path_order, shell_word
@@ -16,14 +18,16 @@ from .snapshot import Identity
 
 Identities = Dict[bytes, Identity]  # By path, as in the snapshot; a path that is not there has none.
 NO_IDENTITY = b"-"
-FUNCTIONS = {ADD_MEMBER: b"add_member", REMOVE_MEMBER: b"remove_member", CHANGE_GROUP: b"change_group", ADD_USER: b"add_user",
+FUNCTIONS = {ADD_MEMBER: b"add_member", REMOVE_MEMBER: b"remove_member", CHANGE_GROUP: b"change_group",
+             ADD_USER: b"add_user",
              REMOVE_USER: b"remove_user"}
 MADE = {True: b"make_directory", False: b"make_file"}
 REMOVED = {True: b"remove_directory", False: b"remove_file"}
 
 
 class Things(NamedTuple):
-    """What is to be done by hand; the removed paths with what is below a directory first, the made ones with it last."""
+    """What is to be done by hand; the removed paths with what is below a directory first, the made ones with it
+    last."""
 
     people: List[PeopleChange]
     removed: List[bytes]
@@ -49,11 +53,13 @@ def things_of(people: List[PeopleChange], changes: Changes, old: Files, new: Fil
 
 
 def commands_of(people: List[PeopleChange], changes: Changes, old: Files, new: Files) -> List[bytes]:
-    """What is to be done, a line each, in the order of the script. A directory that goes has to be empty by then: what was put
-    there meanwhile stays."""
+    """What is to be done, a line each, in the order of the script. A directory that goes has to be empty by then: what
+    was put there meanwhile stays."""
     things = things_of(people, changes, old, new, {})
-    removed = [(b"rmdir -- " if old[path].is_directory else b"rm -- ") + shell_word(live_path(path)) for path in things.removed]
-    made = [(b"mkdir -m 700 -- " if new[path].is_directory else b": >") + shell_word(live_path(path)) for path in things.made]
+    removed = [(b"rmdir -- " if old[path].is_directory else b"rm -- ") + shell_word(live_path(path))
+               for path in things.removed]
+    made = [(b"mkdir -m 700 -- " if new[path].is_directory else b": >") + shell_word(live_path(path))
+            for path in things.made]
     return [shown_change(change) for change in people] + removed + made
 
 
@@ -61,12 +67,13 @@ def commands_of(people: List[PeopleChange], changes: Changes, old: Files, new: F
 
 
 def escaped(name: bytes) -> bytes:
-    """A name as characters that a terminal prints: each byte of another one, and a backslash, is a backslash and three octal
-    digits."""
+    """A name as characters that a terminal prints: each byte of another one, and a backslash, is a backslash and three
+    octal digits."""
     found = []
     for character in name.decode("utf-8", "surrogateescape"):
         plain = character.encode("utf-8", "surrogateescape")
-        found.append(plain if character.isprintable() and character != "\\" else b"".join(b"\\%03o" % byte for byte in plain))
+        found.append(plain if character.isprintable() and character != "\\"
+                     else b"".join(b"\\%03o" % byte for byte in plain))
     return b"".join(found)
 
 
@@ -191,9 +198,9 @@ def functions_of(things: Things, refuses: bool) -> bytes:
     """The functions that the lines of by_hand call."""
     wanted = [
         (bool(things.people), texts.USERS + texts.CHANGE_USERS),
-        (bool(things.removed or things.made), texts.FOLDERS + texts.PRIVATE),
-        (bool(things.removed), texts.REMOVE),
-        (bool(things.made), texts.MAKE),
+        (bool(things.removed or things.made), by_hand_files.FOLDERS + by_hand_files.PRIVATE),
+        (bool(things.removed), by_hand_files.REMOVE),
+        (bool(things.made), by_hand_files.MAKE),
         (refuses, texts.REFUSE),
     ]
     return b"".join(text for is_wanted, text in wanted if is_wanted)
@@ -251,9 +258,9 @@ def undo_script_of(people: List[PeopleChange], changes: Changes, old: Files, new
     files, users = undo_lines(things)
     if all(line.startswith(b"# ") for line in files + users):
         return b""
-    head = texts.UNDO_HEAD % {b"blind": texts.BLIND * is_blind(things)}
-    head += texts.LOST_HEAD if any(line.startswith(b"# ") for line in files + users) else b""
-    functions = texts.UNDO
-    functions += texts.FOLDERS + texts.PRIVATE + texts.UNMAKE if things.made else b""
-    functions += texts.USERS + texts.UNDO_USERS if not all(line.startswith(b"# ") for line in users) else b""
-    return head + common(b"by_hand_undo", things) + functions + b"\n" + b"".join(files + users) + texts.UNDO_END
+    head = by_hand_undo.UNDO_HEAD % {b"blind": texts.BLIND * is_blind(things)}
+    head += by_hand_undo.LOST_HEAD if any(line.startswith(b"# ") for line in files + users) else b""
+    functions = by_hand_undo.UNDO
+    functions += by_hand_files.FOLDERS + by_hand_files.PRIVATE + by_hand_undo.UNMAKE if things.made else b""
+    functions += texts.USERS + by_hand_undo.UNDO_USERS if not all(line.startswith(b"# ") for line in users) else b""
+    return head + common(b"by_hand_undo", things) + functions + b"\n" + b"".join(files + users) + by_hand_undo.UNDO_END

@@ -54,8 +54,8 @@ class Carrier:
         self.way.folder.replace(b"journal", planned.journal_text(system.boot(), {**known, **self.identities()}))
 
     def run(self) -> Dict[bytes, bytes]:
-        """Gives the files their new records; returns those that did not get them, with the reason. A plan that is taken back
-        goes on after the first of these; one that is applied ends there, or at a signal, which is no reason."""
+        """Gives the files their new records; returns those that did not get them, with the reason. A plan that is taken
+        back goes on after the first of these; one that is applied ends there, or at a signal, which is no reason."""
         left = self.open_all(self.seen) if os.geteuid() != 0 else {}
         while self.later and (self.way.is_undo or not left):
             left.update(self.open_later())
@@ -72,8 +72,8 @@ class Carrier:
         return left
 
     def open_later(self) -> Dict[bytes, bytes]:
-        """Looks at the files that nobody could look at before, and opens the next directories; returns the files that cannot
-        be changed."""
+        """Looks at the files that nobody could look at before, and opens the next directories; returns the files that
+        cannot be changed."""
         look = look_at(self.way, self.later)
         self.later = look.later
         left = unexpected(self.way, look)
@@ -83,14 +83,15 @@ class Carrier:
         try:
             self.write_journal()
         except OSError as error:
-            left.update({path: b"is not in the journal, which cannot be written: " + reason(error) for path in seen_ones})
+            left.update({path: b"is not in the journal, which cannot be written: " + reason(error)
+                         for path in seen_ones})
         if self.way.is_undo or not left:
             left.update(self.open_all(seen_ones))
         return left
 
     def open_all(self, seen: Dict[bytes, Seen]) -> Dict[bytes, bytes]:
-        """Opens directories to the caller, for the files below: those that the plan opens, and those that a run which was cut off
-        has closed, which get the record of the start again."""
+        """Opens directories to the caller, for the files below: those that the plan opens, and those that a run which
+        was cut off has closed, which get the record of the start again."""
         left = self.give([path for path in seen if opens(self.way, path)])
         if self.later:
             closed = (path for path, it in seen.items() if was_closed(self.way, path, it.record))
@@ -101,8 +102,8 @@ class Carrier:
         return self.walk(self.give_one, paths, is_whole=self.way.is_undo)
 
     def walk(self, step: Callable[[Opener, bytes], None], paths: Iterable[bytes], is_whole: bool) -> Dict[bytes, bytes]:
-        """Does something with each file; returns those with which it could not be done, with the reason. A walk that is not to be
-        whole ends after the first of these, or at a signal."""
+        """Does something with each file; returns those with which it could not be done, with the reason. A walk that is
+        not to be whole ends after the first of these, or at a signal."""
         left: Dict[bytes, bytes] = {}
         with Opener() as opener:
             for number, path in enumerate(paths):
@@ -142,8 +143,8 @@ class Carrier:
             raise Mismatch(b"was changed: " + differences.parts(seen.record, self.way.start(path)))
 
     def remember_folder(self, opener: Opener, device: int) -> None:
-        """Keeps a directory of the file system open, to write out what it has in memory; where the caller may not read it, all
-        file systems are written out."""
+        """Keeps a directory of the file system open, to write out what it has in memory; where the caller may not read
+        it, all file systems are written out."""
         try:
             self.folders[device] = os.open(b"/proc/self/fd/%d" % opener.last(), os.O_RDONLY | os.O_CLOEXEC)
         except PermissionError:

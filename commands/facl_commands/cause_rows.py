@@ -13,7 +13,8 @@ from .cause_tests import (
     number_of_operands, row,
 )
 from .remedies import (
-    as_user, as_written, before_pipe, escaped_bytes, found_files, members, nearest_tool, parts, quotes_for_backslash, replaced,
+    as_user, as_written, before_pipe, escaped_bytes, found_files, members, nearest_tool, parts, quotes_for_backslash,
+    replaced,
     rest_of_line, single_quotes, with_nearest_tool, with_quote_escaped, without_redirection,
 )
 from .tools import OPTIONS
@@ -51,7 +52,8 @@ AS_SUCH: List[Cause] = [
         "A line is one command: no ;, &&, || or & ends it. Each has a line of its own.", parts,
         "setfacl -x u:mara srv/share/notes; changes", "setfacl -x u:mara srv/share/notes\nchanges"),
     row("pipe", SHELLS, has_unquoted(rb"\|"),
-        "No shell reads the line, so | is a word like any other. What facl-ask prints goes to another command: facl-ask "
+        "No shell reads the line, so | is a word like any other. What facl-ask prints goes to another command: "
+        "facl-ask "
         "SNAPSHOT SCRIPT | wc -l", before_pipe, "may ines r | wc -l", "may ines r"),
     row("redirection", SHELLS, has_unquoted(rb"(?:^|\s)\d?(?:>|<)|>\S*\Z"),
         "No shell reads the line, so > and < are words like any other. What facl-ask prints goes to a file: facl-ask "
@@ -81,7 +83,8 @@ UNKNOWN_TOOLS: List[Cause] = [
         "The first word is the tool, so quotes are around other words alone.",
         lambda line: [line.text.strip(b" \t'")], "'who r FILE'", "who r FILE"),
     row("chown in a question", rb"facl: unknown tool", first("chown chgrp"),
-        "facl-plan takes this line in its scripts. Here an owner and a group are set by a record of setfacl --restore=- "
+        "facl-plan takes this line in its scripts. Here an owner and a group are set by a record of setfacl "
+        "--restore=- "
         "alone.", "", "chown ines FILE"),
     row("namei", UNKNOWN, first("namei ancestors"), "What decides on each directory of a path is asked of a user:",
         "why --reach USER {files}", "namei -l FILE", "why --reach ines FILE"),
@@ -113,15 +116,18 @@ UNKNOWN_TOOLS: List[Cause] = [
     row("groupmems", UNKNOWN, first("groupmems"), "A membership is added or removed by gpasswd:", members,
         "groupmems -g audit -a ines", "gpasswd -a ines audit"),
     row("groups are not made", UNKNOWN, first("groupadd addgroup groupdel delgroup groupmod"),
-        "Groups are those of the snapshot: no line adds or removes one, as facl-apply makes none. Make it on the system "
-        "and take a new snapshot, or add its row to the file group of a copy. An entry may have an id without a row, as "
+        "Groups are those of the snapshot: no line adds or removes one, as facl-apply makes none. Make it on the "
+        "system "
+        "and take a new snapshot, or add its row to the file group of a copy. An entry may have an id without a row, "
+        "as "
         "g:4711:r", "", "groupadd crew"),
     row("adduser", UNKNOWN, first("adduser newusers luseradd"),
         "A user is added by useradd, with an id and a primary group:", "useradd -u {uid} -g {group} {name}",
         "adduser nell", "useradd -u 1010 -g audit nell"),
     row("deluser", UNKNOWN, first("deluser luserdel"), "A user is removed by userdel:", "userdel {user}",
         "deluser --remove-home mara", "userdel mara"),
-    row("su", UNKNOWN, first("su runuser setpriv login ssh"), "Nobody logs in. What a user may do with a file:", as_user,
+    row("su", UNKNOWN, first("su runuser setpriv login ssh"), "Nobody logs in. What a user may do with a file:",
+        as_user,
         "su mara -c 'cat FILE'", "can --reach mara FILE"),
     row("sudo as a user", UNKNOWN, first("sudo doas", lambda line: line.has(b"-u")),
         "Nobody logs in. What a user may do with a file:", as_user, "sudo -u mara cat FILE", "can --reach mara FILE"),
@@ -136,7 +142,8 @@ UNKNOWN_TOOLS: List[Cause] = [
     row("unlink", UNKNOWN, first("unlink shred del erase"), "A file is removed by rm:", "rm {files}",
         "unlink FILE", "rm FILE"),
     row("files are not moved", UNKNOWN, first("mv cp ln rename rsync scp tar move copy link"),
-        "No line moves, copies or links files. A new one is made by creat, with the list that the kernel would give it.",
+        "No line moves, copies or links files. A new one is made by creat, with the list that the kernel would give "
+        "it.",
         "", "mv FILE srv/share/three"),
     row("umask", UNKNOWN, first("umask"), "The mask of a new file is an option of creat:",
         "creat --user=USER --mode=MODE {--umask} NEWFILE",
@@ -148,7 +155,8 @@ UNKNOWN_TOOLS: List[Cause] = [
         "setfattr -n " + LIST_WITHOUT_NAMES % " -v ", "setattr " + LIST_WITHOUT_NAMES % "="),
     row("chattr", UNKNOWN, first("chattr"), "Attributes such as immutable are not recorded.", "", "chattr +i FILE"),
     row("passwd", UNKNOWN, first("passwd chpasswd newgrp sg chage vipw vigr chsh chfn"),
-        "Passwords, shells and sessions are not recorded. A membership is changed by gpasswd, a primary group by usermod "
+        "Passwords, shells and sessions are not recorded. A membership is changed by gpasswd, a primary group by "
+        "usermod "
         "-g.", "", "newgrp audit"),
     row("cd", UNKNOWN, first("cd pwd pushd popd chroot"),
         "There is no working directory: each path starts at the root of the file system.", "", "cd srv/share"),
@@ -159,7 +167,8 @@ UNKNOWN_TOOLS: List[Cause] = [
     row("words of the prompt", UNKNOWN, first("help ? quit exit man info bye logout clear history"),
         "help and quit are words of facl-ask at a terminal; a script ends where its lines end.", "", "help who"),
     row("a shell's line", UNKNOWN, first(
-        "echo printf for while if do done then else fi case esac set export source . eval exec sh bash zsh python python3 "
+        "echo printf for while if do done then else fi case esac set export source . eval exec sh bash zsh python "
+        "python3 "
         "perl awk sed grep egrep cut sort uniq xargs time env true false sleep test facl-ask facl-plan facl-apply "
         "facl-report facl-snapshot parallel { ( :"),
         "No shell reads the line: each is a tool of facl with its words, and loops, filters and commands are around "

@@ -40,7 +40,8 @@ def example(text: str) -> bytes:
     return text.replace("FILE", "srv/share/one").encode("utf-8", "surrogateescape")
 
 
-def row(name: str, messages: bytes, fits: Fits, advice: str, remedy: Union[str, Remedy], wrong: str, right: str = "") -> Cause:
+def row(name: str, messages: bytes, fits: Fits, advice: str, remedy: Union[str, Remedy], wrong: str,
+        right: str = "") -> Cause:
     """A row; a remedy that is a text is a line with fields, and an empty one is none."""
     made = remedy if not isinstance(remedy, str) else as_written(remedy) if remedy else none
     return Cause(name, messages, fits, advice, made, example(wrong), example(right))
@@ -69,7 +70,8 @@ def has(pattern: bytes) -> Fits:
 
 def has_unquoted(pattern: bytes) -> Fits:
     """Whether a line of a tool has this outside of quotes."""
-    return lambda line: re.split(rb"[|;&<>]", line.tool())[0] in OPTIONS and re.search(pattern, line.unquoted()) is not None
+    return lambda line: re.split(rb"[|;&<>]", line.tool())[0] in OPTIONS and re.search(pattern,
+                                                                                       line.unquoted()) is not None
 
 
 def is_about(pattern: bytes) -> Fits:
@@ -163,7 +165,8 @@ def lacks_a_word(line: Line) -> bool:
 def has_words_for_permissions(line: Line) -> bool:
     """Whether a question has its PERMS in capital letters or in words."""
     word = line.operand(0 if line.tool() == b"who" else 1, b"")
-    return len(line.operands) == 2 and re.fullmatch(rb"[rwxRWX-]+|read|write|exec|execute|search|all|full", word) is not None
+    return len(line.operands) == 2 and re.fullmatch(rb"[rwxRWX-]+|read|write|exec|execute|search|all|full",
+                                                    word) is not None
 
 
 def has_too_many_files(line: Line) -> bool:

@@ -9,7 +9,9 @@ from .manual import Page
 from .names import read_path, shown, sorting_key
 from .people import rows_of
 from .scripts import words_of
-from .tools import ENTRIES, FILE, GROUP, OTHER, TOOLS, USER, VALUES, lists_of_chacl, operand_kinds, options_of_tool, split
+from .tools import (
+    ENTRIES, FILE, GROUP, OTHER, TOOLS, USER, VALUES, lists_of_chacl, operand_kinds, options_of_tool, split,
+)
 
 CANDIDATES = 200  # The most that one word is offered.
 OPERANDS = {tool.decode(): operand_kinds(tool) for tool in TOOLS}
@@ -35,7 +37,8 @@ def started_word(line: str) -> Optional[Started]:
             is_open = not is_open
         elif letter in " \t" and not is_open:
             start = place + 1
-    return Started(start, line[start:].replace("'", ""), words_of(line[:start].encode("utf-8", "surrogateescape")) or [])
+    before = words_of(line[:start].encode("utf-8", "surrogateescape")) or []
+    return Started(start, line[start:].replace("'", ""), before)
 
 
 class Paths:
@@ -63,8 +66,9 @@ class Paths:
         while place < len(self.keys) and self.keys[place].startswith(prefix + start):
             name, has_more, _ = self.keys[place][len(prefix) :].partition(b"\0")
             following = bisect.bisect_left(self.keys, prefix + name + b"\0")
-            is_directory = bool(has_more) or self.keys[following : following + 1] != [] and self.keys[following].startswith(
-                prefix + name + b"\0")
+            is_directory = bool(has_more) or any(
+                key.startswith(prefix + name + b"\0") for key in self.keys[following : following + 1]
+            )
             if name:
                 yield name, is_directory
             place = bisect.bisect_left(self.keys, prefix + name + b"\1")
@@ -86,7 +90,8 @@ def quoted(word: str, is_whole: bool) -> str:
 class Completer:
     """Completes words over a snapshot."""
 
-    def __init__(self, page: Optional[Page], passwd: bytes, group: bytes, dump: Callable[[], bytes], more: List[str]) -> None:
+    def __init__(self, page: Optional[Page], passwd: bytes, group: bytes, dump: Callable[[], bytes],
+                 more: List[str]) -> None:
         self.page = page
         self.users = [written(row[0]) for row in rows_of(passwd)]
         self.groups = [written(row[0]) for row in rows_of(group)]

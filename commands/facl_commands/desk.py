@@ -159,7 +159,8 @@ class Desk:
         """Recorded files whose paths end in one that is not there."""
         match = re.match(rb"[a-z]+: (.*): no such file\Z", message, re.DOTALL)
         path = read_path(match[1]) if match else b""
-        return ["There is " + shown(write_name(found)).decode() for found in self.completer.ending(path)] if path else []
+        return ["There is " + shown(write_name(found)).decode()
+                for found in self.completer.ending(path)] if path else []
 
     def follow(self, unit: Unit) -> None:
         """Keeps the paths that are completed up to date."""
@@ -179,7 +180,8 @@ class Desk:
         elif topic in self.page.tools:
             text = self.page.tools[topic].text
         else:
-            text = self.page.sections.get(topic.lower(), "There is no tool and no section of this name: `help` lists them.\n")
+            text = self.page.sections.get(topic.lower(),
+                                          "There is no tool and no section of this name: `help` lists them.\n")
         self.out(text.encode())
 
 
@@ -187,7 +189,8 @@ def overview_of(page: Page) -> str:
     """What `help` prints."""
     synopses = [synopsis for tool in page.tools.values() for synopsis in tool.synopses]
     topics = [name for name in page.sections if name not in ("name", "synopsis", "see also", "options")]
-    return KEYS + "\nTools:\n" + "".join("    " + it + "\n" for it in synopses) + "\nTopics: " + ", ".join(topics) + "\n"
+    return KEYS + "\nTools:\n" + "".join("    " + it + "\n"
+                                         for it in synopses) + "\nTopics: " + ", ".join(topics) + "\n"
 
 
 def refuse_early_end(session: Session) -> None:

@@ -1,8 +1,9 @@
-"""facl-ask --each: a script over several snapshots side by side, by GNU parallel, with the answers joined in path order.
+"""facl-ask --each: a script over several snapshots side by side, by GNU parallel, with the answers joined in path
+order.
 
 The snapshots have to be parts of one tree (agreement.py). Each answers the whole script (part.py). A line is then taken
-where the snapshots agree on it. One that is not taken, since its files lie in several snapshots, may have been done by some
-of them: then all answer the script again, without it.
+where the snapshots agree on it. One that is not taken, since its files lie in several snapshots, may have been done by
+some of them: then all answer the script again, without it.
 """
 from __future__ import annotations
 
@@ -96,8 +97,8 @@ def join(unit: Unit, answers: List[Answered]) -> Joined:
     if not accepted:
         return join_refusals(unit, answers)
     if is_edit(unit):
-        # Each snapshot that has a file of an edit has to have all, and to take it too; and what goes to all files below has
-        # to be in one snapshot.
+        # Each snapshot that has a file of an edit has to have all, and to take it too; and what goes to all files below
+        # has to be in one snapshot.
         concerned = [it for it in answers if it.header.has]
         is_several = len(concerned) > 1 and is_recursive(unit)
         if is_several or any(it.header.lacks or it.is_refused() for it in concerned):
@@ -111,7 +112,8 @@ def join(unit: Unit, answers: List[Answered]) -> Joined:
 
 def is_edit(unit: Unit) -> bool:
     """Whether a line changes files."""
-    return unit.is_of(*EDITS) and b"--test" not in unit.words and not (unit.is_of(b"chacl") and split(unit.words).has(b"-l"))
+    is_listing = unit.is_of(b"chacl") and split(unit.words).has(b"-l")
+    return unit.is_of(*EDITS) and b"--test" not in unit.words and not is_listing
 
 
 def is_recursive(unit: Unit) -> bool:
@@ -120,8 +122,8 @@ def is_recursive(unit: Unit) -> bool:
 
 
 def join_refusals(unit: Unit, answers: List[Answered]) -> Joined:
-    """The message of a line that no snapshot accepts: one that is not about a missing file comes first, and then one about
-    a file that no snapshot has."""
+    """The message of a line that no snapshot accepts: one that is not about a missing file comes first, and then one
+    about a file that no snapshot has."""
     messages = [it.header.messages for it in answers]
     others = [it for it in messages if not lacks_file(it)]
     known = {read_path(write_name(name)) for it in answers for name in it.header.has}
@@ -154,7 +156,8 @@ def say_notices(command: Command, parts: List[Part]) -> None:
 
 def check_agreement(parts: List[Part]) -> None:
     """Fails where snapshots are not parts of one tree."""
-    fault = agreement.disagreement([agreement.Recorded(it.label, it.head.users, it.head.groups, it.files) for it in parts])
+    fault = agreement.disagreement([agreement.Recorded(it.label, it.head.users, it.head.groups, it.files)
+                                    for it in parts])
     if fault is not None:
         raise Failure(fault + b", so they are no parts of one tree: ask servers by --hosts NAME:DIR..")
 
@@ -191,7 +194,8 @@ def body(command: Command, folders: List[str], given: argparse.Namespace) -> int
                 say_notices(command, parts)
             options = []
             joined: Dict[int, Joined] = {
-                unit.number: dropped.get(unit.number) or join(unit, [part.answers[unit.number] for part in parts]) for unit in units
+                unit.number: dropped.get(unit.number) or join(unit, [part.answers[unit.number] for part in parts])
+                for unit in units
             }
             new = next((number for number, it in joined.items() if it.is_dropped and number not in dropped), None)
             if new is None:
@@ -208,7 +212,8 @@ def pieces_of(unit: Unit, answer: Joined, superusers: Superusers, has_headings: 
     return answer.output
 
 
-def write(command: Command, units: List[Unit], joined: Dict[int, Joined], superusers: Superusers, has_headings: bool) -> int:
+def write(command: Command, units: List[Unit], joined: Dict[int, Joined], superusers: Superusers,
+          has_headings: bool) -> int:
     status = ANSWERED
     for unit in units:
         answer = joined[unit.number]

@@ -1,7 +1,7 @@
 """What the program answers about owner, group, flags and lists alone.
 
-The check looks at nothing else of a file, and many files share these. So each is asked of once, by a file of its own with a
-short name, in a session over these files: neither names nor depths of the snapshot's tree come into it.
+The check looks at nothing else of a file, and many files share these. So each is asked of once, by a file of its own
+with a short name, in a session over these files: neither names nor depths of the snapshot's tree come into it.
 """
 from __future__ import annotations
 
@@ -40,7 +40,8 @@ class Answers(NamedTuple):
 def dump_of(bodies: List[bytes]) -> bytes:
     """A dump of a file for each body; one that has a default list is a directory."""
     slash = {True: b"/", False: b""}
-    return b"".join(b"# file: /" + WORD % k + slash[b"\ndefault:" in body] + b"\n" + body + b"\n" for k, body in enumerate(bodies))
+    return b"".join(b"# file: /" + WORD % k + slash[b"\ndefault:" in body] + b"\n" + body + b"\n" for k,
+                    body in enumerate(bodies))
 
 
 def operands_of(count: int) -> List[bytes]:
@@ -70,7 +71,8 @@ def ask_reasons(session: Session, passwd: bytes, users: List[bytes], count: int)
 
 
 def vectors_of(table: Region, count: int, users: List[bytes]) -> List[bytes]:
-    """Two digits of each user for each file. The lines of a file follow each other, and those of a user have one length."""
+    """Two digits of each user for each file. The lines of a file follow each other, and those of a user have one
+    length."""
     places, size = [], 0
     for user in users:
         places.append(size)

@@ -1,9 +1,9 @@
 """Hard links: an edit by one name of a file is an edit by each of its names.
 
-Of the names of links a line can touch, or look at, those that are one of its words and, where it goes to whole subtrees,
-those below one; any word is taken for a path, and so is the name in each record of its text. After a line that edits these
-names are asked for. What one name got the others get before a line can touch them or look at them, and at the end.
-"""
+Of the names of links a line can touch, or look at, those that are one of its words and, where it goes to whole
+subtrees, those below one; any word is taken for a path, and so is the name in each record of its text. After a line
+that edits these names are asked for. What one name got the others get before a line can touch them or look at them, and
+at the end. """
 from __future__ import annotations
 
 import re
@@ -38,7 +38,8 @@ class Links:
                 self.places.setdefault(path, []).append(place)
         self.known = {path: files[path].body for path in self.places}  # The lines of each record, as they were alike.
         self.present = dict(self.known)  # The same as they are now, of names that are there.
-        self.late: Dict[bytes, bytes] = {}  # Names whose present record the program does not have yet, with what it has.
+        self.late: Dict[bytes,
+                        bytes] = {}  # Names whose present record the program does not have yet, with what it has.
         self.open: Set[int] = set()  # The places of sets of which a line can have changed a name.
         self.paths = sorted(self.places, key=sorting_key)
         self.keys = [sorting_key(path) for path in self.paths]
@@ -91,8 +92,8 @@ class Links:
             session.ask_surely(b" ".join([head, *map(word_of, part)]))
 
     def follow(self, session: Session, unit: Unit) -> Optional[List[bytes]]:
-        """After an edit: each name of a file has what one of them got. Where two names of a file got different lists, nothing
-        more is done, and the names are returned."""
+        """After an edit: each name of a file has what one of them got. Where two names of a file got different lists,
+        nothing more is done, and the names are returned."""
         self.look(session, self.touched(unit))
         for place in sorted(self.open):
             self.sets[place] = names = [path for path in self.sets[place] if path in self.present]
@@ -159,8 +160,8 @@ def question(paths: List[bytes]) -> bytes:
 
 
 def list_to_set(old: bytes, new: bytes) -> bytes:
-    """The list, as a word, that makes one record of another: of a file with the same owner, group and flags. Nothing where
-    these are others, or the list is long."""
+    """The list, as a word, that makes one record of another: of a file with the same owner, group and flags. Nothing
+    where these are others, or the list is long."""
     old_head, head = old.partition(b"\nuser::")[0], new.partition(b"\nuser::")[0]
     entries = new[len(head) + 1 :].rstrip(b"\n").replace(b"\n", b",")
     return entries if old_head == head and len(entries) < LONGEST_LIST else b""

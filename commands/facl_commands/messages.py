@@ -15,7 +15,8 @@ from .names import shown
 
 UNUSABLE = 2  # The status where the words, the input or the system do not allow it.
 NOT_SAID = 5  # The status where all is done, and what was to be printed could not be written.
-SIGNALS = (signal.SIGHUP, signal.SIGINT, signal.SIGQUIT, signal.SIGTERM)  # Each ends a command, and leaves nothing behind.
+SIGNALS = (signal.SIGHUP, signal.SIGINT, signal.SIGQUIT,
+           signal.SIGTERM)  # Each ends a command, and leaves nothing behind.
 
 
 def parser_of(name: str, description: str, status: str) -> argparse.ArgumentParser:

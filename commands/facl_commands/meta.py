@@ -47,7 +47,8 @@ def meta_of(folder: bytes) -> Meta:
 
 def fields_of(meta: Meta) -> Dict[str, Optional[str]]:
     """For JSON."""
-    return {name: None if meta is UNKNOWN else json_text(text) for name, text in (("host", meta.host), ("date", meta.date))}
+    return {name: None if meta is UNKNOWN else json_text(text) for name,
+            text in (("host", meta.host), ("date", meta.date))}
 
 
 def is_of_another_host(meta: Meta) -> bool:

@@ -46,8 +46,10 @@ class NoGain(NamedTuple):
     def text(self) -> bytes:
         which = self.directory + (b" and " + below(self.opened - 1) if self.opened > 1 else b"")
         verb = b" grant" if self.opened > 1 else b" grants"
-        rest = b", and " + below(self.closed) + (b" grants none" if self.closed == 1 else b" grant none") if self.closed else b""
-        return which + verb + b" no search (" + b", ".join(map(shown_entry, self.entries)) + b")" + rest + b"; add: " + self.edit
+        rest = b", and " + below(self.closed) + (b" grants none" if self.closed == 1
+                                                 else b" grant none") if self.closed else b""
+        return which + verb + b" no search (" + b", ".join(map(shown_entry,
+                                                               self.entries)) + b")" + rest + b"; add: " + self.edit
 
 
 def below(number: int) -> bytes:
@@ -70,7 +72,8 @@ class Closed:
 
     def __init__(self, answers: Answers, place: int) -> None:
         self.alone, self.place = answers.alone, place
-        self.highest: Dict[bytes, Optional[bytes]] = {b"": None}  # By directory, as directory_of has it: the highest closed path.
+        # By directory, as directory_of has it: the highest closed path.
+        self.highest: Dict[bytes, Optional[bytes]] = {b"": None}
         self.closed: Dict[bytes, Set[bytes]] = {}  # By the highest: the others.
 
     def is_closed(self, path: bytes) -> bool:
@@ -96,7 +99,8 @@ class Closed:
 
 
 def named_ids(old: bytes, new: bytes) -> Tuple[FrozenSet[int], FrozenSet[int]]:
-    """The ids of users and groups that a record names otherwise than before: by an entry, as the owner or the owning group."""
+    """The ids of users and groups that a record names otherwise than before: by an entry, as the owner or the owning
+    group."""
     entries = set(NAMED.findall(new)) - set(NAMED.findall(old))
     before, after = OWNER.match(old), OWNER.match(new)
     assert after is not None
@@ -124,7 +128,8 @@ def groups_by_user(people: People) -> Dict[bytes, Set[int]]:
 
 
 class Tally:
-    """In how many files each of some users gains, and when that was first so. Users are bytes of a number, 1 who gains."""
+    """In how many files each of some users gains, and when that was first so. Users are bytes of a number, 1 who
+    gains."""
 
     def __init__(self, named: Dict[int, Named], users: int) -> None:
         self.named, self.users = named, users
@@ -163,7 +168,8 @@ class Finder:
         self.old, self.new = old, new
         self.users = {name_in_index(user.name): user for user in new.people.users}
         stopped = {k for row in set(new.answers.reached.values()) for k, one in enumerate(row) if not one}
-        self.places = [k for k, name in enumerate(new.answers.users) if k in stopped and name in self.users and name not in left_out]
+        self.places = [k for k, name in enumerate(new.answers.users) if k in stopped and name in self.users
+                       and name not in left_out]
         old_places = {name: k for k, name in enumerate(old.answers.users)}
         self.old_places = [old_places.get(name) for name in new.answers.users]
         self.lists: Dict[Tuple[FrozenSet[int], FrozenSet[int]], Tuple[Dict[int, Named], int]] = {}
@@ -182,11 +188,12 @@ class Finder:
         return self.users[self.new.answers.users[place]]
 
     def named(self, old: bytes, new: bytes) -> Tuple[Dict[int, Named], int]:
-        """Those whom a record names otherwise than before, and those who are in a group in which they were not; and the same as a
-        number."""
+        """Those whom a record names otherwise than before, and those who are in a group in which they were not; and the
+        same as a number."""
         uids, gids = ids = named_ids(old, new)
         if ids not in self.lists:
-            found = {place: Named(place, gid) for gid in sorted(gids, reverse=True) for place in self.of_gid.get(gid, ())}
+            found = {place: Named(place, gid) for gid in sorted(gids, reverse=True)
+                     for place in self.of_gid.get(gid, ())}
             found.update((place, Named(place, None)) for uid in uids for place in self.of_uid.get(uid, ()))
             found.update((place, Named(place, None)) for place in self.joined)
             places = bytearray(len(self.new.answers.users))
@@ -206,8 +213,8 @@ class Finder:
         return lanes(more) & named
 
     def counts(self) -> Iterator[Tuple[Named, bytes, int]]:
-        """With the directory of the files, as directory_of has it, and their number; a user by one group or another in the order of
-        the first files."""
+        """With the directory of the files, as directory_of has it, and their number; a user by one group or another in
+        the order of the first files."""
         known: Dict[Pair, Tuple[Dict[int, Named], int]] = {}
         numbers: Dict[Tuple[Pair, bytes], int] = Counter()
         for path, file in self.new.files.items():
@@ -244,7 +251,8 @@ def effective(entry: bytes) -> bytes:
 
 def id_word(name: bytes, number: int) -> bytes:
     """What names a user or a group in an entry: the id where the name is not plain."""
-    return name if PLAIN_SHELL_WORD.match(name) and not name.isdigit() and not set(name) & set(b":,") else b"%d" % number
+    is_plain = PLAIN_SHELL_WORD.match(name) and not name.isdigit() and not set(name) & set(b":,")
+    return name if is_plain else b"%d" % number
 
 
 def entry_of_group(body: bytes, group: Group, granted: bytes) -> Tuple[bytes, bytes]:
@@ -258,8 +266,8 @@ def entry_of_group(body: bytes, group: Group, granted: bytes) -> Tuple[bytes, by
 
 
 def opening(entries: List[bytes], body: bytes, user: User, group: Optional[Group]) -> bytes:
-    """The entries that give search on a directory, by an entry of the group or the user: they take nothing from the user, and
-    the mask gets no more than that needs. Entries decide on the user so far."""
+    """The entries that give search on a directory, by an entry of the group or the user: they take nothing from the
+    user, and the mask gets no more than that needs. Entries decide on the user so far."""
     granted = perms(b"".join(map(effective, entries)))
     kind = entries[0].split(b":")
     if kind[:2] == [b"user", b""]:
@@ -348,8 +356,10 @@ def find(session: Session, old: Side, new: Side, left_out: Set[bytes]) -> List[N
     for place, highest in sorted(totals, key=lambda key: (key[0], sorting_key(key[1]))):
         paths = sorted(closed[place].closed[highest], key=sorting_key)
         user, gid = new.answers.users[place], named_by[place, highest].gid
-        behind.append(Behind(user, finder.user(place), gid, totals[place, highest], paths, shown_directories(new, paths)))
+        behind.append(Behind(user, finder.user(place), gid, totals[place, highest], paths,
+                             shown_directories(new, paths)))
     behind = [it for it in behind if it.shown]
     groups = {group.gid: group for group in reversed(new.people.groups)}
     answers = ask_entries(session, [(it.row, [new.answers.names[path] for path in it.shown]) for it in behind])
-    return [no_gain(new, None if it.gid is None else groups.get(it.gid), it, entries) for it, entries in zip(behind, answers)]
+    return [no_gain(new, None if it.gid is None else groups.get(it.gid), it, entries) for it,
+            entries in zip(behind, answers)]

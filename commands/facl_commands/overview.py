@@ -20,7 +20,8 @@ from .trusted import read_trusted
 FILE_NAME = re.compile(rb"^# file: (.*)$", re.MULTILINE)
 GROUP_IDS = re.compile(rb"^(?:# group: |(?:default:)?group:)([0-9]+)(?:$|:)", re.MULTILINE)
 USER_IDS = re.compile(rb"^(?:# owner: |(?:default:)?user:)([0-9]+)(?:$|:)", re.MULTILINE)
-EMPTY_MASKS = b"lists with an empty mask whose others have something, which Linux grants to named users and groups too, and facl does not"
+EMPTY_MASKS = (b"lists with an empty mask whose others have something, which Linux grants to named users and groups "
+               b"too, and facl does not")
 
 
 class Texts(NamedTuple):
@@ -88,8 +89,10 @@ def warnings(texts: Texts) -> Iterator[bytes]:
         (EMPTY_MASKS, list(open_empty_masks(texts.dump))),
         (b"ids in the dump without a row in passwd or group", ids_without_row(texts)),
         (b"members of groups without a row in passwd", members_without_row(texts)),
-        (b"rows of passwd with a carriage return, which facl takes for a part of a name", rows_with_returns(texts.passwd)),
-        (b"rows of group with a carriage return, which facl takes for a part of a name", rows_with_returns(texts.group)),
+        (b"rows of passwd with a carriage return, which facl takes for a part of a name",
+         rows_with_returns(texts.passwd)),
+        (b"rows of group with a carriage return, which facl takes for a part of a name",
+         rows_with_returns(texts.group)),
     ]
     for text, names in found:
         if names:
@@ -106,7 +109,8 @@ def unknown(folder: bytes, dump: bytes) -> Iterator[bytes]:
         passwd, group = (read_trusted(os.path.join(folder, name)) for name in (b"passwd", b"group"))
         names = source_texts.names_without_row(passwd, group, dump)
         if names:
-            yield warning_of(b"users and groups in the dump without a row, with which the program does not load it", names)
+            yield warning_of(b"users and groups in the dump without a row, with which the program does not load it",
+                             names)
 
 
 def say_notices(command: Command, source: Source, has_masks: bool = True) -> None:

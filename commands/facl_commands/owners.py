@@ -1,5 +1,5 @@
-"""chown and chgrp in a script of facl-plan: what they do, as the records that setfacl --restore takes. And what a user who is
-removed leaves behind."""
+"""chown and chgrp in a script of facl-plan: what they do, as the records that setfacl --restore takes. And what a user
+who is removed leaves behind."""
 from __future__ import annotations
 
 import re
@@ -48,7 +48,8 @@ class Ids(NamedTuple):
 
 
 def restoring(session: Session, people: People, unit: Unit) -> Union[Unit, bytes]:
-    """The line of setfacl, with its text, that does what a line of chown or chgrp asks for; or the message of its refusal."""
+    """The line of setfacl, with its text, that does what a line of chown or chgrp asks for; or the message of its
+    refusal."""
     try:
         unit.lines[0].decode("utf-8")
     except UnicodeDecodeError:
@@ -167,13 +168,15 @@ def new_body(body: bytes, keeps_flags: bool, ids: Ids) -> bytes:
     old, flags = (int(head[1]), int(head[2])), b"".join(head.groups(b"-")[2:])
     uid, gid = (now if new is None else new for now, new in zip(old, ids))
     flags = flags if keeps_flags else cleared(flags, body)
-    return b"# owner: %d\n# group: %d\n" % (uid, gid) + (b"" if flags == b"---" else b"# flags: " + flags + b"\n") + body[head.end() :]
+    return b"# owner: %d\n# group: %d\n" % (uid, gid) + (b"" if flags == b"---" else b"# flags: " + flags
+                                                         + b"\n") + body[head.end() :]
 
 
 def asks_as_directory(session: Session, path: bytes) -> bool:
     """Whether the program takes a file for a directory, which a listing of it alone does not show."""
     question = b"setfacl --test -m d:u::rwx -- " + script_word(shown_path(path)) + b"\n"
-    return not any(message.endswith(b": only directories have default lists") for message in session.ask(question).messages)
+    return not any(message.endswith(b": only directories have default lists")
+                   for message in session.ask(question).messages)
 
 
 def cleared(flags: bytes, body: bytes) -> bytes:
@@ -212,7 +215,8 @@ def left_behind(before: People, after: People, files: Files) -> List[Left]:
 
 def notes(left: Left) -> List[bytes]:
     """The lines of a report."""
-    return [b"%s is removed and still %s %s, first: %s" % (shown(left.name), how, counted(len(paths), "file"), live_name(paths[0]))
+    return [b"%s is removed and still %s %s, first: %s" % (shown(left.name), how, counted(len(paths), "file"),
+                                                           live_name(paths[0]))
             for how, paths in ((b"owns", left.owned), (b"named in the lists of", left.named)) if paths]
 
 

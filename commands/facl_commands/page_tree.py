@@ -1,7 +1,7 @@
 """The files of a page: those of the listings before and after the edits, each with a number, without their paths.
 
-A path of many components is not kept: a file has its name and the number of what it is in. A listing comes in path order,
-so that the files which its next file can be in are the last one and those that this one is in.
+A path of many components is not kept: a file has its name and the number of what it is in. A listing comes in path
+order, so that the files which its next file can be in are the last one and those that this one is in.
 """
 from __future__ import annotations
 
@@ -72,7 +72,8 @@ class Tree:
         """Adds the files of a listing."""
         found = Listing([GONE] * len(self.names), set())
         last = b""
-        way: List[Tuple[int, int]] = []  # For what the last path is in, and for itself: the path's length, and its number.
+        way: List[Tuple[int,
+                        int]] = []  # For what the last path is in, and for itself: the path's length, and its number.
         for record in records:
             while way and not is_below(record.path, last, way[-1][0]):
                 way.pop()

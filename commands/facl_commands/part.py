@@ -1,8 +1,8 @@
 """The answers of one snapshot of several: what `facl-ask --part` writes for `facl-ask --each` and `--hosts`.
 
-First comes a line of JSON about the snapshot, with --records what it records (agreement.py), and then for each line of the
-script that does something a header, which is a line of JSON, and the bytes that the program printed, with a line feed. Names in
-JSON are bytes, a letter for each.
+First comes a line of JSON about the snapshot, with --records what it records (agreement.py), and then for each line of
+the script that does something a header, which is a line of JSON, and the bytes that the program printed, with a line
+feed. Names in JSON are bytes, a letter for each.
 """
 from __future__ import annotations
 
@@ -99,7 +99,8 @@ def answer(command: Command, session: Session, unit: Unit) -> None:
 def head_of(folder: bytes, size: int) -> Head:
     passwd, group, dump = (read_trusted(os.path.join(folder, name)) for name in (b"passwd", b"group", b"dump"))
     users, groups = ({row[0].decode("latin-1"): int(row[2]) for row in rows_of(rows)} for rows in (passwd, group))
-    return Head(folder, users, groups, list(overview.unknown(folder, dump)), list(overview.open_empty_masks(dump)), size)
+    return Head(folder, users, groups, list(overview.unknown(folder, dump)), list(overview.open_empty_masks(dump)),
+                size)
 
 
 def write_part(command: Command, program: str, folder: bytes, script: Script, has_records: bool) -> int:

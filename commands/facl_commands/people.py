@@ -6,7 +6,8 @@ from typing import Callable, Dict, List, NamedTuple, Optional
 from .names import read_name, shell_word
 from .tools import Split, split
 
-ADD_MEMBER, REMOVE_MEMBER, CHANGE_GROUP, ADD_USER, REMOVE_USER = b"gpasswd -a", b"gpasswd -d", b"usermod -g", b"useradd", b"userdel"
+ADD_MEMBER, REMOVE_MEMBER, CHANGE_GROUP = b"gpasswd -a", b"gpasswd -d", b"usermod -g"
+ADD_USER, REMOVE_USER = b"useradd", b"userdel"
 
 
 class User(NamedTuple):
@@ -62,8 +63,8 @@ def rows_of(text: bytes) -> List[List[bytes]]:
 
 
 def user_word(passwd: bytes, name: bytes) -> Optional[bytes]:
-    """What names a user in a line: the name, or in the place of digits alone the id, which means the first user who has it;
-    None where that is another one."""
+    """What names a user in a line: the name, or in the place of digits alone the id, which means the first user who has
+    it; None where that is another one."""
     if not name.isdigit():
         return name
     rows = rows_of(passwd)

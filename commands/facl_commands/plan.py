@@ -22,14 +22,15 @@ from .tools import CHANGES_OF_PEOPLE, EDITS, EMPTY_ANSWERS, TOOLS_OF_PLANS
 from .trusted import read_trusted
 
 SOMETHING, REFUSED, NOTHING = 0, 1, 3
-RELATIVE_NAME = re.compile(rb"^[ \t]*#[ \t]*file:(?! ?/)", re.MULTILINE)  # In a dump: one that does not start at the root.
+# In a dump: a name that does not start at the root.
+RELATIVE_NAME = re.compile(rb"^[ \t]*#[ \t]*file:(?! ?/)", re.MULTILINE)
 QUESTIONS_WITH_EMPTY_ANSWERS = set(EMPTY_ANSWERS) - {b"getfacl"}
 HELP = """\
 Answers the lines of each SCRIPT over a snapshot, as facl does, and prints what would change in who may do what: one
-line for each user and kind of change, with the number of files and the first of them. A right counts where the user can
-get to the file: with search on each directory above. A user who is named by an edit and gains nothing, since a directory
-above is closed, has a line with the edit that opens it. It reads the snapshot alone, and changes nothing on the live
-system. The SCRIPT - is standard input.
+line for each user and kind of change, with the number of files and the first of them. A right counts where the user
+can get to the file: with search on each directory above. A user who is named by an edit and gains nothing, since a
+directory above is closed, has a line with the edit that opens it. It reads the snapshot alone, and changes nothing on
+the live system. The SCRIPT - is standard input.
 
 What facl-apply needs is written to a folder, SNAPSHOT.plan:
 
@@ -38,8 +39,8 @@ What facl-apply needs is written to a folder, SNAPSHOT.plan:
   old, new   their records, as they are and as they would be, for a person and for setfacl --restore
   by_hand    what facl-apply does not do, as a script of sh: users and memberships, files that go, files that are made
 
-Questions in a SCRIPT are answered, and are no part of the plan. An edit of a file that has other names in the snapshot
-is planned for all of them.
+Questions in a SCRIPT are answered, and are no part of the plan. An edit of a file that has other names in the
+snapshot is planned for all of them.
 """
 STATUS = """\
 The exit status is 0 where there is something to do, and 3 where there is nothing; 1 where lines were refused: then no
@@ -52,10 +53,13 @@ def parse(words: List[str]) -> argparse.Namespace:
     parser.add_argument("--plan", metavar="DIR", help="the folder of the plan, in place of SNAPSHOT.plan")
     parser.add_argument("--full", action="store_true", help="print each user and file")
     view = parser.add_mutually_exclusive_group()
-    view.add_argument("--file-alone", action="store_true", help="judge each file alone, also where nobody can get to it")
-    view.add_argument("--reach", action="store_true", help="with search on the directories above each file, as without it")
+    view.add_argument("--file-alone", action="store_true",
+                      help="judge each file alone, also where nobody can get to it")
+    view.add_argument("--reach", action="store_true",
+                      help="with search on the directories above each file, as without it")
     parser.add_argument("--with-root", action="store_true", help="judge users of the id 0 by the lists too")
-    parser.add_argument("--json", action="store_true", help="print one JSON object; bytes that are no UTF-8 are escapes")
+    parser.add_argument("--json", action="store_true",
+                        help="print one JSON object; bytes that are no UTF-8 are escapes")
     parser.add_argument("--keep-going", action="store_true", help="plan the other lines where some were refused")
     parser.add_argument("--group", metavar="GROUP", help="let the members of a group read the plan")
     texts.add_source(parser, words, "--groups")
@@ -84,8 +88,8 @@ class Run:
         self.links.end(self.session)
 
     def answer_before_end(self, unit: Unit) -> None:
-        """Answers a line by the one that does what it asks for, mostly itself; other names of its files may get later what it
-        changes."""
+        """Answers a line by the one that does what it asks for, mostly itself; other names of its files may get later
+        what it changes."""
         done: Union[Unit, bytes] = unit
         if unit.is_ended:
             self.links.before(self.session, unit)
@@ -133,8 +137,8 @@ def answer_scripts(given: argparse.Namespace, snapshot: Snapshot, units: List[Un
         closed = [] if given.file_alone else no_gain.find(session, *sides, left_out)
     changes = rights.changes(before, after, left_out)
     left = owners.left_behind(people_before, run.people, new.files)
-    return Outcome(old.files, new.files, changes, closed, list(dict.fromkeys([*before.users, *after.users])), run.asked, run.messages,
-                   run.commands, left, is_whole, meta.meta_of(snapshot.folder))
+    return Outcome(old.files, new.files, changes, closed, list(dict.fromkeys([*before.users, *after.users])), run.asked,
+                   run.messages, run.commands, left, is_whole, meta.meta_of(snapshot.folder))
 
 
 def say_messages(command: Command, outcome: Outcome, scripts: List[Script]) -> None:
@@ -180,14 +184,14 @@ def beside(folder: bytes) -> bytes:
 
 
 def say_unknown(command: Command, source: texts.Source) -> bool:
-    """Says what a snapshot that facl-snapshot did not make cannot tell; whether there can be a plan, which has names from the
-    root of the file system."""
+    """Says what a snapshot that facl-snapshot did not make cannot tell; whether there can be a plan, which has names
+    from the root of the file system."""
     dump = read_trusted(os.path.join(source.folder, b"dump"))
     found = texts.notice(source.folder, dump)
     is_whole = found is None or RELATIVE_NAME.search(dump) is None
     if found is not None:
-        rest = b"" if is_whole else b"; names do not start at the root of the file system, so no plan is written for facl-apply"
-        command.say(source.shown + b": " + found + rest)
+        rest = b"; names do not start at the root of the file system, so no plan is written for facl-apply"
+        command.say(source.shown + b": " + found + rest * (not is_whole))
     return is_whole
 
 
@@ -223,7 +227,8 @@ def plan_over(command: Command, given: argparse.Namespace, source: texts.Source)
     is_whole = say_unknown(command, source)
     outcome = answer_scripts(given, snapshot, units, is_whole)
     changes = compare(outcome.old, outcome.new)
-    commands = by_hand.commands_of(outcome.commands, changes if is_whole else Changes([], [], []), outcome.old, outcome.new)
+    commands = by_hand.commands_of(outcome.commands, changes if is_whole else Changes([], [], []), outcome.old,
+                                   outcome.new)
     say_messages(command, outcome, scripts)
     if not given.json:
         command.write(answers_text(outcome.asked))
@@ -233,7 +238,8 @@ def plan_over(command: Command, given: argparse.Namespace, source: texts.Source)
     if is_shown:
         warn_of_empty_masks(command, changes, outcome)
     if written is not None:
-        kept = plan_folder.write_plan(target, plan_files(find_program(given.program), snapshot, scripts, outcome, changes), group)
+        files = plan_files(find_program(given.program), snapshot, scripts, outcome, changes)
+        kept = plan_folder.write_plan(target, files, group)
         if kept is not None:
             command.say(b"the plan that was there is " + kept + b" now")
     if given.json:

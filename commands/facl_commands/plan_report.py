@@ -94,7 +94,8 @@ def short_lines(outcome: Outcome, changes: List[rights.Kind]) -> Iterator[bytes]
     """A line for each kind of change, and those of no gain after the user's changes."""
     rows: Dict[bytes, List[bytes]] = {user: [] for user in outcome.users}
     width = max([len(it.user) for it in changes] + [len(it.user) for it in outcome.no_gain], default=0)
-    lines = [(user, b"%s -> %s" % (old.encode(), new.encode()), count, b"first: " + first) for user, old, new, count, first in changes]
+    lines = [(user, b"%s -> %s" % (old.encode(), new.encode()), count, b"first: " + first) for user, old, new, count,
+             first in changes]
     lines += [(it.user, b"no gain", it.files, it.text()) for it in outcome.no_gain]
     for user, what, count, rest in lines:
         rows[user].append(b"  ".join([user.ljust(width), what.ljust(13), counted(count, "file").ljust(8), rest]))
@@ -123,7 +124,8 @@ def text_report(given: argparse.Namespace, outcome: Outcome, changes: Changes, c
     yield from short_lines(outcome, [] if given.full else rights.kinds(outcome.rights, outcome.users))
     yield summary(changes, commands, outcome)
     if target is not None:
-        yield shown(target + b": is written" + (b"; next: facl-apply " + shell_word(target) if changes.changed else b"")) + b"\n"
+        yield shown(target + b": is written" + (b"; next: facl-apply " + shell_word(target) if changes.changed
+                                                else b"")) + b"\n"
     for command in commands:
         yield shown(b"by hand: " + command) + b"\n"
     for left in outcome.left:
@@ -150,15 +152,18 @@ def rights_json(outcome: Outcome, is_full: bool) -> List[Dict[str, object]]:
 
 def no_gain_json(it: no_gain.NoGain) -> Dict[str, object]:
     return {"user": json_text(it.user), "files": it.files, "directory": json_text(it.directory),
-            "entries": texts(map(no_gain.shown_entry, it.entries)), "edit": json_text(it.edit), "closed_below": it.closed}
+            "entries": texts(map(no_gain.shown_entry, it.entries)), "edit": json_text(it.edit),
+            "closed_below": it.closed}
 
 
 def message_json(it: Message) -> Dict[str, object]:
-    found: Dict[str, object] = {"script": json_text(it.unit.script), "line": it.unit.number, "message": json_text(it.text)}
+    found: Dict[str, object] = {"script": json_text(it.unit.script), "line": it.unit.number,
+                                "message": json_text(it.text)}
     return found if it.is_warning else {**found, "cause": texts(it.cause())}
 
 
-def json_report(outcome: Outcome, is_full: bool, changes: Changes, commands: List[bytes], plan: Optional[bytes]) -> bytes:
+def json_report(outcome: Outcome, is_full: bool, changes: Changes, commands: List[bytes],
+                plan: Optional[bytes]) -> bytes:
     names = [texts(map(outcome.name_of, paths)) for paths in (changes.changed, changes.made, changes.removed)]
     report = {
         "snapshot": meta.fields_of(outcome.about),

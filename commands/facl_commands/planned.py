@@ -1,5 +1,5 @@
-"""What facl-apply does, as facl-plan writes it: the files of a plan, each with the file that it has to be, its old record and
-its new one. And what it found when it began, the journal."""
+"""What facl-apply does, as facl-plan writes it: the files of a plan, each with the file that it has to be, its old
+record and its new one. And what it found when it began, the journal."""
 from __future__ import annotations
 
 import json
@@ -80,9 +80,11 @@ def read_work(name: bytes, text: bytes) -> Work:
     """What work_text wrote; each path once, in path order."""
     try:
         fields = json.loads(text)
-        records = [Record(int(a), int(b), int(c), bytes.fromhex(d), bytes.fromhex(e)) for a, b, c, d, e in fields["records"]]
+        records = [Record(int(a), int(b), int(c), bytes.fromhex(d), bytes.fromhex(e)) for a, b, c, d,
+                   e in fields["records"]]
         files = {
-            path.encode("latin-1"): PlannedFile(bool(kind), Identity(device, inode, birth), same, records[old], records[new])
+            path.encode("latin-1"): PlannedFile(bool(kind), Identity(device, inode, birth), same, records[old],
+                                                records[new])
             for path, kind, device, inode, birth, same, old, new in fields["files"]
         }
         paths = list(files)
@@ -114,15 +116,16 @@ def journal_text(boot: str, files: Dict[bytes, Identity]) -> bytes:
 def read_journal(name: bytes, text: bytes) -> Journal:
     try:
         fields = json.loads(text)
-        files = {path.encode("latin-1"): Identity(device, inode, birth) for path, device, inode, birth in fields["files"]}
+        files = {path.encode("latin-1"): Identity(device, inode, birth) for path, device, inode,
+                 birth in fields["files"]}
         return Journal(str(fields["boot"]), files)
     except (ValueError, KeyError, TypeError, AttributeError) as error:
         raise Failure(name + b": is not as facl-apply wrote it") from error
 
 
 class Devices:
-    """Whether files are those that were recorded. After another start of the system a device can have another number: then
-    each recorded one is one of the present ones."""
+    """Whether files are those that were recorded. After another start of the system a device can have another number:
+    then each recorded one is one of the present ones."""
 
     def __init__(self, boot: str, present_boot: str) -> None:
         self.is_same_start = boot == present_boot and boot != "-"

@@ -20,7 +20,8 @@ BUILT = os.path.join(HOME, "..", "crates", "facl_cli", "out", "facl_cli")
 
 
 def find_program(given: Optional[str]) -> str:
-    """The program: the given one, $FACL, facl on the path, or the one that is installed or built beside the commands."""
+    """The program: the given one, $FACL, facl on the path, or the one that is installed or built beside the
+    commands."""
     wanted = given or os.environ.get("FACL", "")
     if wanted:
         found = shutil.which(wanted)
@@ -148,7 +149,8 @@ class Session:
         if last.startswith(b"facl: setup: "):
             return Failure(b"%s: the program does not load it: %s" % (self.folder, last))
         if last == b"facl: dump: cannot read" and os.path.getsize(os.path.join(self.folder, b"dump")) > FILE_LIMIT:
-            return Failure(self.folder + b": its dump has more than 268,435,456 bytes, the most that the program reads: take several "
+            return Failure(self.folder + b": its dump has more than 268,435,456 bytes, the most that the program "
+                                         b"reads: take several "
                            b"snapshots by facl-snapshot --split")
         return Failure(b"the program ended early: %s" % last)
 
@@ -165,8 +167,8 @@ def session_over(program: str, passwd: bytes, group: bytes, dump: bytes) -> Iter
 
 
 def parts_of(items: Iterable[bytes], room: int, word_of: Callable[[bytes], bytes] = bytes) -> Iterator[List[bytes]]:
-    """Items in their order, as many in each part as a line has room for, with a blank for the word of each; one that is too long
-    is alone."""
+    """Items in their order, as many in each part as a line has room for, with a blank for the word of each; one that is
+    too long is alone."""
     part: List[bytes] = []
     size = 0
     for item in items:

@@ -60,7 +60,8 @@ def write_records(files: Files, paths: Iterable[bytes]) -> bytes:
 
 
 def path_of(name: bytes) -> bytes:
-    """The path that a name in a listing is; only one with an escape, or with a component that is none, has to be read."""
+    """The path that a name in a listing is; only one with an escape, or with a component that is none, has to be
+    read."""
     if b"\\" in name or b"//" in name or b"/." in name or name[:1] == b".":
         return read_path(name)
     return name.strip(b"/")
@@ -90,8 +91,8 @@ def read_bodies(text: bytes) -> Tuple[List[bytes], List[bytes]]:
 
 
 def list_files(text: bytes) -> Listing:
-    """The files of a listing. A file is a directory by its name, its default entries, or another file below it. Files of one
-    kind with the same lines are one value."""
+    """The files of a listing. A file is a directory by its name, its default entries, or another file below it. Files
+    of one kind with the same lines are one value."""
     names, bodies = read_bodies(text)
     paths = paths_of(names)
     parents = {b"", *[path.rpartition(b"/")[0] for path in paths]}

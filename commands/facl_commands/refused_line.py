@@ -44,7 +44,8 @@ class Line(NamedTuple):
         return self.split.has(*names)
 
     def operand(self, place: int, other: bytes) -> bytes:
-        """An operand, counted from the last one where the place is negative; what is to be filled in where there is none."""
+        """An operand, counted from the last one where the place is negative; what is to be filled in where there is
+        none."""
         return self.operands[place] if -len(self.operands) <= place < len(self.operands) else other
 
     def about(self) -> bytes:

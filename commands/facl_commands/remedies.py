@@ -1,4 +1,5 @@
-"""The lines that would do what a refused line was probably meant to do. A word in capital letters is for the person to fill in."""
+"""The lines that would do what a refused line was probably meant to do. A word in capital letters is for the person to
+fill in."""
 from __future__ import annotations
 
 import re
@@ -59,7 +60,8 @@ def built(*words: bytes) -> bytes:
 def as_written(form: str) -> Remedy:
     """A line of words and fields."""
     parts = FIELD.findall(form)
-    return lambda line: [built(*[word for part in parts for word in (FIELDS[part](line) if part in FIELDS else [part.encode()])])]
+    return lambda line: [built(*[word for part in parts
+                                 for word in (FIELDS[part](line) if part in FIELDS else [part.encode()])])]
 
 
 def replaced(pattern: bytes, by: bytes) -> Remedy:

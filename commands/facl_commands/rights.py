@@ -1,8 +1,8 @@
 """Who may do what: what the program answers before the edits and after them, and what differs.
 
 What a user may do with a file depends on its owner, group and list alone, which are lines of its record: files with one
-record are judged alike, so that of each of these one block of `index` is read. Along a path, what is in one directory is
-reached by the same users: those who have search on it, and on each recorded directory above.
+record are judged alike, so that of each of these one block of `index` is read. Along a path, what is in one directory
+is reached by the same users: those who have search on it, and on each recorded directory above.
 """
 from __future__ import annotations
 
@@ -31,7 +31,8 @@ class Answers(NamedTuple):
     names: Dict[bytes, bytes]  # By path: the name as the program prints it.
     users: List[bytes]
     alone: Dict[bytes, Vector]  # By path, in path order: on each file alone.
-    reached: Dict[bytes, bytes]  # By directory, as directory_of has it: for each user 1 who can get to what is in it, else 0.
+    reached: Dict[bytes,
+                  bytes]  # By directory, as directory_of has it: for each user 1 who can get to what is in it, else 0.
     vectors: Dict[bytes, Vector]  # By path: what counts, along paths or on each file alone.
 
 
@@ -52,8 +53,8 @@ class Group:
 
 
 class Changes(NamedTuple):
-    """The groups, in the order of their first files; each file with its group, in path order; and those users of whom there
-    would be more, but that they are left out."""
+    """The groups, in the order of their first files; each file with its group, in path order; and those users of whom
+    there would be more, but that they are left out."""
 
     groups: List[Group]
     files: List[Tuple[bytes, Group]]
@@ -108,8 +109,8 @@ def users_of(table: Region) -> List[bytes]:
 
 
 def read_table(table: Region, users: List[bytes], listing: Listing) -> Dict[bytes, Vector]:
-    """For each record what `index` has of the first file that has it. All lines of a file have one length but for the user; without
-    the name, the digits have the same places in each file's lines."""
+    """For each record what `index` has of the first file that has it. All lines of a file have one length but for the
+    user; without the name, the digits have the same places in each file's lines."""
     found: Dict[bytes, Vector] = {}
     ends = [b" " + user + b"\n" for user in users]
     digits, rest = (struct.Struct("".join(form % len(end) for end in ends)) for form in ("2s%dx", "2x%ds"))
@@ -159,7 +160,8 @@ def directories_to_find(directory: bytes, found: Dict[bytes, bytes]) -> List[byt
 
 
 def along_path(vector: Vector, reached: bytes) -> Vector:
-    """What is granted along a path: nothing to those who cannot get there. The request for nothing is granted to all."""
+    """What is granted along a path: nothing to those who cannot get there. The request for nothing is granted to
+    all."""
     return both(vector, reached.translate(ALL_OR_NOTHING))
 
 
@@ -198,7 +200,8 @@ def differences(old: Answers, new: Answers, before: Optional[Vector], after: Opt
     """What differs between the bytes of all users; without a file there are none."""
     if old.users == new.users and before is not None and after is not None:
         places = list(places_in((lanes(before) ^ lanes(after)).to_bytes(len(after), "little")))
-        users, bytes_of = [old.users[k] for k in places], [{old.users[k]: it[k] for k in places} for it in (before, after)]
+        users, bytes_of = [old.users[k] for k in places], [{old.users[k]: it[k] for k in places}
+                                                           for it in (before, after)]
     else:
         bytes_of = [{} if it is None else dict(zip(side.users, it)) for side, it in ((old, before), (new, after))]
         users = [*bytes_of[0], *(user for user in bytes_of[1] if user not in bytes_of[0])]
@@ -212,7 +215,8 @@ def paths_of(old: Answers, new: Answers) -> List[bytes]:
 
 
 def changes(old: Answers, new: Answers, left_out: Collection[bytes] = ()) -> Changes:
-    """What differs, for all users but those who are left out. Two files with the same rights before and after are alike."""
+    """What differs, for all users but those who are left out. Two files with the same rights before and after are
+    alike."""
     found = Changes([], [], set())
     known: Dict[Tuple[Optional[Vector], Optional[Vector]], Group] = {}
     before_of, after_of = old.vectors.get, new.vectors.get

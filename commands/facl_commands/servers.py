@@ -1,7 +1,7 @@
 """facl-ask --hosts: a script over a snapshot of each of several servers, by GNU parallel and ssh.
 
-Each line that a server prints, and each of its messages, begins with the server's name, so that the lines can be searched and
-sorted by it.
+Each line that a server prints, and each of its messages, begins with the server's name, so that the lines can be
+searched and sorted by it.
 """
 from __future__ import annotations
 
@@ -41,7 +41,8 @@ def read_servers(words: List[bytes]) -> List[Server]:
             raise Failure(word + b": a server is NAME:DIR, and NAME starts with a letter, a digit or _")
         checked_operand(word, match[2])
         if match[1] in found:
-            raise Failure(word + b": is the second snapshot of " + match[1] + b": ask each of one server in a run of its own")
+            raise Failure(word + b": is the second snapshot of " + match[1]
+                          + b": ask each of one server in a run of its own")
         found[match[1]] = Server(match[1], match[2])
     return list(found.values())
 
@@ -52,7 +53,8 @@ def say(command: Command, server: Server, texts: List[bytes]) -> None:
     command.put(command.messages)
 
 
-def answer_lines(unit: Unit, server: Server, answered: Answered, superusers: Superusers, has_headings: bool) -> Iterator[bytes]:
+def answer_lines(unit: Unit, server: Server, answered: Answered, superusers: Superusers,
+                 has_headings: bool) -> Iterator[bytes]:
     """The lines of a server's answer, each of which begins with its name."""
     lines = superusers.rest(unit, answered.output.lines())
     for line in lines_to_show(unit, lines, answered.header.messages) if has_headings else lines:
@@ -85,11 +87,13 @@ class Printer:
 
 
 def body(command: Command, words: List[str], given: argparse.Namespace) -> int:
-    """Answers standard input over all servers. One that does not answer leaves the answers of the others as they are."""
+    """Answers standard input over all servers. One that does not answer leaves the answers of the others as they
+    are."""
     servers = read_servers([os.fsencode(word) for word in words])
     script = read_text("-")
     with tempfile.TemporaryDirectory(prefix="facl-ask.") as work:
-        outcomes = run_hosts({it.host(): [it.folder] for it in servers}, program_option(given.program), script.text, work)
+        outcomes = run_hosts({it.host(): [it.folder] for it in servers}, program_option(given.program), script.text,
+                             work)
         failures = {it: found for it in servers for found in [outcomes[it.host()]] if isinstance(found, Failure)}
         parts = {it: found[0] for it in servers for found in [outcomes[it.host()]] if not isinstance(found, Failure)}
         for server, part in parts.items():

@@ -59,7 +59,8 @@ def hosts_of(folders: List[bytes]) -> Dict[bytes, List[bytes]]:
     for folder in folders:
         match = None if os.path.exists(folder) else HOST.match(folder)
         if match is None and LIKE_HOST.match(folder) and not os.path.exists(folder):
-            raise Failure(folder + b": a HOST starts with a letter, a digit or _, so that no program takes it for something else")
+            raise Failure(folder + b": a HOST starts with a letter, a digit or _, so that no program takes it for "
+                                   b"something else")
         host, name = (match[1], match[2]) if match else (HERE, folder)
         found.setdefault(host, []).append(checked_operand(folder, name))
     return found
@@ -89,10 +90,12 @@ def program_option(program: Optional[str]) -> List[bytes]:
 
 def start(words: List[bytes], work: str) -> Run:
     """Starts parallel with the script as its standard input."""
-    called = {**environment_of_called(), "LC_ALL": "C", "PARALLEL_SHELL": "/bin/sh", "PARALLEL_HOME": work, "TMPDIR": work}
+    called = {**environment_of_called(), "LC_ALL": "C", "PARALLEL_SHELL": "/bin/sh", "PARALLEL_HOME": work,
+              "TMPDIR": work}
     out, messages = tempfile.TemporaryFile(dir=work), tempfile.TemporaryFile(dir=work)
     with open(os.path.join(work, "script"), "rb") as given:
-        process = subprocess.Popen(words, stdin=given, stdout=out, stderr=messages, env=called, preexec_fn=leave_quit_to_us)
+        process = subprocess.Popen(words, stdin=given, stdout=out, stderr=messages, env=called,
+                                   preexec_fn=leave_quit_to_us)
     return Run(process, out, messages)
 
 
@@ -123,7 +126,8 @@ def outcome_of(run: Run, host: bytes, wanted: int) -> Outcome:
 
 
 def leave_quit_to_us() -> None:
-    """In parallel, which would end at SIGQUIT and leave its jobs behind: the signal is left to the command, which ends it."""
+    """In parallel, which would end at SIGQUIT and leave its jobs behind: the signal is left to the command, which ends
+    it."""
     signal.signal(signal.SIGQUIT, signal.SIG_IGN)
 
 

@@ -1,4 +1,5 @@
-"""Where a user is stopped on the way to a file: a mark on the block of that directory in the answer of `why --reach`."""
+"""Where a user is stopped on the way to a file: a mark on the block of that directory in the answer of `why
+--reach`."""
 from __future__ import annotations
 
 from typing import Iterable, Iterator, List, Set
@@ -12,8 +13,8 @@ MARK = b"    <-- here is no search: nothing below is reached"
 
 
 def marked(unit: Unit, lines: Iterable[bytes]) -> Iterator[bytes]:
-    """The lines of an answer; of a line that asks why along paths, with the mark on the first directory above each FILE whose
-    entries do not grant its user search. A directory comes after those above it."""
+    """The lines of an answer; of a line that asks why along paths, with the mark on the first directory above each FILE
+    whose entries do not grant its user search. A directory comes after those above it."""
     if not unit.is_of(b"why") or b"--reach" not in unit.words:
         yield from lines
         return

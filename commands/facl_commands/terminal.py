@@ -30,14 +30,15 @@ def part(name: str) -> Any:
 
 
 def has_history(home: str) -> bool:
-    """Whether lines can be kept in a folder: nobody else can write there, and the file, which is made where there is none, is
-    the user's own; nobody else may read it then."""
+    """Whether lines can be kept in a folder: nobody else can write there, and the file, which is made where there is
+    none, is the user's own; nobody else may read it then."""
     try:
         folder = trusted.open_folder(os.fsencode(home))
     except Failure:
         return False
     try:
-        file = os.open(HISTORY, os.O_RDWR | os.O_CREAT | os.O_NOFOLLOW | os.O_NONBLOCK | os.O_CLOEXEC, PRIVATE, dir_fd=folder)
+        file = os.open(HISTORY, os.O_RDWR | os.O_CREAT | os.O_NOFOLLOW | os.O_NONBLOCK | os.O_CLOEXEC, PRIVATE,
+                       dir_fd=folder)
     except OSError:
         return False
     finally:

@@ -1,7 +1,8 @@
-"""Any dump: a folder with passwd, group and dump alone, or three files by name, also without the directories above its files.
+"""Any dump: a folder with passwd, group and dump alone, or three files by name, also without the directories above its
+files.
 
-A command calls add_source for its words and opens what is given by opened; then notice has what such a snapshot cannot tell,
-find_tops the files that no recorded directory is above, and list_below listings from these on.
+A command calls add_source for its words and opens what is given by opened; then notice has what such a snapshot cannot
+tell, find_tops the files that no recorded directory is above, and list_below listings from these on.
 """
 from __future__ import annotations
 
@@ -49,7 +50,8 @@ def add_source(parser: argparse.ArgumentParser, words: List[str], group_option: 
     parser.add_argument("--program", metavar="FILE", help="the program facl; without it $FACL, or facl on the path")
     parser.add_argument("--dump", metavar="FILE", help="a file of getfacl -R, in place of SNAPSHOT")
     parser.add_argument("--passwd", metavar="FILE", help="with --dump: the users; without it those of the system")
-    parser.add_argument(group_option, metavar="FILE", dest="group_file", help="with --dump: the groups; without it those of the system")
+    parser.add_argument(group_option, metavar="FILE", dest="group_file",
+                        help="with --dump: the groups; without it those of the system")
     if is_dump_given(words):
         parser.set_defaults(snapshot=None)
     else:
@@ -58,7 +60,8 @@ def add_source(parser: argparse.ArgumentParser, words: List[str], group_option: 
 
 @contextlib.contextmanager
 def opened(given: argparse.Namespace) -> Iterator[Source]:
-    """A folder with the texts that are given; where they are files, one with links to them, which is removed at the end."""
+    """A folder with the texts that are given; where they are files, one with links to them, which is removed at the
+    end."""
     if given.dump is None:
         if given.passwd is not None or given.group_file is not None:
             raise Failure(b"--passwd and the file of groups go with --dump: a SNAPSHOT has its own")
@@ -79,7 +82,8 @@ def opened(given: argparse.Namespace) -> Iterator[Source]:
 def getent(words: List[bytes]) -> bytes:
     """Rows of the system; keys that nobody has give none."""
     try:
-        return subprocess.run([b"getent", *words], stdin=subprocess.DEVNULL, stdout=subprocess.PIPE, env=environment_of_called(),
+        return subprocess.run([b"getent", *words], stdin=subprocess.DEVNULL, stdout=subprocess.PIPE,
+                              env=environment_of_called(),
                               check=False).stdout
     except OSError as error:
         raise Failure(b"getent: " + reason(error)) from error
@@ -109,7 +113,8 @@ def names_in(database: str, lines: Set[bytes]) -> Set[bytes]:
 
 
 def rows_of_system(database: str, dump: bytes) -> bytes:
-    """passwd or group of the system, also the rows that it gives only where it is asked for them by a name or id of the dump."""
+    """passwd or group of the system, also the rows that it gives only where it is asked for them by a name or id of the
+    dump."""
     word = database.encode()
     text = getent([word])
     known = {field for row in rows_of(text) for field in (row[0], row[2])}
@@ -125,7 +130,8 @@ def names_without_row(passwd: bytes, group: bytes, dump: bytes) -> List[bytes]:
     lines = distinct_lines(dump)
     for kind, database, rows in zip(KINDS, ("passwd", "group"), (passwd, group)):
         known = {row[0] for row in rows_of(rows)}
-        found += [kind.encode() + b" " + name for name in sorted(names_in(database, lines) - known) if not name.isdigit()]
+        found += [kind.encode() + b" " + name for name in sorted(names_in(database, lines) - known)
+                  if not name.isdigit()]
     return found
 
 

@@ -5,7 +5,8 @@ from typing import Dict, FrozenSet, List, NamedTuple, Optional, Tuple
 
 QUESTION, EDIT, PEOPLE, LOAD, OF_PLANS = "question", "edit", "people", "load", "of plans"
 FILE, USER, GROUP, ENTRIES, OTHER = "file", "user", "group", "entries", "other"  # Kinds of words.
-KINDS = {"FILE": FILE, "USER": USER, "GROUP": GROUP, "LIST": ENTRIES}  # By the names of operands; those of others are OTHER.
+KINDS = {"FILE": FILE, "USER": USER, "GROUP": GROUP,
+         "LIST": ENTRIES}  # By the names of operands; those of others are OTHER.
 
 
 class Tool(NamedTuple):
@@ -28,11 +29,13 @@ ALL: Dict[bytes, Tool] = {
     b"changes": Tool(QUESTION, "", "--reach", b"(nothing)\n"),
     b"index": Tool(QUESTION, "", "", b"(nothing)\n"),
     b"getfacl": Tool(
-        QUESTION, "FILE", "-a|--access -c|--omit-header -e|--all-effective -E|--no-effective -s|--skip-base -R|--recursive "
+        QUESTION, "FILE", "-a|--access -c|--omit-header -e|--all-effective -E|--no-effective -s|--skip-base "
+                          "-R|--recursive "
         "-n|--numeric", b"(nothing)\n",
     ),
     b"setfacl": Tool(
-        EDIT, "FILE", "-b|--remove-all -k|--remove-default -x|--remove:entries -X|--remove-file:other -m|--modify:entries "
+        EDIT, "FILE", "-b|--remove-all -k|--remove-default -x|--remove:entries -X|--remove-file:other "
+                      "-m|--modify:entries "
         "-M|--modify-file:other -n|--no-mask --mask -d|--default -R|--recursive --set:entries --set-file:other "
         "--restore:other --test",
     ),
@@ -57,7 +60,8 @@ def of_kind(*kinds: str) -> Tuple[bytes, ...]:
     return tuple(name for name, tool in ALL.items() if tool.kind in kinds)
 
 
-EDITS, CHANGES_OF_PEOPLE, QUESTIONS, TOOLS_OF_PLANS = of_kind(EDIT), of_kind(PEOPLE), of_kind(QUESTION), of_kind(OF_PLANS)
+EDITS, CHANGES_OF_PEOPLE = of_kind(EDIT), of_kind(PEOPLE)
+QUESTIONS, TOOLS_OF_PLANS = of_kind(QUESTION), of_kind(OF_PLANS)
 TOOLS = tuple(name for name in ALL if name not in TOOLS_OF_PLANS)
 WITH_FILES = tuple(name for name in TOOLS if "FILE" in ALL[name].operands)  # They look at files that their words name.
 EMPTY_ANSWERS = {name: tool.empty for name, tool in ALL.items() if tool.empty}
@@ -70,7 +74,8 @@ VALUES_OF_OTHERS: Dict[bytes, FrozenSet[bytes]] = {
     for tool, options in {
         b"gpasswd": b"-M -A", b"usermod": b"-G -u -s -d -l -c -e", b"useradd": b"-G -s -d -c -e -k -p",
         b"chown": b"--from --reference", b"chgrp": b"--reference", b"chmod": b"--reference", b"groupmems": b"-g -a -d",
-        b"sudo": b"-u -g", b"doas": b"-u", b"su": b"-c -s", b"runuser": b"-c -s -u", b"install": b"-m -o -g", b"mkdir": b"-m",
+        b"sudo": b"-u -g", b"doas": b"-u", b"su": b"-c -s", b"runuser": b"-c -s -u", b"install": b"-m -o -g",
+        b"mkdir": b"-m",
         b"adduser": b"--ingroup --uid --gid --home --shell --gecos", b"setfattr": b"-n -v -x", b"getfattr": b"-n -e",
     }.items()
 }
@@ -83,7 +88,8 @@ def operand_kinds(tool: bytes) -> List[str]:
 
 
 def options_of_tool(tool: bytes, has_long: bool = True) -> List[bytes]:
-    """Short options first, by their letters, a small one before the capital one; without long names of short ones, or with."""
+    """Short options first, by their letters, a small one before the capital one; without long names of short ones, or
+    with."""
     names = OPTIONS.get(tool, frozenset()) - (set() if has_long else set(LONG_NAMES.get(tool, {}).values()))
     return sorted(names, key=lambda name: (len(name) > 2, name.lower(), name.swapcase()))
 
@@ -123,7 +129,8 @@ def split(words: List[bytes]) -> Split:
             continue
         *letters, (name, value) = options_of(word, values)
         takes_next = value is None and name in values and rest
-        found.given.extend([*(Option(it, b"") for it, _ in letters), Option(name, rest.pop() if takes_next else value or b"")])
+        found.given.extend([*(Option(it, b"") for it, _ in letters),
+                            Option(name, rest.pop() if takes_next else value or b"")])
     found.operands.extend(rest[::-1])
     return found
 
