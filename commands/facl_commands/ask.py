@@ -89,12 +89,6 @@ def take_script(script: str) -> None:
         os.dup2(descriptor, 0)
 
 
-def run_program(program: str, source: Source) -> int:
-    """Runs the program, and returns its status, where the folder is one that is removed after it."""
-    status = subprocess.run(program_words(program, source.folder), env=environment_of_called(), check=False).returncode
-    return status if status >= 0 else 128 - status
-
-
 def units_of_input() -> Dict[int, Unit]:
     """The lines of a script that is the standard input, by their numbers; none where it can be read once alone."""
     try:
@@ -240,8 +234,10 @@ def answer_one(command: Command, given: argparse.Namespace, source: Source) -> i
         return answer_input(command, program, source.folder, is_named)
     if is_named:
         return run_explained(command, program, source)
-    if source.is_made:
-        return run_program(program, source)
+    if source.is_made:  # The folder is removed after it.
+        words = program_words(program, source.folder)
+        status = subprocess.run(words, env=environment_of_called(), check=False).returncode
+        return status if status >= 0 else 128 - status
     become_program(program, source.folder)
 
 

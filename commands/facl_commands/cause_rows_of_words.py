@@ -32,10 +32,6 @@ def has_mode_last(line: Line) -> bool:
     return len(line.operands) > 1 and re.match(rb"[0-7]{1,4}\Z", line.operands[-1]) is not None
 
 
-def has_no_owner(line: Line) -> bool:
-    return line.operand(0, b"") in (b":", b"") and len(line.operands) > 1
-
-
 # --- rows of chown and chgrp in scripts of facl-plan
 
 OF_OWNERS: List[Cause] = [
@@ -50,7 +46,7 @@ OF_OWNERS: List[Cause] = [
         "After an id and a colon comes a GROUP; USER: without one takes the name of a user, and means the user's "
         "primary "
         "group.", "", "chown 1001: FILE", "chown ines: FILE"),
-    row("no owner", USAGE, first("chown", has_no_owner), "A USER, a :GROUP or both say what to change.", "",
+    row("no owner", USAGE, operands(b"chown", lambda word: word in (b":", b""), is_any), "A USER, a :GROUP or both say what to change.", "",
         "chown : FILE", "chown :audit FILE"),
 ]
 

@@ -2,7 +2,7 @@
 from __future__ import annotations
 
 import re
-from typing import Callable, List, Optional, Set
+from typing import Callable, Iterator, List, Optional, Set
 
 from . import causes
 from .answering import NO_FILE, is_refused
@@ -11,7 +11,7 @@ from .manual import Page
 from .messages import Failure
 from .names import read_path, shown, write_name
 from .program import Answer, Session
-from .scripts import LINE_LIMIT, Unit, is_empty, read_script, takes_text, words_of
+from .scripts import LINE_LIMIT, Unit, is_empty, read_units, words_of
 from .stops import marked
 from .superuser import Superusers
 from .tools import EMPTY_ANSWERS, QUESTIONS
@@ -77,23 +77,22 @@ class Desk:
         if words[:1] and words[0] in HELP_WORDS:
             self.help(words[1:])
             return True
-        number, lines = self.number, [line]
-        if not is_empty(line) and takes_text(words):
-            try:
-                lines += self.text(read)
-            except KeyboardInterrupt:
-                self.out(b"(the text is given up, and line %d with it)\n" % number)
-                return True
-        for unit in read_script(b"", b"".join(it + b"\n" for it in lines)):
-            self.answer(unit._replace(number=number))
+        if len(line) <= LINE_LIMIT and is_empty(line):
+            return True
+        number = self.number
+        try:
+            unit = next(read_units(b"", self.with_text(line, read)))
+        except KeyboardInterrupt:
+            self.out(b"(the text is given up, and line %d with it)\n" % number)
+            return True
+        self.answer(unit._replace(number=number))
         return True
 
-    def text(self, read: Read) -> List[bytes]:
-        """The lines of a text, with its end."""
-        lines: List[bytes] = []
-        while not lines or lines[-1] != b".":
-            lines.append(self.next_line(read, "%d| " % (self.number + 1)))
-        return lines
+    def with_text(self, line: bytes, read: Read) -> Iterator[bytes]:
+        """A line, and what is read after it for its text, if it takes one."""
+        yield line
+        while True:
+            yield self.next_line(read, "%d| " % (self.number + 1))
 
     def answer(self, unit: Unit) -> None:
         """Answers a line with its text."""
@@ -176,21 +175,15 @@ class Desk:
         if self.page is None:
             text = "The manual page is not beside this command: man facl\n"
         elif not topic:
-            text = overview_of(self.page)
+            synopses = "".join("    " + it + "\n" for tool in self.page.tools.values() for it in tool.synopses)
+            topics = [it for it in self.page.sections if it not in ("name", "synopsis", "see also", "options")]
+            text = KEYS + "\nTools:\n" + synopses + "\nTopics: " + ", ".join(topics) + "\n"
         elif topic in self.page.tools:
             text = self.page.tools[topic].text
         else:
             text = self.page.sections.get(topic.lower(),
                                           "There is no tool and no section of this name: `help` lists them.\n")
         self.out(text.encode())
-
-
-def overview_of(page: Page) -> str:
-    """What `help` prints."""
-    synopses = [synopsis for tool in page.tools.values() for synopsis in tool.synopses]
-    topics = [name for name in page.sections if name not in ("name", "synopsis", "see also", "options")]
-    return KEYS + "\nTools:\n" + "".join("    " + it + "\n"
-                                         for it in synopses) + "\nTopics: " + ", ".join(topics) + "\n"
 
 
 def refuse_early_end(session: Session) -> None:

@@ -47,6 +47,15 @@ def parent_of(path: bytes) -> bytes:
     return path.rpartition(b"/")[0]
 
 
+def directories_above(path: bytes) -> List[bytes]:
+    """The nearest first, and the root last."""
+    found = []
+    while path:
+        path = parent_of(path)
+        found.append(path)
+    return found
+
+
 def shown_path(path: bytes) -> bytes:
     """A path as the program prints it."""
     return write_name(path) or b"."

@@ -78,11 +78,8 @@ class Run:
         self.messages: List[Message] = []
         self.commands: List[people.PeopleChange] = []
 
-    def answer(self, unit: Unit) -> None:
-        """Answers a line, and keeps what it printed."""
-        self.answer_all([unit])
-
     def answer_all(self, units: List[Unit]) -> None:
+        """Answers lines, and keeps what they printed."""
         for unit in units:
             self.answer_before_end(unit)
         self.links.end(self.session)
@@ -249,13 +246,6 @@ def plan_over(command: Command, given: argparse.Namespace, source: texts.Source)
             command.tell(meta.named(source.shown, outcome.about))
         for part in text_report(given, outcome, changes, commands, written):
             command.write(part)
-    return status_of(command, outcome, has_work)
-
-
-def status_of(command: Command, outcome: Outcome, has_work: bool) -> int:
-    if outcome.refusals():
-        return REFUSED
-    if not has_work:
+    if not has_work and not outcome.refusals():
         command.say(b"nothing to do: no line changes a list, an owner, a flag, a file or a user")
-        return NOTHING
-    return SOMETHING
+    return REFUSED if outcome.refusals() else SOMETHING if has_work else NOTHING

@@ -38,22 +38,18 @@ class Changes(NamedTuple):
     removed: List[bytes]
 
 
-def name_in_record(path: bytes, is_directory: bool) -> bytes:
-    """The name of a file in a record that goes to the live system; that of a directory ends in a slash."""
-    return b"/" + write_name(path) + (b"/" if is_directory and path else b"")
-
-
 def write_record(path: bytes, file: File) -> bytes:
     return write_records({path: file}, [path])
 
 
 def write_records(files: Files, paths: Iterable[bytes]) -> bytes:
-    """The records of files; a name without escapes is written as it is."""
+    """The records of files for the live system; the name of a directory ends in a slash, and one without escapes is written
+    as it is."""
     parts: List[bytes] = []
     for path in paths:
         is_directory, body = files[path]
         if is_directory or b"\\" in path or b"\n" in path or b"\r" in path:
-            parts += (b"# file: ", name_in_record(path, is_directory), b"\n", body, b"\n")
+            parts += (b"# file: /", write_name(path), b"/" * (is_directory and path != b""), b"\n", body, b"\n")
         else:
             parts += (b"# file: /", path, b"\n", body, b"\n")
     return b"".join(parts)
@@ -132,10 +128,6 @@ def compare(old: Files, new: Files) -> Changes:
 
 
 @lru_cache(maxsize=4096)
-def is_open_empty_mask(body: bytes) -> bool:
-    return bool(EMPTY_MASK.search(body)) and bool(OTHERS_WITH_SOMETHING.search(body))
-
-
 def has_open_empty_mask(file: File) -> bool:
     """Whether Linux grants named users and groups what others have, as the mask is empty."""
-    return is_open_empty_mask(file.body)
+    return bool(EMPTY_MASK.search(file.body)) and bool(OTHERS_WITH_SOMETHING.search(file.body))

@@ -302,8 +302,7 @@ def keep(records: Iterator[Record], wanted: List[List[bytes]], kept: Files) -> I
 
 def answer_scripts(command: Command, run: plan.Run, units: List[Unit]) -> int:
     """Answers the scripts, and returns how many lines were refused."""
-    for unit in units:
-        run.answer(unit)
+    run.answer_all(units)
     for message in run.messages:
         command.say(message.unit.place() + b": " + message.text)
     return sum(not message.is_warning for message in run.messages)

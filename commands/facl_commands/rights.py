@@ -159,12 +159,6 @@ def directories_to_find(directory: bytes, found: Dict[bytes, bytes]) -> List[byt
     return wanted[::-1]
 
 
-def along_path(vector: Vector, reached: bytes) -> Vector:
-    """What is granted along a path: nothing to those who cannot get there. The request for nothing is granted to
-    all."""
-    return both(vector, reached.translate(ALL_OR_NOTHING))
-
-
 def ask_rights(session: Session, listing: Listing, along_paths: bool) -> Answers:
     """Asks what all users may do with all files that are listed."""
     table = session.ask_surely(b"index")
@@ -177,12 +171,13 @@ def ask_rights(session: Session, listing: Listing, along_paths: bool) -> Answers
 
 
 def along_paths_of(alone: Dict[bytes, Vector], reached: Dict[bytes, bytes]) -> Dict[bytes, Vector]:
+    """What is granted along paths: the request for nothing alone to those who cannot get there."""
     known: Dict[Tuple[Vector, bytes], Vector] = {}
     found = {}
     for path, vector in alone.items():
         pair = vector, reached[directory_of(path)]
         if pair not in known:
-            known[pair] = along_path(*pair)
+            known[pair] = both(vector, pair[1].translate(ALL_OR_NOTHING))
         found[path] = known[pair]
     return found
 
@@ -200,8 +195,8 @@ def differences(old: Answers, new: Answers, before: Optional[Vector], after: Opt
     """What differs between the bytes of all users; without a file there are none."""
     if old.users == new.users and before is not None and after is not None:
         places = list(places_in((lanes(before) ^ lanes(after)).to_bytes(len(after), "little")))
-        users, bytes_of = [old.users[k] for k in places], [{old.users[k]: it[k] for k in places}
-                                                           for it in (before, after)]
+        users = [old.users[k] for k in places]
+        bytes_of = [{old.users[k]: it[k] for k in places} for it in (before, after)]
     else:
         bytes_of = [{} if it is None else dict(zip(side.users, it)) for side, it in ((old, before), (new, after))]
         users = [*bytes_of[0], *(user for user in bytes_of[1] if user not in bytes_of[0])]

@@ -151,10 +151,7 @@ def read_parts(run: Run, host: bytes) -> List[Part]:
     out.seek(0)
     parts: List[Part] = []
     is_open = False
-    while True:
-        line = out.readline()
-        if not line:
-            break
+    for line in iter(out.readline, b""):
         if line.startswith(b'{"part": '):
             parts.append(open_part(out, line, host))
             is_open = True

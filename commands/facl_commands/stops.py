@@ -4,7 +4,7 @@ from __future__ import annotations
 
 from typing import Iterable, Iterator, List, Set
 
-from .names import parent_of, read_path
+from .names import directories_above, read_path
 from .scripts import Unit
 from .tools import split
 
@@ -33,11 +33,3 @@ def marked(unit: Unit, lines: Iterable[bytes]) -> Iterator[bytes]:
             yield from block
             block = []
     yield from block
-
-
-def directories_above(path: bytes) -> List[bytes]:
-    found = []
-    while path:
-        path = parent_of(path)
-        found.append(path)
-    return found

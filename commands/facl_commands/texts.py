@@ -15,7 +15,7 @@ import tempfile
 from typing import Iterator, List, NamedTuple, Optional, Set
 
 from .messages import Failure, reason
-from .names import path_order, read_name, read_path, script_word, shown_path
+from .names import directories_above, path_order, read_name, read_path, script_word, shown_path
 from .people import rows_of
 from .program import Region, Session, environment_of_called, parts_of
 from .trusted import open_trusted, read_trusted
@@ -39,12 +39,6 @@ class Source(NamedTuple):
     is_made: bool  # Whether the folder is made here, and goes with the command.
 
 
-def is_dump_given(words: List[str]) -> bool:
-    """Whether --dump is in the place of SNAPSHOT."""
-    options = words[: words.index("--")] if "--" in words else words
-    return any(word == "--dump" or word.startswith("--dump=") for word in options)
-
-
 def add_source(parser: argparse.ArgumentParser, words: List[str], group_option: str = "--group") -> None:
     """Takes SNAPSHOT, or --dump FILE in its place; and which program is to answer."""
     parser.add_argument("--program", metavar="FILE", help="the program facl; without it $FACL, or facl on the path")
@@ -52,7 +46,8 @@ def add_source(parser: argparse.ArgumentParser, words: List[str], group_option: 
     parser.add_argument("--passwd", metavar="FILE", help="with --dump: the users; without it those of the system")
     parser.add_argument(group_option, metavar="FILE", dest="group_file",
                         help="with --dump: the groups; without it those of the system")
-    if is_dump_given(words):
+    options = words[: words.index("--")] if "--" in words else words
+    if any(word == "--dump" or word.startswith("--dump=") for word in options):
         parser.set_defaults(snapshot=None)
     else:
         parser.add_argument("snapshot", metavar="SNAPSHOT")
@@ -82,9 +77,8 @@ def opened(given: argparse.Namespace) -> Iterator[Source]:
 def getent(words: List[bytes]) -> bytes:
     """Rows of the system; keys that nobody has give none."""
     try:
-        return subprocess.run([b"getent", *words], stdin=subprocess.DEVNULL, stdout=subprocess.PIPE,
-                              env=environment_of_called(),
-                              check=False).stdout
+        return subprocess.run([b"getent", *words], stdin=subprocess.DEVNULL, stdout=subprocess.PIPE, check=False,
+                              env=environment_of_called()).stdout
     except OSError as error:
         raise Failure(b"getent: " + reason(error)) from error
 
@@ -145,23 +139,11 @@ def notice(folder: bytes, dump: bytes) -> Optional[bytes]:
     return b"; ".join(found) or None
 
 
-def has_recorded_above(path: bytes, recorded: Set[bytes]) -> bool:
-    """Whether a directory above a path is recorded."""
-    above = path
-    while b"/" in above:
-        above = above.rpartition(b"/")[0]
-        if above in recorded:
-            return True
-    return False
-
-
 def tops_of(dump: bytes) -> List[bytes]:
     """The paths that no recorded directory is above, in path order; the root alone where it is recorded."""
     comments = (line for piece in pieces_of(dump) for line in piece if b"#" in line[:9])
     recorded = {read_path(match[1]) for match in map(FILE_NAME.match, comments) if match is not None}
-    if b"" in recorded:
-        return [b""]
-    return sorted((path for path in recorded if not has_recorded_above(path, recorded)), key=path_order)
+    return sorted((path for path in recorded if recorded.isdisjoint(directories_above(path))), key=path_order)
 
 
 def find_tops(session: Session, folder: bytes) -> List[bytes]:
