@@ -3,7 +3,7 @@
 
 usage: tools/check/documents.py [--write | --files [CRATE]..]
 
-- docs/PROOFS.md: the functions, types and clauses that these name are in the sources (class Names): the column
+- docs/PROOFS.md: the functions, types and clauses that these name are in the sources (Checks.name_faults): the column
   "Carried by", tables that start with "Calls", lists of its section LEFT, and what is in parentheses of the points, the
   numbered lines of its section POINTS.
 - Tables: limits have the values of their constants, in docs/facl.1 too; the map of crates and the table of tests have
@@ -53,20 +53,29 @@ Fault = Tuple[str, int, str]
 
 
 class Line(NamedTuple):
-    """A line of a document, counted from 1, under the last heading of the second level."""
+    """A line of a document, counted from 1, with the last heading of the second level, and a row's heads and cells."""
 
     number: int
     section: str
     text: str
-    is_code: bool = False
-
-
-class Row(NamedTuple):
-    """A row of a table, with the heads of its columns."""
-
-    number: int
+    is_code: bool
     heads: List[str]
     cells: List[str]
+
+
+def lines_of(text: str) -> Iterator[Line]:
+    section, in_code = "", False
+    heads: List[str] = []
+    for number, line in enumerate(text.split("\n"), 1):
+        if line.startswith("```"):
+            in_code = not in_code
+            continue
+        section = line[3:] if line.startswith("## ") and not in_code else section
+        is_row = line.startswith("|") and not in_code
+        cells = [cell.strip() for cell in re.split(r"(?<!\\)\|", line.strip())[1:-1]] if is_row else []
+        is_head = not heads or not re.search(r"[^|\s:-]", line)
+        yield Line(number, section, line, in_code, heads, [] if is_head else cells)
+        heads = (heads or list(cells)) if is_row else []
 
 
 def codes_of(text: str) -> List[str]:
@@ -78,58 +87,80 @@ def numbers_of(text: str) -> Set[int]:
     return {int(number.replace(",", "")) for number in re.findall(r"\d[\d,]*", text)}
 
 
-class Document:
-    """A document: its text, its lines and the rows of its tables."""
-
-    def __init__(self, top: str, path: str) -> None:
-        self.path, self.text = path, text_of(top, path)
-        self.lines = list(self.lines_of())
-        self.rows = list(self.rows_of())
-
-    def lines_of(self) -> Iterator[Line]:
-        section, in_code = "", False
-        for number, line in enumerate(self.text.split("\n"), 1):
-            if line.startswith("```"):
-                in_code = not in_code
-                continue
-            section = line[3:] if line.startswith("## ") and not in_code else section
-            yield Line(number, section, line, in_code)
-
-    def rows_of(self) -> Iterator[Row]:
-        """The rows of all tables, without their heads."""
-        heads: List[str] = []
-        for line in self.lines:
-            cells = [cell.strip() for cell in re.split(r"(?<!\\)\|", line.text.strip())[1:-1]]
-            if line.is_code or not line.text.startswith("|"):
-                heads = []
-            elif not heads:
-                heads = cells
-            elif not re.fullmatch(r"[|\s:-]+", line.text):
-                yield Row(line.number, heads, cells)
-
-    def table(self, *heads: str) -> List[Row]:
-        """The rows of tables whose first columns have these heads."""
-        return [row for row in self.rows if row.heads[:len(heads)] == list(heads)]
-
-    def anchors(self) -> List[str]:
-        """The names by which links lead to headings."""
-        heads = (line.text.lstrip("#").strip() for line in self.lines if line.text.startswith("#") and not line.is_code)
-        return [re.sub(r"[^\w\- ]", "", head).replace(" ", "-").lower() for head in heads]
+def anchors_of(lines: Iterable[Line]) -> List[str]:
+    """The names by which links lead to headings."""
+    heads = (line.text.lstrip("#").strip() for line in lines if line.text.startswith("#") and not line.is_code)
+    return [re.sub(r"[^\w\- ]", "", head).replace(" ", "-").lower() for head in heads]
 
 
-class Names:
-    """Reads the names in a text from left to right, and finds what they mean in the sources.
+def head_of(top: str, path: str) -> str:
+    """The first paragraph of the docstring or the comment that a file starts with."""
+    text = re.sub(r"\A#!.*\n", "", text_of(top, path))
+    match = re.match(r'"""((?s:.+?))(?:"""|\n\n)|(?:/\* |(//!|--|#) )(.+\n(?:\2 .+\n)*)', text)
+    return " ".join(re.sub(r"^(?://!|--|#) |\*/", "", match[1] or match[3], flags=re.M).split()) if match else ""
 
-    `crate::Type::function`, or less of it: the crate and the type that were named last count on, a crate also where it
-    is named without backticks. After the word `clause` or `clauses`, up to a `;`, are names of clauses: each is one of
-    some function of the text, and each function has one of them. A name in parentheses is any word of the sources.
-    """
 
-    def __init__(self, library: Library, words: Set[str], crates: Iterable[str]) -> None:
-        self.library, self.words, self.crates = library, words, set(crates)
+def options_read(text: str) -> Set[str]:
+    """The options that the rows of a source have."""
+    rows = SWITCH.findall(text)
+    names = {f"--{name}" for kind, _, name in rows if kind != "by_letter"}
+    return names | {f"-{letter}" for _, letter, _ in rows if letter}
 
-    def faults(self, text: str, clauses: str = "") -> Iterator[str]:
-        """What is wrong with a text, whose functions have the clauses that `clauses` names too."""
+
+def options_shown(text: str) -> Set[str]:
+    """The options that heads and tags of a part of the page have."""
+    tags = re.sub(r"\\f[BIRP]", "", "\n".join(re.findall(r"^(?:\.SS|\.T[PQ]\n)(.*)", text, re.M))).replace("\\-", "-")
+    letters = {f"-{letter}" for word in re.findall(r"(?<![\w-])-([A-Za-z]+)", tags) for letter in word}
+    return letters | set(re.findall(r"(?<![\w-])--[A-Za-z][A-Za-z-]*", tags))
+
+
+class Checks:
+    """All checks of a repository; each gives documents, lines and what is wrong there."""
+
+    def __init__(self, top: str) -> None:
+        self.top, self.library = top, Library(top)
+        self.listed = Crates(os.path.join(top, "crates.txt")).listed
+        self.program = [crate for crate in self.listed if not is_of_tests(crate)]
+        paths = found_in(top, "*.md", "docs/*.md", "docs/*.1", "demo/*.md", "tools/*.md")
+        self.texts = {path: text_of(top, path) for path in paths}
+        self.lines = {path: list(lines_of(text)) for path, text in self.texts.items()}
+        self.words = self.all_words()
+        files = [path[len("crates/"):] for path in found_in(top, *SOURCES, "crates/*/proofs/**/*.antt")]
+        self.files = {*files, *(path.split("/", 1)[1] for path in files)}
+
+    def all_words(self) -> Set[str]:
+        """The words of sources, definitions, scripts and commands, with the names of crates and edits."""
+        paths = found_in(self.top, *SOURCES, *SCRIPTS, "tools/*/*.txt")
+        names = found_in(self.top, "crates/*/must-fail/*.edit")
+        words = {os.path.splitext(os.path.basename(path))[0] for path in (*paths, *names)} | set(self.listed)
+        return words.union(*(re.findall(r"\w+", text_of(self.top, path)) for path in paths))
+
+    def rows(self, path: str, *heads: str) -> List[Line]:
+        """The rows of a document's tables whose first columns have these heads."""
+        return [line for line in self.lines[path] if line.cells and line.heads[:len(heads)] == list(heads)]
+
+    # --- names in docs/PROOFS.md
+
+    def names(self) -> Iterator[Fault]:
+        lines = self.lines[PROOFS]
+        texts: Dict[str, List[Tuple[int, str, str]]] = {
+            "Carried by": [(row.number, row.cells[1], "") for row in self.rows(PROOFS) if row.heads[1] == "Carried by"],
+            "Calls": [(row.number, row.cells[0], row.cells[-1]) for row in self.rows(PROOFS, "Calls")],
+            LEFT: [(line.number, line.text, "") for line in lines if (line.section, line.text[:2]) == (LEFT, "- ")],
+            POINTS: [(line.number, part, "") for line in lines if line.section == POINTS and line.text[:1].isdigit()
+                     for part in IN_PARENTHESES.findall(line.text)]}
+        for kind, found in texts.items():
+            faults = [(PROOFS, number, fault) for number, *text in found for fault in self.name_faults(*text)]
+            yield from faults if found else [(PROOFS, 1, f"there is no table, list or point of: {kind}")]
+
+    def name_faults(self, text: str, clauses: str) -> Iterator[str]:
+        """What is wrong with the names in a text, which is read from left to right.
+
+        `crate::Type::function`, or less of it: the crate and the type that were named last count on, a crate also where
+        it is named without backticks. After the word `clause` or `clauses`, up to a `;`, and in `clauses`, are names of
+        clauses: each is one of some function of the text, and each function has one of them. A name in parentheses is
+        any word of the sources.
+        """
         named = [code for code in codes_of(clauses) if NAME.fullmatch(code)]
         functions: List[List[Function]] = []
         crate, owner, depth, in_clauses = "", "", 0, False
@@ -137,12 +168,12 @@ class Names:
             depth += (word == "(") - (word == ")")
             in_clauses = word != ";" and (in_clauses or word in ("clause", "clauses"))
             *path, name = code.split("::")
-            if (code or word) in self.crates and not depth:
+            if (code or word) in self.listed and not depth:
                 crate, owner = code or word, ""
             elif NAME.fullmatch(code) and in_clauses:
                 named.append(code)
             elif NAME.fullmatch(code):
-                crate = path.pop(0) if path and path[0] in self.crates else crate
+                crate = path.pop(0) if path and path[0] in self.listed else crate
                 owner = path[-1] if path else name if name[0].isupper() else owner
                 found = [each for each in self.library.functions if each.name == name and crate in ("", each.crate)]
                 meant = [each for each in found if each.scope.type == owner] or ([] if path else found)
@@ -160,106 +191,11 @@ class Names:
                 yield f"{meant[0].label} has none of the clauses named; it has {', '.join(sorted(names)) or 'none'}"
         yield from (f"no function here has a clause `{name}`" for name in named if name not in known)
 
-
-def graph(listed: Dict[str, Set[str]]) -> Iterator[str]:
-    """The crates of the program, each with an arrow to those that it lists and that no other one on the way has."""
-    program = [crate for crate in listed if not is_of_tests(crate)]
-    yield from ("```mermaid", "graph TD")
-    for crate in program:
-        uses = listed[crate] & set(program)
-        implied = {other for used in uses for other in below(listed, used)}
-        yield from (f"    {crate} --> {used}" for used in sorted(uses - implied))
-    yield "```"
-
-
-def below(listed: Dict[str, Set[str]], crate: str) -> Set[str]:
-    """All crates below a crate."""
-    return {other for used in listed.get(crate, ()) for other in {used} | below(listed, used)}
-
-
-def exported(library: Library, crate: str) -> Iterator[Tuple[Function, bool]]:
-    """The functions that others may call, and whether each is a law: those of a crate's public items and of its public
-    modules; of a program all that are public."""
-    sources = {source.file.split("/", 2)[2]: source for source in library.of_crate(crate)}
-    texts = [token.text for token in sources["src/lib.rt"].tokens] if "src/lib.rt" in sources else []
-    modules = {f"src/{name}.rt" for pub, mod, name in zip(texts, texts[1:], texts[2:]) if (pub, mod) == ("pub", "mod")}
-    for file, source in sources.items():
-        laws = {source.text.count("\n", 0, match.end()) + 1 for match in LAW.finditer(source.text)}
-        for function in source.functions:
-            name = function.scope.type or function.name
-            if function.is_public and (not texts or file in modules or name in texts):
-                yield function, function.line in laws
-
-
-def edits_of(top: str, library: Library, crate: str) -> Iterator[str]:
-    """The must-fail edits of a crate, each with the function that it changes, or the file where none has the text."""
-    for path in found_in(top, f"crates/{crate}/must-fail/*.edit"):
-        pairs = [line.partition(": ")[::2] for line in text_of(top, path).split("\n")]
-        file, old = dict(pairs)["file"], [text for key, text in pairs if key == "old"]
-        source = library.sources[f"crates/{crate}/{file}"]
-        places = [at for at, line in enumerate(source.text.split("\n"), 1) if any(text in line for text in old)]
-        changed = [each.label for at in places for each in source.functions[::-1] if each.line <= at <= each.end]
-        yield f"`{os.path.basename(path)[:-len('.edit')]}` (`{[*changed, os.path.basename(file)][0]}`)"
-
-
-def index(top: str, library: Library, crates: Iterable[str]) -> Iterator[str]:
-    """The crates of the program, each with the calls whose clauses have names, the laws, and the must-fail edits."""
-    for crate in crates:
-        shown: Dict[str, List[str]] = {}
-        for function in (function for function, is_law in exported(library, crate) if not is_law):
-            clauses = ", ".join(f"`{clause}`" for clause in library.clauses(function, ("ensures",)))
-            if clauses:
-                shown.setdefault(function.scope.type or "", []).append(f"`{function.name}` ({clauses})")
-        calls = "; ".join((f"`{owner}`: " if owner else "") + ", ".join(each) for owner, each in sorted(shown.items()))
-        laws = ", ".join(f"`{function.label}`" for function, is_law in exported(library, crate) if is_law)
-        parts = (("Clauses", calls), ("Laws", laws), ("Wrong bodies", ", ".join(edits_of(top, library, crate))))
-        found = [f"  - {head}: {text}" for head, text in parts if text]
-        yield from [f"- **{crate}**", *found] if found else []
-
-
-def head_of(top: str, path: str) -> str:
-    """The first paragraph of the docstring or the comment that a file starts with."""
-    text = re.sub(r"\A#!.*\n", "", text_of(top, path))
-    match = re.match(r'"""((?s:.+?))(?:"""|\n\n)|(?:/\* |(//!|--|#) )(.+\n(?:\2 .+\n)*)', text)
-    return " ".join(re.sub(r"^(?://!|--|#) |\*/", "", match[1] or match[3], flags=re.M).split()) if match else ""
-
-
-class Checks:
-    """All checks of a repository; each gives documents, lines and what is wrong there."""
-
-    def __init__(self, top: str) -> None:
-        self.top, self.library = top, Library(top)
-        self.listed = Crates(os.path.join(top, "crates.txt")).listed
-        paths = found_in(top, "*.md", "docs/*.md", "docs/*.1", "demo/*.md", "tools/*.md")
-        self.documents = {path: Document(top, path) for path in paths}
-        self.proofs = self.documents[PROOFS]
-        self.words = self.all_words()
-        files = [path[len("crates/"):] for path in found_in(top, *SOURCES, "crates/*/proofs/**/*.antt")]
-        self.files = {*files, *(path.split("/", 1)[1] for path in files)}
-
-    def all_words(self) -> Set[str]:
-        """The words of sources, definitions, scripts and commands, with the names of crates and edits."""
-        paths = found_in(self.top, *SOURCES, *SCRIPTS, "tools/*/*.txt")
-        names = found_in(self.top, "crates/*/must-fail/*.edit")
-        words = {os.path.splitext(os.path.basename(path))[0] for path in (*paths, *names)} | set(self.listed)
-        return words.union(*(re.findall(r"\w+", text_of(self.top, path)) for path in paths))
-
-    def names(self) -> Iterator[Fault]:
-        """Functions and clauses of docs/PROOFS.md."""
-        names, lines = Names(self.library, self.words, self.listed), self.proofs.lines
-        texts = {
-            "Carried by": [(row.number, row.cells[1], "") for row in self.proofs.rows if row.heads[1] == "Carried by"],
-            "Calls": [(row.number, row.cells[0], row.cells[-1]) for row in self.proofs.table("Calls")],
-            LEFT: [(line.number, line.text, "") for line in lines if (line.section, line.text[:2]) == (LEFT, "- ")],
-            POINTS: [(line.number, part, "") for line in lines if line.section == POINTS and line.text[:1].isdigit()
-                     for part in IN_PARENTHESES.findall(line.text)]}
-        for kind, found in texts.items():
-            faults = [(PROOFS, number, fault) for number, *text in found for fault in names.faults(*text)]
-            yield from faults if found else [(PROOFS, 1, f"there is no table, list or point of: {kind}")]
+    # --- tables, examples and scripts
 
     def limits(self) -> Iterator[Fault]:
         """Values in the table of limits, and in the page's list, where the greatest id is one less."""
-        rows = self.documents[ARCHITECTURE].table("Limit", "Value", "Constant")
+        rows = self.rows(ARCHITECTURE, "Limit", "Value", "Constant")
         for row in rows:
             crate, name = re.findall(r"\w+", row.cells[2])[:2]
             constant = re.compile(rf"\bconst {name}: \w+ = ([\d_]+);")
@@ -267,28 +203,27 @@ class Checks:
             if not values & numbers_of(row.cells[1]):
                 yield ARCHITECTURE, row.number, f"{name} of {crate} is {' '.join(map(str, values)) or 'not there'}"
         there = {number for row in rows for number in numbers_of(row.cells[1])}
-        before, _, after = self.documents[PAGE].text.partition(".SH LIMITS\n")
+        before, _, after = self.texts[PAGE].partition(".SH LIMITS\n")
         for number, line in enumerate(after.partition(".SH ")[0].split("\n"), before.count("\n") + 2):
             missing = {value for value in numbers_of(line) if not {value, value + 1} & there}
             yield from ((PAGE, number, f"{value} is no limit of {ARCHITECTURE}") for value in missing)
 
     def maps(self) -> Iterator[Fault]:
         """The map of crates, the table of tests, and the crates of the kit that are trusted, beside crates.txt."""
-        rows = {row.cells[0].strip("`"): row.number for row in self.documents[ARCHITECTURE].table("Crate")}
-        program = {crate for crate in self.listed if not is_of_tests(crate)}
+        rows = {row.cells[0].strip("`"): row.number for row in self.rows(ARCHITECTURE, "Crate")}
         unknown = set(rows) - set(self.listed)
         yield from ((ARCHITECTURE, rows[crate], f"no crate {crate} in crates.txt") for crate in unknown)
-        yield from ((ARCHITECTURE, 1, f"{crate} is not in the map") for crate in program - set(rows))
+        yield from ((ARCHITECTURE, 1, f"{crate} is not in the map") for crate in set(self.program) - set(rows))
         left = set(self.listed)
-        for row in self.documents[CONTRIBUTING].table("Crates", "Tests"):
+        for row in self.rows(CONTRIBUTING, "Crates", "Tests"):
             crates, tests = (set(re.findall(r"\w+", cell)) & set(self.listed) for cell in row.cells[:2])
             left -= crates | tests
             for test in tests:
-                others = crates - below(self.listed, test) - {test}
+                others = crates - self.below(test) - {test}
                 yield from ((CONTRIBUTING, row.number, f"{test} does not use {other}: crates.txt") for other in others)
         yield from ((CONTRIBUTING, 1, f"{crate} is not in the table of tests") for crate in left)
         kit = {name for names in self.listed.values() for name in names} - set(self.listed)
-        trusted = [line for line in self.proofs.lines if line.text.startswith("Trusted")]
+        trusted = [line for line in self.lines[PROOFS] if line.text.startswith("Trusted")]
         if not trusted or set(codes_of(trusted[0].text)) != kit:
             number = trusted[0].number if trusted else 1
             yield PROOFS, number, f"no line that starts with Trusted has the kit's crates, {' '.join(sorted(kit))}"
@@ -297,7 +232,7 @@ class Checks:
         """Tools and options that the program has and the page has not, or the other way round."""
         names = re.findall(r'Tool::\w+ => "(\w+)"', text_of(self.top, "crates/facl/src/tools.rt"))
         files = {"facl": "facl_words/src/args.rt", **{name: f"facl/src/tools/{name}.rt" for name in names}}
-        sections = dict(re.findall(r"^\.SH (.*)\n((?:(?!\.SH ).*\n)*)", self.documents[PAGE].text, re.M))
+        sections = dict(re.findall(r"^\.SH (.*)\n((?:(?!\.SH ).*\n)*)", self.texts[PAGE], re.M))
         shown = {"facl": sections.get("OPTIONS", "")}
         for name, part in re.findall(r"^\.SS (\w+)(.*\n(?:(?!\.SS ).*\n)*)", sections.get("TOOLS", ""), re.M):
             shown[name] = shown.get(name, "") + ".SS" + part
@@ -311,14 +246,14 @@ class Checks:
     def examples(self) -> Iterator[Fault]:
         """Lines of examples that are in no source and no definition."""
         there = {line.strip() for path in found_in(self.top, *SOURCES) for line in text_of(self.top, path).split("\n")}
-        for line in self.documents[READING].lines:
+        for line in self.lines[READING]:
             if line.is_code and line.text.strip() not in there | {""}:
                 yield READING, line.number, "is in no source"
 
     def scripts(self) -> Iterator[Fault]:
         """Scripts that tools/README.md does not name, by their paths in tools/, and those that are not there."""
         there = {path[len("tools/"):] for path in found_in(self.top, *SCRIPTS) if path.startswith("tools/")}
-        named = {name: line.number for line in self.documents[TOOLS].lines for name in SCRIPT.findall(line.text)}
+        named = {name: line.number for line in self.lines[TOOLS] for name in SCRIPT.findall(line.text)}
         yield from ((TOOLS, named[name], f"no {name} in tools/") for name in set(named) - there)
         yield from ((TOOLS, 1, f"{name} is not named") for name in there - set(named))
 
@@ -329,29 +264,80 @@ class Checks:
         return [(path, head_of(self.top, path)) for path in files
                 if not path.endswith(("/lib.rt", "/Lib.antt", "/__init__.py"))]
 
+    # --- what is made of the sources
+
     def blocks(self) -> Iterator[Fault]:
-        """The parts that are made of the sources."""
-        for path, document in self.documents.items():
-            if self.written(document.text) != document.text:
-                yield path, 1, "a block is not as the sources have it: tools/check/documents.py --write"
+        made = "a block is not as the sources have it: tools/check/documents.py --write"
+        return ((path, 1, made) for path, text in self.texts.items() if self.written(text) != text)
 
     def written(self, text: str) -> str:
         """A document with all of its blocks made of the sources."""
 
         def block(match: "re.Match[str]") -> str:
-            program = [crate for crate in self.listed if not is_of_tests(crate)]
-            lines = graph(self.listed) if match[1] == "graph" else index(self.top, self.library, program)
+            lines = self.graph() if match[1] == "graph" else self.index()
             return f"<!-- {match[1]} -->\n" + "".join(line + "\n" for line in lines) + "<!-- end -->"
 
         return BLOCK.sub(block, text)
 
+    def below(self, crate: str) -> Set[str]:
+        """All crates below a crate."""
+        return {other for used in self.listed.get(crate, ()) for other in {used} | self.below(used)}
+
+    def graph(self) -> Iterator[str]:
+        """The crates of the program, each with an arrow to those that it lists and that no other one on the way has."""
+        yield from ("```mermaid", "graph TD")
+        for crate in self.program:
+            uses = self.listed[crate] & set(self.program)
+            implied = {other for used in uses for other in self.below(used)}
+            yield from (f"    {crate} --> {used}" for used in sorted(uses - implied))
+        yield "```"
+
+    def index(self) -> Iterator[str]:
+        """The crates of the program, each with the calls whose clauses have names, the laws, the must-fail edits."""
+        for crate in self.program:
+            shown: Dict[str, List[str]] = {}
+            for function in (function for function, is_law in self.exported(crate) if not is_law):
+                clauses = ", ".join(f"`{clause}`" for clause in self.library.clauses(function, ("ensures",)))
+                owner = f"`{function.scope.type}`: " if function.scope.type else ""
+                shown.setdefault(owner, []).extend([f"`{function.name}` ({clauses})"] if clauses else [])
+            calls = "; ".join(owner + ", ".join(each) for owner, each in sorted(shown.items()) if each)
+            laws = ", ".join(f"`{function.label}`" for function, is_law in self.exported(crate) if is_law)
+            parts = (("Clauses", calls), ("Laws", laws), ("Wrong bodies", ", ".join(self.edits(crate))))
+            found = [f"  - {head}: {text}" for head, text in parts if text]
+            yield from [f"- **{crate}**", *found] if found else []
+
+    def exported(self, crate: str) -> Iterator[Tuple[Function, bool]]:
+        """The functions that others may call, and whether each is a law: those of a crate's public items and of its
+        public modules; of a program all that are public."""
+        sources = {source.file.split("/", 2)[2]: source for source in self.library.of_crate(crate)}
+        texts = [token.text for token in sources["src/lib.rt"].tokens] if "src/lib.rt" in sources else []
+        modules = {f"src/{name}.rt" for *pub_mod, name in zip(texts, texts[1:], texts[2:]) if pub_mod == ["pub", "mod"]}
+        for file, source in sources.items():
+            laws = {source.text.count("\n", 0, match.end()) + 1 for match in LAW.finditer(source.text)}
+            for function in source.functions:
+                name = function.scope.type or function.name
+                if function.is_public and (not texts or file in modules or name in texts):
+                    yield function, function.line in laws
+
+    def edits(self, crate: str) -> Iterator[str]:
+        """The must-fail edits of a crate, each with the function that it changes, or the file where it is in none."""
+        for path in found_in(self.top, f"crates/{crate}/must-fail/*.edit"):
+            pairs = [line.partition(": ")[::2] for line in text_of(self.top, path).split("\n")]
+            file, old = dict(pairs)["file"], [text for key, text in pairs if key == "old"]
+            source = self.library.sources[f"crates/{crate}/{file}"]
+            places = [at for at, line in enumerate(source.text.split("\n"), 1) if any(text in line for text in old)]
+            changed = [each.label for at in places for each in source.functions[::-1] if each.line <= at <= each.end]
+            yield f"`{os.path.basename(path)[:-len('.edit')]}` (`{[*changed, os.path.basename(file)][0]}`)"
+
+    # --- all documents
+
     def links(self) -> Iterator[Fault]:
         """Links, paths and names in all documents."""
-        for path, document in self.documents.items():
-            for line in document.lines:
+        for path, lines in self.lines.items():
+            for line in lines:
                 faults = self.path_faults(line.text)
                 if not line.is_code:
-                    faults += [*self.link_faults(path, line.text), *self.name_faults(line.text)]
+                    faults += [*self.link_faults(path, line.text), *self.word_faults(line.text)]
                 yield from ((path, line.number, fault) for fault in faults)
 
     def path_faults(self, text: str) -> List[str]:
@@ -365,10 +351,10 @@ class Checks:
             whole = os.path.normpath(os.path.join(os.path.dirname(document), path)) if path else document
             if "://" not in target and not os.path.exists(os.path.join(self.top, whole)):
                 yield f"no {target}"
-            elif anchor and whole in self.documents and anchor not in self.documents[whole].anchors():
+            elif anchor and whole in self.lines and anchor not in anchors_of(self.lines[whole]):
                 yield f"no heading {target}"
 
-    def name_faults(self, text: str) -> Iterator[str]:
+    def word_faults(self, text: str) -> Iterator[str]:
         for code in codes_of(text):
             parts = code.split("::")
             is_of_ours = "_" in code or (len(parts) > 1 and parts[0] in self.words)
@@ -383,31 +369,16 @@ class Checks:
         return [f"{path}:{number}: {fault}" for path, number, fault in sorted(found)]
 
 
-def options_read(text: str) -> Set[str]:
-    """The options that the rows of a source have."""
-    both = ((f"-{letter}" if letter else "", "" if kind == "by_letter" else f"--{name}")
-            for kind, letter, name in SWITCH.findall(text))
-    return {option for options in both for option in options if option}
-
-
-def options_shown(text: str) -> Set[str]:
-    """The options that heads and tags of a part of the page have."""
-    tags = re.sub(r"\\f[BIRP]", "", "\n".join(re.findall(r"^(?:\.SS|\.T[PQ]\n)(.*)", text, re.M))).replace("\\-", "-")
-    letters = {f"-{letter}" for word in re.findall(r"(?<![\w-])-([A-Za-z]+)", tags) for letter in word}
-    return letters | set(re.findall(r"(?<![\w-])--[A-Za-z][A-Za-z-]*", tags))
-
-
 def main() -> int:
     checks = Checks(TOP)
     lines: List[str] = []
     if sys.argv[1:2] == ["--files"] and set(sys.argv[2:]) <= set(checks.listed):
         print("".join(f"{path}: {head}\n" for path, head in checks.heads(sys.argv[2:])), end="")
     elif sys.argv[1:] == ["--write"]:
-        for path, document in checks.documents.items():
-            made = checks.written(document.text)
-            if made != document.text:
+        for path, text in checks.texts.items():
+            if checks.written(text) != text:
                 with open(os.path.join(TOP, path), "w", encoding="utf-8") as file:
-                    file.write(made)
+                    file.write(checks.written(text))
     elif sys.argv[1:]:
         sys.exit(__doc__)
     else:

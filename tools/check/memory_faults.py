@@ -52,66 +52,63 @@ RENAMED = re.compile(rf"\b({ANY})\s+as\s+(?!(?:{ANY})\b)"
 PATTERNS = {"let": ("=", ";"), "for": ("in", ";"), "->": ("{", "=", ";", ")"), "use": (";",)}
 
 
-def before_path(tokens: List[Token], at: int) -> int:
-    """The place before the path that ends at `at`."""
-    while at >= 2 and tokens[at - 1].text == "::":
-        at -= 2
-    return at - 1
-
-
 class Body:
     """Where in a body patterns and types are, and where a NoMemory may be made."""
 
-    def __init__(self, body: List[Token]) -> None:
-        self.body = body
+    def __init__(self, tokens: List[Token]) -> None:
+        self.tokens, self.texts = tokens, [token.text for token in tokens]
         self.patterns: Set[int] = set()
         self.allowed: Set[int] = set()
-        for at, token in enumerate(body):
-            self.look(at, token.text)
+        for at, text in enumerate(self.texts):
+            self.look(at, text)
 
     def look(self, at: int, text: str) -> None:
         if text == "match":
-            self.match(find(self.body, at, ("{",)))
+            self.match(find(self.tokens, at, ("{",)))
         elif text == "if":
             self.condition(at)
-        elif text == "matches" and [token.text for token in self.body[at + 1:at + 3]] == ["!", "("]:
-            end = end_of_group(self.body, at + 2) - 1
-            comma = find(self.body, at + 3, (",",), end)
-            self.patterns.update(range(comma, find(self.body, comma, ("if",), end)))
-        elif text == "<" and at and self.body[at - 1].text == "::":
-            self.patterns.update(range(at, after_angles(self.body, at)))
-        elif text in PATTERNS and [token.text for token in self.body[at:at + 2]] != ["for", "<"]:
-            self.patterns.update(range(at, find(self.body, at, PATTERNS[text])))
+        elif self.texts[at:at + 3] == ["matches", "!", "("]:
+            end = end_of_group(self.tokens, at + 2) - 1
+            comma = find(self.tokens, at + 3, (",",), end)
+            self.patterns.update(range(comma, find(self.tokens, comma, ("if",), end)))
+        elif self.texts[at - 1:at + 1] == ["::", "<"]:
+            self.patterns.update(range(at, after_angles(self.tokens, at)))
+        elif text in PATTERNS and self.texts[at:at + 2] != ["for", "<"]:
+            self.patterns.update(range(at, find(self.tokens, at, PATTERNS[text])))
 
     def match(self, at: int) -> None:
         """The arms of the match whose brace is at `at`."""
-        end, at = end_of_group(self.body, at) - 1, at + 1
+        end, at = end_of_group(self.tokens, at) - 1, at + 1
         while at < end:
-            arrow = find(self.body, at, ("=>",), end)
+            arrow = find(self.tokens, at, ("=>",), end)
             value = min(arrow + 1, end)
-            is_block = value < end and self.body[value].text == "{"
-            after = end_of_group(self.body, value) if is_block else find(self.body, value, (",",), end)
-            pattern = range(at, find(self.body, at, ("if",), arrow))
-            self.patterns.update(pattern)
-            alternatives = " ".join(token.text for token in self.body[at:pattern.stop]).split("|")
-            if all(FAULT in alternative.split() for alternative in alternatives):
+            is_block = self.texts[value] == "{"
+            after = end_of_group(self.tokens, value) if is_block else find(self.tokens, value, (",",), end)
+            guard = find(self.tokens, at, ("if",), arrow)
+            self.patterns.update(range(at, guard))
+            if all(FAULT in alternative.split() for alternative in " ".join(self.texts[at:guard]).split("|")):
                 self.allowed.update(range(value, after))
-            at = after + (after < end and self.body[after].text == ",")
+            at = after + (self.texts[after] == ",")
 
     def condition(self, at: int) -> None:
-        start = find(self.body, at, ("{", "=>"))
-        texts = [token.text for token in self.body[at:start]]
-        is_compared = texts[-1] == FAULT and self.body[before_path(self.body, start - 1)].text == "=="
-        if start < len(self.body) and self.body[start].text == "{" and is_compared and not {"||", "!"} & set(texts):
-            self.allowed.update(range(start, end_of_group(self.body, start)))
+        start = find(self.tokens, at, ("{", "=>"))
+        texts = self.texts[at:start]
+        is_compared = texts[-1] == FAULT and self.before_path(start - 1) == "=="
+        if self.texts[start:start + 1] == ["{"] and is_compared and not {"||", "!"} & set(texts):
+            self.allowed.update(range(start, end_of_group(self.tokens, start)))
+
+    def before_path(self, at: int) -> str:
+        """What is before the path that ends at `at`."""
+        while at >= 2 and self.texts[at - 1] == "::":
+            at -= 2
+        return self.texts[at - 1] if at else ""
 
     def made(self) -> Iterator[Tuple[int, str]]:
         """The lines where one of NAMES is in an expression and may not be, with its name."""
-        for at, token in enumerate(self.body):
-            is_compared = self.body[max(0, before_path(self.body, at))].text in ("==", "!=")
-            if token.text in NAMES and at not in self.patterns and (
-                    token.text != FAULT or not (at in self.allowed or is_compared)):
-                yield token.line, token.text
+        for at, token in enumerate(self.tokens):
+            if token.text in NAMES and at not in self.patterns:
+                may_be = at in self.allowed or self.before_path(at) in ("==", "!=")
+                yield from () if token.text == FAULT and may_be else ((token.line, token.text),)
 
 
 def in_functions(source: Source) -> Iterator[Tuple[int, str, str]]:

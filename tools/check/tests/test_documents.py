@@ -2,6 +2,7 @@
 from __future__ import annotations
 
 import os
+import shutil
 import sys
 import tempfile
 import unittest
@@ -159,9 +160,8 @@ FAULTS: Dict[str, List[Tuple[str, ...]]] = {
 
 class Documents(unittest.TestCase):
     def setUp(self) -> None:
-        folder = tempfile.TemporaryDirectory()
-        self.addCleanup(folder.cleanup)
-        self.top = folder.name
+        self.top = tempfile.mkdtemp(prefix="facl-documents-test.")
+        self.addCleanup(shutil.rmtree, self.top)
         for name, text in FILES.items():
             self.write(name, text)
 

@@ -3,6 +3,7 @@ from __future__ import annotations
 
 import argparse
 import os
+import shutil
 import signal
 import subprocess
 import sys
@@ -26,19 +27,17 @@ from timed_run import Step, TimedRun, timed  # noqa: E402
 PROGRAM = r"""#!/bin/sh
 number=0
 while read -r line; do
-    number=$((number + 1))
     case $line in
-    frob | mark) echo "line $number: facl: unknown tool" >&2 ;;
-    warn) echo "line $number: chmod: warning: odd" >&2 ;;
+    frob | mark) echo "line $((number += 1)): facl: unknown tool" >&2 ;;
+    warn) echo "line $((number += 1)): chmod: warning: odd" >&2 ;;
     end) exit 3 ;;
-    *) echo "$line" ;;
+    *) : $((number += 1)); echo "$line" ;;
     esac
 done
 exit 1
 """
 # Scripts that make a folder, print its path and a process, and wait.
-PYTHON = f"""
-import os, sys, tempfile, time
+PYTHON = f"""import os, sys, tempfile, time
 sys.path.insert(0, {LIB!r})
 import script
 def main():
@@ -47,12 +46,10 @@ def main():
         time.sleep(60)
 script.run(main)
 """
-SHELL = f"""
-top={LIB}/../..
+SHELL = f"""top={LIB}/../..
 . "$top/tools/lib/program.sh"
 make_work "${{TMPDIR:-/tmp}}"
-sleep 60 &
-child=$!
+sleep 60 & child=$!
 echo "$work $child"
 wait "$child"
 """
@@ -60,9 +57,8 @@ wait "$child"
 
 class Case(unittest.TestCase):
     def setUp(self) -> None:
-        folder = tempfile.TemporaryDirectory(prefix="facl-lib-test.")
-        self.addCleanup(folder.cleanup)
-        self.folder = folder.name
+        self.folder = tempfile.mkdtemp(prefix="facl-lib-test.")
+        self.addCleanup(shutil.rmtree, self.folder)
         self.program = self.write("program", PROGRAM)
         os.chmod(self.program, 0o755)
 
