@@ -144,7 +144,7 @@ class Checks:
     def names(self) -> Iterator[Fault]:
         lines = self.lines[PROOFS]
         texts: Dict[str, List[Tuple[int, str, str]]] = {
-            "Carried by": [(row.number, row.cells[1], "") for row in self.rows(PROOFS) if row.heads[1] == "Carried by"],
+            "Carried by": [(row.number, row.cells[1], "") for row in self.rows(PROOFS) if "Carried by" in row.heads[1:2]],
             "Calls": [(row.number, row.cells[0], row.cells[-1]) for row in self.rows(PROOFS, "Calls")],
             LEFT: [(line.number, line.text, "") for line in lines if (line.section, line.text[:2]) == (LEFT, "- ")],
             POINTS: [(line.number, part, "") for line in lines if line.section == POINTS and line.text[:1].isdigit()
@@ -194,7 +194,7 @@ class Checks:
     # --- tables, examples and scripts
 
     def limits(self) -> Iterator[Fault]:
-        """Values in the table of limits, and in the page's list, where the greatest id is one less."""
+        """Values in the table of limits, and in the page's list."""
         rows = self.rows(ARCHITECTURE, "Limit", "Value", "Constant")
         for row in rows:
             crate, name = re.findall(r"\w+", row.cells[2])[:2]
@@ -202,11 +202,10 @@ class Checks:
             values = {int(value) for source in self.library.of_crate(crate) for value in constant.findall(source.text)}
             if not values & numbers_of(row.cells[1]):
                 yield ARCHITECTURE, row.number, f"{name} of {crate} is {' '.join(map(str, values)) or 'not there'}"
-        there = {number for row in rows for number in numbers_of(row.cells[1])}
+        there = {number - row.cells[1].startswith("below") for row in rows for number in numbers_of(row.cells[1])}
         before, _, after = self.texts[PAGE].partition(".SH LIMITS\n")
         for number, line in enumerate(after.partition(".SH ")[0].split("\n"), before.count("\n") + 2):
-            missing = {value for value in numbers_of(line) if not {value, value + 1} & there}
-            yield from ((PAGE, number, f"{value} is no limit of {ARCHITECTURE}") for value in missing)
+            yield from ((PAGE, number, f"{value} is no limit of {ARCHITECTURE}") for value in numbers_of(line) - there)
 
     def maps(self) -> Iterator[Fault]:
         """The map of crates, the table of tests, and the crates of the kit that are trusted, beside crates.txt."""
