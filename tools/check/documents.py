@@ -6,8 +6,9 @@ usage: tools/check/documents.py [--write | --files [CRATE]..]
 - docs/PROOFS.md: the functions, types and clauses that these name are in the sources (Checks.name_faults): the column
   "Carried by", tables that start with "Calls", lists of its section LEFT, and what is in parentheses of the points, the
   numbered lines of its section POINTS.
-- Tables: limits have the values of their constants, in docs/facl.1 too; the map of crates and the table of tests have
-  each crate of crates.txt; the line of docs/PROOFS.md that starts with "Trusted" has the kit's crates that it lists.
+- Tables: limits have the values of their constants; the map of crates and the table of tests have each crate of
+  crates.txt; the line of docs/PROOFS.md that starts with "Trusted" has the kit's crates that crates.txt lists.
+- docs/SPECIFICATION.md, docs/facl.1: a number in thousands, with commas, is a limit, or one from a limit.
 - docs/facl.1: each tool has the options that the program reads, and no others.
 - docs/READING.md: each line of its examples is one of the sources or definitions.
 - tools/README.md names each script of tools/, and none that is not there.
@@ -33,7 +34,7 @@ from crates import Crates  # noqa: E402
 from sources import TOP, Function, Library, found_in, is_of_tests, text_of  # noqa: E402
 
 PROOFS, ARCHITECTURE, READING, PAGE = "docs/PROOFS.md", "docs/ARCHITECTURE.md", "docs/READING.md", "docs/facl.1"
-CONTRIBUTING, TOOLS = "CONTRIBUTING.md", "tools/README.md"
+CONTRIBUTING, TOOLS, SPECIFICATION = "CONTRIBUTING.md", "tools/README.md", "docs/SPECIFICATION.md"
 POINTS, LEFT = "The points", "What an error leaves as it was"
 LINK = re.compile(r"\[[^\]]*\]\(([^)\s]+)\)")
 PATH = re.compile(r"(?<![\w/.-])((?:tools|commands|docs|demo|crates|\.ci)/[\w./-]*[\w/])")
@@ -142,9 +143,9 @@ class Checks:
     # --- names in docs/PROOFS.md
 
     def names(self) -> Iterator[Fault]:
-        lines = self.lines[PROOFS]
+        lines, rows = self.lines[PROOFS], self.rows(PROOFS)
         texts: Dict[str, List[Tuple[int, str, str]]] = {
-            "Carried by": [(row.number, row.cells[1], "") for row in self.rows(PROOFS) if "Carried by" in row.heads[1:2]],
+            "Carried by": [(row.number, row.cells[1], "") for row in rows if "Carried by" in row.heads[1:2]],
             "Calls": [(row.number, row.cells[0], row.cells[-1]) for row in self.rows(PROOFS, "Calls")],
             LEFT: [(line.number, line.text, "") for line in lines if (line.section, line.text[:2]) == (LEFT, "- ")],
             POINTS: [(line.number, part, "") for line in lines if line.section == POINTS and line.text[:1].isdigit()
@@ -194,7 +195,7 @@ class Checks:
     # --- tables, examples and scripts
 
     def limits(self) -> Iterator[Fault]:
-        """Values in the table of limits, and in the page's list."""
+        """Values in the table of limits; and numbers in thousands in the rules, which are limits, or one from them."""
         rows = self.rows(ARCHITECTURE, "Limit", "Value", "Constant")
         for row in rows:
             crate, name = re.findall(r"\w+", row.cells[2])[:2]
@@ -202,10 +203,10 @@ class Checks:
             values = {int(value) for source in self.library.of_crate(crate) for value in constant.findall(source.text)}
             if not values & numbers_of(row.cells[1]):
                 yield ARCHITECTURE, row.number, f"{name} of {crate} is {' '.join(map(str, values)) or 'not there'}"
-        there = {number - row.cells[1].startswith("below") for row in rows for number in numbers_of(row.cells[1])}
-        before, _, after = self.texts[PAGE].partition(".SH LIMITS\n")
-        for number, line in enumerate(after.partition(".SH ")[0].split("\n"), before.count("\n") + 2):
-            yield from ((PAGE, number, f"{value} is no limit of {ARCHITECTURE}") for value in numbers_of(line) - there)
+        there = {number + more for row in rows for number in numbers_of(row.cells[1]) for more in (-1, 0, 1)}
+        for path, line in ((path, line) for path in (SPECIFICATION, PAGE) for line in self.lines[path]):
+            others = {number for text in re.findall(r"\d+(?:,\d+)+", line.text) for number in numbers_of(text)} - there
+            yield from ((path, line.number, f"{number} is no limit of {ARCHITECTURE}") for number in others)
 
     def maps(self) -> Iterator[Fault]:
         """The map of crates, the table of tests, and the crates of the kit that are trusted, beside crates.txt."""

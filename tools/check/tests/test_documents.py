@@ -113,6 +113,7 @@ FILES: Dict[str, str] = {
     "docs/PROOFS.md": PROOFS,
     "docs/ARCHITECTURE.md": ARCHITECTURE,
     "docs/facl.1": PAGE,
+    "docs/SPECIFICATION.md": "4,096 maps of 1000.\n",
     "docs/READING.md": "# To `read`: short\n```\nabbrev pub look_up : Map → ℕ\n\npub const MOST: usize = 4_096;\n```\n",
     "CONTRIBUTING.md": "| Crates | Tests |\n|---|---|\n| low | low_tests |\n| facl, facl_words | none |\n",
     "README.md": README,
