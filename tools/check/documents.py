@@ -101,13 +101,6 @@ def head_of(top: str, path: str) -> str:
     return " ".join(re.sub(r"^(?://!|--|#) |\*/", "", match[1] or match[3], flags=re.M).split()) if match else ""
 
 
-def options_read(text: str) -> Set[str]:
-    """The options that the rows of a source have."""
-    rows = SWITCH.findall(text)
-    names = {f"--{name}" for kind, _, name in rows if kind != "by_letter"}
-    return names | {f"-{letter}" for _, letter, _ in rows if letter}
-
-
 def options_shown(text: str) -> Set[str]:
     """The options that heads and tags of a part of the page have."""
     tags = re.sub(r"\\f[BIRP]", "", "\n".join(re.findall(r"^(?:\.SS|\.T[PQ]\n)(.*)", text, re.M))).replace("\\-", "-")
@@ -239,7 +232,9 @@ class Checks:
         yield from ((PAGE, 1, f"the tool {name} is not in the page") for name in set(files) - set(shown))
         yield from ((PAGE, 1, f"the program has no tool {name}") for name in set(shown) - set(files))
         for name in set(files) & set(shown):
-            read, tags = options_read(text_of(self.top, "crates", files[name])), options_shown(shown[name])
+            rows, tags = SWITCH.findall(text_of(self.top, "crates", files[name])), options_shown(shown[name])
+            read = {f"--{word}" for kind, _, word in rows if kind != "by_letter"}
+            read |= {f"-{letter}" for _, letter, _ in rows if letter}
             yield from ((PAGE, 1, f"{name} does not read {option}") for option in tags - read)
             yield from ((PAGE, 1, f"{name} has no {option} here") for option in read - tags)
 

@@ -12,23 +12,26 @@ sys.path.insert(0, os.path.join(os.path.dirname(os.path.realpath(__file__)), "..
 
 from documents import Checks  # noqa: E402
 from memory_faults import faults_of  # noqa: E402
-from sources import Scope, Source  # noqa: E402
+from sources import Source  # noqa: E402
 
-A = """//! Maps, by
+A = r"""//! Maps, by
 //! `a|b`.
 //!
-//! More.
+//! More, with fn text() and { a brace.
 pub const MOST: usize = 4_096;
 pub struct Map { ghost sorted: { x } }
-pub trait Judge { ghost local: { x }; fn ask(&self) ensures asked { x } ensures row { x }; }
-impl Judge for Map { fn ask(&self) {} }
+pub trait Judge<'a> { /* one
+    { */ ghost local: { x }; fn ask(&self, of: [u8; 4]) requires { x } ensures asked { f x' } ensures row { x }; }
+impl<R: Read> Judge<R> for low::Map<Vec<R>> { fn ask(&self) {} }
 impl Map {
     pub fn get(&self) -> u8 ensures { result ≡ look_up self } { 1 }
     pub fn put(&mut self) requires room { x } ensures ok { x } ensures err { x } { self.grow() }
     fn grow(&mut self) ensures grown { x } { 2 }
 }
 pub fn read() -> u8 ensures one { result ≡ 1 } { 1 }
-pub(crate) fn hidden() ensures no { x } {}
+pub(crate) fn hidden<T>(x: &'static str) -> Vec<T> where T: Copy, ensures no { x } {
+    match x { "}\"" => '{', 'x' => b'\x7d', _ => r#"pub fn no() ensures no {" "# }
+}
 /// Proof only. Maps are maps.
 #[inline]
 pub fn maps_are_maps() ensures one { x } ensures two { x } {}
@@ -186,27 +189,6 @@ class Documents(unittest.TestCase):
         heads = [head for _, head in checks.heads(["low"])]
         self.assertEqual(heads, ["What a map is.", "Maps, by `a|b`.", "Closed.", "Cut."])
         self.assertEqual(dict(checks.heads([]))["tools/lib/a.py"], "Checks all.")
-
-
-class Sources(unittest.TestCase):
-    def test_functions(self) -> None:
-        source = Source("crates/low/a.rt", """//! A head, with fn text() and { a brace.
-pub trait Feed<'a> { /* one
-    */ fn read(&mut self, buf: &mut [u8; 4]) -> usize requires { x } ensures bytes { f x' { y } };
-}
-impl<R: Read> Feed for StdFeed<R> { fn read(&mut self) { "}\\"" ; '{' ; b'\\x7d' ; self.x(|b| { b }) } }
-impl<T: Drop> From<AllocFailed<T>> for crate::fault::LineFault { fn from(_: X) -> Y { Y::NoMemory } }
-pub(crate) fn free<T>(x: &'static str) -> Vec<T> where T: Copy, requires small { length x < 2 } {
-    match x { _ => r#"fn no() {"# }
-}
-""")
-        found = [(each.label, each.clauses, each.is_public, each.line, each.end) for each in source.functions]
-        self.assertEqual(found, [
-            ("Feed::read", [("requires", None), ("ensures", "bytes")], True, 3, 3), ("StdFeed::read", [], False, 5, 5),
-            ("LineFault::from", [], False, 6, 6), ("free", [("requires", "small")], False, 7, 9)])
-        self.assertEqual([each.scope for each in source.functions[1:]], [
-            Scope("StdFeed", "Feed"), Scope("LineFault", "From", "AllocFailed<T>"), Scope()])
-        self.assertEqual([token.text for token in source.functions[2].body], ["Y", "::", "NoMemory"])
 
 
 def memory_faults_of(text: str) -> List[str]:
