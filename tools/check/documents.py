@@ -12,7 +12,8 @@ usage: tools/check/documents.py [--write | --files [CRATE]..]
 - docs/facl.1: each tool has the options that the program reads, and no others.
 - docs/READING.md: each line of its examples is one of the sources or definitions.
 - tools/README.md names each script of tools/, and none that is not there.
-- Blocks `<!-- graph -->` and `<!-- index -->` are as the sources have them; --write makes them so, and no more.
+- The blocks `<!-- graph -->` of docs/ARCHITECTURE.md and `<!-- index -->` of docs/PROOFS.md are as the sources have them;
+  --write makes them so, and does nothing else.
 - Each file of src/ and specs/ of a crate, and each script of commands/ and tools/, has a sentence at its head; --files
   prints these sentences, of some crates or of all and the scripts, and does nothing else.
 - All documents: each link within the repository, and each path that starts with a folder of it or of a crate, leads to
@@ -262,8 +263,9 @@ class Checks:
     # --- what is made of the sources
 
     def blocks(self) -> Iterator[Fault]:
-        made = "a block is not as the sources have it: tools/check/documents.py --write"
-        return ((path, 1, made) for path, text in self.texts.items() if self.written(text) != text)
+        for path, kind in ((ARCHITECTURE, "graph"), (PROOFS, "index")):
+            if f"<!-- {kind} -->" not in self.texts[path] or self.written(self.texts[path]) != self.texts[path]:
+                yield path, 1, f"the block {kind} is not as the sources have it: tools/check/documents.py --write"
 
     def written(self, text: str) -> str:
         """A document with all of its blocks made of the sources."""

@@ -121,7 +121,7 @@ FILES: Dict[str, str] = {
     "CONTRIBUTING.md": "| Crates | Tests |\n|---|---|\n| low | low_tests |\n| facl, facl_words | none |\n",
     "README.md": README,
 }
-MADE = "1: a block is not as the sources have it: tools/check/documents.py --write"
+MADE = "is not as the sources have it: tools/check/documents.py --write"
 # Of each file texts, what stands there instead, and what is found then, without the names of documents.
 FAULTS: Dict[str, List[Tuple[str, ...]]] = {
     "docs/PROOFS.md": [
@@ -135,9 +135,10 @@ FAULTS: Dict[str, List[Tuple[str, ...]]] = {
         ("`ok`; `row`", "`ok`", "15: Map::ask has none of the clauses named; it has asked, row"),
         ("`put`, all", "`gone`, all", "16: no `gone` in low"),
         ("is `clap`", "is `hex`", "6: no line that starts with Trusted has the kit's crates, clap"),
-        ("`Map::grow`", "`Map::get`", MADE)],
+        ("`Map::grow`", "`Map::get`", f"1: the block index {MADE}"),
+        ("<!-- index", "<!-- no index", f"1: the block index {MADE}")],
     "docs/ARCHITECTURE.md": [
-        ("facl --> facl_words", "facl --> low", MADE),
+        ("facl --> facl_words", "facl --> low", f"1: the block graph {MADE}"),
         ("below 4,096", "4,097", "17: MOST of low is 4096", "12: 4095 is no limit of docs/ARCHITECTURE.md"),
         ("low `MOST`", "low `LEAST`", "17: LEAST of low is not there"),
         ("| `facl` |", "| `gone` |", "13: no crate gone in crates.txt", "1: facl is not in the map")],
