@@ -12,8 +12,8 @@ usage: tools/check/documents.py [--write | --files [CRATE]..]
 - docs/facl.1: each tool has the options that the program reads, and no others.
 - docs/READING.md: each line of its examples is one of the sources or definitions.
 - tools/README.md names each script of tools/, and none that is not there.
-- The blocks `<!-- graph -->` of docs/ARCHITECTURE.md and `<!-- index -->` of docs/PROOFS.md are as the sources have them;
-  --write makes them so, and does nothing else.
+- The blocks `<!-- graph -->` of docs/ARCHITECTURE.md and `<!-- index -->` of docs/PROOFS.md are as the sources have
+  them; --write makes them so, and does nothing else.
 - Each file of src/ and specs/ of a crate, and each script of commands/ and tools/, has a sentence at its head; --files
   prints these sentences, of some crates or of all and the scripts, and does nothing else.
 - All documents: each link within the repository, and each path that starts with a folder of it or of a crate, leads to
