@@ -10,7 +10,6 @@ import sys
 import tempfile
 import time
 import unittest
-from typing import List
 
 LIB = os.path.realpath(os.path.join(os.path.dirname(os.path.realpath(__file__)), "..", "..", "lib"))
 sys.path.insert(0, LIB)
@@ -27,11 +26,12 @@ from timed_run import Step, TimedRun, timed  # noqa: E402
 PROGRAM = r"""#!/bin/sh
 number=0
 while read -r line; do
+    number=$((number + 1))
     case $line in
-    frob | mark) echo "line $((number += 1)): facl: unknown tool" >&2 ;;
-    warn) echo "line $((number += 1)): chmod: warning: odd" >&2 ;;
+    frob | mark) echo "line $number: facl: unknown tool" >&2 ;;
+    warn) echo "line $number: chmod: warning: odd" >&2 ;;
     end) exit 3 ;;
-    *) : $((number += 1)); echo "$line" ;;
+    *) echo "$line" ;;
     esac
 done
 exit 1
@@ -46,12 +46,8 @@ def main():
         time.sleep(60)
 script.run(main)
 """
-SHELL = f"""top={LIB}/../..
-. "$top/tools/lib/program.sh"
-make_work "${{TMPDIR:-/tmp}}"
-sleep 60 & child=$!
-echo "$work $child"
-wait "$child"
+SHELL = f"""top={LIB}/../..; . "$top/tools/lib/program.sh"; make_work "${{TMPDIR:-/tmp}}"
+sleep 60 & child=$!; echo "$work $child"; wait "$child"
 """
 
 
@@ -67,15 +63,13 @@ class Case(unittest.TestCase):
             file.write(text)
         return file.name
 
-    def test_messages(self) -> None:
+    def test_sessions(self) -> None:
         with Session(self.program, self.folder) as session:
             self.assertEqual(list(session.messages([b"a\n", b"frob\nb\n", b"warn\n"])), [
                 b"line 2: facl: unknown tool\n", b"line 4: chmod: warning: odd\n"])
             self.assertEqual(list(session.messages([b"frob\n"])), [b"line 6: facl: unknown tool\n"])
             self.assertGreater(session.most_memory(), 0)
             self.assertEqual(session.end(), 1)
-
-    def test_sessions_that_end_early(self) -> None:
         with Session(self.program, self.folder) as session, self.assertRaisesRegex(Failed, "ended with status 3"):
             list(session.messages([b"end\n"]))
         with self.assertRaises(KeyError), Session(self.program, self.folder) as session:
@@ -92,23 +86,18 @@ class Case(unittest.TestCase):
             self.assertRaises(argparse.ArgumentTypeError, program_at, word)
         self.assertEqual([has_tool(self.program, tool) for tool in ("chmod", "frob")], [True, False])
 
-    def test_steps(self) -> None:
-        steps = [Step("one", [b"a\nfrob\n"], [(2, b"facl: unknown tool")]),
-                 Step("two", [b"warn\n"], [(1, b"chmod: warning: odd")])]
+    def test_measures(self) -> None:
+        steps = [Step("one", [b"a\nfrob\n"], [(2, b"facl: unknown tool")]), Step("two", [b"a\n"])]
         times, memory = timed(self.program, self.folder, steps)
-        self.assertEqual([name for name, _, _ in times], ["load", "one", "two"])
-        self.assertGreater(memory, 0)
+        self.assertEqual(([name for name, _, _ in times], memory > 0), (["load", "one", "two"], True))
         for step, fault in ((Step("x", [b"frob\n"]), "x: it printed b'line 1: facl: unknown tool"),
                             (Step("x", [b"a\n"], [(1, b"text")]), "x: it did not print b'text'"),
                             (Step("x", [b"frob\n"], [(1, b"text")]), "in place of b'text'")):
             with self.assertRaisesRegex(Failed, fault), TimedRun(self.program, self.folder) as run:
                 run.answer(step)
-
-    def test_measures(self) -> None:
         with MeasuredSession(self.program, self.folder) as session:
             self.assertGreaterEqual(min(session.load, session.answer(["a", "b"])), 0)
-            with self.assertRaisesRegex(Failed, "^line 5: facl: unknown tool$"):
-                session.answer(["frob"])
+            self.assertRaisesRegex(Failed, "^line 5: facl: unknown tool$", session.answer, ["frob"])
         self.assertEqual(best_of([{"a": 2, "b": 1}, {"a": 1, "b": 3}]), {"a": 1, "b": 1})
 
     def test_units_crates_and_rows(self) -> None:
