@@ -1,18 +1,16 @@
-"""Examples of documents: reads commands with their answers, runs them in a shell, and says where an answer is another one.
+"""Examples of documents: reads commands with their answers, compares these with what is printed, and writes that.
 
-In Markdown they are the blocks ```console: a line `$ COMMAND`, or `# COMMAND` in a block that begins so, which root's shell
-runs; lines `> ..` that go on with it; and the lines that it prints. A line `...` stands for any lines. In a manual page they
-are the lines of .nf or .EX, where one begins with `$`.
+In Markdown they are the blocks ```console: a line `$ COMMAND`, or `# COMMAND` in a block that begins so, which root
+runs; lines `> ..` that go on with it; and the lines that it prints. A line `...` stands for any lines. In a manual page
+they are the blocks of .nf or .EX that begin with `$`.
 """
 from __future__ import annotations
 
 import difflib
 import os
 import re
-import subprocess
 import sys
-import threading
-from typing import Dict, Iterator, List, NamedTuple, Optional, Tuple
+from typing import Iterator, List, NamedTuple, Optional, Tuple
 
 from common import COMMANDS
 
@@ -24,7 +22,6 @@ REPOSITORY = os.path.dirname(COMMANDS)
 # What getfacl and `why` print begins as a command of root does.
 HEADER = re.compile(r"# (file|owner|group|flags): ")
 ANY_LINES = "..."
-SECONDS = 20  # that a command may take
 
 
 class Block(NamedTuple):
@@ -100,40 +97,6 @@ def examples_of(block: Block) -> List[Example]:
     return found
 
 
-class Shell:
-    """A shell that runs commands one after another in a folder, as at a terminal; START are its words."""
-
-    def __init__(self, folder: str, environment: Dict[str, str], start: Tuple[str, ...] = ("sh",)) -> None:
-        self.answer = folder + ".answer"
-        open(self.answer, "wb").close()
-        self.process = subprocess.Popen(start, cwd=folder, env=environment, stdin=subprocess.PIPE, stdout=subprocess.PIPE)
-
-    def run(self, command: str) -> List[str]:
-        """The lines that a command prints, on standard output and standard error."""
-        open(self.answer, "wb").close()
-        timer = threading.Timer(SECONDS, self.process.kill)
-        timer.start()
-        is_alive = self.send("{\n%s} </dev/null >>'%s' 2>&1\necho\n" % (command, self.answer))
-        timer.cancel()
-        with open(self.answer, "rb") as file:
-            lines = file.read().decode("utf-8", "backslashreplace").split("\n")
-        return (lines if lines[-1] else lines[:-1]) + ([] if is_alive else ["(the shell has ended)"])
-
-    def send(self, lines: str) -> bool:
-        """Whether the shell has done them."""
-        assert self.process.stdin is not None and self.process.stdout is not None
-        try:
-            self.process.stdin.write(lines.encode())
-            self.process.stdin.flush()
-        except BrokenPipeError:
-            return False
-        return self.process.stdout.readline() != b""
-
-    def close(self) -> None:
-        self.process.communicate()
-        os.unlink(self.answer)
-
-
 def is_as_printed(answer: List[str], printed: List[str]) -> bool:
     """Whether the lines are those of the answer, in which `...` stands for any."""
     pattern = "".join("(?:.*\n)*" if line == ANY_LINES else re.escape(line) + "\n" for line in map(anywhere, answer))
@@ -141,8 +104,12 @@ def is_as_printed(answer: List[str], printed: List[str]) -> bool:
 
 
 def anywhere(line: str) -> str:
-    """A line with one host and date of a snapshot, and with the tab that getfacl prints in place of those at a terminal."""
-    return re.sub("\t+#effective:", "\t#effective:", re.sub(r"\(of [\w.-]+, [\dT:-]+Z\)", "(of srva, 2026-11-27T03:10:00Z)", line))
+    """A line with one host and date of a snapshot, and one tab where getfacl prints more at a terminal."""
+    return re.sub("\t+#effective:", "\t#effective:", of_one_day(line))
+
+
+def of_one_day(line: str) -> str:
+    return re.sub(r"\(of [\w.-]+, [\dT:-]+Z\)", "(of srva, 2026-11-27T03:10:00Z)", line)
 
 
 def difference(example: Example, printed: List[str]) -> List[str]:
@@ -158,7 +125,7 @@ def write_answers(name: str, answers: List[Tuple[Example, List[str]]]) -> None:
     lines = read_lines(name)
     for example, printed in reversed(answers):
         start = example.number + example.command.count("\n") - 1
-        shown = map(anywhere, printed)
+        shown = map(of_one_day, printed)
         lines[start : start + len(example.answer)] = map(roff, shown) if name.endswith(".1") else shown
     with open(os.path.join(REPOSITORY, name), "w", encoding="utf-8") as file:
         file.write("\n".join(lines))

@@ -1,30 +1,30 @@
 """The examples of README, CONTRIBUTING and the manual pages are run, and print what stands below them.
 
-Each document has a stored snapshot: it is there as `before`, and what needs a real tree is not run. As root, with the package
-acl, its examples are also run over a real tree below /srv that is made of the snapshot, with its users, in a mount namespace.
+Each document has a stored snapshot, which is there as `before`; what needs a real tree is not run then. Where one can
+be made of the snapshot, they are also run there. With $WRITE_ANSWERS the documents get what is printed.
 """
 from __future__ import annotations
 
-import functools
 import os
 import re
 import shutil
-import subprocess
 import sys
 import unittest
-from typing import Dict, List, Tuple
+from typing import Dict
 
 from common import COMMANDS, HERE, Case
-from examples import (
-    REPOSITORY, Example, Shell, blocks_of, difference, examples_of, page_blocks, read_lines, write_answers,
-)
+from example_runs import SSH, Runner, Shell, why_no_tree
+from examples import REPOSITORY, blocks_of, difference, examples_of, page_blocks, read_lines, write_answers
 
 sys.path.insert(0, COMMANDS)
 
 from facl_commands.program import find_program  # noqa: E402
 
 SNAPSHOTS = os.path.join(HERE, "snapshots")
-DOCUMENTS = {"README.md": "project", "CONTRIBUTING.md": "project", "docs/facl.1": "recipes", "docs/facl-commands.1": "project"}
+# With the snapshot that each is about.
+DOCUMENTS = {
+    "README.md": "project", "CONTRIBUTING.md": "project", "docs/facl.1": "recipes", "docs/facl-commands.1": "project",
+}
 # Blocks that are not run here, by their first line: why, and what runs them.
 BLOCKS: Dict[str, str] = {
     "[d:] [u:]USER [:PERMS]      a named user, or the owner: u::PERMS": "a grammar; crates/acl_text_tests",
@@ -38,102 +38,15 @@ BLOCKS: Dict[str, str] = {
     "tools/demo.sh": "proves the program; by hand, and tools/check/demo.sh has the answers",
     ".ci/run": "has these tests in it",
     "facl [--passwd FILE] [--group FILE] [--dump FILE]": "a synopsis; tools/check/demo.sh",
-    "# Which files grant the guest read, and which of them can the guest get to? None: project grants the guest no search.":
-        "demo/plan; tools/check/demo.sh",
+    "# Which files grant the guest read, and which of them can the guest get to? None: project grants the guest no "
+    "search.": "demo/plan; tools/check/demo.sh",
     "project/README": "demo/plan.stdout; tools/check/demo.sh",
-    "echo 'who w /srv/project' | facl --passwd before/passwd --group before/group --dump before/dump": "to be a console",
+    "echo 'who w /srv/project' | facl --passwd before/passwd --group before/group --dump before/dump":
+        "to be a console",
     "facl-snapshot before /srv/project": "to be a console",
     "facl-snapshot --split 1000000 parts /srv/project": "to be a console",
     "mara   r-- -> rw-     1 file    first: srv/project/notes.txt": "to be a console",
 }
-# Commands that are not run here, by their first word.
-COMMANDS_APART: Dict[str, str] = {
-    "tools/try.sh": "compiles the program; by hand, and tools/check/demo.sh has the answers",
-    "tools/demo.sh": "proves the program; by hand, and tools/check/demo.sh has the answers",
-    "tools/prove.py": "proves the program; by hand",
-    "tools/install.sh": "installs; by hand",
-    "tools/package.sh": "makes a package; by hand",
-    ".ci/run": "has these tests in it",
-    "rt": "the kit; by hand",
-    "git": "by hand",
-    "man": "by hand",
-}
-LIVE = ("facl-snapshot", "facl-apply", "getfacl", "setfacl", "ls")
-PARALLEL = re.compile(r"facl-ask .*--(each|hosts)\b")
-PROGRAM = re.compile(r"(?:^|[|;&] *)([\w./-]+)")
-MADE = re.compile(r"(?:([\w.-]+) /|>([\w.-]+))")  # What facl-snapshot or a shell makes.
-REAL_TREE = """\
-mount -t tmpfs -o mode=755 tmpfs /srv
-mount --bind "$PEOPLE/passwd" /etc/passwd
-mount --bind "$PEOPLE/group" /etc/group
-printf '%s: files\\n' passwd group initgroups >nsswitch.conf
-[ ! -e /etc/nsswitch.conf ] || mount --bind nsswitch.conf /etc/nsswitch.conf
-sed -n 's:^# file\\: /srv/::p' "$PEOPLE/dump" | grep . | while read -r name; do
-    case $name in */) mkdir "/srv/$name" ;; *) echo text >"/srv/$name" ;; esac
-done
-sed -n '\\:^# file\\: /srv/:,$p' "$PEOPLE/dump" | setfacl --restore=-
-exec sh
-"""
-# In the place of ssh: a server is a folder here.
-SSH = """\
-#!/bin/sh
-while [ ! -d "$HOME/$1" ]; do shift; done
-cd "$HOME/$1"
-shift
-[ "$1" != -- ] || shift
-exec sh -c "$*"
-"""
-
-
-@functools.lru_cache(maxsize=None)
-def why_no_tree() -> str:
-    """Nothing, or why no real tree can be made."""
-    for tool in ("getfacl", "setfacl", "unshare"):
-        if not shutil.which(tool):
-            return tool + " is not installed"
-    if os.geteuid() != 0 or not os.path.isdir("/srv"):
-        return "it takes root and /srv"
-    done = subprocess.run(["unshare", "-m", "mount", "-t", "tmpfs", "tmpfs", "/srv"], capture_output=True, check=False)
-    return "no file system can be mounted" if done.returncode else ""
-
-
-class Runner:
-    """The examples of a document over its snapshot, stored or as a real tree."""
-
-    def __init__(self, folder: str, snapshot: str, is_real: bool) -> None:
-        self.folder, self.is_real = folder, is_real
-        self.faults: List[str] = []
-        self.not_run: List[str] = []
-        self.others: List[Tuple[Example, List[str]]] = []
-        self.run_count = 0
-        self.missing: List[str] = []  # What a command that was not run would have made.
-        environment = {"PATH": "%s:%s/bin:%s" % (COMMANDS, folder, os.environ["PATH"]), "LC_ALL": "C", "HOME": folder, "PEOPLE": snapshot}
-        self.shell = Shell(folder, environment, ("unshare", "-m", "sh", "-ec", REAL_TREE) if is_real else ("sh",))
-
-    def run(self, example: Example) -> None:
-        reason = self.why_not(example.command)
-        if reason:
-            self.not_run.append("%s: %s" % (example.place(), reason))
-        else:
-            self.run_count += 1
-            printed = self.shell.run(example.command)
-            found = difference(example, printed)
-            self.faults += found
-            self.others += [(example, printed)] if found else []
-
-    def why_not(self, command: str) -> str:
-        """Nothing, or why a command is not run."""
-        first = command.partition("\n")[0]
-        if first.split(" ")[0] in COMMANDS_APART:
-            return COMMANDS_APART[first.split(" ")[0]]
-        if PARALLEL.search(first) and not shutil.which("parallel"):
-            return "GNU parallel is not installed"
-        live = set(PROGRAM.findall(first)) & set(LIVE)
-        if live and not self.is_real:
-            made = [word for found in MADE.findall(first) for word in found if word]
-            self.missing += [name for name in made if not os.path.exists(os.path.join(self.folder, name))]
-            return "%s needs a real tree" % live.pop()
-        return next(("needs " + name for name in self.missing if re.search(r"(?<![\w./])%s\b" % re.escape(name), first)), "")
 
 
 SAMPLE = """\
@@ -179,7 +92,8 @@ class Reader(Case):
         shell = Shell(self.folder, {"PATH": os.environ["PATH"]})
         self.addCleanup(shell.close)
         faults = [fault for example in found for fault in difference(example, shell.run(example.command))]
-        self.assertEqual(faults, ["%s:21: $ cat kept\n@@ -1,2 +1,2 @@\n # owner: ines\n-one\n+two\n" % self.path("sample.md")])
+        wanted = ":21: $ cat kept\n@@ -1,2 +1,2 @@\n # owner: ines\n-one\n+two\n"
+        self.assertEqual(faults, [self.path("sample.md") + wanted])
 
     def test_a_shell_that_ends(self) -> None:
         shell = Shell(self.folder, {"PATH": os.environ["PATH"]})
@@ -249,12 +163,14 @@ class Documents(Case):
         runner = Runner(self.folder, os.path.join(SNAPSHOTS, "project"), is_real=True)
         self.addCleanup(runner.shell.close)
         for command in (cron, service.replace("$$", "$").replace("%%", "%")):
-            printed = runner.shell.run("mkdir -m 700 kept; mkdir kept/old; touch -d '91 days ago' kept/old\n%s\nls kept\n"
-                                       "%s\nls kept; rm -r kept\n" % tuple(it.replace("/var/lib/facl", "kept") for it in (command, after)))
+            lines = ["mkdir -m 700 kept; mkdir kept/old; touch -d '91 days ago' kept/old", command, "ls kept", after,
+                     "ls kept; rm -r kept", ""]
+            printed = runner.shell.run("\n".join(lines).replace("/var/lib/facl", "kept"))
             self.assertRegex(" ".join(printed), r"^(\d{4}-\d\d-\d\d) old \1$")
 
     def test_recipes_of_readme_are_those_of_the_page(self) -> None:
-        page = "".join(example.command for block in page_blocks("docs/facl.1") if block.is_examples for example in examples_of(block))
+        blocks = [block for block in page_blocks("docs/facl.1") if block.is_examples]
+        page = "".join(example.command for block in blocks for example in examples_of(block))
         table = "\n".join(read_lines("README.md")).partition("\n## Recipes\n")[2].partition("\n## ")[0]
         for row in re.findall(r"^\| [^|]* \| (.*) \|$", table, re.MULTILINE)[2:]:
             for word in re.findall(r"`([^`]*)`", row):
@@ -262,7 +178,8 @@ class Documents(Case):
 
     def test_each_block_is_run_or_named(self) -> None:
         blocks = [block for name in DOCUMENTS for block in blocks_of(name) if not block.is_examples]
-        self.assertEqual([], ["%s:%d: %s" % (block.name, block.first, block.lines[0]) for block in blocks if block.lines[0] not in BLOCKS])
+        unknown = [block for block in blocks if block.lines[0] not in BLOCKS]
+        self.assertEqual([], ["%s:%d: %s" % (block.name, block.first, block.lines[0]) for block in unknown])
         self.assertEqual(set(), set(BLOCKS) - {block.lines[0] for block in blocks}, "rows of no block")
 
 
