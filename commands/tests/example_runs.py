@@ -46,15 +46,25 @@ done
 sed -n '\\:^# file\\: /srv/:,$p' "$SNAPSHOT/dump" | setfacl --restore=-
 exec sh
 """
-# In the place of ssh: a server is a folder here.
-SSH = """\
+# In the place of ssh: a server is a folder of this name here; and what it runs there, in the place of /var/lib/facl.
+SERVERS = {
+    "bin/ssh": """\
 #!/bin/sh
 while [ ! -d "$HOME/$1" ]; do shift; done
 cd "$HOME/$1"
 shift
 [ "$1" != -- ] || shift
-exec sh -c "$*"
-"""
+PATH=$HOME/server:$PATH exec sh -c "$*"
+""",
+    "server/facl-ask": """\
+#!/bin/sh
+for word; do
+    shift
+    set -- "$@" "${word#/var/lib/facl/}"
+done
+exec "$HOME/commands/facl-ask" "$@"
+""",
+}
 
 
 @functools.lru_cache(maxsize=None)

@@ -13,7 +13,7 @@ import unittest
 from typing import Dict
 
 from common import COMMANDS, HERE, Case
-from example_runs import SSH, Runner, Shell, why_no_tree
+from example_runs import SERVERS, Runner, Shell, why_no_tree
 from examples import REPOSITORY, blocks_of, difference, examples_of, page_blocks, read_lines, write_answers
 
 sys.path.insert(0, COMMANDS)
@@ -32,21 +32,27 @@ BLOCKS: Dict[str, str] = {
     "chown [-R] USER[:GROUP]|:GROUP FILE..": "synopses; test_owners.py",
     "PATH=/usr/local/bin:/usr/bin:/bin": "a file of cron; test_lines_of_cron_and_systemd runs its command",
     "[Service]": "files of systemd; test_lines_of_cron_and_systemd runs their commands",
-    # README
+}
+# Those of README and CONTRIBUTING.
+MORE_BLOCKS: Dict[str, str] = {
+    "tools/package.sh": "makes and installs a package; by hand",
     "tools/try.sh": "compiles the program; by hand, and tools/check/demo.sh has the answers",
-    "commands/facl-snapshot before /srv/project": "has tools/try.sh; the same by facl is run",
     "tools/demo.sh": "proves the program; by hand, and tools/check/demo.sh has the answers",
+    "facl-snapshot before /srv/project": "the other examples run it",
     ".ci/run": "has these tests in it",
+    # to go with the README that has sessions:
+    "commands/facl-snapshot before /srv/project": "has tools/try.sh; the same by facl is run",
     "facl [--passwd FILE] [--group FILE] [--dump FILE]": "a synopsis; tools/check/demo.sh",
     "# Which files grant the guest read, and which of them can the guest get to? None: project grants the guest no "
     "search.": "demo/plan; tools/check/demo.sh",
     "project/README": "demo/plan.stdout; tools/check/demo.sh",
     "echo 'who w /srv/project' | facl --passwd before/passwd --group before/group --dump before/dump":
         "to be a console",
-    "facl-snapshot before /srv/project": "to be a console",
     "facl-snapshot --split 1000000 parts /srv/project": "to be a console",
     "mara   r-- -> rw-     1 file    first: srv/project/notes.txt": "to be a console",
 }
+# The commands of README's tables.
+OWN = ("facl-snapshot", "facl-ask", "facl-report", "facl-plan", "facl-apply", "echo")
 
 
 SAMPLE = """\
@@ -107,20 +113,25 @@ class Documents(Case):
     def setUp(self) -> None:
         super().setUp()
         shutil.rmtree(self.path("before"))
-        os.mkdir(self.path("bin"))
+        for name, text in SERVERS.items():
+            os.mkdir(os.path.dirname(self.path(name)))
+            self.write(name, text.encode())
+            os.chmod(self.path(name), 0o755)
         os.symlink(find_program(None), self.path("bin/facl"))
         os.symlink(COMMANDS, self.path("commands"))
         shutil.copytree(os.path.join(REPOSITORY, "demo"), self.path("demo"))
-        self.write("bin/ssh", SSH.encode())
-        os.chmod(self.path("bin/ssh"), 0o755)
 
-    def run_document(self, name: str, is_real: bool = False) -> None:
+    def runner(self, name: str, is_real: bool) -> Runner:
         snapshot = os.path.join(SNAPSHOTS, DOCUMENTS[name])
-        for folder in ["srva/mon", "srvb/mon"] + ([] if is_real else ["before"]):
+        for folder in ["srva/today", "srvb/today"] + ([] if is_real else ["before"]):
             shutil.copytree(snapshot, self.path(folder))
-        self.write("srvb/mon/dump", self.read("srvb/mon/dump").replace(b"user:1003:rw-\t", b"user:1003:---\t"))
+        self.write("srvb/today/dump", self.read("srvb/today/dump").replace(b"user:1003:rw-\t", b"user:1003:---\t"))
         runner = Runner(self.folder, snapshot, is_real)
         self.addCleanup(runner.shell.close)
+        return runner
+
+    def run_document(self, name: str, is_real: bool = False) -> None:
+        runner = self.runner(name, is_real)
         for block in blocks_of(name):
             for example in examples_of(block) if block.is_examples else []:
                 runner.run(example)
@@ -160,8 +171,7 @@ class Documents(Case):
         blocks = {block.lines[0]: "\n".join(block.lines) for block in blocks_of("docs/facl-commands.1")}
         cron = blocks["PATH=/usr/local/bin:/usr/bin:/bin"].partition(" root ")[2].replace("\\%", "%")
         service, after = re.findall(r"^ExecStart(?:Post)?=(.*)", blocks["[Service]"], re.MULTILINE)
-        runner = Runner(self.folder, os.path.join(SNAPSHOTS, "project"), is_real=True)
-        self.addCleanup(runner.shell.close)
+        runner = self.runner("docs/facl-commands.1", is_real=True)
         for command in (cron, service.replace("$$", "$").replace("%%", "%")):
             lines = ["mkdir -m 700 kept; mkdir kept/old; touch -d '91 days ago' kept/old", command, "ls kept", after,
                      "ls kept; rm -r kept", ""]
@@ -176,9 +186,21 @@ class Documents(Case):
             for word in re.findall(r"`([^`]*)`", row):
                 self.assertIn(word.replace("\\|", "|"), page + "facl-apply --undo before.plan")
 
+    def test_commands_in_tables_of_readme(self) -> None:
+        """Those of the last column, but for synopses and recipes, are accepted."""
+        text = re.sub(r"\n## Recipes\n(?:(?!## ).*\n)*", "\n", "\n".join(read_lines("README.md")))
+        cells = "\n".join(re.findall(r"^\|.*\| (.*) \|$", text.replace("\\|", "&pipe;"), re.MULTILINE))
+        words = re.findall(r"`([^`]+)`", cells.replace("--dump FILE", "--dump before/dump"))
+        self.write("edits", b"setfacl -m u:guest:r srv/project/notes.txt\n")
+        runner = self.runner("README.md", not why_no_tree())
+        for command in ["facl-snapshot before /srv/project", *(word.replace("&pipe;", "|") for word in words)]:
+            if command.split(" ")[0] in OWN and not re.search(r"[A-Z]{3}|\[", command) and not runner.why_not(command):
+                printed = runner.shell.run(command + "; echo $?\n")
+                self.assertEqual((command, printed[-1:]), (command, ["0"]), printed)
+
     def test_each_block_is_run_or_named(self) -> None:
         blocks = [block for name in DOCUMENTS for block in blocks_of(name) if not block.is_examples]
-        unknown = [block for block in blocks if block.lines[0] not in BLOCKS]
+        unknown = [block for block in blocks if block.lines[0] not in {**BLOCKS, **MORE_BLOCKS}]
         self.assertEqual([], ["%s:%d: %s" % (block.name, block.first, block.lines[0]) for block in unknown])
         self.assertEqual(set(), set(BLOCKS) - {block.lines[0] for block in blocks}, "rows of no block")
 
