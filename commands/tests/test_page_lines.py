@@ -2,8 +2,11 @@
 has in their place; and those of which the real tools make something else."""
 from __future__ import annotations
 
+import functools
 import os
 import re
+import shutil
+import subprocess
 import sys
 import unittest
 from typing import Dict, List, Tuple
@@ -39,6 +42,18 @@ def is_line(text: str) -> bool:
     return text.split(" ")[0] in TOOLS
 
 
+@functools.lru_cache(maxsize=None)
+def why_no_real_tools() -> str:
+    """Nothing, or why the real tools cannot be run as the page has them."""
+    missing = [tool for tool in ("setfacl", "chacl", "setfattr", "setpriv") if not shutil.which(tool)]
+    if missing or os.geteuid() != 0:
+        return "%s is not installed" % missing[0] if missing else "it takes root"
+    text = 'setfacl --version; id -u daemon; file=$(mktemp); setfacl -m u:1:r "$file"; echo $?; rm "$file"'
+    done = subprocess.run(["sh", "-c", text], capture_output=True, check=False)
+    wanted = b"setfacl 2.3.1\n1\n0\n"
+    return "" if done.stdout == wanted else "it takes version 2.3.1, the user daemon, and a file system with lists"
+
+
 class Lines(Case):
     def setUp(self) -> None:
         super().setUp()
@@ -71,6 +86,18 @@ class Lines(Case):
                 messages = [re.sub(rb"^line \d+: ", b"", it) + b"\n" for it in found.messages]
                 printed = (found.output.read() + b"".join(messages)).decode().replace("\n", "|")
                 self.assertEqual((row, printed), (row, answer + "|"))
+
+    @unittest.skipIf(why_no_real_tools(), why_no_real_tools())
+    def test_differences_there(self) -> None:
+        """What the real tools do, as the page says of `There`."""
+        self.assertEqual(list(THERE), list(DIFFERENCES))
+        os.mkdir(self.path("real"))
+        for row, (lines, answer) in THERE.items():
+            with self.subTest(row):
+                text = "umask 022; rm -rf *; mkdir d; touch f m; setfacl -m u:1:r m\n" + lines
+                done = subprocess.run(["sh", "-c", text], cwd=self.path("real"), env={**os.environ, "LC_ALL": "C"},
+                                      stdout=subprocess.PIPE, stderr=subprocess.STDOUT, check=False)
+                self.assertEqual(done.stdout.decode().replace("\n", "|"), answer)
 
 
 RESTORE = "setfacl --restore=-|# file: "
@@ -127,6 +154,49 @@ DIFFERENCES: Dict[str, Tuple[str, str]] = {
     "can daemon f, f with user:daemon:rw-, mask::---, other::-w-": (
         "setfacl -m u:daemon:rw,m::-,o::w f|can daemon f", "none"),
 }
+
+INVALID = "setfacl: Option %s: Invalid argument near character 1|"
+RECORDED = "printf '# file: %s\\n%suser::rw-\\ngroup::r--\\nother::r--\\n%s' | setfacl %s--restore=-; "
+SEEN = "getfacl -cn %s | paste -sd,"
+THERE: Dict[str, Tuple[str, str]] = dict(zip(DIFFERENCES, (
+    ("setfacl -m u:daemon: f", "setfacl: Option -m incomplete|"),
+    ("setfacl -d -m d:u:1:r,u:2:r d; setfacl -d -x d:u:1,u:2 d", INVALID % "-m" + INVALID % "-x"),
+    ("setfacl -m u:1:x,u:2:X f;" + SEEN % "f", "user::rw-,user:1:--x,user:2:--x,group::r--,mask::r-x,other::r--,|"),
+    ("setfacl -m m::rx m; setfacl -m u:2:X m;" + SEEN % "m",
+     "user::rw-,user:1:r--,user:2:--x,group::r--,mask::r-x,other::r--,|"),
+    ("setfacl -x u:1 -m u:1:r f;" + SEEN % "f", "user::rw-,user:1:r--,group::r--,mask::r--,other::r--,|"),
+    ("setfacl -x d:u: d;" + SEEN % "d", "user::rwx,group::r-x,other::r-x,|"),
+    ("setfacl -x m -m u:1:r f", "setfacl: f: Malformed access ACL `user::rw-,user:daemon:r--,group::r--,other::r--': "
+     "Missing or wrong entry at entry 4|"),
+    ("setfacl --mask -x m m;" + SEEN % "m", "user::rw-,user:1:r--,group::r--,mask::r--,other::r--,|"),
+    ("".join(RECORDED % ("d", "", it, "") + SEEN % "d" + "; setfacl -b d; "
+             for it in ("user:1:r--\\n", "default:user::rwx\\n", "other::r-x\\n")),
+     "user::rw-,user:1:r--,group::r--,mask::r--,other::r--,|user::rw-,group::r--,other::r--,default:user::rwx,"
+     "default:group::r--,default:other::r--,|user::rw-,group::r--,other::r-x,|"),
+    (RECORDED % ("f", "# owner: daemon\\n# flags: s--\\n", "", "--test ") + "stat -c '%U %A' f",
+     "f: *,*|root -rwSr--r--|"),
+    ("setfacl -m d:u:1:r f d; echo $?; setfacl --test -m d:u:1:r f",
+     "setfacl: f: Only directories can have default ACLs|0|f: *,d:u::rw-,d:u:daemon:r--,d:g::r--,d:m::r--,d:o::r--|"),
+    ("echo 'u:daemon # why' | setfacl -X - m", "setfacl: Invalid argument in line 1 of standard input|"),
+    ("printf '# file: f\\n# flags: s--\\nuser::---\\ngroup::---\\nother::---\\n' | setfacl --restore=-; stat -c %A f",
+     "-rwSr--r--|"),
+    ("setfacl -n -m g::rwx m; chacl -R m;" + SEEN % "m" +
+     "\nsetfacl -n -m g::rwx,u:1:r,m:r m; chacl -B m;" + SEEN % "m",
+     "user::rw-,group::rwx,other::r--,|user::rw-,group::rwx,other::r--,|"),
+    ("chacl u::6,g::4,o::0 f; chacl u::rw-,daemon:r--,g::r--,m::r--,o::- f",
+     "chacl: u::6,g::4,o::0 - Invalid argument|chacl: u::rw-,daemon:r--,g::r--,m::r--,o::- - Invalid argument|"),
+    ("for it in '-b u::r,g::r,o::r u::r,g::r,o::r' '-d u::r,g::r,o::r' -R -D -B -l; do\n"
+     "chacl -r $it d 2>/dev/null || echo no; done", "no|no|no|no|no|no|"),
+    ("setfacl -d -m u:1:r d; getfacl -a -s d", ""),
+    ("setfacl -n -m u:1:rwx m; getfacl -c m | grep daemon", "user:daemon:rwx\t#effective:r--|"),
+    ("setfacl -m u:1:r f; setfattr -n system.posix_acl_access -v 0x02000000 f;" + SEEN % "f",
+     "user::rw-,group::r--,other::r--,|"),
+    ("getfattr -n system.posix_acl_access f", "f: system.posix_acl_access: No such attribute|"),
+    ("touch 'a\\b'; getfacl 'a\\b' | head -1", "# file: a\\\\b|"),
+    ("setfacl -m u:daemon:rw,m::-,o::w f; chmod 755 .. .\n"
+     "setpriv --reuid 1 --regid 1 --clear-groups sh -c 'echo y >>f && echo written; cat f'",
+     "written|cat: f: Permission denied|"),
+)))
 
 
 if __name__ == "__main__":
