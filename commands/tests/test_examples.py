@@ -130,7 +130,8 @@ class Documents(Case):
         self.addCleanup(runner.shell.close)
         return runner
 
-    def run_document(self, name: str, is_real: bool = False) -> None:
+    def run_document(self, name: str, is_real: bool = False) -> int:
+        """The number of examples that were run."""
         runner = self.runner(name, is_real)
         for block in blocks_of(name):
             for example in examples_of(block) if block.is_examples else []:
@@ -141,6 +142,7 @@ class Documents(Case):
             write_answers(name, runner.others)
         if runner.faults:
             self.fail("\n" + "".join(runner.faults))
+        return runner.run_count
 
     def test_readme(self) -> None:
         self.run_document("README.md")
@@ -149,10 +151,10 @@ class Documents(Case):
         self.run_document("CONTRIBUTING.md")
 
     def test_page(self) -> None:
-        self.run_document("docs/facl.1")
+        self.assertGreater(self.run_document("docs/facl.1"), 30)
 
     def test_page_of_commands(self) -> None:
-        self.run_document("docs/facl-commands.1")
+        self.assertGreater(self.run_document("docs/facl-commands.1"), 5)
 
     @unittest.skipIf(why_no_tree(), why_no_tree())
     def test_readme_on_a_real_tree(self) -> None:
@@ -160,11 +162,11 @@ class Documents(Case):
 
     @unittest.skipIf(why_no_tree(), why_no_tree())
     def test_page_on_a_real_tree(self) -> None:
-        self.run_document("docs/facl.1", is_real=True)
+        self.assertGreater(self.run_document("docs/facl.1", is_real=True), 30)
 
     @unittest.skipIf(why_no_tree(), why_no_tree())
     def test_page_of_commands_on_a_real_tree(self) -> None:
-        self.run_document("docs/facl-commands.1", is_real=True)
+        self.assertGreater(self.run_document("docs/facl-commands.1", is_real=True), 15)
 
     @unittest.skipIf(why_no_tree(), why_no_tree())
     def test_lines_of_cron_and_systemd(self) -> None:
