@@ -14,7 +14,7 @@ from typing import Dict
 
 from common import COMMANDS, HERE, Case
 from example_runs import SERVERS, Runner, Shell, why_no_tree
-from examples import REPOSITORY, blocks_of, difference, examples_of, page_blocks, read_lines, write_answers
+from examples import REPOSITORY, blocks_of, difference, examples_of, read_lines, write_answers
 
 sys.path.insert(0, COMMANDS)
 
@@ -32,24 +32,12 @@ BLOCKS: Dict[str, str] = {
     "chown [-R] USER[:GROUP]|:GROUP FILE..": "synopses; test_owners.py",
     "PATH=/usr/local/bin:/usr/bin:/bin": "a file of cron; test_lines_of_cron_and_systemd runs its command",
     "[Service]": "files of systemd; test_lines_of_cron_and_systemd runs their commands",
-}
-# Those of README and CONTRIBUTING.
-MORE_BLOCKS: Dict[str, str] = {
     "tools/package.sh": "makes and installs a package; by hand",
-    "tools/try.sh": "compiles the program; by hand, and tools/check/demo.sh has the answers",
-    "tools/demo.sh": "proves the program; by hand, and tools/check/demo.sh has the answers",
+    "git clone URL facl && cd facl": "changes and compiles the program; by hand",
+    "tools/try.sh": "compiles the program; by hand",
+    "tools/demo.sh": "proves the program; by hand",
     "facl-snapshot before /srv/project": "the other examples run it",
     ".ci/run": "has these tests in it",
-    # to go with the README that has sessions:
-    "commands/facl-snapshot before /srv/project": "has tools/try.sh; the same by facl is run",
-    "facl [--passwd FILE] [--group FILE] [--dump FILE]": "a synopsis; tools/check/demo.sh",
-    "# Which files grant the guest read, and which of them can the guest get to? None: project grants the guest no "
-    "search.": "demo/plan; tools/check/demo.sh",
-    "project/README": "demo/plan.stdout; tools/check/demo.sh",
-    "echo 'who w /srv/project' | facl --passwd before/passwd --group before/group --dump before/dump":
-        "to be a console",
-    "facl-snapshot --split 1000000 parts /srv/project": "to be a console",
-    "mara   r-- -> rw-     1 file    first: srv/project/notes.txt": "to be a console",
 }
 # The commands of README's tables.
 OWN = ("facl-snapshot", "facl-ask", "facl-report", "facl-plan", "facl-apply", "echo")
@@ -158,7 +146,7 @@ class Documents(Case):
 
     @unittest.skipIf(why_no_tree(), why_no_tree())
     def test_readme_on_a_real_tree(self) -> None:
-        self.run_document("README.md", is_real=True)
+        self.assertGreater(self.run_document("README.md", is_real=True), 8)
 
     @unittest.skipIf(why_no_tree(), why_no_tree())
     def test_page_on_a_real_tree(self) -> None:
@@ -180,17 +168,9 @@ class Documents(Case):
             printed = runner.shell.run("\n".join(lines).replace("/var/lib/facl", "kept"))
             self.assertRegex(" ".join(printed), r"^(\d{4}-\d\d-\d\d) old \1$")
 
-    def test_recipes_of_readme_are_those_of_the_page(self) -> None:
-        blocks = [block for block in page_blocks("docs/facl.1") if block.is_examples]
-        page = "".join(example.command for block in blocks for example in examples_of(block))
-        table = "\n".join(read_lines("README.md")).partition("\n## Recipes\n")[2].partition("\n## ")[0]
-        for row in re.findall(r"^\| [^|]* \| (.*) \|$", table, re.MULTILINE)[2:]:
-            for word in re.findall(r"`([^`]*)`", row):
-                self.assertIn(word.replace("\\|", "|"), page + "facl-apply --undo before.plan")
-
     def test_commands_in_tables_of_readme(self) -> None:
-        """Those of the last column, but for synopses and recipes, are accepted."""
-        text = re.sub(r"\n## Recipes\n(?:(?!## ).*\n)*", "\n", "\n".join(read_lines("README.md")))
+        """Those of the last column, but for synopses, are accepted."""
+        text = "\n".join(read_lines("README.md"))
         cells = "\n".join(re.findall(r"^\|.*\| (.*) \|$", text.replace("\\|", "&pipe;"), re.MULTILINE))
         words = re.findall(r"`([^`]+)`", cells.replace("--dump FILE", "--dump before/dump"))
         self.write("edits", b"setfacl -m u:guest:r srv/project/notes.txt\n")
@@ -202,7 +182,7 @@ class Documents(Case):
 
     def test_each_block_is_run_or_named(self) -> None:
         blocks = [block for name in DOCUMENTS for block in blocks_of(name) if not block.is_examples]
-        unknown = [block for block in blocks if block.lines[0] not in {**BLOCKS, **MORE_BLOCKS}]
+        unknown = [block for block in blocks if block.lines[0] not in BLOCKS]
         self.assertEqual([], ["%s:%d: %s" % (block.name, block.first, block.lines[0]) for block in unknown])
         self.assertEqual(set(), set(BLOCKS) - {block.lines[0] for block in blocks}, "rows of no block")
 
