@@ -5,10 +5,10 @@
 # usage: tools/check_commands.sh [--all] [PROGRAM]      PROGRAM: one that is built; without it crates/facl_cli/out/facl_cli
 #
 # With --all it also tests facl-ask at a terminal, and several snapshots by GNU parallel, which takes a minute more.
-# The linters shellcheck and mypy --strict are asked too where they are installed. The documents are checked against the
-# sources (tools/check/documents.py), and the sources for where they say that memory ran out (tools/check/memory_faults.py);
-# each of these four counts as a failed test where it finds something. What needs a real file system and root is in
-# tools/check/live.sh and tools/check/snapshot.sh.
+# The linters shellcheck and mypy (pyproject.toml) are asked too where they are installed. The documents are checked against
+# the sources (tools/check/documents.py), and the sources for where they say that memory ran out
+# (tools/check/memory_faults.py); each of these four counts as a failed test where it finds something. What needs a real
+# file system and root is in tools/check/live.py and tools/check/snapshot.py.
 set -eu
 top=$(cd "$(dirname "$0")/.." && pwd)
 if [ "${1:-}" = --all ]; then
@@ -34,13 +34,8 @@ lint() {
     fi
 }
 
-export MYPYPATH=commands:commands/tests:tools/check:tools/lib
 lint shellcheck -x commands/facl-snapshot .ci/run tools/*.sh tools/*/*.sh
-# The files with types; the others are not imported by these.
-# shellcheck disable=SC2046  # no name has a space
-lint mypy --strict --cache-dir=/dev/null --scripts-are-modules commands/facl_commands commands/facl-ask \
-    commands/facl-plan commands/facl-apply commands/facl-report \
-    $(grep -l '^from __future__ import annotations' commands/tests/*.py tools/*.py tools/*/*.py tools/check/tests/*.py)
+lint mypy
 for check in tools/check/documents.py tools/check/memory_faults.py; do
     "$check" >&2 || lint_faults=$((lint_faults + 1))
 done

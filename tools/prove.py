@@ -14,9 +14,8 @@ is printed of a crate goes to out/logs/. The exit status is 0 where the program 
 """
 from __future__ import annotations
 
-import argparse
 import contextlib
-import fcntl
+import functools
 import hashlib
 import os
 import shutil
@@ -27,15 +26,13 @@ from typing import Dict, List, Set
 sys.dont_write_bytecode = True
 sys.path.insert(0, os.path.join(os.path.dirname(os.path.realpath(__file__)), "lib"))
 import script  # noqa: E402
-from crates import Crates, folder_of  # noqa: E402
-from script import TOP, say  # noqa: E402
-from side_by_side import How, Run, SideBySide, files_of, free_jobs, show_end  # noqa: E402
+from crates import Crates, How, Run, SideBySide, files_of, folder_of, lock, with_jobs  # noqa: E402
+from script import TOP  # noqa: E402
 
 PROGRAM = "facl_cli"
 BUILT = folder_of(PROGRAM, "out", PROGRAM)
 TARGET = "x86_64-unknown-linux-gnu"
 KEPT = os.path.join(TOP, "out", "proved")
-GIGABYTES_A_CRATE = 4
 # of a crate beside the one with the longest way: a check that is shared takes more processor time
 CHECKS_OF_OTHERS = 1
 
@@ -106,7 +103,7 @@ class Kept:
         return {crate for crate in proved if self.crates.needed(crate) <= proved}
 
     def note(self, crate: str) -> None:
-        """Notes that a crate is proved, unless files that its check may have read have changed since the script began."""
+        """Notes that a crate is proved, unless files that its check may have read changed since the script began."""
         if self.sums_now()[crate] != self.sums[crate]:
             raise script.Failed(f"files of {crate} or below it were changed while it was proved: run this again")
         with open(os.path.join(KEPT, crate + ".sum"), "w", encoding="ascii") as text:
@@ -118,7 +115,7 @@ class Kept:
 
 
 class Build(Run):
-    """The proof of one crate by the kit's prover, which then writes a library of what it states, or compiles the program."""
+    """The proof of one crate by the kit's prover, which then writes a library of what it states, or compiles."""
 
     def __init__(self, kept: Kept, crate: str, how: How) -> None:
         self.kept = kept
@@ -140,7 +137,8 @@ class Build(Run):
         kit, crates = self.kept.kit, self.kept.crates
         words = ["-L", f"dependency={kit('rlibs')}", "-L", f"dependency={KEPT}"]
         for used in sorted(crates.listed[crate] | {"std"}):
-            words += ["--extern", f"{used}={self.kept.library(used) if used in crates.uses else kit('rlibs', used + '.rlib')}"]
+            library = self.kept.library(used) if used in crates.uses else kit("rlibs", used + ".rlib")
+            words += ["--extern", f"{used}={library}"]
         return words
 
     def end(self) -> None:
@@ -151,57 +149,29 @@ class Build(Run):
 
 def link(kit: Kit) -> None:
     """Links what was compiled of the program."""
-    libraries = [kit("c", "libos_c.a"), kit("c", "liblibc_c.a")]
-    words = [kit("bin", "rattle-link"), "--target", TARGET, "--toolchain", kit("toolchain"), "-o", BUILT, BUILT + ".o"]
-    ran = subprocess.run([*words, *libraries], stdin=subprocess.DEVNULL, capture_output=True, text=True, errors="replace")
+    words = [kit("bin", "rattle-link"), "--target", TARGET, "--toolchain", kit("toolchain"), "-o", BUILT, BUILT + ".o",
+             kit("c", "libos_c.a"), kit("c", "liblibc_c.a")]
+    ran = subprocess.run(words, stdin=subprocess.DEVNULL, capture_output=True, text=True, errors="replace")
     if ran.returncode:
         raise script.Failed(f"the program is not linked: {ran.stdout}{ran.stderr}")
 
 
-def lock() -> None:
-    """Waits until no other run proves here, and keeps others out until the process ends."""
-    opened = os.open(KEPT, os.O_RDONLY)
-    try:
-        fcntl.flock(opened, fcntl.LOCK_EX | fcntl.LOCK_NB)
-    except BlockingIOError:
-        say("waiting for another run to end")
-        fcntl.flock(opened, fcntl.LOCK_EX)
-
-
-def prove(kept: Kept, wanted: Set[str], jobs: int) -> int:
-    """Proves the crates that are not proved yet, and builds the program. Returns the exit status."""
-    say(f"{len(wanted)} crates, at most {jobs} at a time")
-    proof = SideBySide(kept.crates, wanted, jobs, CHECKS_OF_OTHERS, lambda crate, how: Build(kept, crate, how))
-    proof.done = kept.all_of(wanted)
-    script.at_signals(proof.note)
-    faulty = proof.all_proved()
-    if faulty:
-        show_end(faulty)
-        return 1
-    script.at_signals(script.end)
-    link(kept.kit)
-    kept.note(PROGRAM)
-    return 0
-
-
-def read_words() -> argparse.Namespace:
-    options = argparse.ArgumentParser(description=__doc__, formatter_class=argparse.RawDescriptionHelpFormatter)
-    options.add_argument("--jobs", type=int, default=free_jobs(GIGABYTES_A_CRATE), metavar="N")
-    given = options.parse_args()
-    if given.jobs < 1:
-        options.error("--jobs takes a number from 1 on")
-    return given
-
-
 def main() -> int:
-    jobs, crates = read_words().jobs, Crates()
+    jobs, crates = with_jobs(__doc__).parse_args().jobs, Crates()
     for folder in (KEPT, os.path.dirname(BUILT)):
         os.makedirs(folder, exist_ok=True)
-    lock()
+    lock([KEPT])
     kept = Kept(crates, Kit())
     if kept.has(PROGRAM):
         return 0
-    return prove(kept, crates.needed(PROGRAM), jobs)
+    wanted = crates.needed(PROGRAM)
+    proof = SideBySide(crates, wanted, jobs, CHECKS_OF_OTHERS, functools.partial(Build, kept))
+    proof.done = kept.all_of(wanted)
+    if not proof.all_proved():
+        return 1
+    link(kept.kit)
+    kept.note(PROGRAM)
+    return 0
 
 
 if __name__ == "__main__":

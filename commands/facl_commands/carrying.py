@@ -3,13 +3,14 @@ from __future__ import annotations
 
 import os
 import signal
-from typing import Callable, Dict, Iterable, List, Set
+from typing import Callable, Dict, Iterable, List, Optional, Set, Tuple
 
-from . import differences, live, plan_folder, planned, system
+from . import differences, live, plan_folder, planned, sharing, system
 from .lists import Record
 from .live import NotFound, OpenFile, Opener, Seen
 from .messages import SIGNALS, reason
 from .names import path_order
+from .sharing import Helper, Stop
 from .snapshot import Identity
 from .way import Look, Way, closes, is_expected, look_at, opens, unexpected, was_closed
 
@@ -36,6 +37,7 @@ class Carrier:
         self.add_changed(look.files)
         self.finished: Set[Identity] = set()  # Files of several names.
         self.folders: Dict[int, int] = {}  # A directory of each file system that was changed.
+        self.stop = Stop()  # Set where no process is to change a further file.
 
     def add_changed(self, seen: Dict[bytes, Seen]) -> None:
         if self.way.is_in_part():
@@ -99,23 +101,69 @@ class Carrier:
         return left
 
     def give(self, paths: Iterable[bytes]) -> Dict[bytes, bytes]:
+        """Gives the files their new records, by several processes where there are many."""
+        first, *others = self.parts(list(paths))
+        helpers: List[Helper] = []
+        try:
+            for part in others:
+                helpers.append(Helper(lambda part=part: self.give_apart(part),
+                                      keeps_signals=True))  # type: ignore[misc]
+            left = self.give_part(first)
+            for helper, part in zip(helpers, others):
+                left.update(self.given_by(helper, part))
+        finally:
+            for helper in helpers:
+                helper.end()
+        return left
+
+    def parts(self, paths: List[bytes]) -> List[List[bytes]]:
+        """The parts of the processes. Only root changes files in any order, and the names of one file are in one
+        part."""
+        parts = sharing.parts_of(paths) if os.geteuid() == 0 else []
+        if len(parts) < 2:
+            return [paths]
+        self.remember_folders(paths)
+        several = {path for path in paths if self.seen[path].names > 1 and not self.seen[path].is_directory}
+        return [parts[0] + sorted(several.difference(parts[0]), key=path_order),
+                *([path for path in part if path not in several] for part in parts[1:])]
+
+    def give_part(self, paths: Iterable[bytes]) -> Dict[bytes, bytes]:
         return self.walk(self.give_one, paths, is_whole=self.way.is_undo)
 
     def walk(self, step: Callable[[Opener, bytes], None], paths: Iterable[bytes], is_whole: bool) -> Dict[bytes, bytes]:
         """Does something with each file; returns those with which it could not be done, with the reason. A walk that is
-        not to be whole ends after the first of these, or at a signal."""
+        not to be whole ends after the first of these, or at a signal, and so do those of other processes."""
         left: Dict[bytes, bytes] = {}
         with Opener() as opener:
             for number, path in enumerate(paths):
-                if not is_whole and (left or number % OFTEN == 0 and self.is_interrupted()):
+                if not is_whole and (self.stop.is_set() or number % OFTEN == 0 and self.is_interrupted()):
                     break
-                try:
-                    step(opener, path)
-                except (NotFound, Mismatch) as error:
-                    left[path] = error.text
-                except OSError as error:
-                    left[path] = reason(error)
+                fault = fault_of(step, opener, path)
+                if fault is not None:
+                    left[path] = fault
+                    if not is_whole:
+                        self.stop.set()
         return left
+
+    def give_apart(self, paths: List[bytes]) -> Tuple[List[bytes], Dict[bytes, bytes]]:
+        """What another process changed, and what it could not."""
+        self.changed = []
+        left = self.give_part(paths)
+        return self.changed, left
+
+    def given_by(self, helper: Helper, part: List[bytes]) -> Dict[bytes, bytes]:
+        """What a process could not change; it is stopped where a signal waits."""
+        while not helper.has_result():
+            self.is_interrupted()
+        result = helper.result()
+        if not isinstance(result, tuple):
+            self.stop.set()
+            self.changed += part
+            return {part[0]: b"may be changed, and so may files after it: the process that was at work on them has "
+                             b"ended"}
+        changed, left = result
+        self.changed += changed
+        return dict(left)
 
     def give_one(self, opener: Opener, path: bytes) -> None:
         file = opener.open(path)
@@ -127,7 +175,7 @@ class Carrier:
                 return
             self.changed.append(path)
             if seen.device not in self.folders:
-                self.remember_folder(opener, seen.device)
+                self.remember_folder(opener, file, seen)
             change(file, seen.record, self.way.end(path), seen.is_directory)
             if seen.names > 1:
                 self.finished.add(seen.identity)
@@ -142,16 +190,41 @@ class Carrier:
         if not is_done and not is_expected(self.way, path, seen.record):
             raise Mismatch(b"was changed: " + differences.parts(seen.record, self.way.start(path)))
 
-    def remember_folder(self, opener: Opener, device: int) -> None:
-        """Keeps a directory of the file system open, to write out what it has in memory; where the caller may not read
-        it, all file systems are written out."""
+    def remember_folder(self, opener: Opener, file: OpenFile, seen: Seen) -> None:
+        """Keeps a directory of the file system open, to write out what it has in memory; where there is none that the
+        caller may read, all file systems are written out."""
+        name = file.name if seen.is_directory else b"/proc/self/fd/%d" % opener.last()
+        self.folders[seen.device] = system.NO_DESCRIPTOR
         try:
-            self.folders[device] = os.open(b"/proc/self/fd/%d" % opener.last(), os.O_RDONLY | os.O_CLOEXEC)
+            folder = os.open(name, os.O_RDONLY | os.O_CLOEXEC)
         except PermissionError:
-            self.folders[device] = system.NO_DESCRIPTOR
+            return
+        if os.fstat(folder).st_dev == seen.device:
+            self.folders[seen.device] = folder
+        else:
+            os.close(folder)
+
+    def remember_folders(self, paths: List[bytes]) -> None:
+        """The same for all files, before other processes change them."""
+        first: Dict[int, bytes] = {}
+        for path in paths:
+            first.setdefault(self.seen[path].device, path)
+        with Opener() as opener:
+            for device in first.keys() - self.folders.keys():
+                fault_of(self.remember_folder_of, opener, first[device])
+
+    def remember_folder_of(self, opener: Opener, path: bytes) -> None:
+        file = opener.open(path)
+        try:
+            self.remember_folder(opener, file, self.seen[path])
+        finally:
+            file.close()
 
     def is_interrupted(self) -> bool:
-        return bool(signal.sigpending() & set(SIGNALS))
+        """Whether a signal waits; then no process changes a further file."""
+        if signal.sigpending() & set(SIGNALS):
+            self.stop.set()
+        return self.stop.is_set()
 
     def put_back(self) -> Dict[bytes, bytes]:
         """Gives back the old records, the last first; returns the files that did not get them."""
@@ -173,6 +246,17 @@ class Carrier:
         for folder in self.folders.values():
             system.write_out(folder)
         plan_folder.set_state(self.way.folder, state)
+
+
+def fault_of(step: Callable[[Opener, bytes], None], opener: Opener, path: bytes) -> Optional[bytes]:
+    """Does something with a file; returns why it could not be done."""
+    try:
+        step(opener, path)
+    except (NotFound, Mismatch) as error:
+        return error.text
+    except OSError as error:
+        return reason(error)
+    return None
 
 
 def change(file: OpenFile, now: Record, end: Record, is_directory: bool) -> None:

@@ -5,6 +5,7 @@ from __future__ import annotations
 import ctypes
 import errno
 import os
+import signal
 import struct
 from typing import Dict, Set, Tuple
 
@@ -19,6 +20,7 @@ STATX = struct.Struct("<I12xIIIH2xQ40xqI44xII")
 BUFFER = ctypes.create_string_buffer(256)
 STATX_CALL = getattr(LIBRARY, "statx", None)
 NO_DESCRIPTOR = -1
+PR_SET_PDEATHSIG = 1
 MOUNTS_FILE = "/proc/self/mountinfo"
 BOOT_FILE = "/proc/sys/kernel/random/boot_id"
 
@@ -121,6 +123,14 @@ def write_out(descriptor: int) -> None:
         os.sync()
     elif LIBRARY.syncfs(descriptor) != 0:
         raise OSError(ctypes.get_errno(), os.strerror(ctypes.get_errno()))
+
+
+def end_with(parent: int) -> None:
+    """Has this process killed when its parent ends; ends it where that has happened already."""
+    if hasattr(LIBRARY, "prctl"):
+        LIBRARY.prctl(PR_SET_PDEATHSIG, ctypes.c_ulong(signal.SIGKILL))
+    if os.getppid() != parent:
+        os._exit(1)
 
 
 def boot() -> str:

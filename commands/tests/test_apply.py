@@ -6,7 +6,7 @@ import os
 import signal
 import unittest
 import unittest.mock
-from typing import Callable, Dict
+from typing import Any, Callable, Dict, Set
 
 from common import Case, Done
 from real import RealCase
@@ -252,6 +252,78 @@ class Meanwhile(Tree):
         finally:
             signal.sigwait({signal.SIGQUIT})
             signal.pthread_sigmask(signal.SIG_SETMASK, before)
+
+
+class SideBySide(Meanwhile):
+    """The same by several processes, as root has it for many files; and what becomes of them."""
+
+    def setUp(self) -> None:
+        super().setUp()
+        for name, value in (("facl_commands.sharing.MANY", 2), ("os.geteuid", lambda: 0), ("os.cpu_count", lambda: 4)):
+            patch = unittest.mock.patch(name, value)
+            patch.start()
+            self.addCleanup(patch.stop)
+
+    def carrier_of_many(self) -> carrying.Carrier:
+        self.names = ["f%02d" % k for k in range(24)]
+        for name in self.names:
+            self.make(name)
+        return self.carrier(b"chmod 604 " + b" ".join(self.word(name) for name in self.names))
+
+    def all_modes(self) -> Set[int]:
+        return {self.mode(name) for name in self.names}
+
+    def test_all_are_changed_and_given_back(self) -> None:
+        carrier = self.carrier_of_many()
+        self.assertEqual(len(carrier.parts(list(carrier.seen))), 4)
+        self.assertEqual(carrier.run(), {})
+        self.assertEqual(self.all_modes(), {0o604})
+        self.assertEqual(sorted(carrier.changed), sorted(carrier.seen))
+        self.assertEqual(carrier.put_back(), {})
+        self.assertEqual(self.all_modes(), {0o640})
+
+    def test_one_that_is_exchanged_stops_all(self) -> None:
+        carrier = self.carrier_of_many()
+        self.make("secret")
+        self.exchange("f20", "secret")
+        self.assertEqual(list(carrier.run().values()), [b"was replaced by another file"])
+        self.assertTrue(carrier.is_interrupted())
+        self.assertEqual(carrier.put_back(), {})
+        self.assertEqual(self.all_modes() | {self.mode("secret")}, {0o640})
+
+    def test_a_process_that_is_killed(self) -> None:
+        carrier = self.carrier_of_many()
+        change = live.change
+
+        def change_and_end(file: live.OpenFile, *words: Any) -> None:
+            change(file, *words)
+            if os.getpid() != first:
+                os.kill(os.getpid(), signal.SIGKILL)
+
+        first = os.getpid()
+        with unittest.mock.patch.object(live, "change", change_and_end):
+            left = carrier.run()
+        self.assertEqual(len(left), 3)
+        self.assertIn(b"has ended", next(iter(left.values())))
+        self.assertIn(0o604, self.all_modes())
+        self.assertEqual(carrier.put_back(), {})
+        self.assertEqual(self.all_modes(), {0o640})
+
+    def test_a_waiting_signal_of_one_process_stops_all(self) -> None:
+        carrier = self.carrier_of_many()
+        carrier.stop.set()
+        self.assertEqual(carrier.run(), {})
+        self.assertEqual(self.all_modes(), {0o640})
+
+    def test_names_of_one_file_are_in_one_part(self) -> None:
+        self.make("f00")
+        os.link(os.path.join(self.tree, "f00"), os.path.join(self.tree, "z"))
+        carrier = self.carrier(b"chmod 604 " + b" ".join(self.word(name) for name in ("a", "b", "f00", "z")))
+        first = carrier.parts(list(carrier.seen))[0]
+        self.assertEqual({os.path.basename(name) for name in first} & {b"f00", b"z"}, {b"f00", b"z"})
+        self.assertEqual(sorted(sum(carrier.parts(list(carrier.seen)), [])), sorted(carrier.seen))
+        self.assertEqual(carrier.run(), {})
+        self.assertEqual((self.mode("f00"), self.mode("z")), (0o604, 0o604))
 
 
 if __name__ == "__main__":

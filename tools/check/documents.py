@@ -3,16 +3,19 @@
 
 usage: tools/check/documents.py [--write | --files [CRATE]..]
 
-- docs/PROOFS.md: each function that a table of promises names is in the sources of the crate of its section, and has the
-  clauses named; so is each name where a wrong body is refused, and each call that takes no memory.
-- docs/ARCHITECTURE.md: its map has each crate of the program. Its table of limits: each constant has the value of its row.
-- README.md, "What is proved": each function and clause named is in the sources; the kit's crates are those of crates.txt.
+- docs/PROOFS.md: the functions, types and clauses that these name are in the sources (Checks.name_faults): the column
+  "Carried by", tables that start with "Calls", lists of its section LEFT, and what is in parentheses of the points, the
+  numbered lines of its section POINTS.
+- Tables: limits have the values of their constants; the map of crates and the table of tests have each crate of
+  crates.txt; the line of docs/PROOFS.md that starts with "Trusted" has the kit's crates that crates.txt lists.
+- docs/SPECIFICATION.md, docs/facl.1: a number in thousands, with commas, is a limit, or one from a limit.
+- docs/facl.1: each tool has the options that the program reads, and no others.
 - docs/READING.md: each line of its examples is one of the sources or definitions.
-- CONTRIBUTING.md: the table of tests has each crate, and crates of tests that use it. tools/README.md names each script,
-  by its path in tools/.
-- The parts that are made of the sources (generated.py) are as these have it; --write makes them so, and does nothing else.
-- Each file of src/ and specs/ of a crate of the program, and each script of commands/ and tools/, has a sentence at its head;
-  --files prints these sentences, of all crates and the commands or of some, and does nothing else.
+- tools/README.md names each script of tools/, and none that is not there.
+- The blocks `<!-- graph -->` of docs/ARCHITECTURE.md and `<!-- index -->` of docs/PROOFS.md are as the sources have
+  them; --write makes them so, and does nothing else.
+- Each file of src/ and specs/ of a crate, and each script of commands/ and tools/, has a sentence at its head; --files
+  prints these sentences, of some crates or of all and the scripts, and does nothing else.
 - All documents: each link within the repository, and each path that starts with a folder of it or of a crate, leads to
   something; each name with `_` or `::` is a word of the sources.
 
@@ -20,331 +23,364 @@ Prints `FILE:LINE: what is wrong`. The exit status is 1 where something is.
 """
 from __future__ import annotations
 
-import ast
-import functools
-import glob
 import os
 import re
 import sys
-from typing import FrozenSet, Iterator, List, Set, Tuple
+from typing import Dict, Iterable, Iterator, List, NamedTuple, Set, Tuple
 
 sys.dont_write_bytecode = True
+sys.path.insert(0, os.path.join(os.path.dirname(os.path.realpath(__file__)), "..", "lib"))
 
-import generated
-import sources
-from generated import rows_of_crates
-from markdown_text import Line, Row, all_lines_of, anchors_of, codes_of, in_parentheses, lines_of, links_of, rows_of
-from promises import FunctionCell, Resolver, Table, crates_in
-from sources import Library, text_of
+from crates import Crates  # noqa: E402
+from sources import TOP, Function, Library, found_in, is_of_tests, text_of  # noqa: E402
 
-PROOFS, ARCHITECTURE, README = "docs/PROOFS.md", "docs/ARCHITECTURE.md", "README.md"
-CONTRIBUTING, READING, TOOLS = "CONTRIBUTING.md", "docs/READING.md", "tools/README.md"
-PROVED, LEFT = "What is proved", "What an error leaves as it was"
+PROOFS, ARCHITECTURE, READING, PAGE = "docs/PROOFS.md", "docs/ARCHITECTURE.md", "docs/READING.md", "docs/facl.1"
+CONTRIBUTING, TOOLS, SPECIFICATION = "CONTRIBUTING.md", "tools/README.md", "docs/SPECIFICATION.md"
+POINTS, LEFT = "The points", "What an error leaves as it was"
+LINK = re.compile(r"\[[^\]]*\]\(([^)\s]+)\)")
 PATH = re.compile(r"(?<![\w/.-])((?:tools|commands|docs|demo|crates|\.ci)/[\w./-]*[\w/])")
-NAME = re.compile(r"(?:[A-Za-z]\w*::)*[A-Za-z]\w*")
-PLACEHOLDER = re.compile(r"X_\w+|\w+_")
 IN_CRATE = re.compile(r"(?<![\w/])((?:\w+/)?(?:src|specs|proofs)/(?:\w+/)*\w+\.(?:rt|antt))\b")
 SCRIPT = re.compile(r"(?<![\w/.])(?:\w+/)*\w+\.(?:py|sh|c)\b")
-NUMBER = re.compile(r"\d[\d,]*\d|\d")
-Fault = Tuple[int, str]
+NAME = re.compile(r"(?:[A-Za-z]\w*::)*[A-Za-z]\w*")
+PLACEHOLDER = re.compile(r"X_\w+|\w+_")
+IN_PARENTHESES = re.compile(r"\(((?:[^()]|\([^()]*\))*)\)")
+PIECE = re.compile(r"`([^`]*)`|(\w+|[();])")
+BLOCK = re.compile(r"^<!-- (graph|index) -->\n(.*?)^<!-- end -->$", re.M | re.S)
+LAW = re.compile(r"^ */// Proof only.*\n(?: *(?:///|#\[).*\n)* *(?:pub )?fn ", re.M)
+SWITCH = re.compile(r"\b(both|by_letter|by_name)!\((?:'(\w)', )?\"([\w-]+)\"")
+SOURCES = ("crates/*/src/**/*.rt", "crates/*/specs/*.antt")
+SCRIPTS = ("commands/facl-*", "commands/facl_commands/*.py",
+           *(f"tools/{file}" for file in ("*.py", "*.sh", "*/*.py", "*/*.sh", "*/*.c")))
+Fault = Tuple[str, int, str]
 
 
-def documents_of(top: str) -> List[str]:
-    """The documents, by their paths in the repository."""
-    found = [path for pattern in ("*.md", "docs/*.md", "docs/*.1", "demo/*.md", "tools/*.md") for path in glob.glob(os.path.join(top, pattern))]
-    return sorted(os.path.relpath(path, top) for path in found)
+class Line(NamedTuple):
+    """A line of a document, counted from 1, with the last heading of the second level, and a row's heads and cells."""
+
+    number: int
+    section: str
+    text: str
+    is_code: bool
+    heads: List[str]
+    cells: List[str]
 
 
-def words_of(top: str) -> Set[str]:
-    """All words of the sources, definitions, scripts and commands, with the names of files."""
-    words: Set[str] = set()
-    patterns = ("crates/*/src/**/*.rt", "crates/*/specs/*.antt", "tools/*.*", "tools/*/*.*", "commands/facl*",
-                "commands/facl_commands/*.py")
-    for path in (path for pattern in patterns for path in glob.glob(os.path.join(top, pattern), recursive=True)):
-        if os.path.isfile(path):
-            words |= set(re.findall(r"\w+", text_of(path)))
-    named = glob.glob(os.path.join(top, "crates", "*")) + glob.glob(os.path.join(top, "crates", "*", "must-fail", "*.edit"))
-    return words | {os.path.splitext(os.path.basename(path))[0] for path in named}
-
-
-class Promises:
-    """docs/PROOFS.md, and the section of README.md on what is proved."""
-
-    def __init__(self, library: Library, words: Set[str]) -> None:
-        self.library = library
-        self.table = Table(library, words)
-
-    def faults(self, text: str) -> Iterator[Fault]:
-        for row in rows_of(text):
-            yield from ((row.number, fault) for fault in (*self.row_faults(row), *self.refusal_faults(row)))
-        for line in lines_of(text):
-            if line.section == LEFT and line.text.startswith("- "):
-                yield from ((line.number, fault) for fault in self.call_faults(line))
-
-    def call_faults(self, line: Line) -> Iterator[str]:
-        """Names in the list of calls that take no memory."""
-        for part in line.text.split(";"):
-            for group in FunctionCell(Resolver(self.table.library, ""), part).groups:
-                yield from (f"no `{mention.text}` in the sources" for mention in group if not mention.meant)
-
-    def refusal_faults(self, row: Row) -> Iterator[str]:
-        """Names in the column of a table of wrong bodies that has where each is refused."""
-        if row.heads[0] != "Wrong body":
-            return
-        resolver = Resolver(self.library, row.section)
-        crates = resolver.crates + crates_in(self.library, row.cells[1])
-        for code in codes_of(row.cells[1]):
-            if NAME.fullmatch(code) and not any(code.split("::")[-1] in self.words_of(crate) for crate in crates):
-                yield f"no `{code}` in {' or '.join(crates)}"
-            elif re.fullmatch(r"[A-Z]\w*::\w+", code) and not any(function.label == code for function in self.library.functions):
-                yield f"no `{code}` in the sources"
-
-    @functools.lru_cache(maxsize=None)
-    def words_of(self, crate: str) -> FrozenSet[str]:
-        """The words of a crate's code and definitions, and the names of its edits."""
-        there = glob.glob(os.path.join(self.library.top, "crates", crate, "specs", "*.antt"))
-        words = {word for path in there for word in re.findall(r"\w+", text_of(path))}
-        words |= {token.text for source in self.library.crates[crate].sources.values() for token in source.tokens}
-        edits = glob.glob(os.path.join(self.library.top, "crates", crate, "must-fail", "*.edit"))
-        return frozenset(words | {crate} | {os.path.basename(path)[:-len(".edit")] for path in edits})
-
-    def row_faults(self, row: Row) -> Iterator[str]:
-        heads = row.heads
-        if heads[:2] == ["Promise", "Function"]:
-            yield from self.table.faults(row, row.cells[1], row.cells[2])
-        elif heads[:2] == ["Promise", "Function and clause"]:
-            yield from self.table.faults(row, row.cells[1], None)
-        elif heads[:1] == ["Calls"]:
-            yield from self.table.faults(row, row.cells[0], row.cells[3])
-        elif heads[:1] == ["Property"]:
-            functions, _, clauses = row.cells[1].partition(", clause")
-            yield from self.table.faults(row, functions, clauses)
-
-    def readme_faults(self, text: str) -> Iterator[Fault]:
-        """Names in parentheses, as README has those of functions."""
-        for line in lines_of(text):
-            if line.section == PROVED and line.text[:1].isdigit():
-                for part in (part for part in in_parentheses(line.text) if "`" in part):
-                    functions, _, clauses = part.partition(", clause")
-                    row = Row(line.number, "", [], [])
-                    yield from ((line.number, fault) for fault in self.table.faults(row, functions, clauses))
-
-
-def heads_of_crates(top: str, crates: List[str]) -> Iterator[Tuple[str, str]]:
-    """The files of some crates, each with the sentence at its head."""
-    for crate in crates:
-        for folder in ("src", "specs"):
-            yield from generated.heads(top, f"{crate}/{folder}")
-
-
-def head_of_script(path: str) -> str:
-    """The sentence at the head of a script: the first of its docstring, or of the comment after its first line."""
-    text = text_of(path)
-    if path.endswith(".py") or "python" in text.partition("\n")[0]:
-        return " ".join((ast.get_docstring(ast.parse(text)) or "").partition("\n\n")[0].split())
-    words = [re.sub(r"^\W+", "", line) for line in text.split("\n") if re.match(r"(?:#(?!!)|/\*|//) ?\w", line)]
-    return words[0] if words else ""
-
-
-def scripts_of(top: str) -> Iterator[str]:
-    """The commands and their parts, and all scripts of tools/."""
-    for pattern in ("commands/facl-*", "commands/facl_commands/*.py", "tools/*.*", "tools/*/*.py", "tools/*/*.sh", "tools/*/*.c"):
-        for path in sorted(glob.glob(os.path.join(top, pattern))):
-            if os.path.isfile(path) and not path.endswith((".md", ".txt", "__init__.py")):
-                yield os.path.relpath(path, top)
-
-
-def head_faults(top: str) -> Iterator[Tuple[str, int, str]]:
-    """Files of the crates of the program, and scripts, without a sentence at their heads."""
-    program = [crate for crate in sources.crates_of(top) if not sources.is_of_tests(crate)]
-    named = [(f"crates/{file}", head) for file, head in heads_of_crates(top, program)]
-    named += [(script, head_of_script(os.path.join(top, script))) for script in scripts_of(top)]
-    yield from ((file, 1, "has no sentence at its head") for file, head in named if not head)
-
-
-def tool_faults(top: str, text: str) -> Iterator[Fault]:
-    """Scripts that tools/README.md does not name, by their paths in tools/, and those that it names and that are not there."""
-    there = {os.path.relpath(path, "tools") for path in scripts_of(top) if path.startswith("tools/")}
-    named: Set[str] = set()
-    for line in lines_of(text):
-        found = set(SCRIPT.findall(line.text))
-        yield from ((line.number, f"no {name} in tools/") for name in sorted(found - there))
-        named |= found
-    yield from ((1, f"{name} is not named") for name in sorted(there - named))
-
-
-def limit_faults(library: Library, text: str) -> Iterator[Fault]:
-    """Rows of limits whose constants are not there, or have another value."""
-    for row in rows_of(text):
-        if row.heads[:3] == ["Limit", "Value", "Constant"]:
-            values = {number.replace(",", "") for number in NUMBER.findall(row.cells[1])}
-            crate, name = re.findall(r"\w+", row.cells[2])[:2]
-            found = [value for source in library.crates[crate].sources.values() for value in constants_of(source.text, name)]
-            if not found or not set(found) & values:
-                yield row.number, f"{name} of {crate} is {' '.join(found) or 'not there'}"
-
-
-def example_faults(top: str, text: str) -> Iterator[Fault]:
-    """Lines of examples that are in no source and no definition."""
-    patterns = ("crates/*/src/**/*.rt", "crates/*/specs/*.antt")
-    paths = (path for pattern in patterns for path in glob.glob(os.path.join(top, pattern), recursive=True))
-    there = {line.strip() for path in paths for line in text_of(path).split("\n")}
-    examples = (line for line in all_lines_of(text) if line.is_code and line.text.strip())
-    yield from ((line.number, "is in no source") for line in examples if line.text.strip() not in there)
-
-
-def constants_of(text: str, name: str) -> List[str]:
-    """The values of the constants of a name, as numbers without `_`."""
-    return [value.replace("_", "") for value in re.findall(rf"\bconst {name}: \w+ = ([\d_]+);", text)]
-
-
-def tests_faults(top: str, text: str) -> Iterator[Fault]:
-    """Rows of the table of tests that crates.txt does not bear out, and crates without one."""
-    listed = rows_of_crates(top)
-    named: Set[str] = set()
-    for row in rows_of(text):
-        if row.heads[:2] == ["Crates", "Tests"]:
-            crates, tests = (set(re.findall(r"\w+", cell)) & set(listed) for cell in row.cells[:2])
-            named |= crates | tests
-            for test in sorted(tests):
-                missing = sorted(crates - generated.below(listed, test) - {test})
-                yield from ((row.number, f"{test} does not use {crate} by crates.txt") for crate in missing)
-    yield from ((1, f"{crate} is not in the table of tests") for crate in sorted(set(listed) - named))
-
-
-def map_faults(top: str, text: str) -> Iterator[Fault]:
-    """Rows of the map of crates that are not in crates.txt, and crates without one."""
-    listed = rows_of_crates(top)
-    there: Set[str] = set()
-    for row in rows_of(text):
-        if row.heads[0] == "Crate" and row.section == "The map":
-            crate = row.cells[0].strip("`")
-            there.add(crate)
-            if crate not in listed:
-                yield row.number, f"no crate {crate} in crates.txt"
-    yield from ((1, f"{crate} is not in the map") for crate in sorted(set(listed) - there) if not sources.is_of_tests(crate))
-
-
-def trusted_faults(top: str, text: str) -> Iterator[Fault]:
-    """The crates of the kit that README trusts, beside those of crates.txt."""
-    listed = rows_of_crates(top)
-    kit = {name for names in listed.values() for name in names} - set(listed)
-    for line in lines_of(text):
-        if line.text.startswith("Trusted") and set(codes_of(line.text)) != kit:
-            yield line.number, f"the crates of the kit are {' '.join(sorted(kit))} by crates.txt"
-
-
-def link_faults(top: str, document: str, line: Line) -> Iterator[str]:
-    for target in links_of(line.text):
-        if "://" in target:
+def lines_of(text: str) -> Iterator[Line]:
+    section, in_code = "", False
+    heads: List[str] = []
+    for number, line in enumerate(text.split("\n"), 1):
+        if line.startswith("```"):
+            in_code = not in_code
             continue
-        path, _, anchor = target.partition("#")
-        whole = os.path.normpath(os.path.join(top, os.path.dirname(document), path)) if path else os.path.join(top, document)
-        if not os.path.exists(whole):
-            yield f"no {target}"
-        elif anchor and anchor not in anchors_of(text_of(whole)):
-            yield f"no heading {target}"
+        section = line[3:] if line.startswith("## ") and not in_code else section
+        is_row = line.startswith("|") and not in_code
+        cells = [cell.strip() for cell in re.split(r"(?<!\\)\|", line.strip())[1:-1]] if is_row else []
+        is_head = not heads or not re.search(r"[^|\s:-]", line)
+        yield Line(number, section, line, in_code, heads, [] if is_head else cells)
+        heads = (heads or list(cells)) if is_row else []
 
 
-@functools.lru_cache(maxsize=None)
-def files_of_crates(top: str) -> FrozenSet[str]:
-    """The sources, definitions and proofs of all crates, by their paths in crates/, and also without the crate."""
-    patterns = (f"{folder}/**/*.{ending}" for folder, ending in (("src", "rt"), ("specs", "antt"), ("proofs", "antt")))
-    found = (path for pattern in patterns for path in glob.glob(os.path.join(top, "crates", "*", pattern), recursive=True))
-    names = [os.path.relpath(path, os.path.join(top, "crates")) for path in found]
-    return frozenset(names) | {name.split(os.sep, 1)[1] for name in names}
+def codes_of(text: str) -> List[str]:
+    """What is in backticks."""
+    return re.findall(r"`([^`]+)`", text)
 
 
-def path_faults(top: str, line: Line) -> Iterator[str]:
-    for path in IN_CRATE.findall(line.text):
-        if path not in files_of_crates(top):
-            yield f"no {path} in crates/"
-    for path in PATH.findall(line.text.replace("\\-", "-")):
-        if not os.path.exists(os.path.join(top, path)) and "/out/" not in path and not path.endswith("/out"):
-            yield f"no {path}"
+def numbers_of(text: str) -> Set[int]:
+    return {int(number.replace(",", "")) for number in re.findall(r"\d[\d,]*", text)}
 
 
-def name_faults(words: Set[str], line: Line) -> Iterator[str]:
-    for code in codes_of(line.text):
-        is_of_ours = code.split("::")[0] in words
-        if NAME.fullmatch(code) and ("::" in code and is_of_ours or "_" in code) and not PLACEHOLDER.fullmatch(code):
-            if not all(part in words for part in code.split("::")):
+def anchors_of(lines: Iterable[Line]) -> List[str]:
+    """The names by which links lead to headings."""
+    heads = (line.text.lstrip("#").strip() for line in lines if line.text.startswith("#") and not line.is_code)
+    return [re.sub(r"[^\w\- ]", "", head).replace(" ", "-").lower() for head in heads]
+
+
+def head_of(top: str, path: str) -> str:
+    """The first paragraph of the docstring or the comment that a file starts with."""
+    text = re.sub(r"\A#!.*\n", "", text_of(top, path))
+    match = re.match(r'"""((?s:.+?))(?:"""|\n\n)|(?:/\* |(//!|--|#) )(.+\n(?:\2 .+\n)*)', text)
+    return " ".join(re.sub(r"^(?://!|--|#) |\*/", "", match[1] or match[3], flags=re.M).split()) if match else ""
+
+
+def options_shown(text: str) -> Set[str]:
+    """The options that heads and tags of a part of the page have."""
+    tags = re.sub(r"\\f[BIRP]", "", "\n".join(re.findall(r"^(?:\.SS|\.T[PQ]\n)(.*)", text, re.M))).replace("\\-", "-")
+    letters = {f"-{letter}" for word in re.findall(r"(?<![\w-])-([A-Za-z]+)", tags) for letter in word}
+    return letters | set(re.findall(r"(?<![\w-])--[A-Za-z][A-Za-z-]*", tags))
+
+
+class Checks:
+    """All checks of a repository; each gives documents, lines and what is wrong there."""
+
+    def __init__(self, top: str) -> None:
+        self.top, self.library = top, Library(top)
+        self.listed = Crates(os.path.join(top, "crates.txt")).listed
+        self.program = [crate for crate in self.listed if not is_of_tests(crate)]
+        paths = found_in(top, "*.md", "docs/*.md", "docs/*.1", "demo/*.md", "tools/*.md")
+        self.texts = {path: text_of(top, path) for path in paths}
+        self.lines = {path: list(lines_of(text)) for path, text in self.texts.items()}
+        self.words = self.all_words()
+        files = [path[len("crates/"):] for path in found_in(top, *SOURCES, "crates/*/proofs/**/*.antt")]
+        self.files = {*files, *(path.split("/", 1)[1] for path in files)}
+
+    def all_words(self) -> Set[str]:
+        """The words of sources, definitions, scripts and commands, with the names of crates and edits."""
+        paths = found_in(self.top, *SOURCES, *SCRIPTS, "tools/*/*.txt")
+        names = found_in(self.top, "crates/*/must-fail/*.edit")
+        words = {os.path.splitext(os.path.basename(path))[0] for path in (*paths, *names)} | set(self.listed)
+        return words.union(*(re.findall(r"\w+", text_of(self.top, path)) for path in paths))
+
+    def rows(self, path: str, *heads: str) -> List[Line]:
+        """The rows of a document's tables whose first columns have these heads."""
+        return [line for line in self.lines[path] if line.cells and line.heads[:len(heads)] == list(heads)]
+
+    # --- names in docs/PROOFS.md
+
+    def names(self) -> Iterator[Fault]:
+        lines, rows = self.lines[PROOFS], self.rows(PROOFS)
+        texts: Dict[str, List[Tuple[int, str, str]]] = {
+            "Carried by": [(row.number, row.cells[1], "") for row in rows if "Carried by" in row.heads[1:2]],
+            "Calls": [(row.number, row.cells[0], row.cells[-1]) for row in self.rows(PROOFS, "Calls")],
+            LEFT: [(line.number, line.text, "") for line in lines if (line.section, line.text[:2]) == (LEFT, "- ")],
+            POINTS: [(line.number, part, "") for line in lines if line.section == POINTS and line.text[:1].isdigit()
+                     for part in IN_PARENTHESES.findall(line.text)]}
+        for kind, found in texts.items():
+            faults = [(PROOFS, number, fault) for number, *text in found for fault in self.name_faults(*text)]
+            yield from faults if found else [(PROOFS, 1, f"there is no table, list or point of: {kind}")]
+
+    def name_faults(self, text: str, clauses: str) -> Iterator[str]:
+        """What is wrong with the names in a text, which is read from left to right.
+
+        `crate::Type::function`, or less of it: the crate and the type that were named last count on, a crate also where
+        it is named without backticks. After the word `clause` or `clauses`, up to a `;`, and in `clauses`, are names of
+        clauses: each is one of some function of the text, and each function has one of them. A name in parentheses is
+        any word of the sources.
+        """
+        named = [code for code in codes_of(clauses) if NAME.fullmatch(code)]
+        functions: List[List[Function]] = []
+        crate, owner, depth, in_clauses = "", "", 0, False
+        for code, word in PIECE.findall(text):
+            depth += (word == "(") - (word == ")")
+            in_clauses = word != ";" and (in_clauses or word in ("clause", "clauses"))
+            *path, name = code.split("::")
+            if (code or word) in self.listed and not depth:
+                crate, owner = code or word, ""
+            elif NAME.fullmatch(code) and in_clauses:
+                named.append(code)
+            elif NAME.fullmatch(code):
+                crate = path.pop(0) if path and path[0] in self.listed else crate
+                owner = path[-1] if path else name if name[0].isupper() else owner
+                found = [each for each in self.library.functions if each.name == name and crate in ("", each.crate)]
+                meant = [each for each in found if each.scope.type == owner] or ([] if path else found)
+                functions += [meant] if meant and not depth else []
+                if not meant and not ((depth or name[0].isupper()) and {name, *path} <= self.words):
+                    yield f"no `{code}` in {crate or 'the sources'}"
+        yield from self.clause_faults(functions, named)
+
+    def clause_faults(self, functions: List[List[Function]], named: List[str]) -> Iterator[str]:
+        known: Set[str] = set()
+        for meant in functions:
+            names = {name for function in meant for name in self.library.clauses(function)}
+            known |= names
+            if named and not names & set(named):
+                yield f"{meant[0].label} has none of the clauses named; it has {', '.join(sorted(names)) or 'none'}"
+        yield from (f"no function here has a clause `{name}`" for name in named if name not in known)
+
+    # --- tables, examples and scripts
+
+    def limits(self) -> Iterator[Fault]:
+        """Values in the table of limits; and numbers in thousands in the rules, which are limits, or one from them."""
+        rows = self.rows(ARCHITECTURE, "Limit", "Value", "Constant")
+        for row in rows:
+            crate, name = re.findall(r"\w+", row.cells[2])[:2]
+            constant = re.compile(rf"\bconst {name}: \w+ = ([\d_]+);")
+            values = {int(value) for source in self.library.of_crate(crate) for value in constant.findall(source.text)}
+            if not values & numbers_of(row.cells[1]):
+                yield ARCHITECTURE, row.number, f"{name} of {crate} is {' '.join(map(str, values)) or 'not there'}"
+        there = {number + more for row in rows for number in numbers_of(row.cells[1]) for more in (-1, 0, 1)}
+        for path, line in ((path, line) for path in (SPECIFICATION, PAGE) for line in self.lines[path]):
+            others = {number for text in re.findall(r"\d+(?:,\d+)+", line.text) for number in numbers_of(text)} - there
+            yield from ((path, line.number, f"{number} is no limit of {ARCHITECTURE}") for number in others)
+
+    def maps(self) -> Iterator[Fault]:
+        """The map of crates, the table of tests, and the crates of the kit that are trusted, beside crates.txt."""
+        rows = {row.cells[0].strip("`"): row.number for row in self.rows(ARCHITECTURE, "Crate")}
+        unknown = set(rows) - set(self.listed)
+        yield from ((ARCHITECTURE, rows[crate], f"no crate {crate} in crates.txt") for crate in unknown)
+        yield from ((ARCHITECTURE, 1, f"{crate} is not in the map") for crate in set(self.program) - set(rows))
+        left = set(self.listed)
+        for row in self.rows(CONTRIBUTING, "Crates", "Tests"):
+            crates, tests = (set(re.findall(r"\w+", cell)) & set(self.listed) for cell in row.cells[:2])
+            left -= crates | tests
+            for test in tests:
+                others = crates - self.below(test) - {test}
+                yield from ((CONTRIBUTING, row.number, f"{test} does not use {other}: crates.txt") for other in others)
+        yield from ((CONTRIBUTING, 1, f"{crate} is not in the table of tests") for crate in left)
+        kit = {name for names in self.listed.values() for name in names} - set(self.listed)
+        trusted = [line for line in self.lines[PROOFS] if line.text.startswith("Trusted")]
+        if not trusted or set(codes_of(trusted[0].text)) != kit:
+            number = trusted[0].number if trusted else 1
+            yield PROOFS, number, f"no line that starts with Trusted has the kit's crates, {' '.join(sorted(kit))}"
+
+    def options(self) -> Iterator[Fault]:
+        """Tools and options that the program has and the page has not, or the other way round."""
+        names = re.findall(r'Tool::\w+ => "(\w+)"', text_of(self.top, "crates/facl/src/tools.rt"))
+        files = {"facl": "facl_words/src/args.rt", **{name: f"facl/src/tools/{name}.rt" for name in names}}
+        sections = dict(re.findall(r"^\.SH (.*)\n((?:(?!\.SH ).*\n)*)", self.texts[PAGE], re.M))
+        shown = {"facl": sections.get("OPTIONS", "")}
+        for name, part in re.findall(r"^\.SS (\w+)(.*\n(?:(?!\.SS ).*\n)*)", sections.get("TOOLS", ""), re.M):
+            shown[name] = shown.get(name, "") + ".SS" + part
+        yield from ((PAGE, 1, f"the tool {name} is not in the page") for name in set(files) - set(shown))
+        yield from ((PAGE, 1, f"the program has no tool {name}") for name in set(shown) - set(files))
+        for name in set(files) & set(shown):
+            rows, tags = SWITCH.findall(text_of(self.top, "crates", files[name])), options_shown(shown[name])
+            read = {f"--{word}" for kind, _, word in rows if kind != "by_letter"}
+            read |= {f"-{letter}" for _, letter, _ in rows if letter}
+            yield from ((PAGE, 1, f"{name} does not read {option}") for option in tags - read)
+            yield from ((PAGE, 1, f"{name} has no {option} here") for option in read - tags)
+
+    def examples(self) -> Iterator[Fault]:
+        """Lines of examples that are in no source and no definition."""
+        there = {line.strip() for path in found_in(self.top, *SOURCES) for line in text_of(self.top, path).split("\n")}
+        for line in self.lines[READING]:
+            if line.is_code and line.text.strip() not in there | {""}:
+                yield READING, line.number, "is in no source"
+
+    def scripts(self) -> Iterator[Fault]:
+        """Scripts that tools/README.md does not name, by their paths in tools/, and those that are not there."""
+        there = {path[len("tools/"):] for path in found_in(self.top, *SCRIPTS) if path.startswith("tools/")}
+        named = {name: line.number for line in self.lines[TOOLS] for name in SCRIPT.findall(line.text)}
+        yield from ((TOOLS, named[name], f"no {name} in tools/") for name in set(named) - there)
+        yield from ((TOOLS, 1, f"{name} is not named") for name in there - set(named))
+
+    def heads(self, crates: List[str]) -> List[Tuple[str, str]]:
+        """The files of some crates, or of all, commands and scripts, each with the sentence at its head."""
+        folders = [f"crates/{crate}/{folder}" for crate in crates or ["*"] for folder in ("src", "specs")]
+        files = found_in(self.top, *(f"{folder}/**/*.*t*" for folder in folders), *(() if crates else SCRIPTS))
+        return [(path, head_of(self.top, path)) for path in files
+                if not path.endswith(("/lib.rt", "/Lib.antt", "/__init__.py"))]
+
+    # --- what is made of the sources
+
+    def blocks(self) -> Iterator[Fault]:
+        for path, kind in ((ARCHITECTURE, "graph"), (PROOFS, "index")):
+            if f"<!-- {kind} -->" not in self.texts[path] or self.written(self.texts[path]) != self.texts[path]:
+                yield path, 1, f"the block {kind} is not as the sources have it: tools/check/documents.py --write"
+
+    def written(self, text: str) -> str:
+        """A document with all of its blocks made of the sources."""
+
+        def block(match: "re.Match[str]") -> str:
+            lines = self.graph() if match[1] == "graph" else self.index()
+            return f"<!-- {match[1]} -->\n" + "".join(line + "\n" for line in lines) + "<!-- end -->"
+
+        return BLOCK.sub(block, text)
+
+    def below(self, crate: str) -> Set[str]:
+        """All crates below a crate."""
+        return {other for used in self.listed.get(crate, ()) for other in {used} | self.below(used)}
+
+    def graph(self) -> Iterator[str]:
+        """The crates of the program, each with an arrow to those that it lists and that no other one on the way has."""
+        yield from ("```mermaid", "graph TD")
+        for crate in self.program:
+            uses = self.listed[crate] & set(self.program)
+            implied = {other for used in uses for other in self.below(used)}
+            yield from (f"    {crate} --> {used}" for used in sorted(uses - implied))
+        yield "```"
+
+    def index(self) -> Iterator[str]:
+        """The crates of the program, each with the calls whose clauses have names, the laws, the must-fail edits."""
+        for crate in self.program:
+            shown: Dict[str, List[str]] = {}
+            for function in (function for function, is_law in self.exported(crate) if not is_law):
+                clauses = ", ".join(f"`{clause}`" for clause in self.library.clauses(function, ("ensures",)))
+                owner = f"`{function.scope.type}`: " if function.scope.type else ""
+                shown.setdefault(owner, []).extend([f"`{function.name}` ({clauses})"] if clauses else [])
+            calls = "; ".join(owner + ", ".join(each) for owner, each in sorted(shown.items()) if each)
+            laws = ", ".join(f"`{function.label}`" for function, is_law in self.exported(crate) if is_law)
+            parts = (("Clauses", calls), ("Laws", laws), ("Wrong bodies", ", ".join(self.edits(crate))))
+            found = [f"  - {head}: {text}" for head, text in parts if text]
+            yield from [f"- **{crate}**", *found] if found else []
+
+    def exported(self, crate: str) -> Iterator[Tuple[Function, bool]]:
+        """The functions that others may call, and whether each is a law: those of a crate's public items and of its
+        public modules; of a program all that are public."""
+        sources = {source.file.split("/", 2)[2]: source for source in self.library.of_crate(crate)}
+        texts = [token.text for token in sources["src/lib.rt"].tokens] if "src/lib.rt" in sources else []
+        modules = {f"src/{name}.rt" for *pub_mod, name in zip(texts, texts[1:], texts[2:]) if pub_mod == ["pub", "mod"]}
+        for file, source in sources.items():
+            laws = {source.text.count("\n", 0, match.end()) + 1 for match in LAW.finditer(source.text)}
+            for function in source.functions:
+                name = function.scope.type or function.name
+                if function.is_public and (not texts or file in modules or name in texts):
+                    yield function, function.line in laws
+
+    def edits(self, crate: str) -> Iterator[str]:
+        """The must-fail edits of a crate, each with the function that it changes, or the file where it is in none."""
+        for path in found_in(self.top, f"crates/{crate}/must-fail/*.edit"):
+            pairs = [line.partition(": ")[::2] for line in text_of(self.top, path).split("\n")]
+            file, old = dict(pairs)["file"], [text for key, text in pairs if key == "old"]
+            source = self.library.sources[f"crates/{crate}/{file}"]
+            places = [at for at, line in enumerate(source.text.split("\n"), 1) if any(text in line for text in old)]
+            changed = [each.label for at in places for each in source.functions[::-1] if each.line <= at <= each.end]
+            yield f"`{os.path.basename(path)[:-len('.edit')]}` (`{[*changed, os.path.basename(file)][0]}`)"
+
+    # --- all documents
+
+    def links(self) -> Iterator[Fault]:
+        """Links, paths and names in all documents."""
+        for path, lines in self.lines.items():
+            for line in lines:
+                faults = self.path_faults(line.text)
+                if not line.is_code:
+                    faults += [*self.link_faults(path, line.text), *self.word_faults(line.text)]
+                yield from ((path, line.number, fault) for fault in faults)
+
+    def path_faults(self, text: str) -> List[str]:
+        faults = [f"no {path} in crates/" for path in IN_CRATE.findall(text) if path not in self.files]
+        paths = [path for path in PATH.findall(text.replace("\\-", "-")) if "/out/" not in path + "/"]
+        return faults + [f"no {path}" for path in paths if not os.path.exists(os.path.join(self.top, path))]
+
+    def link_faults(self, document: str, text: str) -> Iterator[str]:
+        for target in LINK.findall(re.sub(r"`[^`]*`", "", text)):
+            path, _, anchor = target.partition("#")
+            whole = os.path.normpath(os.path.join(os.path.dirname(document), path)) if path else document
+            if "://" not in target and not os.path.exists(os.path.join(self.top, whole)):
+                yield f"no {target}"
+            elif anchor and whole in self.lines and anchor not in anchors_of(self.lines[whole]):
+                yield f"no heading {target}"
+
+    def word_faults(self, text: str) -> Iterator[str]:
+        for code in codes_of(text):
+            parts = code.split("::")
+            is_of_ours = "_" in code or (len(parts) > 1 and parts[0] in self.words)
+            if NAME.fullmatch(code) and is_of_ours and not PLACEHOLDER.fullmatch(code) and not set(parts) <= self.words:
                 yield f"no `{code}` in the sources"
 
-
-def document_faults(top: str, document: str, words: Set[str]) -> Iterator[Fault]:
-    for line in all_lines_of(text_of(os.path.join(top, document))):
-        faults = [*path_faults(top, line)]
-        if not line.is_code:
-            faults += [*link_faults(top, document, line), *name_faults(words, line)]
-        yield from ((line.number, fault) for fault in faults)
-
-
-def check(top: str) -> List[str]:
-    """What is wrong in all documents, one line each."""
-    library, words = Library(top), words_of(top)
-    texts = {document: text_of(os.path.join(top, document)) for document in documents_of(top)}
-    promises = Promises(library, words)
-    found: List[Tuple[str, int, str]] = []
-
-    def add(document: str, faults: Iterator[Fault]) -> None:
-        found.extend((document, number, fault) for number, fault in faults)
-
-    add(PROOFS, promises.faults(texts[PROOFS]))
-    add(README, promises.readme_faults(texts[README]))
-    add(README, trusted_faults(top, texts[README]))
-    for document in (PROOFS, ARCHITECTURE):
-        add(document, generated.faults(top, texts[document]))
-    add(ARCHITECTURE, map_faults(top, texts[ARCHITECTURE]))
-    add(ARCHITECTURE, limit_faults(library, texts[ARCHITECTURE]))
-    add(READING, example_faults(top, texts[READING]))
-    add(CONTRIBUTING, tests_faults(top, texts[CONTRIBUTING]))
-    add(TOOLS, tool_faults(top, texts[TOOLS]))
-    found.extend(head_faults(top))
-    for document in texts:
-        add(document, document_faults(top, document, words))
-    return [f"{document}:{number}: {fault}" for document, number, fault in sorted(set(found))]
-
-
-def write(top: str, document: str) -> None:
-    """Makes the parts of a document that are made of the sources."""
-    path = os.path.join(top, document)
-    text = text_of(path)
-    new = generated.written(top, text)
-    if new == text:
-        return
-    try:
-        with open(path + ".new", "w", encoding="utf-8") as file:
-            file.write(new)
-        os.replace(path + ".new", path)
-    finally:
-        if os.path.exists(path + ".new"):
-            os.remove(path + ".new")
-
-
-def show_files(top: str, crates: List[str]) -> None:
-    """Prints the sentence at the head of each file of some crates, or of all and of the commands."""
-    unknown = sorted(set(crates) - set(sources.crates_of(top)))
-    if unknown:
-        sys.exit(f"tools/check/documents.py: no crate {' '.join(unknown)}")
-    for file, head in heads_of_crates(top, crates or sources.crates_of(top)):
-        print(f"{file}: {head}")
-    for script in () if crates else scripts_of(top):
-        print(f"{script}: {head_of_script(os.path.join(top, script))}")
+    def all_faults(self) -> List[str]:
+        """What is wrong in all documents, one line each."""
+        found = {*self.names(), *self.limits(), *self.maps(), *self.options(), *self.examples(),
+                 *self.scripts(), *self.blocks(), *self.links()}
+        found |= {(path, 1, "has no sentence at its head") for path, head in self.heads([]) if not head}
+        return [f"{path}:{number}: {fault}" for path, number, fault in sorted(found)]
 
 
 def main() -> int:
-    if sys.argv[1:] == ["--write"]:
-        for document in (PROOFS, ARCHITECTURE):
-            write(sources.TOP, document)
-        return 0
-    if sys.argv[1:2] == ["--files"]:
-        show_files(sources.TOP, sys.argv[2:])
-        return 0
-    if len(sys.argv) > 1:
+    checks = Checks(TOP)
+    lines: List[str] = []
+    if sys.argv[1:2] == ["--files"] and set(sys.argv[2:]) <= set(checks.listed):
+        print("".join(f"{path}: {head}\n" for path, head in checks.heads(sys.argv[2:])), end="")
+    elif sys.argv[1:] == ["--write"]:
+        for path, text in checks.texts.items():
+            if checks.written(text) != text:
+                with open(os.path.join(TOP, path), "w", encoding="utf-8") as file:
+                    file.write(checks.written(text))
+    elif sys.argv[1:]:
         sys.exit(__doc__)
-    lines = check(sources.TOP)
-    print("".join(line + "\n" for line in lines), end="")
+    else:
+        lines = checks.all_faults()
+        print("".join(line + "\n" for line in lines), end="")
     return 1 if lines else 0
 
 

@@ -1,104 +1,62 @@
-"""The sources of the crates as tools/check reads them: tokens, functions with their clauses, members, types.
+"""The sources of the crates as the checks read them: tokens, and functions with their clauses.
 
-It reads as much of Rattle as items need: `fn` with its `requires` and `ensures`, `impl`, `trait`, `ghost` members, types. What
-is in a body stays a list of tokens.
+It reads as much of Rattle as items need. The body of a function stays a list of tokens.
 """
 from __future__ import annotations
 
 import glob
 import os
 import re
-from dataclasses import dataclass, field
-from typing import Dict, FrozenSet, Iterable, List, NamedTuple, Optional, Set, Tuple
+from typing import Iterable, List, NamedTuple, Optional, Tuple
 
 TOP = os.path.dirname(os.path.dirname(os.path.dirname(os.path.realpath(__file__))))
-
 TOKEN = re.compile(r"""
     (?P<skip>\s+|//[^\n]*|/\*.*?\*/)
-    | (?P<text>b?r(?P<hashes>\#*)".*?"(?P=hashes)|b?"(?:\\.|[^"\\])*"
-        |b?'(?:\\(?:x[0-9a-fA-F]{2}|u\{[0-9a-fA-F]+\}|.)|[^'\\\n])')
-    | (?P<lifetime>'[^\W\d]\w*)
-    | (?P<name>[^\W\d]\w*)
-    | (?P<number>\d\w*)
-    | (?P<mark>::|=>|->|==|!=|&&|\|\||.)
+    | b?r(?P<hashes>\#*)".*?"(?P=hashes) | b?"(?:\\.|[^"\\])*"
+    | b?'(?:\\(?:x[0-9a-fA-F]{2}|u\{[0-9a-fA-F]+\}|.)|[^'\\\n])' | '?[^\W\d]\w* | \d\w* | ::|=>|->|==|!=|&&|\|\||.
     """, re.X | re.S)
-OPENS = {"{": "}", "(": ")", "[": "]"}
-CLOSES = set(OPENS.values())
-TYPES = {"struct", "enum", "union", "type", "const", "static"}
+OPENS, CLOSES = set("{(["), set("})]")
 
 
 class Token(NamedTuple):
-    """A piece of a source, its kind as named in TOKEN, and its line counted from 1."""
+    """A piece of a source: a name, a text, a number or a mark, and its line counted from 1."""
 
-    kind: str
     text: str
     line: int
 
 
-@dataclass(frozen=True)
-class Clause:
-    """A `requires` or an `ensures`; `name` is None where it has no name."""
-
-    kind: str
-    name: Optional[str]
-
-
-@dataclass(frozen=True)
-class Scope:
-    """The `impl` or the `trait` that something is in, by the last names of its type and of its trait, and the trait's arguments."""
+class Scope(NamedTuple):
+    """The `impl` or `trait` that a function is in, by the last names of type and trait, and the trait's arguments."""
 
     type: Optional[str] = None
     trait: Optional[str] = None
     arguments: str = ""
 
 
-@dataclass
-class Function:
-    """A function or method, with its own clauses, and the tokens of its body (none in a trait without a default).
-
-    `line` and `end` are its first and its last line, `is_public` whether it is `pub`, or a method of a trait's own, `comment`
-    the first line of the `///` above it.
-    """
+class Function(NamedTuple):
+    """A function or method, with its own clauses by kind and name; public is also what a trait has."""
 
     name: str
+    crate: str
     scope: Scope
-    file: str
     line: int
-    end: int = 0
-    is_public: bool = False
-    comment: str = ""
-    clauses: List[Clause] = field(default_factory=list)
-    body: List[Token] = field(default_factory=list)
+    end: int
+    is_public: bool
+    clauses: List[Tuple[str, Optional[str]]]
+    body: List[Token]
 
     @property
     def label(self) -> str:
         return f"{self.scope.type}::{self.name}" if self.scope.type else self.name
 
 
-@dataclass
-class Source:
-    """What a file has: functions, ghost members with their scopes, names of types and constants, and all tokens."""
-
-    file: str
-    text: str = ""
-    tokens: List[Token] = field(default_factory=list)
-    functions: List[Function] = field(default_factory=list)
-    members: List[Tuple[Scope, str]] = field(default_factory=list)
-    types: Set[str] = field(default_factory=set)
-
-
 def tokens_of(text: str) -> List[Token]:
     """All tokens but blanks and comments."""
-    tokens: List[Token] = []
-    line = 1
+    tokens, line = [], 1
     for match in TOKEN.finditer(text):
-        kind = match.lastgroup or "mark"
-        if kind == "hashes":
-            kind = "text"
-        if kind != "skip":
-            tokens.append(Token(kind, match.group(), line))
-        if kind in ("skip", "text"):
-            line += match.group().count("\n")
+        if match["skip"] is None:
+            tokens.append(Token(match.group(), line))
+        line += match.group().count("\n")
     return tokens
 
 
@@ -134,131 +92,72 @@ def after_angles(tokens: List[Token], at: int) -> int:
 
 def last_name(tokens: List[Token]) -> Tuple[Optional[str], str]:
     """The last name of a path such as `a::B<C>`, and its arguments, `C`."""
-    name, at = None, 0
-    while at < len(tokens) and tokens[at].text != "<" and tokens[at].text != "where":
-        if tokens[at].kind == "name" and tokens[at].text not in ("mut", "dyn"):
-            name = tokens[at].text
-        at += 1
-    end = after_angles(tokens, at) if at < len(tokens) and tokens[at].text == "<" else at
-    return name, "".join(token.text for token in tokens[at + 1:end - 1])
+    at = next((at for at, token in enumerate(tokens) if token.text in ("<", "where")), len(tokens))
+    names = [token.text for token in tokens[:at] if token.text.isidentifier() and token.text not in ("mut", "dyn")]
+    return names[-1] if names else None, "".join(token.text for token in tokens[at + 1:after_angles(tokens, at) - 1])
 
 
-def scope_of_impl(header: List[Token]) -> Scope:
-    """The scope of `impl<..> TRAIT for TYPE`, or `impl<..> TYPE`, of the tokens after `impl`."""
-    header = header[after_angles(header, 0):] if header and header[0].text == "<" else header
-    split = next((at for at, token in enumerate(header) if token.text == "for"), None)
-    if split is None:
-        return Scope(last_name(header)[0])
-    trait, arguments = last_name(header[:split])
+def scope_of(word: str, header: List[Token]) -> Scope:
+    """The scope of `impl<..> TRAIT for TYPE`, `impl<..> TYPE` or `trait TRAIT`, of the word and the tokens after it."""
+    if word != "impl":
+        return Scope(header[0].text, header[0].text) if word == "trait" else Scope()
+    header = header[after_angles(header, 0):] if header[0].text == "<" else header
+    split = next((at for at, token in enumerate(header) if token.text == "for"), -1)
+    trait, arguments = last_name(header[:split]) if split >= 0 else (None, "")
     return Scope(last_name(header[split + 1:])[0], trait, arguments)
 
 
-class Reader:
-    """Reads the items of a file into a Source."""
+class Source:
+    """What a file has: its functions, and all tokens."""
 
     def __init__(self, file: str, text: str) -> None:
-        self.source = Source(file, text, tokens_of(text))
-        self.lines = text.split("\n")
-        self.tokens = self.source.tokens
-        self.items(0, len(self.tokens), Scope())
+        self.file, self.text, self.tokens = file, text, tokens_of(text)
+        self.crate = file.split("/")[1]
+        self.functions: List[Function] = []
+        self.read(0, len(self.tokens), Scope())
 
-    def items(self, at: int, end: int, scope: Scope) -> None:
+    def read(self, at: int, end: int, scope: Scope) -> None:
+        """Reads the items from one place to another, all of them in a scope."""
         while at < end:
-            at = self.item(at, scope)
-
-    def item(self, at: int, scope: Scope) -> int:
-        """Reads the item at `at`, or passes over a token that starts none. The place after it."""
-        word = self.tokens[at].text
-        if word == "fn":
-            return self.function(at, scope)
-        if word in ("impl", "trait", "mod"):
-            return self.block(at, word, scope)
-        if word == "ghost":
-            return self.member(at, scope)
-        if word == "macro_rules":
-            return end_of_group(self.tokens, find(self.tokens, at, "{"))
-        if word == "use":
-            return find(self.tokens, at, ";") + 1
-        if word in TYPES and at + 1 < len(self.tokens):
-            self.source.types.add(self.tokens[at + 1].text)
-            return self.fields(at + 1) if word == "struct" else at + 2
-        return end_of_group(self.tokens, at) if word in OPENS else at + 1
-
-    def block(self, at: int, word: str, scope: Scope) -> int:
-        start = find(self.tokens, at, ("{", ";"))
-        header = self.tokens[at + 1:start]
-        if start == len(self.tokens) or self.tokens[start].text == ";":
-            return start + 1
-        end = end_of_group(self.tokens, start)
-        if word == "impl":
-            scope = scope_of_impl(header)
-        elif word == "trait":
-            scope = Scope(header[0].text, header[0].text)
-            self.source.types.add(header[0].text)
-        self.items(start + 1, end - 1, scope)
-        return end
-
-    def fields(self, at: int) -> int:
-        """Reads the ghost fields of the struct whose name is at `at`. The place after its head."""
-        start = find(self.tokens, at, ("{", "(", ";"))
-        if start < len(self.tokens) and self.tokens[start].text == "{":
-            inner = self.tokens[start:end_of_group(self.tokens, start)]
-            self.source.members += [(Scope(self.tokens[at].text), after.text) for token, after in zip(inner, inner[1:])
-                                    if token.text == "ghost"]
-        return start
-
-    def member(self, at: int, scope: Scope) -> int:
-        name = self.tokens[at + 1].text
-        if name != "use":
-            self.source.members.append((scope, name))
-        return find(self.tokens, at, ";") + 1
+            word = self.tokens[at].text
+            if word == "fn":
+                at = self.function(at, scope)
+            elif word in ("impl", "trait", "mod", "use", "ghost", "macro_rules"):
+                start = find(self.tokens, at, ("{", ";"), end)
+                is_block = start < end and self.tokens[start].text == "{"
+                after = end_of_group(self.tokens, start) if is_block else start + 1
+                if word in ("impl", "trait", "mod"):
+                    self.read(start + 1, after - 1, scope_of(word, self.tokens[at + 1:start]))
+                at = after
+            else:
+                at = end_of_group(self.tokens, at) if word in OPENS else at + 1
 
     def function(self, at: int, scope: Scope) -> int:
-        function = Function(self.tokens[at + 1].text, scope, self.source.file, self.tokens[at].line)
-        function.is_public = self.tokens[at - 1].text == "pub" if at else False
-        function.is_public |= scope.type is not None and scope.type == scope.trait
-        function.comment = self.comment_above(function.line)
-        self.source.functions.append(function)
-        at = self.after_function(at, function)
-        function.end = self.tokens[at - 1].line
-        return at
-
-    def comment_above(self, line: int) -> str:
-        """The first line of the `///` above a line, with attributes between them or none."""
-        above = line - 1
-        while above and self.lines[above - 1].lstrip().startswith(("///", "#[")):
-            above -= 1
-        comments = [text.strip()[3:].strip() for text in self.lines[above:line - 1] if text.strip().startswith("///")]
-        return comments[0] if comments else ""
-
-    def after_function(self, at: int, function: Function) -> int:
-        """Reads the clauses and the body of a function. The place after it."""
-        stops = ("{", ";", "requires", "ensures")
-        at = find(self.tokens, at, stops)
-        while at < len(self.tokens) and self.tokens[at].text in ("requires", "ensures"):
-            kind, name = self.tokens[at].text, self.tokens[at + 1]
-            function.clauses.append(Clause(kind, None if name.text == "{" else name.text))
-            at = find(self.tokens, end_of_group(self.tokens, find(self.tokens, at, "{")), stops)
-        if at == len(self.tokens) or self.tokens[at].text == ";":
-            return at + 1
-        end = end_of_group(self.tokens, at)
-        function.body = self.tokens[at + 1:end - 1]
+        """Reads the function at a place, with its clauses and its body. The place after it."""
+        tokens, first, stops = self.tokens, at, ("{", ";", "requires", "ensures")
+        clauses: List[Tuple[str, Optional[str]]] = []
+        at = find(tokens, at, stops)
+        while at < len(tokens) and tokens[at].text in stops[2:]:
+            name = tokens[at + 1].text
+            clauses.append((tokens[at].text, None if name == "{" else name))
+            at = find(tokens, end_of_group(tokens, find(tokens, at, "{")), stops)
+        end = end_of_group(tokens, at) if at < len(tokens) and tokens[at].text == "{" else at + 1
+        is_public = tokens[first - 1].text == "pub" or (scope.type is not None and scope.type == scope.trait)
+        last = tokens[min(end, len(tokens)) - 1].line
+        self.functions.append(Function(tokens[first + 1].text, self.crate, scope, tokens[first].line, last, is_public,
+                                       clauses, tokens[at + 1:end - 1]))
         return end
 
 
-def read_source(file: str, text: str) -> Source:
-    """What the file `file`, which has `text`, has."""
-    return Reader(file, text).source
-
-
-def text_of(path: str) -> str:
-    with open(path, encoding="utf-8") as file:
+def text_of(*path: str) -> str:
+    with open(os.path.join(*path), encoding="utf-8") as file:
         return file.read()
 
 
-def crates_of(top: str) -> List[str]:
-    """The names of all crates."""
-    return sorted(os.path.basename(path) for path in glob.glob(os.path.join(top, "crates", "*")) if os.path.isdir(path))
+def found_in(top: str, *patterns: str) -> List[str]:
+    """The files of patterns, by their paths in the repository."""
+    paths = (path for pattern in patterns for path in glob.glob(os.path.join(top, pattern), recursive=True))
+    return sorted({os.path.relpath(path, top) for path in paths if os.path.isfile(path)})
 
 
 def is_of_tests(crate: str) -> bool:
@@ -266,73 +165,21 @@ def is_of_tests(crate: str) -> bool:
     return crate.endswith("_tests")
 
 
-def sources_of(top: str, crate: str) -> Dict[str, Source]:
-    """The sources of a crate by their names in it, such as `src/lib.rt`."""
-    paths = sorted(glob.glob(os.path.join(top, "crates", crate, "src", "**", "*.rt"), recursive=True))
-    names = [os.path.relpath(path, os.path.join(top, "crates", crate)) for path in paths]
-    return {name: read_source(os.path.join("crates", crate, name), text_of(path)) for name, path in zip(names, paths)}
-
-
-@dataclass(frozen=True)
-class Carrier:
-    """What carries clauses: a function with those of its trait, or an `impl` with its ghost members.
-
-    It is single where it has one `ensures` without a name, and no other, or is of a trait of std, which has it.
-    """
-
-    label: str
-    names: FrozenSet[str]
-    is_single: bool
-    requires: bool
-    clauses: Tuple[Clause, ...] = ()
-
-
-class Crate:
-    """What a crate has, by its name."""
-
-    def __init__(self, top: str, name: str) -> None:
-        self.name = name
-        self.sources = sources_of(top, name)
-        self.functions = [function for source in self.sources.values() for function in source.functions]
-        self.types = {each for source in self.sources.values() for each in source.types}
-        lib = self.sources.get("src/lib.rt")
-        self.passed_on = {token.text for token in lib.tokens} if lib else set()
-        self.members: Dict[Scope, Set[str]] = {}
-        for source in self.sources.values():
-            for scope, member in source.members:
-                self.members.setdefault(scope, set()).add(member)
-
-
 class Library:
-    """All crates that are not of tests alone."""
+    """The sources of all crates that are not of tests alone, by their paths in the repository."""
 
     def __init__(self, top: str) -> None:
-        self.top = top
-        self.crates = {name: Crate(top, name) for name in crates_of(top) if not is_of_tests(name)}
-        self.functions = [function for crate in self.crates.values() for function in crate.functions]
-        self.members = {scope: names for crate in self.crates.values() for scope, names in crate.members.items()}
+        paths = found_in(top, "crates/*/src/**/*.rt")
+        self.sources = {path: Source(path, text_of(top, path)) for path in paths if not is_of_tests(path.split("/")[1])}
+        self.functions = [function for source in self.sources.values() for function in source.functions]
         self.traits = {(function.scope.trait, function.name): function.clauses for function in self.functions
-                       if function.scope.trait and function.scope.trait == function.scope.type}
+                       if function.scope.trait == function.scope.type is not None}
 
-    def carrier(self, function: Function) -> Carrier:
-        """A function with its clauses, those of its trait, and the ghost members of its `impl` or trait."""
+    def of_crate(self, crate: str) -> List[Source]:
+        return [source for source in self.sources.values() if source.crate == crate]
+
+    def clauses(self, function: Function, kinds: Tuple[str, ...] = ("requires", "ensures")) -> List[str]:
+        """The names of a function's clauses, with those of its trait."""
         scope = function.scope
-        clauses = list(function.clauses)
-        if scope.trait and scope.trait != scope.type:
-            clauses += self.traits.get((scope.trait, function.name), [])
-        ensured = [clause.name for clause in clauses if clause.kind == "ensures"]
-        names = {clause.name for clause in clauses if clause.name} | self.members_of(scope)
-        is_of_std = scope.trait is not None and (scope.trait, function.name) not in self.traits and not clauses
-        return Carrier(function.label, frozenset(names), ensured == [None] or is_of_std, len(ensured) < len(clauses), tuple(clauses))
-
-    def members_of(self, scope: Scope) -> Set[str]:
-        return self.members.get(scope, set()) if scope.trait else set()
-
-    def impl(self, scope: Scope) -> Carrier:
-        """An `impl` of a trait with the clauses of all its methods and its ghost members."""
-        label = f"{scope.trait}<{scope.arguments}> for {scope.type}" if scope.arguments else f"{scope.trait} for {scope.type}"
-        names = set(self.members_of(scope))
-        for (trait, _), clauses in self.traits.items():
-            if trait == scope.trait:
-                names |= {clause.name for clause in clauses if clause.name}
-        return Carrier(label, frozenset(names), self.members_of(scope) == {"from_gives"}, False)
+        of_trait = self.traits.get((scope.trait, function.name), []) if scope.trait not in (None, scope.type) else []
+        return list(dict.fromkeys(name for kind, name in function.clauses + of_trait if name and kind in kinds))

@@ -1,10 +1,24 @@
-"""The crates of this repository and what each depends on, as crates.txt has them."""
+"""The crates of this repository, and proofs of them side by side: each after those that it uses, the one with the
+longest way to the top first."""
 from __future__ import annotations
 
+import argparse
+import contextlib
+import fcntl
 import os
-from typing import Dict, Set
+import signal
+import subprocess
+import sys
+import time
+from types import FrameType
+from typing import Callable, Dict, Iterable, Iterator, List, NamedTuple, Optional, Set, Tuple
 
-from script import TOP
+import script
+from script import TOP, say
+
+LOGS = os.path.join(TOP, "out", "logs")
+PARTS = ("src", "specs", "proofs")
+GIGABYTES_A_CRATE = 4
 
 
 class Crates:
@@ -36,3 +50,210 @@ class Crates:
 
 def folder_of(crate: str, *inner: str) -> str:
     return os.path.join(TOP, "crates", crate, *inner)
+
+
+def number(text: str) -> int:
+    if not text.isdigit() or not int(text):
+        raise argparse.ArgumentTypeError("takes a number from 1 on")
+    return int(text)
+
+
+def with_jobs(head: Optional[str]) -> argparse.ArgumentParser:
+    """The options of a script that proves crates: how many side by side, as many as there are processors and as memory
+    has room for unless it is given."""
+    gigabytes = os.sysconf("SC_PAGE_SIZE") * os.sysconf("SC_PHYS_PAGES") >> 30
+    free = max(1, min(len(os.sched_getaffinity(0)), gigabytes // GIGABYTES_A_CRATE))
+    options = argparse.ArgumentParser(description=head, formatter_class=argparse.RawDescriptionHelpFormatter)
+    options.add_argument("--jobs", type=number, default=free, metavar="N")
+    return options
+
+
+def lock(folders: Iterable[str]) -> None:
+    """Waits until no other run works in these folders, and keeps others out until the process ends."""
+    for folder in sorted(os.path.realpath(folder) for folder in folders):
+        opened = os.open(folder, os.O_RDONLY)
+        try:
+            fcntl.flock(opened, fcntl.LOCK_EX | fcntl.LOCK_NB)
+        except BlockingIOError:
+            say(f"waiting for another run to end in {folder}")
+            fcntl.flock(opened, fcntl.LOCK_EX)
+
+
+def log_of(crate: str) -> str:
+    return os.path.join(LOGS, crate + ".log")
+
+
+def files_of(crate: str) -> Iterator[str]:
+    """The files of a crate that its check reads, in order."""
+    for part in PARTS:
+        for at, folders, names in os.walk(folder_of(crate, part)):
+            folders.sort()
+            yield from (os.path.join(at, name) for name in sorted(names))
+
+
+def source_lines(crate: str) -> int:
+    """How many lines the check of a crate reads: a guess at its time."""
+    total = 0
+    for path in files_of(crate):
+        with open(path, "rb") as text:
+            total += text.read().count(b"\n")
+    return total
+
+
+def ways_up(uses: Dict[str, List[str]], wanted: Set[str]) -> Dict[str, int]:
+    """For each crate the most lines that one way from it to the top has."""
+    lines = {crate: source_lines(crate) for crate in wanted}
+    ways: Dict[str, int] = {}
+
+    def way_up(crate: str) -> int:
+        if crate not in ways:
+            above = [other for other in wanted if crate in uses[other]]
+            ways[crate] = lines[crate] + max(map(way_up, above), default=0)
+        return ways[crate]
+
+    for crate in wanted:
+        way_up(crate)
+    return ways
+
+
+def members(session: int) -> Iterator[int]:
+    """The processes of this session that are left."""
+    for process in filter(str.isdigit, os.listdir("/proc")):
+        try:
+            with open(f"/proc/{process}/stat", encoding="utf-8", errors="replace") as stat:
+                state, _, _, its = stat.read().rpartition(")")[2].split()[:4]
+        except (FileNotFoundError, ProcessLookupError):
+            continue
+        if its == str(session) and state != "Z":
+            yield int(process)
+
+
+def end_session(session: int) -> None:
+    """Ends all processes of this session, and waits until they are gone."""
+    while left := list(members(session)):
+        for process in left:
+            with contextlib.suppress(ProcessLookupError):
+                os.kill(process, signal.SIGKILL)
+        time.sleep(0.05)
+
+
+def lower_priority(session: int, nice: int) -> None:
+    """Lowers the priority of a session: a kernel that shares processors between sessions counts nice within each."""
+    with contextlib.suppress(OSError), open(f"/proc/{session}/autogroup", "w", encoding="ascii") as group:
+        group.write(str(nice))
+
+
+class How(NamedTuple):
+    """How many checks of a crate run side by side, and with what priority (nice)."""
+
+    checks: int
+    nice: int
+
+
+class Run:
+    """The proof of one crate: a program in a session of its own, whose output goes to the crate's log."""
+
+    def __init__(self, crate: str, how: How, words: List[str], folder: str) -> None:
+        self.crate = crate
+        with open(log_of(crate), "wb") as out:
+            self.program = subprocess.Popen(
+                ["nice", "-n", str(how.nice), *words],
+                cwd=folder,
+                stdin=subprocess.DEVNULL,
+                stdout=out,
+                stderr=subprocess.STDOUT,
+                start_new_session=True,
+            )
+        lower_priority(self.program.pid, how.nice)
+
+    def end(self) -> None:
+        """Ends the program if it runs, with all that it started."""
+        end_session(self.program.pid)
+        self.program.wait()
+
+
+class SideBySide:
+    """The crates that are to be proved, and how far they are."""
+
+    def __init__(
+        self, crates: Crates, wanted: Set[str], jobs: int, checks_of_others: int, start: Callable[[str, How], Run]
+    ) -> None:
+        self.crates, self.wanted, self.start = crates, wanted, start
+        self.jobs, self.checks_of_others = jobs, checks_of_others
+        self.ways = ways_up(crates.uses, wanted)
+        self.began = time.monotonic()
+        self.done: Set[str] = set()
+        self.running: List[Run] = []
+        self.signal = 0
+        say(f"{len(wanted)} crates, at most {jobs} at a time")
+
+    def note(self, number: int, _: Optional[FrameType]) -> None:
+        """Notes an interruption, so that it never comes between two steps that belong together."""
+        self.signal = number
+
+    def ready(self) -> List[str]:
+        """The crates that wait for no other, the one with the longest way first."""
+        busy = {run.crate for run in self.running} | self.done
+        found = [crate for crate in self.wanted - busy if self.done.issuperset(self.crates.uses[crate])]
+        return sorted(found, key=lambda crate: self.ways[crate], reverse=True)
+
+    def how(self, crate: str) -> How:
+        """All checks where no crate that runs has a longer way, else those of others, and a lower priority for each."""
+        longer = sum(self.ways[run.crate] > self.ways[crate] for run in self.running)
+        return How(min(self.jobs, self.checks_of_others) if longer else self.jobs, 5 * longer)
+
+    def start_ready(self) -> int:
+        """Starts as many crates as there is room for. Returns how many."""
+        started = self.ready()[: self.jobs - len(self.running)]
+        for crate in started:
+            self.running.append(self.start(crate, self.how(crate)))
+        return len(started)
+
+    def take_finished(self) -> Tuple[int, Optional[str]]:
+        """Takes the crates whose checks ended. Returns how many, and the first that is not proved, if there is one."""
+        ended = [run for run in self.running if run.program.poll() is not None]
+        for run in ended:
+            self.running.remove(run)
+            run.end()
+            if run.program.returncode != 0:
+                return len(ended), run.crate
+            self.done.add(run.crate)
+        return len(ended), None
+
+    def end_all(self) -> None:
+        """Ends the checks that run; a fault of one does not leave the others."""
+        with contextlib.ExitStack() as stack:
+            for run in self.running:
+                stack.callback(run.end)
+
+    def report(self) -> None:
+        minutes = (time.monotonic() - self.began) / 60
+        at = ", ".join(run.crate for run in self.running) or "end"
+        say(f"{len(self.done)} of {len(self.wanted)} crates proved, {minutes:.1f} min; at {at}")
+
+    def all_proved(self) -> bool:
+        """Proves all crates. Returns whether they are; else the end of what was printed of one that is not is shown."""
+        os.makedirs(LOGS, exist_ok=True)
+        script.at_signals(self.note)
+        ended = 0
+        try:
+            while len(self.done) < len(self.wanted):
+                if self.start_ready() or ended:
+                    self.report()
+                time.sleep(0.2)
+                ended, faulty = self.take_finished()
+                if faulty:
+                    self.show_end(faulty)
+                    return False
+                if self.signal:
+                    sys.exit(128 + self.signal)
+            self.report()
+            return True
+        finally:
+            self.end_all()
+            script.at_signals(script.end)
+
+    def show_end(self, crate: str) -> None:
+        say(f"{crate} is not proved; the end of {log_of(crate)}:")
+        with open(log_of(crate), encoding="utf-8", errors="replace") as text:
+            sys.stderr.writelines(text.readlines()[-20:])

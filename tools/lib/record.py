@@ -18,28 +18,24 @@ def commit() -> str:
     return done.stdout.strip() or "-"
 
 
-def row(amount: str, found: str) -> str:
-    """The row of the script that runs."""
+def with_row(lines: List[str], cells: List[str]) -> List[str]:
+    """The page's lines with this row in the place of the one of its first cell, or after the last row of the table."""
+    row = "| " + " | ".join(cell.replace("|", "\\|").replace("\n", " ") for cell in cells) + " |"
+    firsts = [line.split(" | ")[0] for line in lines]
+    if row.split(" | ")[0] in firsts:
+        at = firsts.index(row.split(" | ")[0])
+        return [*lines[:at], row, *lines[at + 1:]]
+    end = max((at for at, line in enumerate(lines) if line.startswith("|")), default=len(lines) - 1) + 1
+    return [*lines[:end], row, *lines[end:]]
+
+
+def record(amount: str, found: str, part: str = "") -> None:
+    """Writes what the script that runs looked at, and what it found, into its row of the page. `part` is the option that
+    chooses what it does, where it has a row for each."""
     today = datetime.datetime.now(datetime.timezone.utc).date().isoformat()
-    cells = [script.name(), today, commit(), amount, found]
-    return "| " + " | ".join(cell.replace("|", "\\|").replace("\n", " ") for cell in cells) + " |"
-
-
-def with_row(lines: List[str], new: str) -> List[str]:
-    """The page's lines with this row in the place of its script's, or after the last row of the table."""
-    first = new.split(" | ")[0] + " |"
-    kept = [at for at, line in enumerate(lines) if line.startswith(first)]
-    if kept:
-        return [new if at == kept[0] else line for at, line in enumerate(lines)]
-    end = max((at for at, line in enumerate(lines) if line.startswith("| ")), default=len(lines) - 1) + 1
-    return lines[:end] + [new] + lines[end:]
-
-
-def record(amount: str, found: str) -> None:
-    """Writes what the script that runs looked at, and what it found, into its row of the page."""
     with open(PAGE, encoding="utf-8") as page:
         lines = page.read().splitlines()
-    new = PAGE + ".new"
-    with open(new, "w", encoding="utf-8") as page:
-        page.write("\n".join(with_row(lines, row(amount, found))) + "\n")
-    os.replace(new, PAGE)
+    with open(PAGE + ".new", "w", encoding="utf-8") as page:
+        cells = [f"{script.name()} {part}".rstrip(), today, commit(), amount, found]
+        page.write("\n".join(with_row(lines, cells)) + "\n")
+    os.replace(PAGE + ".new", PAGE)

@@ -1,206 +1,241 @@
-"""Tests of tools/check/documents.py and promises.py, over a small repository of their own."""
+"""Tests of tools/check/: documents.py over a small repository, what sources.py reads, what memory_faults.py finds."""
 from __future__ import annotations
 
 import os
+import shutil
 import sys
 import tempfile
 import unittest
-from typing import Dict, Iterable, List
+from typing import Dict, List, Tuple
 
 sys.path.insert(0, os.path.join(os.path.dirname(os.path.realpath(__file__)), ".."))
 
-import documents
-from markdown_text import Line, Row, anchors_of, cells_of, rows_of
-from sources import Library
+from documents import Checks  # noqa: E402
+from memory_faults import faults_of  # noqa: E402
+from sources import Source  # noqa: E402
 
-FILES = {
-    "crates/low/src/lib.rt": "pub use crate::a::Map;",
-    "crates/low/src/a.rt": """//! Maps of bytes.
-
-        pub const MOST: usize = 4_096;
-        pub struct Map { ghost sorted: { x } }
-        pub trait Judge { ghost local: { x }; fn ask(&self) ensures asked { x } ensures row { x }; }
-        impl Judge for Map { fn ask(&self) {} }
-        impl Map {
-            pub fn get(&self) -> u8 ensures { result ≡ look_up self } { 1 }
-            pub fn put(&mut self) requires room { x } ensures ok { x } ensures err { x } {}
-        }
-        impl From<clap::Error> for Map { ghost from_gives = { x }; fn from(e: clap::Error) -> Map { Map {} } }
-        pub fn read() -> u8 ensures { result ≡ 1 } { 1 }
-        pub fn both() ensures { x } ensures named { x } {}
-    """,
-    "crates/low/src/b.rt": "pub fn read() -> u8 ensures other { result ≡ 1 } { 1 }",
-    "crates/low/specs/Maps.antt": "-- What a map is.\nabbrev pub look_up : Map → ℕ",
-    "crates/low/must-fail/loses_a_value.edit": "file: src/a.rt",
-    "crates/high/src/lib.rt": "pub use low::Map;",
-    "crates/high_tests/src/rows.rt": "",
-    "crates.txt": "# crates\nlow: clap\nhigh: low\nhigh_tests: high\n",
-    "commands/facl_commands/names.py": '"""Names: their escapes.\n\nMore.\n"""\n',
-    "commands/facl-ask": "#!/bin/sh\nexit\n",
-    "tools/check.sh": "#!/bin/sh\n# Checks all.\n",
-    "tools/lib/check.sh": "# A part of it.\n",
-    "docs/OTHER.md": "# The crates\n\n## Its `parts`, in short\n",
+A = r"""//! Maps, by
+//! `a|b`.
+//!
+//! More, with fn text() and { a brace.
+pub const MOST: usize = 4_096;
+pub struct Map { ghost sorted: { x } }
+pub trait Judge<'a> { /* one
+    { */ ghost local: { x }; fn ask(&self, of: [u8; 4]) requires { x } ensures asked { f x' } ensures row { x }; }
+impl<R: Read> Judge<R> for low::Map<Vec<R>> { fn ask(&self) {} }
+impl Map {
+    pub fn get(&self) -> u8 ensures { result ≡ look_up self } { 1 }
+    pub fn put(&mut self) requires room { x } ensures ok { x } ensures err { x } { self.grow() }
+    fn grow(&mut self) ensures grown { x } { 2 }
 }
-LOW = "low: maps"
+pub fn read() -> u8 ensures one { result ≡ 1 } { 1 }
+pub(crate) fn hidden<T>(x: &'static str) -> Vec<T> where T: Copy, ensures no { x } {
+    match x { "}\"" => '{', 'x' => b'\x7d', _ => r#"pub fn no() ensures no {" "# }
+}
+/// Proof only. Maps are maps.
+#[inline]
+pub fn maps_are_maps() ensures one { x } ensures two { x } {}
+"""
+INDEX = """- **low**
+  - Clauses: `read` (`one`), `cut` (`pieces`); `Judge`: `ask` (`asked`, `row`); `Map`: `put` (`ok`, `err`)
+  - Laws: `maps_are_maps`
+  - Wrong bodies: `grows_by_one` (`Map::grow`), `one_too_many` (`a.rt`)
+"""
+PROOFS = f"""# Proofs
+## The points
+1. It holds (`low::Map::put`, as in acl(5); `Judge::ask` (`look_up`)); this too (`Map::put`, clauses `ok`, `err`).
+2. So does the next.
+
+Trusted is `clap`.
+## The whole
+| Property | Carried by |
+|---|---|
+| It holds | `low::Map::get`, `Map`, low `Judge` |
+| So does this | low `read`, clause `one` |
+## What an error leaves as it was
+| Calls | What they change | Clause |
+|---|---|---|
+| low `Map::put`; `ask` | a map | `ok`; `row` |
+- low `Map::get`, `put`, all of `Judge`.
+## Index
+<!-- index -->
+{INDEX}<!-- end -->
+"""
+ARCHITECTURE = """# Crates
+<!-- graph -->
+```mermaid
+graph TD
+    facl_words --> low
+    facl --> facl_words
+```
+<!-- end -->
+| Crate | What it is for |
+|---|---|
+| `low` | maps |
+| `facl_words` | words |
+| `facl` | all |
+
+| Limit | Value | Constant | Message |
+|---|---|---|---|
+| maps | below 4,096 | low `MOST` | none |
+"""
+PAGE = r"""
+.SH OPTIONS
+.TP
+.BI \-\-dump " FILE"
+.SH TOOLS
+.SS can [\-\-reach] USER
+.SS chmod [\-Rv] MODE
+.TP
+.BR \-R ", " \-\-recursive " \fIX\fR"
+Not \-\-other.
+.SH LIMITS
+maps  4,095
+.SH EXAMPLES
+"""
+README = """[a](tools/README.md), tools/lib/a.py, [b](docs/READING.md#to-read-short), [here](https://example.org/a).
+`low/src/a.rt`, `src/b.rt`, specs/Maps.antt, crates/low/out/facl, `[a](b)`.
+`look_up`, `Map::get`, `anyhow::Error`, `X_tests`, `of_`.
+"""
+FILES: Dict[str, str] = {
+    "crates.txt": "# crates\nlow: clap\nlow_tests: low\nfacl_words: low  # words\nfacl: clap facl_words low\n",
+    "crates/low/src/lib.rt": "mod a;\npub mod open;\nmod b;\npub use a::{Judge, Map, maps_are_maps, read};\n",
+    "crates/low/src/a.rt": A,
+    "crates/low/src/open.rt": "//! Cut.\npub fn cut() ensures pieces { x } {}",
+    "crates/low/src/b.rt": "//! Closed.\npub fn closed() ensures no { x } {}",
+    "crates/low/specs/Maps.antt": "-- What a map is.\nabbrev pub look_up : Map → ℕ\n",
+    "crates/low/must-fail/grows_by_one.edit": "file: src/a.rt\nold: ensures grown { x } { 2 }\nnew: 3\n",
+    "crates/low/must-fail/one_too_many.edit": "file: src/a.rt\nold: MOST: usize = 4\nnew: 5\n",
+    "crates/facl/src/tools.rt": '//! Tools.\nTool::Can => "can",\nTool::Chmod => "chmod",\n',
+    "crates/facl/src/tools/can.rt": '//! One.\nflags: &[by_name!("reach")],\n',
+    "crates/facl/src/tools/chmod.rt": "//! One.\nflags: &[both!('R', \"recursive\"), by_letter!('v', \"v\")],\n",
+    "crates/facl_words/src/args.rt": '//! Words.\n[by_name!("dump")]\n',
+    "commands/facl-ask": "#!/bin/sh\n# Asks\n# all.\nexit\n",
+    "tools/lib/a.py": '#!/usr/bin/env python3\n"""Checks\nall.\n\nMore.\n"""\n',
+    "tools/README.md": "lib/a.py, and facl_words.md is no script.\n",
+    "docs/PROOFS.md": PROOFS,
+    "docs/ARCHITECTURE.md": ARCHITECTURE,
+    "docs/facl.1": PAGE,
+    "docs/SPECIFICATION.md": "4,096 maps of 1000.\n",
+    "docs/READING.md": "# To `read`: short\n```\nabbrev pub look_up : Map → ℕ\n\npub const MOST: usize = 4_096;\n```\n",
+    "CONTRIBUTING.md": "| Crates | Tests |\n|---|---|\n| low | low_tests |\n| facl, facl_words | none |\n",
+    "README.md": README,
+}
+MADE = "is not as the sources have it: tools/check/documents.py --write"
+# Of each file texts, what stands there instead, and what is found then, without the names of documents.
+FAULTS: Dict[str, List[Tuple[str, ...]]] = {
+    "docs/PROOFS.md": [
+        ("::put`, as", "::take`, as", "3: no `low::Map::take` in low", "3: no `low::Map::take` in the sources"),
+        ("(`look_up`)", "(`look`)", "3: no `look` in low"),
+        ("(`Map::put`, clauses `ok`, `err`", "(`Map::get`, clause `ok`", "3: no function here has a clause `ok`",
+         "3: Map::get has none of the clauses named; it has none"),
+        ("`err`).", "`full`).", "3: no function here has a clause `full`"),
+        ("`low::Map::get`", "`facl::Map::get`", "10: no `facl::Map::get` in facl"),
+        ("Carried by", "Where", "1: there is no table, list or point of: Carried by"),
+        ("`ok`; `row`", "`ok`", "15: Map::ask has none of the clauses named; it has asked, row"),
+        ("`put`, all", "`gone`, all", "16: no `gone` in low"),
+        ("is `clap`", "is `hex`", "6: no line that starts with Trusted has the kit's crates, clap"),
+        ("`Map::grow`", "`Map::get`", f"1: the block index {MADE}"),
+        ("<!-- index", "<!-- no index", f"1: the block index {MADE}")],
+    "docs/ARCHITECTURE.md": [
+        ("facl --> facl_words", "facl --> low", f"1: the block graph {MADE}"),
+        ("below 4,096", "4,097", "17: MOST of low is 4096", "12: 4095 is no limit of docs/ARCHITECTURE.md"),
+        ("low `MOST`", "low `LEAST`", "17: LEAST of low is not there"),
+        ("| `facl` |", "| `gone` |", "13: no crate gone in crates.txt", "1: facl is not in the map")],
+    "docs/facl.1": [
+        ("4,095", "4,094", "12: 4094 is no limit of docs/ARCHITECTURE.md"),
+        (r"[\-Rv]", r"[\-Rw]", "1: chmod does not read -w", "1: chmod has no -v here"),
+        ("SS can", "SS may", "1: the program has no tool may", "1: the tool can is not in the page"),
+        (r"\-\-dump", r"\-\-dumps", "1: facl does not read --dumps", "1: facl has no --dump here")],
+    "docs/READING.md": [("4_096", "4_097", "5: is in no source")],
+    "CONTRIBUTING.md": [
+        ("| low |", "| facl |", "3: low_tests does not use facl: crates.txt", "1: low is not in the table of tests")],
+    "tools/README.md": [("lib/a.py", "gone.sh", "1: lib/a.py is not named", "1: no gone.sh in tools/")],
+    "crates/low/src/b.rt": [("//! Closed.", "", "1: has no sentence at its head")],
+    "commands/facl-ask": [("# Asks\n# all.\n", "", "1: has no sentence at its head")],
+    "README.md": [
+        ("(tools/README.md)", "(tools/gone.md)", "1: no tools/gone.md"),
+        ("-short", "-long", "1: no heading docs/READING.md#to-read-long"),
+        ("tools/lib/a.py", "tools/lib/gone", "1: no tools/lib/gone"),
+        ("`low/src/a.rt`", "`low/src/gone.rt`", "2: no low/src/gone.rt in crates/"),
+        ("`look_up`", "`look_down`", "3: no `look_down` in the sources"),
+        ("`Map::get`", "`Map::gone`", "3: no `Map::gone` in the sources")],
+}
 
 
-class Case(unittest.TestCase):
-    @classmethod
-    def setUpClass(cls) -> None:
-        cls.folder = tempfile.TemporaryDirectory()
-        cls.addClassCleanup(cls.folder.cleanup)
-        cls.top = cls.folder.name
+class Documents(unittest.TestCase):
+    def setUp(self) -> None:
+        self.top = tempfile.mkdtemp(prefix="facl-documents-test.")
+        self.addCleanup(shutil.rmtree, self.top)
         for name, text in FILES.items():
-            path = os.path.join(cls.top, name)
-            os.makedirs(os.path.dirname(path), exist_ok=True)
-            with open(path, "w", encoding="utf-8") as file:
-                file.write(text)
-        cls.library = Library(cls.top)
-        cls.words = documents.words_of(cls.top)
+            self.write(name, text)
 
-    folder: "tempfile.TemporaryDirectory[str]"
-    top: str
-    library: Library
-    words: "set[str]"
-
-
-class Promises(Case):
-    def faults(self, functions: str, clauses: str, section: str = LOW) -> List[str]:
-        row = Row(1, section, ["Promise", "Function", "Clause"], ["It holds", functions, clauses])
-        return list(documents.Promises(self.library, self.words).row_faults(row))
-
-    def joined(self, cell: str) -> List[str]:
-        row = Row(1, LOW, ["Promise", "Function and clause", "Edit that the prover refuses"], ["It holds", cell, ""])
-        return list(documents.Promises(self.library, self.words).row_faults(row))
+    def write(self, name: str, text: str) -> None:
+        os.makedirs(os.path.dirname(os.path.join(self.top, name)), exist_ok=True)
+        with open(os.path.join(self.top, name), "w", encoding="utf-8") as file:
+            file.write(text)
 
     def test_what_is_there(self) -> None:
-        for functions, clauses in (
-                ("`Map::get`", "its only one"), ("`Map::put`", "`ok`, `err`"), ("`Map::put`, `get`", "`ok`; its only one"),
-                ("`Map::get`; `put`", "its only one; `room`"), ("`Map`'s `ask`, by the trait's clauses", "`asked`"),
-                ("`Judge`", "`local` (a law of every judge)"), ("`From<clap::Error>` for `Map`", "`from_gives`"),
-                ("`Map`", "`sorted`"), ("`Map::get` (`look_up`)", "its only one (`look_up`)"), ("`Map::put`", "`err` of `Map::put`"),
-                ("`read` of b", "`other`"), ("`Judge for Map`", "`row`"), ("`Map::get`", "as there")):
-            self.assertEqual(self.faults(functions, clauses), [], functions)
-        self.assertEqual(self.faults("`low::Map::get`, `put`", "", "The whole"), [])
-        self.assertEqual(self.faults("`high::Map::get`", "", "The whole"), [])
-        self.assertEqual(self.joined("inner `read`; `Map::put`: `ok` (`look_up`), `err`; `Map::put`: what it requires"), [])
-
-    def test_functions_that_are_not_there(self) -> None:
-        self.assertEqual(self.faults("`Map::take`", "`ok`"), ["no `Map::take` in the sources"])
-        self.assertEqual(self.faults("`Map::read`", "its only one"), ["no `Map::read` in the sources"])
-        self.assertEqual(self.faults("`From<Other>` for `Map`", "`from_gives`"), ["no `From<Other>` in the sources"])
-        self.assertEqual(self.faults("`Map::get` (`find`)", "its only one"), ["no `find` in the definitions and sources"])
-        self.assertEqual(self.faults("`read`", "its only one", "high"), ["no `read` in the sources"])
-        self.assertEqual(self.joined("`Map::take`: `ok`"), ["no `Map::take` in the sources"])
-
-    def test_clauses_that_are_not_there(self) -> None:
-        self.assertEqual(self.faults("`Map::put`", "`ok`, `full`"), ["no clause `full` in Map::put"])
-        self.assertEqual(self.faults("`Map::put`", "`ok` of `Map::get`"), ["`Map::get` is no function of the row"])
-        put = "Map::put has none of the clauses named; it has err, ok, room"
-        self.assertEqual(self.faults("`Map::put`", "its only one"), [put])
-        self.assertEqual(self.faults("`Map::get`, `put`", "their only one"), [put])
-        self.assertEqual(self.faults("`both`", "its only one"), ["both has none of the clauses named; it has named"])
-        self.assertEqual(self.faults("`Map::get`; `put`", "`ok`; its only one"), [
-            "no clause `ok` in Map::get", "Map::get has none of the clauses named; it has one alone, without a name", put])
-        self.assertEqual(self.joined("`Map::put`: `ok`; `read`: `ok`")[0], "no clause `ok` in read")
-
-    def test_where_bodies_are_refused(self) -> None:
-        promises = documents.Promises(self.library, self.words)
-        rows = [Row(1, LOW, ["Wrong body", "Refused at"], ["It is wrong", cell])
-                for cell in ("`Map::put`, `ok`", "`loses_a_value`", "`fill`", "`Map::take`")]
-        found = [list(promises.refusal_faults(row)) for row in rows]
-        self.assertEqual(found, [[], [], ["no `fill` in low"], ["no `Map::take` in low"]])
-
-    def test_readme(self) -> None:
-        text = "## What is proved\n\n1. It holds (`low::Map::put`, as in acl(5); `get`, clause `ok`).\n2. Not this (`low::Map::take`).\n"
-        found = list(documents.Promises(self.library, self.words).readme_faults(text))
-        self.assertEqual(found, [(3, "Map::get has none of the clauses named; it has one alone, without a name"),
-                                 (4, "no `low::Map::take` in the sources")])
-
-
-class Heads(Case):
-    def test_heads(self) -> None:
-        self.assertEqual(list(documents.heads_of_crates(self.top, ["low"])), [
-            ("low/src/a.rt", "Maps of bytes"), ("low/src/b.rt", ""), ("low/specs/Maps.antt", "What a map is")])
-        self.assertEqual([fault for _, _, fault in documents.head_faults(self.top)], ["has no sentence at its head"] * 2)
-        self.assertEqual([file for file, _, _ in documents.head_faults(self.top)], ["crates/low/src/b.rt", "commands/facl-ask"])
-
-    def test_heads_of_scripts(self) -> None:
-        for file, head in (("commands/facl_commands/names.py", "Names: their escapes."), ("tools/check.sh", "Checks all."),
-                           ("commands/facl-ask", "")):
-            self.assertEqual(documents.head_of_script(os.path.join(self.top, file)), head)
-
-    def test_tools(self) -> None:
-        self.assertEqual(list(documents.tool_faults(self.top, "check.sh and lib/check.sh are there, and facl_words.md is no script.")), [])
-        self.assertEqual(list(documents.tool_faults(self.top, "gone.py is not.\nNor is lib/gone.sh, and lib/check.sh is.")), [
-            (1, "no gone.py in tools/"), (2, "no lib/gone.sh in tools/"), (1, "check.sh is not named")])
-
-
-class Tables(Case):
-    def limits(self, value: str, constant: str) -> List[str]:
-        text = f"| Limit | Value | Constant | Message |\n|---|---|---|---|\n| maps | {value} | {constant} | none |\n"
-        return [fault for _, fault in documents.limit_faults(self.library, text)]
-
-    def test_limits(self) -> None:
-        self.assertEqual(self.limits("below 4,096", "low `MOST`"), [])
-        self.assertEqual(self.limits("4,097", "low `MOST`"), ["MOST of low is 4096"])
-        self.assertEqual(self.limits("4,096", "low `LEAST`"), ["LEAST of low is not there"])
-
-    def test_examples(self) -> None:
-        text = "```\nabbrev pub look_up : Map → ℕ\n\n  pub const MOST: usize = 4_096;\n{}```\nOther text.\n"
-        self.assertEqual(list(documents.example_faults(self.top, text.format(""))), [])
-        self.assertEqual(list(documents.example_faults(self.top, text.format("fn gone() {}\n"))), [(5, "is in no source")])
-
-    def test_tests(self) -> None:
-        head = "| Crates | Tests | What |\n|---|---|---|\n"
-        rows = "| low, high | high_tests | all |\n"
-        self.assertEqual(list(documents.tests_faults(self.top, head + rows)), [])
-        self.assertEqual(list(documents.tests_faults(self.top, head + "| high_tests | low | all |\n")), [
-            (3, "low does not use high_tests by crates.txt"), (1, "high is not in the table of tests")])
-
-    def test_map(self) -> None:
-        head = "## The map\n| Crate | What it is for |\n|---|---|\n"
-        self.assertEqual(list(documents.map_faults(self.top, head + "| `low` | maps |\n| `high` | all |\n")), [])
-        self.assertEqual(list(documents.map_faults(self.top, head + "| `low` | maps |\n| `gone` | all |\n")), [
-            (5, "no crate gone in crates.txt"), (1, "high is not in the map")])
-
-    def test_trusted(self) -> None:
-        self.assertEqual(list(documents.trusted_faults(self.top, "Trusted are the crates `clap`.")), [])
-        self.assertEqual(list(documents.trusted_faults(self.top, "Trusted are the crates `hex`.")), [
-            (1, "the crates of the kit are clap by crates.txt")])
-
-
-class Links(Case):
-    def faults(self, text: str) -> Iterable[str]:
-        line = Line(1, "", text)
-        yield from documents.link_faults(self.top, "docs/OTHER.md", line)
-        yield from documents.path_faults(self.top, line)
-        yield from documents.name_faults(self.words, line)
-
-    def test_what_is_there(self) -> None:
-        for text in ("[tools](../tools/check.sh) and tools/check.sh.", "[parts](#its-parts-in-short), [here](OTHER.md#the-crates)",
-                     "[far](https://example.org/a)", "crates/low/out/program", "`look_up`, `Map::get`, `anyhow::Error`, `X_tests`, `of_`",
-                     "`[a](b)` and `rt ci`", "`low/src/a.rt`, `src/b.rt` and specs/Maps.antt"):
-            self.assertEqual(list(self.faults(text)), [], text)
+        self.assertEqual(Checks(self.top).all_faults(), [])
 
     def test_what_is_not_there(self) -> None:
-        found: Dict[str, str] = {
-            "[x](gone.md)": "no gone.md", "[x](OTHER.md#gone)": "no heading OTHER.md#gone", "tools/gone.sh": "no tools/gone.sh",
-            "`tools/gone.sh` is run": "no tools/gone.sh", "`found_up`": "no `found_up` in the sources",
-            "`low/src/gone.rt`": "no low/src/gone.rt in crates/", "`specs/Gone.antt`": "no specs/Gone.antt in crates/",
-            "`Map::gone`": "no `Map::gone` in the sources"}
-        for text, fault in found.items():
-            self.assertEqual(list(self.faults(text)), [fault])
+        for name, old, new, *faults in ((name, *each) for name, changes in FAULTS.items() for each in changes):
+            self.write(name, FILES[name].replace(old, new))
+            self.assertEqual(sorted(line.split(":", 1)[1] for line in Checks(self.top).all_faults()), sorted(faults))
+            self.write(name, FILES[name])
+
+    def test_parts_that_are_made(self) -> None:
+        checks = Checks(self.top)
+        self.assertEqual(checks.written(PROOFS.replace(INDEX, "old\n")), PROOFS)
+        heads = [head for _, head in checks.heads(["low"])]
+        self.assertEqual(heads, ["What a map is.", "Maps, by `a|b`.", "Closed.", "Cut."])
+        self.assertEqual(dict(checks.heads([]))["tools/lib/a.py"], "Checks all.")
 
 
-class Markdown(unittest.TestCase):
-    def test_rows(self) -> None:
-        text = "## One\n| A | B |\n|---|---|\n| a \\| b | c |\n```\n| no | row |\n```\n## Two\n| C |\n|---|\n| d |\n"
-        self.assertEqual(list(rows_of(text)), [Row(4, "One", ["A", "B"], ["a \\| b", "c"]), Row(11, "Two", ["C"], ["d"])])
+def memory_faults_of(text: str) -> List[str]:
+    """What is found in a source, without the file's name and the line."""
+    return [line.split(": ", 1)[1] for line in faults_of(Source("crates/low/a.rt", text), {}, set())]
 
-    def test_parts(self) -> None:
-        self.assertEqual(cells_of("| a | | c |"), ["a", "", "c"])
-        self.assertEqual(anchors_of("# A `b`: c-d\n"), ["a-b-c-d"])
+
+# Bodies by the name that is found to be made in them.
+BODIES = {
+    "": (
+        "let x: Result<u8, AllocError> = g();", "let f = |n: u8| -> Result<u8, AllocError> { g(n) };",
+        "let v = Vec::<AllocError>::new();", "match g() { Err(AllocError) => 1, Ok(n) => n }",
+        "if let Err(ListFault::NoMemory) = g() { h() }", "match f { X::NoMemory => Y::NoMemory, _ => h() }",
+        '// AllocError\nsay("AllocError", b"NoMemory", r#"NoMemory"#)', "matches!(f, X::NoMemory) && h()",
+        "match f { A(X::NoMemory) | B::NoMemory => { Err(Fault { kind: C::NoMemory }) } other => other }",
+        "if f.kind == X::NoMemory { Y::NoMemory } else { Y::Text(f) }"),
+    "AllocError": (
+        "return Err(AllocError);", "let f: fn(u8) -> Result<u8, X> = g; Err(AllocError)",
+        "match g() { Ok(n) => Ok(n), Err(_) => Err(AllocError) }", "match f { X::NoMemory => Err(AllocError), _ => 1 }",
+        "let Some(x) = g() else { return Err(AllocError) };"),
+    "AllocFailed": ("Err(AllocFailed { value: x })",),
+    "NoMemory": (
+        "Err(X::NoMemory)", "g().map_err(|_| LineFault::NoMemory)", "match f { X::Other => X::NoMemory, x => x }",
+        "match f { X::Other | X::NoMemory => X::NoMemory, x => x }", "if f == X::NoMemory { g() } else { X::NoMemory }",
+        "match f { x if x == X::NoMemory => X::NoMemory, x => x }", "if kind == X::Other { X::NoMemory } else { g() }",
+        "if kind != X::NoMemory { X::NoMemory } else { g() }",
+        "if h() || kind == X::NoMemory { X::NoMemory } else { g() }")}
+FROM = "{ fn from(_: X) -> X { X::NoMemory } }"
+ITEMS = {
+    "use std::alloc::{AllocError, AllocFailed};\npub type NoMemory = std::alloc::AllocError;": [],
+    "impl<T> From<AllocFailed<T>> for X " + FROM: [],
+    "impl From<a::AllocError> for X " + FROM: ["NoMemory is made in From<a::AllocError> for X"],
+    "use std::alloc::AllocError as Late;": ["AllocError gets another name"],
+    "use crate::fault::X::NoMemory as Late;": ["NoMemory gets another name"],
+    "type Late = std::alloc::AllocError;": ["AllocError gets another name"],
+    "const LATE: X =\n    X::NoMemory;": ["NoMemory is named in a const"],
+    "macro_rules! late { () => { Err(AllocError) } }": ["AllocError is named in a macro_rules"]}
+
+
+class MemoryFaults(unittest.TestCase):
+    def test_bodies_and_items(self) -> None:
+        head = "fn f() -> Result<u8, AllocError> ensures err { e ≡ NoMemory } "
+        for name, body in ((name, body) for name, bodies in BODIES.items() for body in bodies):
+            self.assertEqual(memory_faults_of(f"{head}{{{body}\n}}"), [f"{name} is made in f"] if name else [], body)
+        for text, found in ITEMS.items():
+            self.assertEqual(memory_faults_of(text), found)
 
 
 if __name__ == "__main__":

@@ -3,22 +3,24 @@ from __future__ import annotations
 
 import argparse
 import os
+import shutil
 import signal
 import subprocess
 import sys
 import tempfile
+import time
 import unittest
-from typing import List
 
-HERE = os.path.dirname(os.path.realpath(__file__))
-LIB = os.path.join(HERE, "..", "..", "lib")
+LIB = os.path.realpath(os.path.join(os.path.dirname(os.path.realpath(__file__)), "..", "..", "lib"))
 sys.path.insert(0, LIB)
 
-from measured import MeasuredSession, best_of, first_records
-from random_lines import Unit, is_of_tools, numbers_of, script_of
-from script import Failed
-from session import Session, has_tool, program_at, words_of
-from timed_run import Step, TimedRun, timed
+from crates import Crates  # noqa: E402
+from measured import MeasuredSession, best_of, first_records  # noqa: E402
+from random_lines import Unit, is_of_tools, numbers_of, script_of  # noqa: E402
+from record import with_row  # noqa: E402
+from script import Failed  # noqa: E402
+from session import Session, has_tool, program_at, words_of  # noqa: E402
+from timed_run import Step, TimedRun, timed  # noqa: E402
 
 # Refuses `frob` and `mark`, warns of `warn`, ends at `end`, and prints all other lines.
 PROGRAM = r"""#!/bin/sh
@@ -34,136 +36,90 @@ while read -r line; do
 done
 exit 1
 """
-# Makes a folder, writes its path, and waits.
-WAITING_PYTHON = """
-import sys, tempfile, time
-sys.path.insert(0, %r)
+# Scripts that make a folder, print its path and a process, and wait.
+PYTHON = f"""import os, sys, tempfile, time
+sys.path.insert(0, {LIB!r})
 import script
 def main():
     with tempfile.TemporaryDirectory(prefix="facl-test.") as folder:
-        print(folder, flush=True)
+        print(folder, os.getpid(), flush=True)
         time.sleep(60)
 script.run(main)
 """
-WAITING_SHELL = """
-top=%s
-. "$top/tools/lib/program.sh"
-make_work "${TMPDIR:-/tmp}"
-sleep 60 &
-child=$!
-echo "$work $child"
-wait "$child"
+SHELL = f"""top={LIB}/../..; . "$top/tools/lib/program.sh"; make_work "${{TMPDIR:-/tmp}}"
+sleep 60 & child=$!; echo "$work $child"; wait "$child"
 """
 
 
 class Case(unittest.TestCase):
-    """A test with a program in a folder of its own, without texts."""
-
     def setUp(self) -> None:
-        folder = tempfile.TemporaryDirectory(prefix="facl-lib-test.")
-        self.addCleanup(folder.cleanup)
-        self.folder = folder.name
-        self.program = os.path.join(self.folder, "program")
-        self.write("program", PROGRAM)
+        self.folder = tempfile.mkdtemp(prefix="facl-lib-test.")
+        self.addCleanup(shutil.rmtree, self.folder)
+        self.program = self.write("program", PROGRAM)
         os.chmod(self.program, 0o755)
 
-    def write(self, name: str, text: str) -> None:
+    def write(self, name: str, text: str) -> str:
         with open(os.path.join(self.folder, name), "w", encoding="utf-8") as file:
             file.write(text)
+        return file.name
 
-
-class Sessions(Case):
-    def messages(self, session: Session, *lines: bytes) -> List[bytes]:
-        return list(session.messages(lines))
-
-    def test_messages(self) -> None:
+    def test_sessions(self) -> None:
         with Session(self.program, self.folder) as session:
-            self.assertEqual(self.messages(session), [])
-            self.assertEqual(self.messages(session, b"a\n", b"frob\nb\n", b"warn\n"), [
-                b"line 3: facl: unknown tool\n", b"line 5: chmod: warning: odd\n"])
-            self.assertEqual(self.messages(session, b"frob\n"), [b"line 7: facl: unknown tool\n"])
+            self.assertEqual(list(session.messages([b"a\n", b"frob\nb\n", b"warn\n"])), [
+                b"line 2: facl: unknown tool\n", b"line 4: chmod: warning: odd\n"])
+            self.assertEqual(list(session.messages([b"frob\n"])), [b"line 6: facl: unknown tool\n"])
             self.assertGreater(session.most_memory(), 0)
             self.assertEqual(session.end(), 1)
-
-    def test_program_that_ends(self) -> None:
-        with Session(self.program, self.folder) as session:
-            with self.assertRaisesRegex(Failed, "ended with status 3"):
-                self.messages(session, b"end\n")
-
-    def test_session_that_is_left(self) -> None:
+        with Session(self.program, self.folder) as session, self.assertRaisesRegex(Failed, "ended with status 3"):
+            list(session.messages([b"end\n"]))
         with self.assertRaises(KeyError), Session(self.program, self.folder) as session:
             raise KeyError
         self.assertEqual(session.run.poll(), -signal.SIGKILL)
 
-    def test_words(self) -> None:
+    def test_words_and_tools(self) -> None:
         self.assertEqual(words_of(self.program, self.folder), [self.program])
-        self.write("dump", "")
-        self.assertEqual(words_of("facl", self.folder), ["facl", "--dump", os.path.join(self.folder, "dump")])
+        dump = self.write("dump", "# file: a\nu::7\n\n# file: b\nu::6\n")
+        self.assertEqual(words_of("facl", self.folder), ["facl", "--dump", dump])
+        self.assertEqual(first_records(self.folder, 1), ["# file: a", "u::7", ""])
         self.assertEqual(program_at(self.program), os.path.realpath(self.program))
-        for word in (self.folder, os.path.join(self.folder, "dump"), os.path.join(self.folder, "absent")):
-            with self.assertRaises(argparse.ArgumentTypeError):
-                program_at(word)
-
-    def test_tools(self) -> None:
+        for word in (self.folder, dump, self.folder + "/absent"):
+            self.assertRaises(argparse.ArgumentTypeError, program_at, word)
         self.assertEqual([has_tool(self.program, tool) for tool in ("chmod", "frob")], [True, False])
 
-
-class Measures(Case):
-    def test_steps(self) -> None:
-        steps = [Step("one", [b"a\nfrob\n"], [(2, b"facl: unknown tool")]), Step("two", [b"warn\n"], [(1, b"chmod: warning: odd")])]
+    def test_measures(self) -> None:
+        steps = [Step("one", [b"a\nfrob\n"], [(2, b"facl: unknown tool")]), Step("two", [b"a\n"])]
         times, memory = timed(self.program, self.folder, steps)
-        self.assertEqual([name for name, _, _ in times], ["load", "one", "two"])
-        self.assertGreater(memory, 0)
-
-    def test_steps_with_other_messages(self) -> None:
+        self.assertEqual(([name for name, _, _ in times], memory > 0), (["load", "one", "two"], True))
         for step, fault in ((Step("x", [b"frob\n"]), "x: it printed b'line 1: facl: unknown tool"),
                             (Step("x", [b"a\n"], [(1, b"text")]), "x: it did not print b'text'"),
                             (Step("x", [b"frob\n"], [(1, b"text")]), "in place of b'text'")):
             with self.assertRaisesRegex(Failed, fault), TimedRun(self.program, self.folder) as run:
                 run.answer(step)
-
-    def test_measured_session(self) -> None:
         with MeasuredSession(self.program, self.folder) as session:
-            self.assertGreaterEqual(session.load, 0)
-            self.assertGreaterEqual(session.answer(["a", "b"]), 0)
-            with self.assertRaisesRegex(Failed, "^line 5: facl: unknown tool$"):
-                session.answer(["frob"])
-
-    def test_figures(self) -> None:
-        self.write("dump", "# file: a\nu::7\n\n# file: b\nu::6\n")
-        self.assertEqual(first_records(self.folder, 1), ["# file: a", "u::7", ""])
+            self.assertGreaterEqual(min(session.load, session.answer(["a", "b"])), 0)
+            self.assertRaisesRegex(Failed, "^line 5: facl: unknown tool$", session.answer, ["frob"])
         self.assertEqual(best_of([{"a": 2, "b": 1}, {"a": 1, "b": 3}]), {"a": 1, "b": 1})
 
-
-class Units(unittest.TestCase):
-    def test_units(self) -> None:
+    def test_units_crates_and_rows(self) -> None:
         units = [Unit(b"load dump", [b"x", b"y"]), Unit(b"", None), Unit(b" chmod 7 f", []), Unit(b"rm f", None)]
         self.assertEqual(script_of(units), b"load dump\nx\ny\n.\n\n chmod 7 f\n.\nrm f\n")
         self.assertEqual(numbers_of(units), [1, 5, 6, 8])
         self.assertEqual([is_of_tools(unit, (b"chmod", b"rm")) for unit in units], [False, False, True, True])
+        self.assertEqual(Crates(self.write("rows", "# a\na: x\nb: a  # c\nc: b y\n")).needed("b"), {"a", "b"})
+        page = ["| A | B |", "|---|---|", "| a | 1 |", "", "end"]
+        self.assertEqual(with_row(page, ["a", "2|3"]), [*page[:2], "| a | 2\\|3 |", *page[3:]])
+        self.assertEqual(with_row(page, ["a --b", "2"]), [*page[:3], "| a --b | 2 |", *page[3:]])
 
-
-class Interruptions(unittest.TestCase):
-    def test_script(self) -> None:
-        with subprocess.Popen([sys.executable, "-B", "-c", WAITING_PYTHON % LIB], stdout=subprocess.PIPE, text=True) as run:
-            assert run.stdout
-            folder = run.stdout.readline().rstrip("\n")
-            self.assertTrue(os.path.isdir(folder))
-            run.terminate()
-            self.assertEqual(run.wait(), 128 + signal.SIGTERM)
-        self.assertFalse(os.path.exists(folder))
-
-    def test_shell_script(self) -> None:
-        top = os.path.realpath(os.path.join(LIB, "..", ".."))
-        with subprocess.Popen(["sh", "-c", WAITING_SHELL % top], stdout=subprocess.PIPE, text=True) as run:
-            assert run.stdout
-            folder, child = run.stdout.readline().split()
-            self.assertTrue(os.path.isdir(folder))
-            run.terminate()
-            self.assertEqual(run.wait(), 128 + signal.SIGTERM)
-        self.assertFalse(os.path.exists(folder))
-        with self.assertRaises(ProcessLookupError):
-            os.kill(int(child), 0)
+    def test_interrupted_scripts(self) -> None:
+        for words in ([sys.executable, "-B", "-c", PYTHON], ["sh", "-c", SHELL]):
+            with subprocess.Popen(words, stdout=subprocess.PIPE, stderr=subprocess.DEVNULL, text=True) as run:
+                folder, process = next(iter(run.stdout or ())).split()
+                self.assertTrue(os.path.isdir(folder))
+                time.sleep(0.1)  # until it waits
+                run.terminate()
+                self.assertEqual(run.wait(), 128 + signal.SIGTERM)
+            self.assertFalse(os.path.exists(folder))
+            self.assertRaises(ProcessLookupError, os.kill, int(process), 0)
 
 
 if __name__ == "__main__":
