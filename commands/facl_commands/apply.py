@@ -178,18 +178,14 @@ def by_hand(way: Way) -> List[bytes]:
     return [b"still to be done by hand: sh " + shell_word(way.file(name))] if is_there else []
 
 
-def tell_all(command: Command, lines: List[bytes]) -> None:
-    for line in lines:
-        command.tell(line)
-
-
 def body(command: Command, words: List[str]) -> int:
     given = parse(words)
     live.check_proc()
     way = read_way(plan_folder.open_plan(os.fsencode(given.plan)), given.undo)
     rest = by_hand(way)
     if nothing_to_do(command, way):
-        tell_all(command, rest if not way.is_undo else [])
+        for line in rest if not way.is_undo else []:
+            command.tell(line)
         return NOTHING
     warn_of_host(command, way)
     look = look_at(way, way.work.files)
@@ -213,5 +209,6 @@ def body(command: Command, words: List[str]) -> int:
             command.tell(b"would change " + live_name(path) + b": " + differences.parts(way.start(path), way.end(path)))
         return DONE
     status = carry_out(command, way, Carrier(way, look), not changed)
-    tell_all(command, rest if status == DONE else [])
+    for line in rest if status == DONE else []:
+        command.tell(line)
     return status

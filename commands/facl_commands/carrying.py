@@ -1,6 +1,7 @@
 """Carries a plan out: each file gets its new record, or all that were changed get their old ones back."""
 from __future__ import annotations
 
+import functools
 import os
 import signal
 from typing import Callable, Dict, Iterable, List, Optional, Set, Tuple
@@ -106,8 +107,7 @@ class Carrier:
         helpers: List[Helper] = []
         try:
             for part in others:
-                helpers.append(Helper(lambda part=part: self.give_apart(part),
-                                      keeps_signals=True))  # type: ignore[misc]
+                helpers.append(Helper(functools.partial(self.give_apart, part), keeps_signals=True))
             left = self.give_part(first)
             for helper, part in zip(helpers, others):
                 left.update(self.given_by(helper, part))

@@ -5,7 +5,7 @@ import re
 from typing import Callable, Iterator, List, Optional, Set
 
 from . import causes
-from .answering import NO_FILE, is_refused
+from .answering import is_refused
 from .completion import Completer
 from .manual import Page
 from .messages import Failure

@@ -11,7 +11,7 @@ from .owners import ESCAPED_IN_NAMES, OWNER
 from .people import Group, People, User
 from .program import Session
 from .records import Files
-from .rights import NOTHING, SEARCH, Answers, directory_of, lanes, places_in
+from .rights import NOTHING, SEARCH, Answers, directories_to_find, directory_of, lanes, places_in
 
 NAMED = re.compile(rb"^(user|group):([0-9]+):(...)$", re.MULTILINE)
 MASK, OWNING_GROUP = re.compile(rb"^mask::(...)$", re.MULTILINE), re.compile(rb"^group::(...)$", re.MULTILINE)
@@ -82,20 +82,13 @@ class Closed:
 
     def add(self, directory: bytes) -> Optional[bytes]:
         """Adds the directories above a file, and returns the highest that is closed."""
-        wanted = []
-        known = directory
-        while known not in self.highest:
-            wanted.append(known)
-            known = directory_of(known[:-1])
-        highest = self.highest[known]
-        for it in reversed(wanted):
-            path = it[:-1]
+        for it in directories_to_find(directory, self.highest):
+            path, highest = it[:-1], self.highest[directory_of(it[:-1])]
             if self.is_closed(path):
-                if highest is None:
-                    highest = path
+                highest = path if highest is None else highest
                 self.closed.setdefault(highest, set()).add(path)
             self.highest[it] = highest
-        return highest
+        return self.highest[directory]
 
 
 def named_ids(old: bytes, new: bytes) -> Tuple[FrozenSet[int], FrozenSet[int]]:

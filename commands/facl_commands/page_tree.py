@@ -5,7 +5,7 @@ order, so that the files which its next file can be in are the last one and thos
 """
 from __future__ import annotations
 
-from typing import Dict, Iterable, Iterator, List, NamedTuple, Set, Tuple
+from typing import Dict, Generic, Hashable, Iterable, Iterator, List, NamedTuple, Set, Tuple, TypeVar
 
 from .names import read_name, sorting_key
 from .program import Region
@@ -13,6 +13,9 @@ from .program import Region
 ABOVE = -1  # What no recorded directory is above.
 GONE = -1  # The label of a file that is not there.
 HEAD = b"# file: "
+
+
+Value = TypeVar("Value", bound=Hashable)
 
 
 class Record(NamedTuple):
@@ -32,17 +35,25 @@ def records_of(listing: Region) -> Iterator[Record]:
         yield Record(path, path == b"" or name.endswith(b"/") or b"\ndefault:" in body, body + b"\n")
 
 
-class Labels:
-    """Owner, group, flags and lists that files share, each with a number."""
+class Table(Generic[Value]):
+    """Values that many files share, each with a number."""
 
     def __init__(self) -> None:
-        self.numbers: Dict[bytes, int] = {}
+        self.numbers: Dict[Value, int] = {}
+        self.values: List[Value] = []  # By number.
 
-    def number(self, body: bytes) -> int:
-        return self.numbers.setdefault(body, len(self.numbers))
+    def number(self, value: Value) -> int:
+        found = self.numbers.setdefault(value, len(self.values))
+        if found == len(self.values):
+            self.values.append(value)
+        return found
+
+
+class Labels(Table[bytes]):
+    """Owner, group, flags and lists of files."""
 
     def bodies(self) -> List[bytes]:
-        return list(self.numbers)
+        return self.values
 
 
 class Listing(NamedTuple):

@@ -12,7 +12,7 @@ import json
 import os
 import re
 from collections import Counter
-from typing import Dict, Generic, Hashable, Iterable, Iterator, List, NamedTuple, Optional, Set, Tuple, TypeVar
+from typing import Dict, Iterable, Iterator, List, NamedTuple, Optional, Set, Tuple
 
 from . import meta, overview, plan, texts
 from .label_answers import Answers, People, ask_labels
@@ -20,7 +20,7 @@ from .messages import Command, Failure, counted, parser_of
 from .names import shown as shown_bytes
 from .names import write_name
 from .new_file import NewFile
-from .page_tree import ABOVE, GONE, Labels, Listing, Record, Tree, records_of
+from .page_tree import ABOVE, GONE, Labels, Listing, Record, Table, Tree, records_of
 from .people import rows_of
 from .program import Session, find_program
 from .records import File, Files
@@ -125,23 +125,6 @@ class Probes:
             b"useradd -u %d -g %s -- %s\n" % (next(ids), row[2], who.user)
             for who, (_, _, row) in zip(self.whos, wanted)
         )
-
-
-Value = TypeVar("Value", bound=Hashable)
-
-
-class Table(Generic[Value]):
-    """Values that many files share, each with a number."""
-
-    def __init__(self) -> None:
-        self.numbers: Dict[Value, int] = {}
-        self.values: List[Value] = []  # By number.
-
-    def number(self, value: Value) -> int:
-        found = self.numbers.setdefault(value, len(self.values))
-        if found == len(self.values):
-            self.values.append(value)
-        return found
 
 
 class Tables:

@@ -8,7 +8,7 @@ from __future__ import annotations
 
 import re
 import struct
-from typing import Collection, Dict, Iterator, List, NamedTuple, Optional, Set, Tuple
+from typing import Collection, Container, Dict, Iterator, List, NamedTuple, Optional, Set, Tuple
 
 from .messages import Failure
 from .program import Region, Session
@@ -150,7 +150,7 @@ def reached_of(vectors: Dict[bytes, Vector], users: int) -> Dict[bytes, bytes]:
     return found
 
 
-def directories_to_find(directory: bytes, found: Dict[bytes, bytes]) -> List[bytes]:
+def directories_to_find(directory: bytes, found: Container[bytes]) -> List[bytes]:
     """The directory and those above it that are not found yet, the highest first."""
     wanted = []
     while directory not in found:
