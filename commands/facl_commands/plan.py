@@ -7,7 +7,7 @@ import os
 import re
 from typing import Dict, List, Union
 
-from . import by_hand, meta, no_gain, overview, owners, people, plan_folder, planned, rights, texts
+from . import meta, no_gain, overview, owners, people, plan_folder, planned, rights, texts
 from .answering import WARNING, answer_unit, is_refused
 from .links import Links
 from .messages import Command, Failure, counted, parser_of
@@ -192,18 +192,31 @@ def say_unknown(command: Command, source: texts.Source) -> bool:
     return is_whole
 
 
+def commands_by_hand(outcome: Outcome, changes: Changes) -> List[bytes]:
+    if not outcome.commands and not changes.made and not changes.removed:
+        return []
+    from .by_hand import commands_of  # Few plans need it.
+
+    return commands_of(outcome.commands, changes, outcome.old, outcome.new)
+
+
 def plan_files(
     program: str, snapshot: Snapshot, scripts: List[Script], outcome: Outcome, changes: Changes
 ) -> Dict[bytes, bytes]:
-    of_people = outcome.commands, changes, outcome.old, outcome.new, snapshot.inodes
+    by_hand = by_hand_undo = b""
+    if outcome.commands or changes.made or changes.removed:
+        from .by_hand import script_of, undo_script_of
+
+        things = outcome.commands, changes, outcome.old, outcome.new, snapshot.inodes
+        by_hand, by_hand_undo = script_of(*things), undo_script_of(*things)
     comments = [line + b"\n" for left in outcome.left for line in owners.comments(left)]
     return {
         b"edits": b"".join(text + b"\n" * (text[-1:] not in (b"", b"\n")) for _, text in scripts),
         b"old": write_records(outcome.old, changes.changed),
         b"new": write_records(outcome.new, changes.changed),
         b"files": planned.work_text(program, snapshot, changes, outcome.old, outcome.new),
-        b"by_hand": by_hand.script_of(*of_people) + b"".join(comments),
-        b"by_hand_undo": by_hand.undo_script_of(*of_people),
+        b"by_hand": by_hand + b"".join(comments),
+        b"by_hand_undo": by_hand_undo,
         meta.NAME: meta.text_of(snapshot.folder),
     }
 
@@ -224,8 +237,7 @@ def plan_over(command: Command, given: argparse.Namespace, source: texts.Source)
     is_whole = say_unknown(command, source)
     outcome = answer_scripts(given, snapshot, units, is_whole)
     changes = compare(outcome.old, outcome.new)
-    commands = by_hand.commands_of(outcome.commands, changes if is_whole else Changes([], [], []), outcome.old,
-                                   outcome.new)
+    commands = commands_by_hand(outcome, changes if is_whole else Changes([], [], []))
     say_messages(command, outcome, scripts)
     if not given.json:
         command.write(answers_text(outcome.asked))

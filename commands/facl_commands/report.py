@@ -12,9 +12,9 @@ import json
 import os
 import re
 from collections import Counter
-from typing import Dict, Iterable, Iterator, List, NamedTuple, Optional, Set, Tuple
+from typing import TYPE_CHECKING, Dict, Iterable, Iterator, List, NamedTuple, Optional, Set, Tuple
 
-from . import meta, overview, plan, texts
+from . import meta, overview, texts
 from .label_answers import Answers, People, ask_labels
 from .messages import Command, Failure, counted, parser_of
 from .names import shown as shown_bytes
@@ -29,6 +29,9 @@ from .snapshot import Snapshot, read_snapshot
 from .superuser import Superusers, ids_in
 from .texts import Source
 from .tools import CHANGES_OF_PEOPLE
+
+if TYPE_CHECKING:
+    from .plan import Run
 
 HERE = os.path.dirname(os.path.realpath(__file__))
 WRITTEN, REFUSED = 0, 1
@@ -283,7 +286,7 @@ def keep(records: Iterator[Record], wanted: List[List[bytes]], kept: Files) -> I
         yield record
 
 
-def answer_scripts(command: Command, run: plan.Run, units: List[Unit]) -> int:
+def answer_scripts(command: Command, run: Run, units: List[Unit]) -> int:
     """Answers the scripts, and returns how many lines were refused."""
     run.answer_all(units)
     for message in run.messages:
@@ -334,7 +337,9 @@ def page_over(command: Command, given: argparse.Namespace, source: Source) -> Op
         if not tree.names:
             raise Failure(source.shown + b": has no files: make a snapshot by facl-snapshot")
         if given.scripts:
-            refusals = answer_scripts(command, plan.Run(session, snapshot, linked), units)
+            from .plan import Run  # A page of one state needs none.
+
+            refusals = answer_scripts(command, Run(session, snapshot, linked), units)
             if refusals:
                 command.say(counted(refusals, "line was", "lines were") + b" refused, so no page is written")
                 return None
