@@ -1,0 +1,928 @@
+#!/usr/bin/env python3
+"""Runs the program at its limits, where everything is large, and on hostile shapes at two sizes.
+
+usage: tools/check/sizes.py PROGRAM [--limits] [--large] [--shapes [--full] [--runs N]] [--record] [WORD..]
+
+All three, or those that are given; with words, only what has one of them in its name. What is expected is composed here,
+from the rules of docs/SPECIFICATION.md.
+
+--limits: each limit at its last value, and one above; all that the program prints is compared. It needs 700 MB of memory
+and as much in the temporary folder.
+
+--large: 20,000 files with lists of up to 4,096 entries and few users, or 30,000 users and few files; 30,000 groups, names
+of 200 bytes, paths of 4,000 components, lines of 65,536 bytes and thousands of words, texts of 10 MB. The messages are
+compared, so `no memory` is a failure. Times and the most memory are printed; it takes 12 seconds, and 500 MB.
+
+--shapes: texts that the program loads, and steps of lines, over so many files, users, lines or bytes. The time of a step
+is to be at most 6 times that at a quarter of the size: as long as it grows by the size, or by the size and a logarithm,
+with room for noise and for memory that is out of the caches. Time is processor time of the program, the best of N runs
+(2), and of as many again where it grows by more; a step of less than 50 ms is not compared. Where each line of a step looks
+at everything, as a userdel, the number of lines stays, so what is compared is the time of a line. Where the paths of a shape
+contain one another, the texts grow by the square, and the size is compared with its half. The messages are compared too.
+--full takes the sizes of the limits, some 3 GB and a quarter of an hour; without it all shapes run in some two minutes.
+
+The exit status is 1 where something is not as expected, 2 where the words are others.
+"""
+from __future__ import annotations
+
+import argparse
+import contextlib
+import itertools
+import os
+import random
+import subprocess
+import sys
+import tempfile
+import time
+from functools import partial
+from typing import Callable, Dict, Iterable, Iterator, List, Mapping, NamedTuple, Optional, Sequence, Tuple, Union
+
+sys.dont_write_bytecode = True
+sys.path.insert(0, os.path.join(os.path.dirname(os.path.realpath(__file__)), "..", "lib"))
+from script import Failed, run  # noqa: E402
+from session import Expect, conclude, options_of, shown, timed, words_of, write_text  # noqa: E402
+from texts import ROOT_AND_FILE  # noqa: E402
+
+ENTRIES = 4096
+TEXT_ENTRIES = 16_384
+ROWS = 65_536
+FILES = 1_048_576
+LINE = 65_536
+SCRIPT = 67_108_864
+FILE = 268_435_456
+ID = 4_294_967_294
+MOST = 6.0
+FOLDER = "user::rwx\ngroup::r-x\nother::r-x\n"
+PLAIN = "user::rw-\ngroup::r--\nother::---\n"
+# A line with its text, perhaps with the message that it has to have.
+Unit = Union[str, Tuple[str, str]]
+Messages = Mapping[int, str]
+# Texts by the words for them; a number is a comment of so many bytes.
+Files = Dict[str, Union[str, int]]
+
+
+def encoded(texts: Iterable[str]) -> Iterator[bytes]:
+    return (text.encode("latin-1") for text in texts)
+
+
+def lines(them: Iterable[str]) -> str:
+    return "".join(f"{line}\n" for line in them)
+
+
+def record(path: str, entries: str = PLAIN, owner: str = "u1", group: str = "g1") -> str:
+    return f"# file: {path}\n# owner: {owner}\n# group: {group}\n{entries}"
+
+
+def attribute(count: int, first: int = 100_000) -> str:
+    """The hex digits of a list of so many entries, its users from this one on."""
+    users = "".join(f"02000400{(first + k).to_bytes(4, 'little').hex()}" for k in range(count - 4))
+    return f"0200000001000700ffffffff{users}04000400ffffffff10000400ffffffff20000000ffffffff"
+
+
+def padded(line: str, length: int = LINE, words: str = " ") -> str:
+    """A line of so many bytes at most, ended by as many of these words as fit."""
+    return line + words * ((length - len(line)) // len(words))
+
+
+def step(name: str, units: Iterable[Unit]) -> Expect:
+    """Lines with their texts one after another, some of which are refused, with a message."""
+    texts, messages, number = [], [], 1
+    for unit in units:
+        text, message = (unit, None) if isinstance(unit, str) else unit
+        messages += [(number, message.encode())] if message is not None else []
+        texts.append(text + "\n")
+        number += texts[-1].count("\n")
+    return Expect(name, ["".join(texts).encode("latin-1")], messages)
+
+
+# Limits.
+
+PEOPLE: Files = {
+    "passwd": "lisa:x:1001:50:Lisa:/home/lisa:/bin/sh\njoe:x:1000:100:Joe:/home/joe:/bin/sh\n",
+    "group": "staff:x:50:\nadm:x:70:\n",
+}
+DUMP = ROOT_AND_FILE.decode()
+WORLD: Files = {**PEOPLE, "dump": DUMP}
+LISTED = "f [u::rw-,g::r--,o::---]\n"
+# Users from here on have no row.
+FIRST = 10_000
+
+
+class Run(Expect):
+    """A run of its own, with its texts, whose output is compared too. The message of line 0 is that of an early end."""
+
+    def __init__(self, script: str, out: str = "", messages: Messages = {}, files: Files = WORLD) -> None:
+        pairs = [(number, text.encode()) for number, text in messages.items()]
+        super().__init__(script.partition("\n")[0][:60], encoded([script]), pairs)
+        self.out, self.files = out.encode(), files
+
+    def words(self, program: str, folder: str) -> List[str]:
+        """The program with the texts, which are written into a folder."""
+        for name, text in self.files.items():
+            write_text(folder, name, encoded(["#" if isinstance(text, int) else text]))
+            if isinstance(text, int):
+                os.truncate(os.path.join(folder, name), text)
+        return words_of(program, folder)
+
+    def fault(self, program: str, folder: str) -> Optional[str]:
+        """What differs; None where nothing does."""
+        done = subprocess.run(self.words(program, folder), input=b"".join(self.lines), capture_output=True, check=False)
+        ends = [text.replace(b"FOLDER", folder.encode()) for number, text in self.messages if number == 0]
+        err = b"".join(b"line %d: %s\n" % it for it in self.messages if it[0]) + b"".join(b"facl: %s\n" % it for it in ends)
+        found = (done.stdout, done.stderr, done.returncode)
+        wanted = (self.out, err, 2 if ends else 1 if err else 0)
+        if found == wanted:
+            return None
+        pairs = [(shown(out), shown(said), end) for out, said, end in (found, wanted)]
+        return f"{self.name}: found {pairs[0]}, wanted {pairs[1]}"
+
+
+def base(count: int, prefix: str = "") -> List[str]:
+    """A list of so many entries: the base entries, a mask, and users by number."""
+    named = (f"user:{FIRST + user}:r--" for user in range(count - 4))
+    return [prefix + it for it in ["user::rwx", *named, "group::r--", "mask::r--", "other::---"]]
+
+
+def listed(path: str, entries: List[str]) -> str:
+    return record(path, lines(entries), "lisa", "staff")
+
+
+def lists_of_dumps() -> Iterator[Run]:
+    for which, before, prefix in (("access", base(4)[:0], ""), ("default", base(4), "default:")):
+        last, above = (listed("a/", [*before, *base(count, prefix)]) for count in (ENTRIES, ENTRIES + 1))
+        out, fault = lines([*before, *base(ENTRIES, prefix), ""]), f"text line 1: {which} list: too many entries"
+        yield Run("getfacl -c a\n", out, files={**PEOPLE, "dump": last})
+        yield Run("", messages={0: f"setup: dump: {fault}"}, files={**PEOPLE, "dump": above})
+        yield Run(f"load dump\n{last}.\ngetfacl -c a\n", out, files=PEOPLE)
+        yield Run(f"load dump\n{above}.\n", messages={1: f"load: {fault}"}, files=PEOPLE)
+    last, above = (f"setfacl --restore=-\n{listed('f', base(count))}.\n" for count in (ENTRIES, ENTRIES + 1))
+    yield Run(last + "getfacl -c f\n", lines([*base(ENTRIES), ""]))
+    yield Run(above + "chacl -l f\n", LISTED, {1: "setfacl: text line 1: access list: too many entries"})
+    yield Run(last + "attr f\n", f"# file: f\nsystem.posix_acl_access=0x{attribute(ENTRIES, FIRST)}\n\n")
+
+
+def lists_of_lines() -> Iterator[Run]:
+    users, more_users = (",".join(f"{FIRST + user}:4" for user in range(count)) for count in (ENTRIES - 4, ENTRIES - 3))
+    most, more = (f"u::7,g::4,m:4,o:0,{them}" for them in (users, more_users))
+    out, grown = (lines([owner, *base(ENTRIES)[1:], ""]) for owner in ("user::rwx", "user::rw-"))
+    access, default = (f"{which} list: too many entries" for which in ("access", "default"))
+    yield Run(f"chacl {most} f\ngetfacl -c f\n", out)
+    yield Run(f"chacl {more} f\n", messages={1: f"chacl: {access}"})
+    yield Run(f"chacl -d {most} .\ngetfacl -c .\n", FOLDER + lines([*base(ENTRIES, "default:"), ""]))
+    yield Run(f"chacl -d {more} .\n", messages={1: f"chacl: {default}"})
+    yield Run(f"chacl -b u::7,g::4,o:0 {more} .\n", messages={1: f"chacl: {default}"})
+    yield Run(f"setfacl --set {most} f\ngetfacl -c f\n", out)
+    yield Run(f"setfacl --set {more} f\n", messages={1: f"setfacl: f: {access}"})
+    yield Run(f"setfacl -m {users} f\ngetfacl -c f\n", grown)
+    yield Run(f"setfacl -m {more_users} f\nchacl -l f\n", LISTED, {1: f"setfacl: f: {access}"})
+    yield Run(f"setfacl -m {users} f\nsetfacl -m 9999:4 f\ngetfacl -c f\n", grown, {2: f"setfacl: f: {access}"})
+    yield Run(f"setfacl -d -m {more_users} .\n", messages={1: f"setfacl: .: {default}"})
+
+
+def entries_of_texts() -> Iterator[Run]:
+    read, fault = "f [u::rw-,g::r--,o::r--]\n", "setfacl: entry 16385: too many"
+    empty = "\n \t\n# x\n"
+    for word, entry, out in (("-M", "o:r", read), ("-X", "u:joe", LISTED)):
+        line, most = f"setfacl {word} - f\n", f"{entry}\n" * TEXT_ENTRIES
+        yield Run(f"{line}{most}.\nchacl -l f\n", out)
+        yield Run(f"{line}{most}{entry}\n.\nchacl -l f\n", LISTED, {1: fault})
+        yield Run(f"{line}{empty}{most}{empty}.\nchacl -l f\n", out)
+        yield Run(f"{line}{empty}{most}{entry}\n.\n", messages={1: "setfacl: entry 16388: too many"})
+        yield Run(f"{line}{most}u:joe:q:\n.\n", messages={1: "setfacl: entry 16385: bad tag"})
+    line, more = "setfacl --set-file=- f\nu::rw\ng::r\no:r\n", "o:r\n" * (TEXT_ENTRIES - 3)
+    yield Run(f"{line}{more}.\nchacl -l f\n", read)
+    yield Run(f"{line}{more}o:r\n.\n", messages={1: fault})
+    word, longer = (",".join(["o:"] * count) for count in (TEXT_ENTRIES, TEXT_ENTRIES + 1))
+    yield Run(f"setfacl -m {word} f\nchacl -l f\n", LISTED)
+    yield Run(f"setfacl -m {longer} f\n", messages={1: fault})
+    yield Run(f"chacl {word} f\n", messages={1: "chacl: access list: too many entries"})
+    yield Run(f"chacl {longer} f\n", messages={1: "chacl: entry 16385: too many"})
+    yield Run(f"chacl -b u::,g::,o: {longer} .\n", messages={1: "chacl: default entry 16385: too many"})
+
+
+def files_of_the_tree() -> Iterator[Run]:
+    names = [f"{k:x}" for k in range(FILES)]
+    root = "#file:.\n#owner:0\n#group:0\nu::7\ng::5\no:5\n"
+    more = root + "".join(f"#file:{name}\n#owner:0\n#group:0\nu::6\ng::4\no:\n" for name in names)
+    most, full = more[: more.rindex("#file:")], "too many files"
+    files: Files = {**PEOPLE, "dump": most}
+    order = [".", *sorted(names[:-1])]
+    yield Run("creat --user=lisa --mode=600 new\nchacl -l 0 ffffe\ncreat -d --user=lisa --mode=700 new\nrm ffffe\n"
+              "creat --user=lisa --mode=600 new\nchacl -l new\ncreat --user=lisa --mode=600 newer\n",
+              "0 [u::rw-,g::r--,o::---]\nffffe [u::rw-,g::r--,o::---]\nnew [u::rw-,g::---,o::---]\n",
+              {1: f"creat: {full}", 3: f"creat: {full}", 7: f"creat: {full}"}, files)
+    yield Run("", messages={0: f"setup: dump: {full}"}, files={**PEOPLE, "dump": more})
+    yield Run("may joe 0\nmay --reach joe r\nwho x .\ncan joe ffffe\n", lines([*order, ".", "lisa", "joe", "none"]), files=files)
+    changed = [f"{user} gains --x,-w-,-wx,r--,r-x,rw-,rwx ffffe" for user in ("lisa", "joe")]
+    yield Run("changes\nchmod 777 ffffe\nchanges\nwhy joe ffffe\n",
+              lines([*changed, "# file: ffffe", "other::rwx", ""]), files=files)
+    index = (f"{33 if path == '.' else '01'} {user} {path}" for path in order for user in ("lisa", "joe"))
+    yield Run("index\n", lines(index), files=files)
+    yield Run(f"load dump\n{most}.\nchacl -l ffffe\n", "ffffe [u::rw-,g::r--,o::---]\n", files=PEOPLE)
+    fault = {1: f"load: {full}", more.count("\n") + 3: "getfacl: .: no such file"}
+    yield Run(f"load dump\n{more}.\ngetfacl .\n", messages=fault, files=PEOPLE)
+
+
+def rows_of_people() -> Iterator[Run]:
+    users, groups = ("".join(form % (k, k) for k in range(ROWS)) for form in ("u%d:x:%d:50:::\n", "g%d:x:%d:\n"))
+    fault, bad = "text line 65537: too many", "text line 65537: bad row"
+    for which, rows, again, new in (("passwd", users, "u0:x:70000:50:::\n", "z:x:1:1:::\n"), ("group", groups, "g0:x:70000:\n", "z:x:1:\n")):
+        for extra in ("", again):
+            yield Run("", files={which: rows + extra})
+        for extra, wrong in ((new, fault), ("z\n", bad)):
+            yield Run("", messages={0: f"setup: {which}: {wrong}"}, files={which: rows + extra})
+        yield Run(f"load {which}\n{rows}{again}.\n", files={})
+        yield Run(f"load {which}\n{rows}{new}.\n", messages={1: f"load: {fault}"}, files={})
+    script = "useradd -u 70000 -g staff one\nuseradd -u 70001 -g staff two\ncan 70001 f\ncan one f\n"
+    script += "userdel u7\nuseradd -u 7 -g staff two\nuseradd -u 70002 -g staff three\ncan two f\n"
+    full = {2: "useradd: too many users", 3: "can: 70001: no such user", 7: "useradd: too many users"}
+    files: Files = {**PEOPLE, "passwd": users[: users.rindex("u")], "dump": DUMP.replace("lisa", "1")}
+    yield Run(script, "r--\nr--\n", full, files)
+    names, last, files = [f"u{k}" for k in range(ROWS)], f"u{ROWS - 1}", {**files, "passwd": users}
+    yield Run(f"who r f\nwho w f\nwho --reach 0 f\ncan {last} f\nmay {last} r\n", lines([*names, "u1", *names, "r--", ".", "f"]), files=files)
+    lost = [f"{name} loses r-- f" for name in names if name != "u1"]
+    yield Run(f"chmod 600 f\nchanges\nwhy {last} f\n", lines([*lost, "# file: f", "group::---", ""]), files=files)
+    # `r-x` grants the requests 0, 1, 4 and 5; `r--` 0 and 4.
+    granted = ((".", "33", "ff"), ("f", "11", "55"))
+    yield Run("index\n", lines(f"{own if name == 'u1' else usual} {name} {path}" for path, usual, own in granted for name in names), files=files)
+
+
+def lengths_of_lines() -> Iterator[Run]:
+    fault, text_fault = {1: "facl: line too long"}, {1: "facl: text line too long"}
+    for line, out in (("# x", ""), ("", ""), ("chacl -l f", LISTED)):
+        for end in ("\n", ""):
+            yield Run(padded(line) + end, out)
+            yield Run(padded(line, LINE + 1) + end, messages=fault)
+    yield Run(padded("load dump", LINE + 1) + "\nchacl -l f\n.\n", LISTED, {**fault, 3: "facl: unknown tool"})
+    comment, line = padded("#"), "setfacl -M - f\n"
+    yield Run(f"{line}{comment}\no:r\n.\nchacl -l f\n", LISTED.replace("o::---", "o::r--"))
+    yield Run(f"{line}{comment} \no:r\n.\nchacl -l f\n", LISTED, text_fault)
+    yield Run(f"{line}{comment} ", messages={1: "facl: text without end"})
+    yield Run(f"{line}{comment * 100}\n.\nchacl -l f\n", LISTED, text_fault)
+    yield Run(f"{line}. \n.\n", messages={1: "setfacl: entry 1: permissions missing"})
+
+
+def lengths_of_scripts() -> Iterator[Run]:
+    last, line, fault = "chacl -l f\n", "setfacl -M - f\n", {0: "script too long"}
+    whole = ("#" * 63 + "\n") * (SCRIPT // 64)
+    script = whole[: SCRIPT - len(last) - 1] + "\n" + last
+    text = line + whole[: SCRIPT - len(line) - 3] + "\n.\n"
+    assert len(script) == len(text) == SCRIPT
+    yield Run(script, LISTED)
+    yield Run(script[:-1] + " ", LISTED)
+    yield Run(script + "\n", LISTED, fault)
+    yield Run("#" + script, messages=fault)
+    yield Run(text)
+    yield Run(text[:-2], messages={1: "facl: text without end"})
+    yield Run("\n" + text, messages=fault)
+
+
+class EndlessRun(Run):
+    """A run whose input has no end: it has to end by itself, whatever it reports."""
+
+    def fault(self, program: str, folder: str) -> Optional[str]:
+        chunk, given, words = b"".join(self.lines), 0, self.words(program, folder)
+        with subprocess.Popen(words, stdin=-1, stdout=-1, stderr=subprocess.DEVNULL, bufsize=0) as done:
+            assert done.stdin and done.stdout
+            with contextlib.suppress(BrokenPipeError):
+                while given < 2 * SCRIPT:
+                    given += done.stdin.write(chunk)
+            done.stdin.close()
+            found = (done.stdout.read(), done.wait(), given < 2 * SCRIPT)
+        return None if found == (b"", 2, True) else f"{self.name}: found {found}"
+
+
+def readers_without_end() -> Iterator[Run]:
+    return map(EndlessRun, ("#\n" * LINE, "x" * LINE, "x" * LINE + "x\n"))
+
+
+def lengths_of_files() -> Iterator[Run]:
+    for name in WORLD:
+        yield Run("", files={name: FILE})
+        yield Run("frob\n", messages={0: f"FOLDER/{name}: cannot read"}, files={name: FILE + 1})
+
+
+ABOVE = [ID + 1, ID + 2, ID + 2 + 1000, 2**64 - 1, 2**64, 2**64 + 1000, 10**40]
+
+
+def ids(form: str, fault: str, out: str = "", files: Files = WORLD) -> Iterator[Run]:
+    """A line with the greatest id, and with numbers above."""
+    yield Run(form % ID, out, files=files)
+    for number in ABOVE:
+        yield Run(form % number, messages={1: fault.replace("%d", str(number))}, files=files)
+
+
+def ids_of_texts() -> Iterator[Run]:
+    for which, form in (("passwd", "z:x:%s:1:::\n"), ("passwd", "z:x:1:%s:::\n"), ("group", "z:x:%s:\n")):
+        for good in (ID, f"000{ID}"):
+            yield Run("", files={which: form % good})
+        for number in ABOVE:
+            yield Run("", messages={0: f"setup: {which}: text line 1: bad row"}, files={which: form % number})
+    head = "# file: f\n# owner: %s\n# group: %s\nuser::rw-\nuser:%s:r--\ngroup::r--\ngroup:%s:r--\nmask::r--\nother::---\n"
+    whole = head % ((ID,) * 4)
+    yield Run("getfacl f\n", whole + "\n", files={**PEOPLE, "dump": whole})
+    yield Run(f"setfacl --restore=-\n{whole}.\ngetfacl f\n", whole + "\n")
+    for at, (line, kind) in enumerate(((2, "user"), (3, "group"), (5, "user"), (7, "group"))):
+        for number in ABOVE:
+            above, fault = head % tuple(number if k == at else 7 for k in range(4)), f"text line {line}: unknown {kind}"
+            yield Run("", messages={0: f"setup: dump: {fault}"}, files={**PEOPLE, "dump": above})
+            yield Run(f"setfacl --restore=-\n{above}.\n", messages={1: f"setfacl: {fault}"})
+
+
+def ids_of_lines() -> Iterator[Run]:
+    for form, fault in (
+        ("setfacl -m u:%d:r f", "entry 1: unknown user"), ("setfacl -m g:%d:r f", "entry 1: unknown group"),
+        ("setfacl -m %d:r f", "entry 1: unknown user"), ("setfacl -m d:user:%d:r .", "entry 1: unknown user"),
+        ("setfacl -x u:%d f", "entry 1: unknown user"), ("setfacl -x g:%d: f", "entry 1: unknown group"),
+        ("setfacl -x %d f", "entry 1: unknown user"), ("chacl -d u::7,g::5,m:5,o:0,%d:r .", "default entry 5: unknown user"),
+        ("setfacl --set u::7,g::5,m:5,o:0,u:%d:r f", "entry 5: unknown user"),
+        ("chacl u::7,g::5,m:5,o:0,g:%d:r f", "entry 5: unknown group"),
+        ("setfacl -M - f\nu:%d:r\n.", "entry 1: unknown user"), ("setfacl -X - f\n\ng:%d\n.", "entry 2: unknown group"),
+    ):
+        yield from ids(f"{form}\n", f"{form.split()[0]}: {fault}")
+    for at, value in ((2, "02000400%sffffff04000400ffffffff"), (3, "04000400ffffffff08000400%sffffff")):
+        line = f"setattr system.posix_acl_access=0x0200000001000600ffffffff{value}10000400ffffffff20000000ffffffff f\n"
+        yield Run(line % "fe")
+        yield Run(line % "ff", messages={1: f"setattr: attribute entry {at}: bad attribute"})
+    files: Files = {**WORLD, "passwd": f"{PEOPLE['passwd']}most:x:{ID}:{ID}:::\n", "group": f"{PEOPLE['group']}most:x:{ID}:\n"}
+    for form, out, kind in (
+        ("can %d f", "none\n", "user"), ("creat --user=%d --mode=600 n", "", "user"), ("gpasswd -a %d adm", "", "user"),
+        ("gpasswd -a joe %d", "", "group"), ("usermod -g %d joe", "", "group"), ("usermod -g adm %d", "", "user"),
+        ("useradd -u 5 -g %d new", "", "group"), ("userdel %d", "", "user"),
+    ):
+        yield from ids(f"{form}\n", f"{form.split()[0]}: %d: no such {kind}", out, files)
+    yield Run(f"useradd -u {ID} -g staff new\n", messages={1: f"useradd: {ID}: user id in use"}, files=files)
+    yield Run(f"useradd -u {ID} -g staff new\ncan new f\n", "r--\n")
+    for number in ABOVE:
+        yield Run(f"useradd -u {number} -g staff new\n", messages={1: "useradd: usage"})
+
+
+LIMITS: Sequence[Callable[[], Iterator[Run]]] = (
+    lists_of_dumps, lists_of_lines, entries_of_texts, rows_of_people, lengths_of_lines, ids_of_texts, ids_of_lines,
+    lengths_of_files, lengths_of_scripts, readers_without_end, files_of_the_tree,
+)
+
+
+# Everything large.
+
+LARGE_FILES, LARGE_PEOPLE, LARGE_TEXT = 20_000, 30_000, 10_000_000
+Members = Callable[[int], Iterable[int]]
+DEEP = "/".join(["c"] * 4_000)
+JUNK = ("x" * 999 + "\n") * (LARGE_TEXT // 1000)
+
+
+def write_people(folder: str, users: int = 10, groups: int = 10, members: Members = lambda k: (k % 10, (k + 1) % 10),
+                 name: Callable[[str, int], str] = "{}{}".format) -> None:
+    """Users, and groups with so many members each, by their numbers."""
+    rows = (f"{name('u', k)}:x:{100_000 + k}:{200_000 + k % groups}:::\n" for k in range(users))
+    write_text(folder, "passwd", encoded(rows))
+    rows = (f"{name('g', k)}:x:{200_000 + k}:{','.join(name('u', it) for it in members(k))}\n" for k in range(groups))
+    write_text(folder, "group", encoded(rows))
+
+
+def long_name(letter: str, k: int) -> str:
+    """A name of 200 bytes with spaces and `#`, which are written as escapes."""
+    return f"{letter}{k}{' #' * 20}".ljust(199 + len(letter), "x")
+
+
+def user(k: int, letter: str = "u") -> str:
+    return long_name(letter, k).replace(" ", "\\040").replace("#", "\\043")
+
+
+def group(k: int) -> str:
+    return user(k, "g")
+
+
+def long_path(k: int) -> str:
+    """A file's path: a hundred files in each directory, with names of 200 bytes."""
+    return f"d{k // 100:03}{'-' * 196}/" + f"f{k}".ljust(200, ".")
+
+
+def large_record(path: str, entries: str) -> str:
+    return record(path, entries, "100001", "200001") + "\n"
+
+
+def long_record(k: int, named: int) -> str:
+    """A record whose list has so many named users, by number, and a group."""
+    users = (f"user:{100_000 + 7 * k % 13 + it}:rw-" for it in range(named))
+    entries = ["user::rw-", *users, "group::r--", f"group:{group(k)}:r--", "mask::rw-", "other::---"]
+    return large_record(long_path(k), lines(entries))
+
+
+def large_dump(files: int) -> Iterator[str]:
+    yield large_record(".", FOLDER)
+    for k in range(files):
+        if k % 100 == 0:
+            yield large_record(long_path(k).split("/")[0] + "/", FOLDER + lines(f"default:{it}" for it in FOLDER.split()))
+        yield long_record(k, 4_091 if k % 200 == 7 else 300 if k % 20 == 0 else 3)
+    yield large_record(f"{DEEP}/", FOLDER)
+    yield large_record(f"{DEEP}/f", PLAIN)
+
+
+def write_large(folder: str, files: int, users: int) -> None:
+    """All groups, and so many users and files."""
+    write_people(folder, users, LARGE_PEOPLE, lambda k: (k % users, (7 * k + 1) % users), long_name)
+    write_text(folder, "dump", encoded(large_dump(files)))
+
+
+def restored(last: int) -> str:
+    """The text of a restore of some 10 MB."""
+    records = [long_record(k, 3) for k in range(last - 100)]
+    before = itertools.accumulate(map(len, records), initial=0)
+    return "".join(record for record, size in zip(records, before) if size <= LARGE_TEXT)
+
+
+def edits(last: int) -> List[Unit]:
+    """Each tool on many files and large lists; the last one is the number of the files."""
+    some, known = " ".join(long_path(k) for k in range(150)), user(19)
+    many = ",".join(f"{300_000 + k}:r" for k in range(3_000))
+    word = ",".join(f"u:{100_000 + k}:{k % 8}" for k in range(4_092))
+    short = ",".join(f"{500_000 + k}:4" for k in range(4_092))
+    keys = [f"u:{400_000 + k % 4_000}" for k in range(16_384)]
+    return [
+        "getfacl -R .",
+        "chmod -R 750 .",
+        f"setfacl -R -m u:{known}:rwX,d:g:{group(3)}:rx .",
+        f"setfacl -R -x u:{user(2)},g:{group(5)} .",
+        f"setfacl --test -R -k -m u:{known}:r .",
+        f"chmod 640 {some}",
+        f"getfacl -e {some}",
+        f"setfacl --set u::rw,g::r,o:,m:rw,{word} {long_path(1)}",
+        f"setfacl --test -m {many} {long_path(2)}",
+        f"setfacl -M - {long_path(3)}\n{lines(f'{key}:r' for key in keys)}.",
+        f"setfacl -X - {long_path(3)}\n{lines(keys)}.",
+        f"chacl u::7,g::5,o:,m:7,{short} {long_path(4)}",
+        "chacl -r -l .",
+        f"attr {long_path(4)}",
+        f"setattr system.posix_acl_access=0x{attribute(4_000)} {long_path(5)}",
+        f"setfacl --restore=-\n{restored(last)}.",
+        (f"creat -d --user=0 --mode=750 {DEEP}/new", "creat: 0: no such user"),
+        f"rm -r {long_path(last - 1).split('/')[0]}",
+    ]
+
+
+def faults_of_lines() -> List[Unit]:
+    return [
+        (padded("getfacl ", words="f") + "f", "facl: line too long"),
+        (f"getfacl {'f' * 65_000}\xff", "facl: not UTF-8"),
+        (padded("getfacl ", words="f ")[:-1] + "'", "facl: open quote"),
+        (padded("frob", words=" a"), "facl: unknown tool"),
+        (padded("frob", words="b"), "facl: unknown tool"),
+        (f"frob -\n{JUNK}.", "facl: unknown tool"),
+        (f"setfacl -M - f\n{JUNK}{'x' * LINE}x\n.", "facl: text line too long"),
+        (f"getfacl{' f' * 32_000} -a -a", "getfacl: usage"),
+        (f"getfacl --{'x' * 65_000} f", "getfacl: usage"),
+        (f"setfacl -m u:1:r -m u:1:r{' f' * 30_000}", "setfacl: usage"),
+        (f"can{' f' * 30_000}", "can: usage"),
+        (f"useradd -u 1 -g 1 {'1' * 65_000}", "useradd: usage"),
+    ]
+
+
+def faults_of_entries() -> List[Unit]:
+    """The fault of the last of 16,384 entries; of a text the file is not looked at."""
+    entries, keys = (lines(f"u:{k}{perms}" for k in range(16_383)) for perms in (":r", ""))
+    last = [
+        ("-M", "q" * 60_000 + ":r:r:r", "bad tag"), ("-M", f"u:{user(7)}", "permissions missing"),
+        ("-X", f"u:{user(7)}:r", "permissions not wanted"), ("-M", f"u:1:{'r' * 60_000}q", "bad permissions"),
+        ("-M", f"u:{'q' * 60_000}:r", "unknown user"), ("-M", f"g:{'q' * 60_000}:r", "unknown group"),
+        ("-X", "o", "base entry cannot be removed"),
+    ]
+    short, some = (",".join(f"{k}:4" for k in range(count)) for count in (6_000, 4_000))
+    most = ",".join(f"{100_000 + k}:4" for k in range(4_093))
+    value = f"setattr system.posix_acl_access=0x{attribute(4_000)}"
+    return [
+        *((f"setfacl {option} - f\n{entries if option == '-M' else keys}{entry}\n.", f"setfacl: entry 16384: {fault}") for option, entry, fault in last),
+        (f"setfacl -M - f\n{entries}u:0:r\nu:1:r\n.", "setfacl: entry 16385: too many"),
+        (f"setfacl -x u:5 -M - f\n{entries}.", "setfacl: entry 6: both removed and modified"),
+        (f"chacl u::7,g::5,o:,m:7,{short} f", "chacl: access list: too many entries"),
+        (f"chacl u::7,g::5,m:7,{most} f", "chacl: access list: other:: missing"),
+        (f"chacl u::7,g::5,o:,{most} f", "chacl: access list: entry 4 needs a mask"),
+        (f"chacl {some},3:4,u::7,g::5,o:,m: f", "chacl: access list: entry 4001 is repeated"),
+        (f"{value}01 f", "setattr: attribute entry 4001: bad attribute"),
+        (f"{value}x f", "setattr: attribute entry 0: bad attribute"),
+    ]
+
+
+def faults_of_restores(files: int) -> List[Unit]:
+    """Texts of 10 MB whose last record is faulty, with the kind, and one whose first line is."""
+    before, new = restored(files), "# file: new\n"
+    named = lines(f"user:{k}:r--" for k in range(4_096))
+    number = before.count("\n") + 1
+    last = [
+        (f"{new}# owner: {'q' * 60_000}\n", 1, "unknown user"),
+        (f"{new}# group: {'q' * 60_000}\n", 1, "unknown group"),
+        (f"{new}# flags: {'q' * 60_000}\n", 1, "bad header"),
+        ("# file: \n", 0, "bad header"),
+        (f"# file: {'../' * 20_000}\n", 0, "bad path"),
+        (f"# file: {long_path(0)}\n", 0, "file repeated"),
+        (f"{new}u::7\ng::5\no::\nm::7\n{named}", 0, "access list: too many entries"),
+        (f"{new}u::7\ng::5\n{named[: named.index('user:4000:')]}", 0, "access list: other:: missing"),
+        (f"{new}user::7\nq\n", 2, "permissions missing"),
+    ]
+    found = [(before + text, f"text line {number + line}: {fault}") for text, line, fault in last]
+    found += [(f"{before}{new}user::7\ngroup::5\nother::5\n", "new: no such file"), (f"# owner: 5\n{before}", "text line 1: header missing")]
+    return [(f"setfacl --restore=-\n{text}.", f"setfacl: {fault}") for text, fault in found]
+
+
+def faults_of_commands() -> List[Unit]:
+    nosuch, name = f"{DEEP}/{'/'.join(['n'] * 4_000)}", "n" * 20_000
+    some = " ".join(long_path(k) for k in range(100))
+    most = ",".join(f"{600_000 + k}:4" for k in range(4_094))
+    return [
+        (f"getfacl {nosuch}", f"getfacl: {nosuch}: no such file"),
+        (f"getfacl {some} {name}", f"getfacl: {name}: no such file"),
+        (f"chmod -R 750 . {nosuch}", f"chmod: {nosuch}: no such file"),
+        (f"getfacl {'f ' * 30_000}..", "getfacl: operand 30001: bad path"),
+        (f"creat --user=100001 --mode=640 {nosuch}/x/f", f"creat: {nosuch}/x: no such file"),
+        (f"creat --user=100001 --mode=640 {DEEP}/f/g", f"creat: {DEEP}/f: not a directory"),
+        (f"creat --user=100001 --mode=640 {DEEP}", f"creat: {DEEP}: exists"),
+        (f"rm {some} {DEEP}", f"rm: {DEEP}: is a directory"),
+        (f"can {name} f", f"can: {name}: no such user"),
+        (f"gpasswd -a 100001 {name}", f"gpasswd: {name}: no such group"),
+        (f"gpasswd -d {user(1)} {group(3)}", "gpasswd: not a member"),
+        (f"setfacl -m d:u:{user(1)}:r {DEEP} {DEEP}/f", f"setfacl: {DEEP}/f: only directories have default lists"),
+        (f"setfacl -R -m {most} .", "setfacl: .: access list: too many entries"),
+        (f"setfacl -d -m {most} {DEEP}", f"setfacl: {DEEP}: default list: too many entries"),
+        (f"setfacl -x m {some}", f"setfacl: {long_path(0)}: access list: entry 2 needs a mask"),
+        (f"useradd -u 1 -g 200001 {user(1)}", f"useradd: {user(1)}: user exists"),
+        ("useradd -u 100001 -g 200001 new", "useradd: 100001: user id in use"),
+        (f"load dump\n{JUNK}.", "load: already loaded"),
+        (f"load passwd\n{JUNK}.", "load: already loaded"),
+    ]
+
+
+def few_users(folder: str) -> List[Expect]:
+    """All files and groups, and some users: every tool, faults, and every tool again."""
+    write_large(folder, LARGE_FILES, 20)
+    after = [f"may --reach {user(1)} r", "index", "changes", "changes --reach"]
+    return [step("tools", edits(LARGE_FILES)), step("faults of entries", faults_of_entries()),
+            step("faults of commands", faults_of_commands()), step("tools again", edits(LARGE_FILES - 100)),
+            step("after them", after)]
+
+
+def long_lines(folder: str) -> List[Expect]:
+    """The same files: faults of lines, and of restores of 10 MB: the first ones, since a script has at most 67 MB."""
+    write_large(folder, LARGE_FILES, 20)
+    return [step("lines", faults_of_lines()), step("restores", faults_of_restores(LARGE_FILES)[:3])]
+
+
+def few_files(folder: str) -> List[Expect]:
+    """All users and groups, and some files."""
+    write_large(folder, 200, LARGE_PEOPLE)
+    people = [f"gpasswd -{how} {user(k)} {group(k + 1)}" for k in range(10) for how in "ad"]
+    people += [f"usermod -g {group(k + 5)} {user(k)}" for k in range(10)]
+    people += [f"useradd -u {k} -g {group(k)} {user(k, 'new')}" for k in range(5)]
+    people += [f"userdel {user(7 * k + 100)}" for k in range(5)]
+    questions = [f"{tool} --reach {'r' if tool == 'who' else user(k)} {long_path(k)}" for tool in ("who", "can", "why") for k in range(50)]
+    return [step("people", people), step("questions", [*questions, "changes", "changes --reach"]),
+            step("faults of commands", faults_of_commands())]
+
+
+def loads(folder: str) -> List[Expect]:
+    """Texts that are loaded by lines, and the faults of their last lines."""
+    passwd = lines(f"{long_name('u', k)}:x:{k}:5:::" for k in range(LARGE_PEOPLE))
+    groups = lines(f"{long_name('g', k)}:x:{k}:{long_name('u', k)}" for k in range(LARGE_PEOPLE))
+    files, bad = "".join(large_dump(200)), "x" * 60_000
+    tail, number = "# file: last\n# owner: 5\n", files.count("\n") + 1
+    row = f"load: text line {LARGE_PEOPLE + 1}: bad row"
+    dumps = [
+        (tail, 0, "header missing"),
+        (f"{tail}# group: 5\nu::7\n", 0, "access list: group:: missing"),
+        (f"{tail}# group: 5\nu::7\ng::5\no:5\nd:u::7\n", 0, "default list: group:: missing"),
+        (f"{tail}# group: {'q' * 60_000}\n", 2, "unknown group"),
+        (f"# file: {long_path(0)}\n", 0, "file repeated"),
+    ]
+    return [
+        step("loads", [(f"load passwd\n{passwd}{bad}\n.", row), f"load passwd\n{passwd}.",
+                       (f"load passwd\n{passwd}.", "load: already loaded"),
+                       (f"load group\n{groups}{bad}\n.", row), f"load group\n{groups}."]),
+        step("dumps", [*((f"load dump\n{files}{text}.", f"load: text line {number + line}: {fault}") for text, line, fault in dumps),
+                       f"load dump\n{''.join(large_dump(20))}."]),
+    ]
+
+
+LARGE = (few_users, long_lines, few_files, loads)
+
+
+# Shapes.
+
+MASKED = "u::7\ng::5\nm::7\no::0\n"
+
+
+def named(k: int) -> str:
+    """A list that names a user and a group."""
+    return f"user::rw-\nuser:u{k % 7}:rw-\ngroup::r--\ngroup:g{k % 9}:r-x\nmask::rwx\nother::---\n"
+
+
+def tree_path(k: int) -> str:
+    return f"d{k // 99:05}/f{k % 99:02}"
+
+
+def below(records: Iterable[str], owner: str = "u1", group: str = "g1") -> Iterator[str]:
+    """The root, and records."""
+    return itertools.chain([record(".", FOLDER, owner, group)], records)
+
+
+def tree(files: int) -> Iterator[str]:
+    """The records of a tree: directories of 99 files each."""
+    tops = ([record(f"d{k // 99:05}/", FOLDER)] * (k % 99 == 0) for k in range(files))
+    return below(it for k, top in enumerate(tops) for it in (*top, record(tree_path(k), named(k))))
+
+
+def each_of(count: int, entries: str = "") -> Iterator[str]:
+    """So many files below the root, perhaps with one list."""
+    return below(record(f"f{k}", entries or named(k)) for k in range(count))
+
+
+def some(files: int, path: Callable[[int], str], count: int) -> List[str]:
+    """Paths from all over a tree."""
+    return [path(k * 7919 % files) for k in range(count)]
+
+
+def asked(paths: Sequence[str], users: int = 10, tables: bool = True) -> List[Expect]:
+    """Questions of some files, and of all."""
+    who = [("--reach " * (k % 2), k, path) for k, path in enumerate(paths)]
+    one = [f"can {reach}u{k % users} {path}" for reach, k, path in who]
+    one += [f"who {reach}{k % 8} {path}" for reach, k, path in who]
+    one += [f"why {reach}u{k % users} {path}" for reach, k, path in who]
+    every = ["may u1 r", "may --reach u2 w", "may u3 0", "may --reach u1 x", "index"]
+    of_all = [step("may, index", every), step("changes", ["changes", "changes --reach"] * 2)]
+    return [step("can, who, why", one), *of_all * tables]
+
+
+def walked() -> List[Expect]:
+    """All files listed and changed."""
+    return [step("getfacl -R", ["getfacl -R ."]), step("chmod -R", ["chmod -R 750 ."])]
+
+
+def reverse_text(files: int) -> str:
+    return "setfacl --restore=-\n" + "".join(f"# file: {tree_path(k)}\nu::7\ng::5\no::1\n" for k in reversed(range(files)))
+
+
+def falling(count: int) -> str:
+    """A list of so many entries, its users in falling order."""
+    return MASKED + "".join(f"u:{10_000 + k}:6\n" for k in reversed(range(count - 4)))
+
+
+def escaped_path(k: int) -> str:
+    return "".join(("\\134", "\\012")[k >> bit & 1] for bit in range(20))
+
+
+def blank_name(letter: str, k: int) -> str:
+    return "".join(" \t"[k >> bit & 1] for bit in range(100))
+
+
+def operand_lines(operands: Sequence[str], flag: str = "") -> List[Expect]:
+    """Lines of each kind with these operands, perhaps with a flag."""
+    tools = ("getfacl", "chmod 750", "chmod 640", "setfacl --test -m u:u1:7", *["why u1"] * (not flag))
+    return [step(tool, [f"{tool} {flag} {' '.join(operands)}"] * 40) for tool in tools]
+
+
+def three_letters(k: int) -> str:
+    return "".join(chr(97 + it) for it in (k // 676 % 26, k // 26 % 26, k % 26))
+
+
+def shuffled(count: int) -> List[str]:
+    paths = [three_letters(k) for k in range(count)]
+    random.Random(1).shuffle(paths)
+    return paths
+
+
+BLANK_USER = blank_name("u", 1).replace(" ", "\\040").replace("\t", "\\011")
+
+
+def filled(size: int) -> List[Expect]:
+    """Lines of one text again and again, 100 of each."""
+    slashes = padded("getfacl ", size - 1, "\\\\")
+    fault = slashes.replace("getfacl", "getfacl:").replace("\\\\", "\\134") + ": no such file"
+    return [
+        step("quotes", [padded("getfacl ", size - 1, "''")] * 100),
+        step("empty words", [padded("getfacl", size - 1, " ''")] * 100),
+        step("blanks", [padded("getfacl", size - 1, " \t") + "."] * 100),
+        step("backslashes", [(slashes, fault)] * 100),
+    ]
+
+
+def of_deep_path(deep: str) -> List[Expect]:
+    return [
+        step("getfacl, can, who", [f"{words} {deep}" for words in ("getfacl", "can --reach u2", "who --reach r")] * 30),
+        step("why --reach", [f"why --reach u2 {deep}"] * 30),
+        step("chmod", [f"chmod 700 {deep}"]),
+        step("creat, rm", [f"creat --user=u1 --mode=640 {deep}/f", f"rm {deep}/f"] * 10),
+        step("chmod .", ["chmod 700 .", "chmod 755 ."]),
+    ]
+
+
+def of_lists(ids: Sequence[int]) -> List[Expect]:
+    """Lines that set as many entries at each of 100 files."""
+    word, keys = ",".join(f"{it}:5" for it in ids), lines(f"u:{it}" for it in ids)
+    text = lines(f"u:{it}:{k % 8}" for k, it in enumerate(ids))
+    edits = [f"setfacl {option} - f{k}\n{them}." for k in range(50) for option, them in (("-M", text), ("-X", keys))]
+    return [step("setfacl --set", [f"setfacl --set u::7,g::5,o::0,m::7,{word} f{k}" for k in range(100)]),
+            step("setfacl -M, -X", edits), *walked()]
+
+
+def repeated_rows(folder: str, rows: int) -> None:
+    write_text(folder, "passwd", encoded(f"u{k % 10}:x:{k}:{k}:::\n" for k in range(rows)))
+    write_text(folder, "group", encoded([*(f"g{k % 9}:x:{k}:u1\n" for k in range(rows)), "g9:x:9:" + "u2," * rows]))
+
+
+REFUSED: List[Unit] = [
+    ("frob a b", "facl: unknown tool"), ("getfacl nosuch", "getfacl: nosuch: no such file"), ("getfacl 'a", "facl: open quote"),
+    ("chmod 9 .", "chmod: usage"), ("setfacl -m u:q:r,g::w .", "setfacl: entry 1: unknown user"),
+    ("creat --user=u1 --mode=640 d00000/f00", "creat: d00000/f00: exists"), ("rm .", "rm: .: is a directory"),
+    ("can nobody .", "can: nobody: no such user"),
+]
+
+
+class Shape(NamedTuple):
+    """Texts that the program loads, and what it answers, of so many files, users, lines or bytes: usually, and with --full."""
+
+    name: str
+    about: str
+    sizes: Tuple[int, int]
+    dump: Callable[[int], Iterable[str]]
+    steps: Callable[[int], List[Expect]]
+    people: Callable[[str, int], None] = lambda folder, size: write_people(folder)
+    growth: int = 4
+
+
+MANY = (100_000, 1_000_000)
+SHAPES = [
+    Shape("reverse order", "a dump in reverse path order", MANY, lambda n: reversed([*tree(n)]),
+          lambda n: [*walked(), *asked(some(n, tree_path, 1_000))]),
+    Shape("reverse restore", "a restore of all files, its text in reverse path order", MANY, tree,
+          lambda n: [step("setfacl --restore", [reverse_text(n) + "."])]),
+    Shape("faulty restore", "a restore of all files, its text in reverse path order, with a fault in its last line", MANY, tree,
+          lambda n: [step("setfacl --restore", [(reverse_text(n) + "# file:\n.", f"setfacl: text line {4 * n + 1}: bad header")])]),
+    Shape("one directory", "one directory with all files; 30 lines that change one of them, 30 that make one and remove it", MANY,
+          lambda n: below([record("d/", FOLDER), *(record(f"d/f{k}", named(k)) for k in range(n))]),
+          lambda n: [*walked(), *asked(some(n, "d/f{}".format, 1_000)),
+                     step("setfacl -m", [f"setfacl -m u:u{k % 9}:7 {path}" for k, path in enumerate(some(n, "d/f{}".format, 30))]),
+                     step("creat, rm", [line % path for path in some(n, "d/f{}".format, 30) for line in ("creat --user=u1 --mode=640 %s.new", "rm %s.new")]),
+                     step("chmod d", ["chmod 700 d"] * 2)]),
+    Shape("root changed", "the root's mode changed, and verdicts along paths asked for after it; 4 times", MANY, tree,
+          lambda n: [step("chmod ., --reach", [line for mode in ("700", "755") * 2 for line in (
+              f"chmod {mode} .", f"who --reach r {tree_path(n - 1)}", f"can --reach u2 {tree_path(n - 1)}", "may --reach u3 r")])]),
+    Shape("all removed", "all directories removed by operands, some 50,000 bytes of them in a line", MANY, tree,
+          lambda n: [step("rm -r", [f"rm -r {' '.join(f'd{k:05}' for k in range(at, max(at - 7_000, -1), -1))}"
+                                        for at in range((n + 98) // 99 - 1, -1, -7_000)])]),
+    Shape("escaped names", "names of users, groups and files that are escaped at every byte", MANY,
+          lambda n: below((record(escaped_path(k), PLAIN, f"{100_000 + k % 3}", f"{200_000 + k % 3}") for k in range(n)), "100000", "200000"),
+          lambda n: [*walked(), step("can", [f"can {reach}{BLANK_USER} {path}" for path in some(n, escaped_path, 1_000) for reach in ("", "--reach ")]),
+                     step("may, index", [f"may {BLANK_USER} r", "index"])],
+          lambda folder, n: write_people(folder, 3, 3, lambda k: (k + 1,), blank_name)),
+    Shape("deep path", "one path of so many names, nothing recorded above it but the root", (4_000, 32_000),
+          lambda n: below([record("/".join(["c"] * n) + "/", FOLDER)]),
+          lambda n: of_deep_path("/".join(["c"] * n))),
+    Shape("chain", "a chain of directories, each inside the last", (2_000, 12_000),
+          lambda n: below(record("c/" * k, named(k - 1)) for k in range(1, n + 1)),
+          lambda n: [*walked(), *asked(["c/" * k for k in range(1, n + 1, max(1, n // 20))]),
+                     step("setfacl -m", [f"setfacl -m u:u{k}:7 {'c/' * min(n, 32_000)}" for k in range(10)]),
+                     step("chmod .", ["chmod 700 .", "chmod 755 ."])], growth=2),
+    Shape("in the way", "one path of so many names, of which no directory is recorded, and a file `!` beside each of them", (2_000, 8_000),
+          lambda n: below([*(record("a/" * k + "!") for k in range(1, n)), record("a/" * (n - 1) + "a")]),
+          lambda n: [step("chmod", [f"chmod {mode} {'a/' * (n - 1)}a" for mode in (600, 644) * 5]),
+                     step("why --reach", [f"why --reach u2 {'a/' * (n - 1)}a"] * 10)], growth=2),
+    Shape("everybody everywhere", "200 users, all of them in all groups; 10 lines of each kind that changes users", (16_384, 65_536),
+          lambda n: below(record(f"f{k}", named(k), group=f"g{n - 1 - k}") for k in range(50)),
+          lambda n: [step("chmod -R", [f"chmod -R 7{k}5 ." for k in range(8)]), *asked([f"f{k}" for k in range(50)]),
+                     step("gpasswd", [f"gpasswd -{how} u{k} g{n // 2 + k}" for k in range(10) for how in "da"]),
+                     step("usermod", [f"usermod -g g{k} u{k}" for k in range(10)]),
+                     step("useradd, userdel", [line for k in range(10) for line in (f"useradd -u {k} -g g1 n{k}", f"userdel u{100 + k}")])],
+          lambda folder, n: write_people(folder, 200, n, lambda k: range(200))),
+    Shape("repeated rows", "texts of so many rows, all but ten of them repeated, and a row that names one user as often", (200_000, 4_000_000),
+          lambda n: tree(10),
+          lambda n: [step("gpasswd", ["gpasswd -d u2 g9", "gpasswd -a u2 g9", "gpasswd -a u3 g9"]), *asked(["."] * 10)],
+          repeated_rows),
+    Shape("groups mentioned", "as many files, each of a group of its own; 20 lines that change one of them", (32_768, 65_536),
+          lambda n: below(record(tree_path(k), named(k), group=f"g{k}") for k in range(n)),
+          lambda n: [step("chmod", [f"chmod 777 {path}" for path in some(n, tree_path, 20)]),
+                     step("gpasswd", [f"gpasswd -a u{k + 2} g{k}" for k in range(5)]), *walked()],
+          lambda folder, n: write_people(folder, 10, n, lambda k: (k % 10,))),
+    Shape("users removed", "50 of the users removed one by one, and as many added", (32_768, 65_536), lambda n: each_of(20),
+          lambda n: [step("userdel", [f"userdel u{n // 2 + k}" for k in range(50)]),
+                     step("useradd", [f"useradd -u {k} -g g1 n{k}" for k in range(50)]), *asked([f"f{k}" for k in range(20)], n)[1:]],
+          lambda folder, n: write_people(folder, n, 100, lambda k: (it % n for it in range(k, k + 2_000)))),
+    Shape("longest lists", "lists of 4,095 entries on as many files", (200, 4_000), lambda n: each_of(n, falling(4_095)),
+          lambda n: [step("setfacl -R -m", ["setfacl -R -m u:9:rX ."]), step("setfacl -R -x", ["setfacl -R -x u:9 ."]),
+                     *walked(), *asked([f"f{k}" for k in range(min(n, 500))])]),
+    Shape("group lists", "lists of 1,000 named groups on as many files; 20 lines that change one of them", (1_000, 10_000),
+          lambda n: each_of(n, MASKED + lines(f"g:{10_000 + k}:5" for k in range(1_000))),
+          lambda n: [step("setfacl -m", [f"setfacl -m u:u{k % 9}:7 f{k}" for k in range(20)]),
+                     step("gpasswd", [f"gpasswd -a u{k} g{k - 1}" for k in range(2, 8)]), *walked()]),
+    Shape("entries of a list", "lists of so many entries in falling order, in dumps and lines", (4_096, 4_096), lambda n: each_of(100, falling(n)),
+          lambda n: of_lists([90_000 - k for k in range(n - 4)])),
+    Shape("same operands", "a line of so many operands, all the same: a file, and a directory of 100 files with -R", (10_000, 10_000),
+          lambda n: below([record("d1/", FOLDER), *(record(f"d1/f{k}") for k in range(100))]),
+          lambda n: [*operand_lines(["."] * n), *operand_lines(["d1"] * n, "-R")]),
+    Shape("nested operands", "a line of so many operands with -R, each inside the last one", (8_000, 8_000),
+          lambda n: below([record("d/", FOLDER), *(record("d/" + three_letters(k)) for k in range(n))]),
+          lambda n: operand_lines([*("d/" + three_letters(k) for k in reversed(range(n))), "d"], "-R")),
+    Shape("different operands", "a line of so many operands, in no order", (10_000, 10_000), lambda n: below(record(three_letters(k)) for k in range(n)),
+          lambda n: [*operand_lines(shuffled(n)), step("rm", ["rm " + " ".join(shuffled(n))])]),
+    Shape("filled lines", "lines of so many quotes, blanks and backslashes; 100 of each", (LINE, LINE), lambda n: tree(10), filled),
+    Shape("refused lines", "so many lines that are refused, each in one of eight ways", (200_000, 1_000_000), lambda n: tree(10),
+          lambda n: [step("refused", REFUSED * (n // 8))]),
+    Shape("empty and endless", "so many bytes of empty lines, of one line, and of a text of one line", (4_000_000, 20_000_000), lambda n: tree(10),
+          lambda n: [step("empty lines", ["\n" * (n - 1)]), step("one line", [("x" * n, "facl: line too long")]),
+                     step("a text line", [(f"setfacl -M - .\n{'x' * n}\n.", "facl: text line too long")])]),
+    Shape("many questions", "so many questions over 5,000 files", MANY, lambda n: tree(5_000),
+          lambda n: asked(some(5_000, tree_path, n // 2), tables=False)),
+]
+
+
+# Running.
+
+
+class Growth(NamedTuple):
+    """What a step takes at the one size and at the other; the best of all runs."""
+
+    name: str
+    before: float
+    after: float
+
+    def ratio(self) -> float:
+        return self.after / self.before if self.after >= 0.05 else 0
+
+    def __str__(self) -> str:
+        return f"{self.name} {self.before:.3f}, {self.after:.3f}" + (f" ({self.ratio():.1f})" if self.ratio() else "")
+
+
+def write_shape(folder: str, shape: Shape, size: int) -> None:
+    shape.people(folder, size)
+    write_text(folder, "dump", encoded(f"{it}\n" for it in shape.dump(size)))
+
+
+def best_of(given: argparse.Namespace, shape: Shape, size: int) -> Tuple[List[Tuple[str, float]], int]:
+    """The least time of each step by its name, and the most memory in MB."""
+    with tempfile.TemporaryDirectory(prefix="facl-sizes.") as folder:
+        write_shape(folder, shape, size)
+        steps = shape.steps(size)
+        found = [timed(given.program, folder, steps) for _ in range(given.runs)]
+    times = [(each[0][0], min(spent for _, spent, _ in each)) for each in zip(*(times for times, _ in found))]
+    return times, max(memory for _, memory in found) >> 20
+
+
+def measured(given: argparse.Namespace, shape: Shape, size: int) -> Tuple[List[Growth], str]:
+    """How each step grows, and the most memory at both sizes."""
+    (few, few_memory), (many, memory) = (best_of(given, shape, it) for it in (size // shape.growth, size))
+    growths = [Growth(name, before, after) for (name, before), (_, after) in zip(few, many)]
+    return growths, f"{few_memory}, {memory} MB"
+
+
+def of_shape(given: argparse.Namespace, shape: Shape) -> List[str]:
+    """Prints a row; returns the steps that grow too much."""
+    size = shape.sizes[given.full]
+    found, memory = measured(given, shape, size)
+    if any(it.ratio() > MOST for it in found):
+        pairs = zip(found, measured(given, shape, size)[0])
+        found = [Growth(it.name, min(it.before, other.before), min(it.after, other.after)) for it, other in pairs]
+    sizes = f"{size // shape.growth:,}, {size:,}"
+    print(f"| {shape.about} | {sizes} | {memory} | {'; '.join(map(str, found))} |", flush=True)
+    return [f"{it.name}: {it.ratio():.1f} times as long" for it in found if it.ratio() > MOST]
+
+
+def of_part(given: argparse.Namespace, part: Callable[[str], List[Expect]]) -> List[str]:
+    """Prints the times of a part and its most memory; it fails where a message is another one."""
+    with tempfile.TemporaryDirectory(prefix="facl-sizes.") as folder:
+        times, memory = timed(given.program, folder, part(folder))
+    shown_times = ", ".join(f"{name} {spent:.2f} s" for name, spent, _ in times)
+    print(f"{part.__name__}: {shown_times}; at most {memory >> 20} MB", flush=True)
+    return []
+
+
+def of_limits(given: argparse.Namespace, limits: Callable[[], Iterator[Run]]) -> List[str]:
+    """Prints how many runs there are; returns what differs."""
+    started, found = time.perf_counter(), []
+    for one in limits():
+        with tempfile.TemporaryDirectory(prefix="facl-sizes.") as folder:
+            found.append(one.fault(given.program, folder))
+    faults = [fault for fault in found if fault]
+    taken = time.perf_counter() - started
+    print(f"{limits.__name__}: {len(found)} runs, {len(faults)} of them not as expected, {taken:.1f} s", flush=True)
+    return faults
+
+
+def main() -> int:
+    options = options_of(__doc__, runs=2)
+    for name in ("--limits", "--large", "--shapes", "--full"):
+        options.add_argument(name, action="store_true")
+    options.add_argument("words", nargs="*", metavar="WORD")
+    given = options.parse_intermixed_args()
+    every = not (given.limits or given.large or given.shapes)
+    checks = [(it.__name__, partial(of_limits, given, it)) for it in LIMITS if every or given.limits]
+    checks += [(it.__name__, partial(of_part, given, it)) for it in LARGE if every or given.large]
+    checks += [(it.name, partial(of_shape, given, it)) for it in SHAPES if every or given.shapes or given.full]
+    faults: List[str] = []
+    for name, check in checks:
+        if not given.words or any(word in name for word in given.words):
+            try:
+                faults += [f"{name}: {fault}" for fault in check()]
+            except Failed as fault:
+                faults.append(f"{name}: {fault}")
+    return conclude(given, f"{len(checks)}", faults)
+
+
+if __name__ == "__main__":
+    run(main)
