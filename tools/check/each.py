@@ -96,7 +96,7 @@ def make_real_tree(top: str) -> None:
     for folder, number in itertools.product(listed, range(1, 10)):
         os.mknod(path := os.path.join(top, folder, str(number)))
         os.chmod(path, 0o600 + 8 * (number % 8) + number % 5)
-    os.mknod(os.path.join(top, "d/x\ny\\z"))
+    os.mknod(os.path.join(top, "d/x\ny\\z"), 0o644)
     named = [folder + name for folder in listed for name in ("/1", "/2")]
     subprocess.run(["setfacl", "-m", "u:nobody:r,g:%d:x" % os.getgid(), *named], cwd=top, check=True)
     subprocess.run(["setfacl", "-m", "d:u:nobody:rx,u:nobody:rx", "a", "d"], cwd=top, check=True)
