@@ -1,4 +1,4 @@
-"""Texts that several checks and measurements load: two records, records written in a line each, and a tree of any size.
+"""Texts for checks and measurements: records that are written in a line each, a list as an attribute, and a tree of any size.
 
 The tree has so many records: the root, and directories of about a hundred plain files each. Each file has two named
 users, a named group and a mask; each directory a default list. There are a tenth as many groups as users.
@@ -6,9 +6,19 @@ users, a named group and a mask; each directory a default list. There are a tent
 from __future__ import annotations
 
 import os
-from typing import IO, List
+from typing import IO, Iterable, List
 
 PER_DIRECTORY = 100
+
+
+def lines(them: Iterable[str]) -> str:
+    return "".join(f"{line}\n" for line in them)
+
+
+def attribute(count: int, first: int = 100_000) -> str:
+    """The hex digits of a list of so many entries, its users from this one on."""
+    users = "".join(f"02000400{(first + k).to_bytes(4, 'little').hex()}" for k in range(count - 4))
+    return f"0200000001000700ffffffff{users}04000400ffffffff10000400ffffffff20000000ffffffff"
 
 
 def dump_of(*rows: str) -> bytes:
