@@ -1,5 +1,5 @@
-"""The program on the texts of a folder: its words, the tools that it has, and sessions that are sent lines: whose output is
-kept, or whose messages are compared and time is counted."""
+"""The program on the texts of a folder: its words, its tools, and sessions that are sent lines, with their output kept, or
+their messages compared and their time counted."""
 from __future__ import annotations
 
 import argparse

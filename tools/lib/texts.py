@@ -1,4 +1,4 @@
-"""Texts for checks and measurements: records that are written in a line each, a list as an attribute, and a tree of any size.
+"""Texts for checks and measurements: records written in a line each, a list as an attribute, and a tree of any size.
 
 The tree has so many records: the root, and directories of about a hundred plain files each. Each file has two named
 users, a named group and a mask; each directory a default list. There are a tenth as many groups as users.
@@ -26,12 +26,13 @@ def dump_of(*rows: str) -> bytes:
     records = []
     for row in rows:
         path, owner, group, flags, entries = row.split("|")
-        flags_line = f"# flags: {flags}\n" if flags else ""
-        records.append(f"# file: {path}\n# owner: {owner}\n# group: {group}\n{flags_line}" + entries.replace(" ", "\n") + "\n")
+        head = f"# file: {path}\n# owner: {owner}\n# group: {group}\n" + f"# flags: {flags}\n" * bool(flags)
+        records.append(head + entries.replace(" ", "\n") + "\n")
     return "\n".join(records).encode()
 
 
-ROOT_AND_FILE = dump_of(".|lisa|staff||user::rwx group::r-x other::r-x", "f|lisa|staff||user::rw- group::r-- other::---")
+ROOT_AND_FILE = dump_of(
+    ".|lisa|staff||user::rwx group::r-x other::r-x", "f|lisa|staff||user::rw- group::r-- other::---")
 
 
 def text_file(folder: str, name: str) -> IO[str]:
