@@ -19,7 +19,8 @@ def demo(name: str) -> bytes:
 
 class Program(Case):
     def answer(self, script: bytes, *words: str) -> Done:
-        done = subprocess.run([os.environ["FACL"], *words], input=script, capture_output=True, cwd=self.folder, check=False)
+        words = (os.environ["FACL"], *words)
+        done = subprocess.run(words, input=script, capture_output=True, cwd=self.folder, check=False)
         return Done(done.returncode, done.stdout, done.stderr)
 
     def test_worked_sessions(self) -> None:

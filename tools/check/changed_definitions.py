@@ -6,11 +6,11 @@ usage: tools/check/changed_definitions.py [--list] [--jobs N] [--count N] [--rec
 A definition that contracts name and the code that equals it, changed alike, pass every proof: only a test notices. So
 each change of changed_definitions.txt is made in a copy of the repository, of the code alone, and the tests of the
 crates that TESTS names for its crate are run without a proof (`rt try --test`), until one fails. For each change it
-prints `seen`, `not seen`, or `no answer` where a test was not over in time or the code was not compiled. Only the changes
-whose crate or description contains one of the words are made, or all; of these, with --count, N that are spread evenly;
-N at a time (--jobs), in a copy each. A change takes a minute of processor time or more, since all crates are compiled for
-it. --list prints the changes, with those that are not to be made any more: their old text has to be once in their file.
-The exit status is 1 where one was not seen, or is not to be made any more, 2 where the words are others.
+prints `seen`, `not seen`, or `no answer` where a test was not over in time or the code was not compiled. Only the
+changes whose crate or description contains one of the words are made, or all; of these, with --count, N that are spread
+evenly; N at a time (--jobs), in a copy each. A change takes a minute of processor time or more, since all crates are
+compiled for it. --list prints the changes, with those that are not to be made any more: their old text has to be once
+in their file. The exit status is 1 where one was not seen, or is not to be made any more, 2 where the words are others.
 """
 from __future__ import annotations
 
@@ -36,7 +36,8 @@ SECONDS = "300"
 TESTS: Dict[str, List[str]] = {
     "acl_entry": ["acl_entry_tests"], "acl_names": ["acl_text_tests", "acl_tree_tests"],
     "path_map": ["path_map_tests", "acl_tree_tests"], "acl_syntax": ["acl_text_tests"], "acl_attr": ["acl_text_tests"],
-    "acl_dump": ["acl_text_tests"], "acl_edit": ["acl_edit_tests"], "acl_subjects": ["acl_tree_tests", "acl_rights_tests"],
+    "acl_subjects": ["acl_tree_tests", "acl_rights_tests"], "acl_dump": ["acl_text_tests"],
+    "acl_edit": ["acl_edit_tests"],
     "acl_people": ["acl_tree_tests"], "acl_files": ["acl_tree_tests"], "acl_tree": ["acl_tree_tests"],
     "acl_verdicts": ["acl_rights_tests"], "acl_rights": ["acl_rights_tests"], "facl_script": ["facl_script_tests"],
     "facl_words": ["facl_words_tests"], "facl_output": ["facl_words_tests", "acl_rights_tests"],

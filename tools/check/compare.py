@@ -4,12 +4,12 @@
 usage: tools/check/compare.py PROGRAM [--folder FOLDER] [--sessions N] [--lines N] [--seed N] [--verbose] [--record]
 
 Compared after each of the --lines (40) of each of the --sessions (10), byte for byte: the listing of all files
-(`getfacl -R -n .`), and what getfacl, `chacl -l` and attr print; and whether the line was accepted. What `can` prints is
-compared with what the kernel grants to that user. The real tools are given the files of a line in path order, each once,
-as the program treats them; a directory that nothing else shows to be one is given with a final `/`. It needs the Debian
-package acl, for attr and setattr the package attr, the users root, daemon, bin and games, and root: else files are made
-for one user alone, and owners are not restored. The trees are made in FOLDER ($TMPDIR, or /tmp), whose file system has to
-take lists. --verbose prints each line with what became of it.
+(`getfacl -R -n .`), and what getfacl, `chacl -l` and attr print; and whether the line was accepted. What `can` prints
+is compared with what the kernel grants to that user. The real tools are given the files of a line in path order, each
+once, as the program treats them; a directory that nothing else shows to be one is given with a final `/`. It needs the
+Debian package acl, for attr and setattr the package attr, the users root, daemon, bin and games, and root: else files
+are made for one user alone, and owners are not restored. The trees are made in FOLDER ($TMPDIR, or /tmp), whose file
+system has to take lists. --verbose prints each line with what became of it.
 
 What is not compared, since the program does otherwise (NOTES of docs/facl.1 has the lines):
 - which of several faults is reported, and in which words;

@@ -1,6 +1,6 @@
 /* A malloc that refuses one growth: the one with the number REFUSE, counted from 1; where REFUSE_ON is set all after it
-   too. It reports on the descriptor REPORT that it did. Preloaded by tools/check/growth.py under the built program; no part
-   of facl. */
+   too. It reports on the descriptor REPORT that it did. Preloaded by tools/check/growth.py under the built program; no
+   part of facl. */
 #define _GNU_SOURCE
 #include <dlfcn.h>
 #include <stddef.h>

@@ -6,20 +6,22 @@ usage: tools/check/sizes.py PROGRAM [--limits] [--large] [--shapes [--full] [--r
 All three, or those that are given; with words, only what has one of them in its name. What is expected is composed from
 the rules of docs/SPECIFICATION.md. The exit status is 1 where something differs, 2 where the words are others.
 
---limits: each limit at its last value, and one above; all that the program prints is compared. It takes 700 MB of memory
-and as much in the temporary folder.
+--limits: each limit at its last value, and one above; all that the program prints is compared. It takes 700 MB of
+memory and as much in the temporary folder.
 
 --large: 20,000 files with lists of up to 4,096 entries and few users, or 30,000 users and few files; 30,000 groups,
-names of 200 bytes, paths of 4,000 components, lines of 65,536 bytes and thousands of words, texts of 10 MB. The messages
-are compared, so `no memory` is a failure. It prints times and the most memory, and takes 12 seconds, and 500 MB.
+names of 200 bytes, paths of 4,000 components, lines of 65,536 bytes and thousands of words, texts of 10 MB. The
+messages are compared, so `no memory` is a failure. It prints times and the most memory, and takes 13 seconds and 500
+MB.
 
---shapes: texts that the program loads, and steps of lines, over so many files, users, lines or bytes. The time of a step
-is to be at most 6 times that at a quarter of the size: as long as it grows by the size, or by the size and a logarithm,
-with room for noise and for memory that is out of the caches. Time is processor time of the program, the best of N runs
-(2), and of as many again where it grows by more; a step of less than 50 ms is not compared. Where each line of a step
-looks at everything, as a userdel, the number of lines stays, so the time of a line is compared. Where the paths of a
-shape contain one another, the texts grow by the square, and the size is compared with its half. The messages are
-compared too. --full takes the sizes of the limits, some 3 GB and a quarter of an hour; without it all take two minutes.
+--shapes: texts that the program loads, and steps of lines, over so many files, users, lines or bytes. The time of a
+step is to be at most 6 times that at a quarter of the size: as long as it grows by the size, or by that and a
+logarithm, with room for noise and for memory that is out of the caches. Time is processor time of the program, the best
+of N runs (2), and of as many again where it grows by more; a step of less than 50 ms is not compared. Where each line
+of a step looks at everything, as a userdel, the number of lines stays, so the time of a line is compared. Where the
+paths of a shape contain one another, the texts grow by the square, and the size is compared with its half. The messages
+are compared too. --full takes the sizes of the limits, some 3 GB and a quarter of an hour; without it all take two
+minutes.
 """
 from __future__ import annotations
 
@@ -417,7 +419,8 @@ def faults_of_lines() -> List[Unit]:
         (padded("getfacl ", words="f") + "f", "facl: line too long"),
         (f"getfacl {'f' * 65_000}\xff", "facl: not UTF-8"),
         (padded("getfacl ", words="f ")[:-1] + "'", "facl: open quote"),
-        *((line, "facl: unknown tool") for line in (padded("frob", words=" a"), padded("frob", words="b"), f"frob -\n{JUNK}.")),
+        (padded("frob", words=" a"), "facl: unknown tool"), (padded("frob", words="b"), "facl: unknown tool"),
+        (f"frob -\n{JUNK}.", "facl: unknown tool"),
         (f"setfacl -M - f\n{JUNK}{'x' * LINE}x\n.", "facl: text line too long"),
         (f"getfacl{' f' * 32_000} -a -a", "getfacl: usage"), (f"getfacl --{'x' * 65_000} f", "getfacl: usage"),
         (f"setfacl -m u:1:r -m u:1:r{' f' * 30_000}", "setfacl: usage"), (f"can{' f' * 30_000}", "can: usage"),
@@ -505,6 +508,12 @@ def long_lines(folder: str) -> List[Expect]:
     return [step("lines", faults_of_lines()), step("restores", faults_of_restores(MANY_FILES)[:3])]
 
 
+def restores(folder: str) -> List[Expect]:
+    """The other faults of restores, of 5 MB."""
+    write_large(folder, MANY_FILES, 20)
+    return [step("restores", faults_of_restores(MANY_FILES // 3)[3:])]
+
+
 def few_files(folder: str) -> List[Expect]:
     """All users and groups, and some files."""
     write_large(folder, 200, MANY_PEOPLE)
@@ -536,7 +545,7 @@ def loads(folder: str) -> List[Expect]:
             step("dumps", [*dumps, f"load dump\n{''.join(large_dump(20))}."])]
 
 
-LARGE = (few_users, long_lines, few_files, loads)
+LARGE = (few_users, long_lines, restores, few_files, loads)
 
 
 # Shapes.
@@ -762,7 +771,8 @@ SHAPES = [
     Shape("empty and endless", "so many bytes of empty lines, of one line, and of a text of one line",
           lambda n: tree(10), lambda n: [
               step("empty lines", ["\n" * (n - 1)]), step("one line", [("x" * n, "facl: line too long")]),
-              step("a text line", [(f"setfacl -M - .\n{'x' * n}\n.", "facl: text line too long")])], (4_000_000, 20_000_000)),
+              step("a text line", [(f"setfacl -M - .\n{'x' * n}\n.", "facl: text line too long")])],
+          (4_000_000, 20_000_000)),
     Shape("many questions", "so many questions over 5,000 files", lambda n: tree(5_000),
           lambda n: asked(some(5_000, n // 2), tables=False)),
 ]

@@ -1,5 +1,5 @@
-"""The program on the texts of a folder: its words, its tools, and sessions that are sent lines, with their output kept, or
-their messages compared and their time counted."""
+"""The program on the texts of a folder: its words, its tools, and sessions that are sent lines, with their output kept,
+or their messages compared and their time counted."""
 from __future__ import annotations
 
 import argparse
@@ -9,8 +9,7 @@ import subprocess
 import tempfile
 import threading
 import time
-from types import TracebackType
-from typing import IO, Iterable, Iterator, List, Optional, Sequence, Tuple, Type, TypeVar, Union
+from typing import IO, Iterable, Iterator, List, Optional, Sequence, Tuple, TypeVar, Union
 
 from record import record
 from script import Failed
@@ -75,21 +74,22 @@ def has_tool(program: str, tool: str) -> bool:
 
 
 class Session:
-    """The program, started. After the lines of a call comes one that is refused: its message shows that the lines before it
-    are answered, since a line is answered before the next one is read. It is a context, at whose end the program is ended."""
+    """The program, started. After the lines of a call comes one that is refused: its message shows that those before it
+    are answered, since each is before the next one is read. It is a context, at whose end the program is ended."""
 
     def __init__(self, program: str, folder: str, out: Union[int, IO[bytes]] = subprocess.DEVNULL) -> None:
         self.lines_sent = 0
         self.mark: Optional[bytes] = None
         self.started = time.perf_counter()
-        self.run = subprocess.Popen(words_of(program, folder), stdin=subprocess.PIPE, stdout=out, stderr=subprocess.PIPE)
+        words = words_of(program, folder)
+        self.run = subprocess.Popen(words, stdin=subprocess.PIPE, stdout=out, stderr=subprocess.PIPE)
         assert self.run.stdin and self.run.stderr
         self.stdin, self.stderr = self.run.stdin, self.run.stderr
 
     def __enter__(self: Own) -> Own:
         return self
 
-    def __exit__(self, kind: Optional[Type[BaseException]], fault: Optional[BaseException], at: Optional[TracebackType]) -> None:
+    def __exit__(self, *_: object) -> None:
         self.stop()
 
     def send(self, lines: Iterable[bytes]) -> None:
@@ -122,7 +122,7 @@ class Session:
         writer.join()
 
     def processor_time(self) -> float:
-        """The processor time of the program so far, by its clock in the kernel; time that passed where there is none."""
+        """The processor time of the program so far, by its clock in the kernel; else the time that passed."""
         try:
             return time.clock_gettime((~self.run.pid << 3) | 2)
         except OSError:
@@ -179,8 +179,8 @@ class KeptSession(Session):
 
 
 class Expect:
-    """Lines that are sent, as an iterable of bytes, and what has to come of them: the messages as pairs of a line's number,
-    counted from 1 in these lines, and what the message has after `line N: `."""
+    """Lines that are sent, as an iterable of bytes, and what has to come of them: the messages as pairs of a line's
+    number, counted from 1 in these lines, and what the message has after `line N: `."""
 
     def __init__(self, name: str, lines: Iterable[bytes], messages: Iterable[Wanted] = ()) -> None:
         self.name, self.lines, self.messages = name, lines, messages
