@@ -15,8 +15,7 @@ What is not compared, since the program does otherwise (NOTES of docs/facl.1 has
 - which of several faults is reported, and in which words;
 - what a refused line changed: the real tools go file by file, and the program acts on all files or on none. The real
   tree is then rebuilt from the program's listing, which tests the way back;
-- the meaning of the order of options: lines give them in the program's order (-d -n --mask first, then -b -k, then -x,
-  then -m);
+- the order of options: lines give them in the program's (-d -n --mask first, then -b -k, then -x, then -m);
 - what `setfacl --test` prints (its layout is the program's own); that it changes nothing is compared;
 - the superuser's rights, who is a user as any other for the program;
 - names with a backslash, symbolic links, -L and -P, an option given twice;
@@ -143,7 +142,7 @@ class Comparison:
         self.counts: Counter[str] = Counter()
         self.skipped: Counter[str] = Counter()
 
-    def report(self, line: Line, what: str, before: bytes, real: str, mine: str) -> None:
+    def report(self, line: Line, before: bytes, what: str, real: str, mine: str) -> None:
         self.counts["differ"] += 1
         print(f"\nDIFFERS, {what}: {line.written().decode()}")
         if line.text is not None:
@@ -161,30 +160,30 @@ class Comparison:
         is_refused = any(b": warning: " not in it for it in messages)
         real_refuses = done.status != 0 or line.words[0] == b"setfacl" and done.faults != b""
         by_intent = [why for text, why in REFUSED_BY_THE_PROGRAM.items() if b"".join(messages[:1]).endswith(text)]
-        kind = "refused" if is_refused else "accepted"
+        kind, difference = "refused" if is_refused else "accepted", None
         if by_intent and not real_refuses:
             self.skipped[by_intent[0]] += 1
         elif is_refused != real_refuses and b"--test" not in line.words:
-            kind, said = "accepted by one alone", b"".join(messages).decode().strip() or "accepted"
-            self.report(line, kind, before, f"status {done.status}, {done.faults.decode(errors='replace')!r}", said)
+            real_said = f"status {done.status}, {done.faults.decode(errors='replace')!r}"
+            difference = "accepted by one alone", real_said, b"".join(messages).decode().strip() or "accepted"
         elif line.compared and not is_refused and done.out != printed:
-            kind = "output"
-            self.report(line, kind, before, repr(done.out.decode()), repr(printed.decode()))
+            difference = "output", repr(done.out.decode()), repr(printed.decode())
         elif not is_refused and real != mine:
-            kind = "listing"
-            self.report(line, kind, before, changed(mine, real), changed(real, mine))
+            difference = "listing", changed(mine, real), changed(real, mine)
         elif is_refused and mine != before:
-            kind = "a refused line changed files"
-            self.report(line, kind, before, changed(mine, before), changed(before, mine))
+            difference = "a refused line changed files", changed(mine, before), changed(before, mine)
         else:
             self.counts[kind] += 1
             self.counts["in part"] += is_refused and real != before
+        if difference:
+            kind = difference[0]
+            self.report(line, before, *difference)
         if self.is_verbose:
             print(f"{line.written().decode()}: {kind}")
         if real != mine:
             tree.rebuild(mine)
             if tree.listing() != mine:
-                self.report(line, "the listing restored", before, changed(mine, tree.listing()), "")
+                self.report(line, before, "the listing restored", changed(mine, tree.listing()), "")
         return mine
 
     def session(self, lines: Lines, folder: str, tools: List[str], count: int) -> None:
@@ -192,7 +191,7 @@ class Comparison:
         with KeptSession(self.program, folder) as facl:
             listing, _ = facl.answer([LISTING])
             if tree.listing() != listing:
-                self.report(Line(["load"], []), "the first tree", listing, tree.listing().decode(), listing.decode())
+                self.report(Line(["load"], []), listing, "the first tree", tree.listing().decode(), listing.decode())
             for _ in range(count):
                 line = lines.line(Records(listing), tools)
                 if line.skip:
@@ -241,9 +240,8 @@ def main() -> int:
     options.add_argument("--folder")
     options.add_argument("--verbose", action="store_true")
     given = options.parse_args()
-    for tool in ("getfacl", "setfacl"):
-        if not shutil.which(tool):
-            raise Failed(f"{tool} is not installed (Debian package acl)")
+    if not (shutil.which("getfacl") and shutil.which("setfacl")):
+        raise Failed("getfacl and setfacl are not installed (Debian package acl)")
     with tempfile.TemporaryDirectory(prefix="facl-compare.", dir=given.folder) as folder:
         return compare(given, folder)
 

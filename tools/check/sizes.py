@@ -140,19 +140,17 @@ def base(count: int, prefix: str = "") -> List[str]:
     return [prefix + it for it in ["user::rwx", *named, "group::r--", "mask::r--", "other::---"]]
 
 
-def listed(path: str, entries: List[str]) -> str:
-    return record(path, lines(entries), "lisa", "staff")
-
-
 def lists_of_dumps() -> Iterator[Run]:
     for which, before, prefix in (("access", base(4)[:0], ""), ("default", base(4), "default:")):
-        last, above = (listed("a/", [*before, *base(count, prefix)]) for count in (ENTRIES, ENTRIES + 1))
+        lists = (lines([*before, *base(count, prefix)]) for count in (ENTRIES, ENTRIES + 1))
+        last, above = (record("a/", entries, "lisa", "staff") for entries in lists)
         out, fault = lines([*before, *base(ENTRIES, prefix), ""]), f"text line 1: {which} list: too many entries"
         yield Run("getfacl -c a\n", out, files={**PEOPLE, "dump": last})
         yield fails("", f"setup: dump: {fault}", {**PEOPLE, "dump": above})
         yield Run(f"load dump\n{last}.\ngetfacl -c a\n", out, files=PEOPLE)
         yield fails(f"load dump\n{above}.\n", f"load: {fault}", PEOPLE)
-    last, above = (f"setfacl --restore=-\n{listed('f', base(count))}.\n" for count in (ENTRIES, ENTRIES + 1))
+    lists = (record("f", lines(base(count)), "lisa", "staff") for count in (ENTRIES, ENTRIES + 1))
+    last, above = (f"setfacl --restore=-\n{text}.\n" for text in lists)
     yield Run(last + "getfacl -c f\n", lines([*base(ENTRIES), ""]))
     yield Run(above + "chacl -l f\n", LISTED, {1: "setfacl: text line 1: access list: too many entries"})
     yield Run(last + "attr f\n", f"# file: f\nsystem.posix_acl_access=0x{attribute(ENTRIES, FIRST)}\n\n")
@@ -629,14 +627,13 @@ def word(k: int, letters: Sequence[str] = string.ascii_lowercase, count: int = 3
     return "".join(letters[k // len(letters) ** at % len(letters)] for at in range(count))
 
 
+escaped_path = partial(word, letters=("\\134", "\\012"), count=20)
+
+
 def operand_lines(operands: Sequence[str], flag: str = "") -> List[Expect]:
     """Lines of each kind with these operands, perhaps with a flag."""
     tools = ("getfacl", "chmod 750", "chmod 640", "setfacl --test -m u:u1:7", *["why u1"] * (not flag))
     return [step(tool, [f"{tool} {flag} {' '.join(operands)}"] * 40) for tool in tools]
-
-
-def escaped_path(k: int) -> str:
-    return word(k, ("\\134", "\\012"), 20)
 
 
 def of_one_directory(files: int) -> List[Expect]:
@@ -800,15 +797,11 @@ def of_part(given: argparse.Namespace, part: Callable[[str], List[Expect]]) -> L
     return []
 
 
-def write_shape(folder: str, shape: Shape, size: int) -> None:
-    shape.people(folder, size)
-    write(folder, "dump", (it + "\n" for it in shape.dump(size)))
-
-
 def least(given: argparse.Namespace, shape: Shape, size: int) -> Tuple[List[str], List[float], int]:
     """The steps with the least time of each, and the most memory in MB."""
     with tempfile.TemporaryDirectory(prefix="facl-sizes.") as folder:
-        write_shape(folder, shape, size)
+        shape.people(folder, size)
+        write(folder, "dump", (f"{it}\n" for it in shape.dump(size)))
         steps = shape.steps(size)
         found = [timed(given.program, folder, steps) for _ in range(given.runs)]
     spent = [[time for _, time, _ in times] for times, _ in found]
