@@ -63,7 +63,7 @@ def command(words: List[str], script: bytes = b"", out: str = os.devnull) -> flo
     with open(out, "wb") as file:
         path = os.path.join(TOP, "commands", words[0])
         done = subprocess.run([path, *words[1:]], input=script, stdout=file, stderr=subprocess.PIPE, check=False)
-    if done.returncode != 0 or script and done.stderr:
+    if done.returncode != 0:
         raise Failed("%s: status %d: %s" % (words[0], done.returncode, done.stderr.decode("utf-8", "replace")))
     return time.monotonic() - start
 
@@ -115,7 +115,7 @@ def split(_: argparse.Namespace, work: str) -> List[bool]:
     for count in (above + 10, above + 25, 1000):
         command(["facl-snapshot", "--split", str(count), parts, tree])
         folders = sorted(entry.path for entry in os.scandir(parts))
-        command(["facl-ask", "--each", *folders], OF_REAL_TREE, joined)
+        command(["facl-ask", "--with-root", "--each", *folders], OF_REAL_TREE, joined)
         same.append(filecmp.cmp(joined, whole, shallow=False))
         for folder in folders:
             with open(os.path.join(folder, "dump"), "rb") as dump:

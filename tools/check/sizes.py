@@ -36,7 +36,8 @@ import sys
 import tempfile
 import time
 from functools import partial
-from typing import Callable, Dict, Iterable, Iterator, List, Mapping, NamedTuple, Optional, Sequence, Tuple, Union
+from typing import Callable, Counter, Dict, Iterable, Iterator, List, Mapping, NamedTuple, Optional, Sequence, Tuple
+from typing import Union
 
 sys.dont_write_bytecode = True
 sys.path.insert(0, os.path.join(os.path.dirname(os.path.realpath(__file__)), "..", "lib"))
@@ -106,10 +107,12 @@ class Run(Expect):
 
     def fault(self, program: str, folder: str) -> Optional[str]:
         """What differs; None where nothing does."""
-        done = subprocess.run(self.words(program, folder), input=b"".join(self.lines), capture_output=True, check=False)
+        words, script = self.words(program, folder), b"".join(self.lines)
+        printed = subprocess.run(words, input=script, capture_output=True, check=False)
         told = b"".join(b"line %d: %s\n" % it if it[0] else b"facl: %s\n" % it[1] for it in self.messages)
         status = 2 if (0 in dict(self.messages)) else 1 if told else 0
-        pair = (done.stdout, done.stderr, done.returncode), (self.out, told.replace(b"FOLDER", folder.encode()), status)
+        wanted = (self.out, told.replace(b"FOLDER", folder.encode()), status)
+        pair = (printed.stdout, printed.stderr, printed.returncode), wanted
         texts = (f"{shown(out)!r}, {shown(err)!r}, {end}" for out, err, end in pair)
         return None if pair[0] == pair[1] else f"{self.name}: %s in place of %s" % tuple(texts)
 
@@ -119,13 +122,13 @@ class EndlessRun(Run):
 
     def fault(self, program: str, folder: str) -> Optional[str]:
         chunk, given, words = b"".join(self.lines), 0, self.words(program, folder)
-        with subprocess.Popen(words, stdin=-1, stdout=-1, stderr=subprocess.DEVNULL, bufsize=0) as done:
-            assert done.stdin and done.stdout
+        with subprocess.Popen(words, stdin=-1, stdout=-1, stderr=subprocess.DEVNULL, bufsize=0) as reader:
+            assert reader.stdin and reader.stdout
             with contextlib.suppress(BrokenPipeError):
                 while given < 2 * SCRIPT:
-                    given += done.stdin.write(chunk)
-            done.stdin.close()
-            found = (done.stdout.read(), done.wait(), given < 2 * SCRIPT)
+                    given += reader.stdin.write(chunk)
+            reader.stdin.close()
+            found = (reader.stdout.read(), reader.wait(), given < 2 * SCRIPT)
         return None if found == (b"", 2, True) else f"{self.name}: found {found}"
 
 
@@ -777,6 +780,8 @@ SHAPES = [
 
 # Running.
 
+done: Counter[str] = Counter()
+
 
 def of_limits(given: argparse.Namespace, runs: Callable[[], Iterator[Run]]) -> List[str]:
     """Runs each alone, and prints how many there are; returns what differs."""
@@ -784,6 +789,7 @@ def of_limits(given: argparse.Namespace, runs: Callable[[], Iterator[Run]]) -> L
     for one in runs():
         with tempfile.TemporaryDirectory(prefix="facl-sizes.") as folder:
             found.append(one.fault(given.program, folder))
+    done["runs at limits"] += len(found)
     print(f"{runs.__name__}: {len(found)} runs, {time.perf_counter() - started:.1f} s", flush=True)
     return [fault for fault in found if fault]
 
@@ -792,6 +798,7 @@ def of_part(given: argparse.Namespace, part: Callable[[str], List[Expect]]) -> L
     """Runs a part, and prints its times and the most memory; fails at another message."""
     with tempfile.TemporaryDirectory(prefix="facl-sizes.") as folder:
         times, memory = timed(given.program, folder, part(folder))
+    done["large parts"] += 1
     taken = ", ".join(f"{name} {spent:.2f} s" for name, spent, _ in times)
     print(f"{part.__name__}: {taken}; at most {memory >> 20} MB", flush=True)
     return []
@@ -814,15 +821,18 @@ def of_shape(given: argparse.Namespace, shape: Shape) -> List[str]:
     sizes = (shape.sizes[given.full] // shape.growth, shape.sizes[given.full])
     best: Dict[int, List[float]] = {}
     for _ in range(2):
-        for at in range(2):
-            names, times, memory = least(given, shape, sizes[at])
+        memory = []
+        for at, size in enumerate(sizes):
+            names, times, most = least(given, shape, size)
             best[at] = [min(pair) for pair in zip(times, best.get(at, times))]
+            memory.append(str(most))
         ratios = [after / before if after >= 0.05 else 0 for before, after in zip(best[0], best[1])]
         if max(ratios) <= 6:
             break
+    done["shapes"] += 1
     grown = [*zip(names, best[0], best[1], ratios)]
     cells = (f"{name} {few:.3f}, {many:.3f}" + f" ({ratio:.1f})" * (ratio > 0) for name, few, many, ratio in grown)
-    print(f"| {shape.about} | {sizes[0]:,}, {sizes[1]:,} | {memory} MB | {'; '.join(cells)} |", flush=True)
+    print(f"| {shape.about} | {sizes[0]:,}, {sizes[1]:,} | {', '.join(memory)} MB | {'; '.join(cells)} |", flush=True)
     return [f"{name} {ratio:.1f} times as long" for name, _, _, ratio in grown if ratio > 6]
 
 
@@ -838,12 +848,14 @@ def main() -> int:
     checks += [(it.name, partial(of_shape, given, it)) for it in SHAPES if every or given.shapes]
     checks = [(name, check) for name, check in checks if not given.words or any(it in name for it in given.words)]
     faults: List[str] = []
+    if every or given.shapes:
+        print("| Shape | Sizes | Most memory | Steps, seconds at the one and the other (ratio) |\n|---|---|---|---|")
     for name, check in checks:
         try:
             faults += [f"{name}: {fault}" for fault in check()]
         except Failed as fault:
             faults.append(f"{name}: {fault}")
-    return conclude(given, f"{len(checks)} groups of limits, parts and shapes", faults)
+    return conclude(given, ", ".join(f"{number} {what}" for what, number in done.items()), faults)
 
 
 if __name__ == "__main__":
