@@ -250,7 +250,7 @@ class Program:
 
 
 def refused_growths(program: str) -> int:
-    """Refuses each growth of each session; returns how many there are."""
+    """Refuses each growth of each session, alone and with all after it; returns how many there are."""
     growths = 0
     with tempfile.TemporaryDirectory(prefix="facl-growth.") as folder:
         library, source = os.path.join(folder, "refuse_growth.so"), os.path.join(HERE, "refuse_growth.c")
@@ -260,7 +260,8 @@ def refused_growths(program: str) -> int:
             for text, content in zip(TEXTS, (PASSWD, GROUP, dump) if dump else ()):
                 write_text(texts, text, [content])
             one = Program(words_of(program, texts), library, name, units_of(script))
-            growths += one.sweep(False) + one.sweep(True)
+            growths += one.sweep(False)
+            one.sweep(True)
     return growths
 
 
