@@ -3,25 +3,23 @@
 
 usage: tools/check/sizes.py PROGRAM [--limits] [--large] [--shapes [--full] [--runs N]] [--record] [WORD..]
 
-All three, or those that are given; with words, only what has one of them in its name. What is expected is composed from
-the rules of docs/SPECIFICATION.md. The exit status is 1 where something differs, 2 where the words are others.
+All three tables, or those that are given; with words, only what has one of them in its name. What is expected is composed
+from the rules of docs/SPECIFICATION.md. The exit status is 1 where something differs, 2 where the words are others.
 
 --limits: each limit at its last value, and one above; all that the program prints is compared. It takes 700 MB of
 memory and as much in the temporary folder.
 
 --large: 20,000 files with lists of up to 4,096 entries and few users, or 30,000 users and few files; 30,000 groups,
 names of 200 bytes, paths of 4,000 components, lines of 65,536 bytes and thousands of words, texts of 10 MB. The
-messages are compared, so `no memory` is a failure. It prints times and the most memory, and takes 13 seconds and 500
-MB.
+messages are compared, so `no memory` is a failure. It takes 13 seconds and 500 MB.
 
---shapes: texts that the program loads, and steps of lines, over so many files, users, lines or bytes. The time of a
-step is to be at most 6 times that at a quarter of the size: as long as it grows by the size, or by that and a
-logarithm, with room for noise and for memory that is out of the caches. Time is processor time of the program, the best
-of N runs (2), and of as many again where it grows by more; a step of less than 50 ms is not compared. Where each line
-of a step looks at everything, as a userdel, the number of lines stays, so the time of a line is compared. Where the
-paths of a shape contain one another, the texts grow by the square, and the size is compared with its half. The messages
-are compared too. --full takes the sizes of the limits, some 3 GB and a quarter of an hour; without it all take two
-minutes.
+--shapes: texts that the program loads, and steps of lines, over so many files, users, lines or bytes, whose messages are
+compared. The time of a step is to be at most 6 times that at a quarter of the size: as long as it grows by the size, or
+by that and a logarithm, with room for noise and for memory that is out of the caches. Time is processor time of the
+program, the best of N runs (2), and of as many again where it grows by more; a step of less than 50 ms is not compared.
+Where each line of a step looks at everything, as a userdel, the number of lines stays, so the time of a line is compared.
+Where the paths of a shape contain one another, the texts grow by the square, and the size is compared with its half.
+--full takes the sizes of the limits, some 3 GB and a quarter of an hour; without it all take two minutes.
 """
 from __future__ import annotations
 
@@ -76,6 +74,27 @@ def step(name: str, units: Iterable[Unit]) -> Expect:
         texts.append(text + "\n")
         number += texts[-1].count("\n")
     return Expect(name, ["".join(texts).encode("latin-1")], messages)
+
+
+def write_people(folder: str, users: int = 10, groups: int = 10, name: Callable[[str, int], str] = "{}{}".format,
+                 members: Callable[[int], Iterable[int]] = lambda k: (k % 10, (k + 1) % 10)) -> None:
+    """Users, and groups with their members by number."""
+    write(folder, "passwd", (f"{name('u', k)}:x:{100_000 + k}:{200_000 + k % groups}:::\n" for k in range(users)))
+    rows = ((k, ",".join(name("u", it) for it in members(k))) for k in range(groups))
+    write(folder, "group", (f"{name('g', k)}:x:{200_000 + k}:{names}\n" for k, names in rows))
+
+
+class Shape(NamedTuple):
+    """Texts that the program loads, and what it answers, over so many files, users, lines or bytes, or with --full. Its
+    times are compared with those at a part of the size, unless that is 1."""
+
+    name: str
+    about: str
+    dump: Optional[Callable[[int], Iterable[str]]]
+    steps: Callable[[int], List[Expect]]
+    sizes: Tuple[int, int] = (100_000, 1_000_000)
+    people: Callable[[str, int], None] = lambda folder, size: write_people(folder)
+    growth: int = 4
 
 
 # Limits.
@@ -340,16 +359,8 @@ LIMITS = (lists_of_dumps, lists_of_lines, entries_of_texts, rows_of_people, leng
 
 # Everything large.
 
-MANY_FILES, MANY_PEOPLE, MANY_BYTES = 20_000, 30_000, 10_000_000
+MANY_PEOPLE, MANY_BYTES = 30_000, 10_000_000
 DEEP, JUNK = "/".join(["c"] * 4_000), ("x" * 999 + "\n") * (MANY_BYTES // 1000)
-
-
-def write_people(folder: str, users: int = 10, groups: int = 10, name: Callable[[str, int], str] = "{}{}".format,
-                 members: Callable[[int], Iterable[int]] = lambda k: (k % 10, (k + 1) % 10)) -> None:
-    """Users, and groups with their members by number."""
-    write(folder, "passwd", (f"{name('u', k)}:x:{100_000 + k}:{200_000 + k % groups}:::\n" for k in range(users)))
-    rows = ((k, ",".join(name("u", it) for it in members(k))) for k in range(groups))
-    write(folder, "group", (f"{name('g', k)}:x:{200_000 + k}:{names}\n" for k, names in rows))
 
 
 def long_name(letter: str, k: int) -> str:
@@ -370,28 +381,22 @@ def long_record(k: int, named: int) -> str:
     """A record whose list has so many named users, by number, and a group."""
     users = lines(f"user:{100_000 + 7 * k % 13 + it}:rw-" for it in range(named))
     entries = f"user::rw-\n{users}group::r--\ngroup:{user(k, 'g')}:r--\nmask::rw-\nother::---\n"
-    return record(long_path(k), entries, "100001", "200001") + "\n"
+    return record(long_path(k), entries, "100001", "200001")
 
 
 def large_dump(files: int) -> Iterator[str]:
     owner, defaults = ("100001", "200001"), lines(f"default:{entry}" for entry in FOLDER.split())
-    yield record(".", FOLDER, *owner) + "\n"
+    yield record(".", FOLDER, *owner)
     for k in range(files):
         if k % 100 == 0:
-            yield record(long_path(k).split("/")[0] + "/", FOLDER + defaults, *owner) + "\n"
+            yield record(long_path(k).split("/")[0] + "/", FOLDER + defaults, *owner)
         yield long_record(k, 4_091 if k % 200 == 7 else 300 if k % 20 == 0 else 3)
-    yield record(f"{DEEP}/", FOLDER, *owner) + "\n" + record(f"{DEEP}/f", PLAIN, *owner) + "\n"
-
-
-def write_large(folder: str, files: int, users: int) -> None:
-    """All groups, and so many users and files."""
-    write_people(folder, users, MANY_PEOPLE, long_name, lambda k: (k % users, (7 * k + 1) % users))
-    write(folder, "dump", large_dump(files))
+    yield record(f"{DEEP}/", FOLDER, *owner) + "\n" + record(f"{DEEP}/f", PLAIN, *owner)
 
 
 def restored(last: int) -> str:
     """The text of a restore of some 10 MB."""
-    records = [long_record(k, 3) for k in range(last - 100)]
+    records = [long_record(k, 3) + "\n" for k in range(last - 100)]
     before = itertools.accumulate(map(len, records), initial=0)
     return "".join(record for record, size in zip(records, before) if size <= MANY_BYTES)
 
@@ -495,29 +500,7 @@ def faults_of_commands() -> List[Unit]:
     ]
 
 
-def few_users(folder: str) -> List[Expect]:
-    """All files and groups, and some users: every tool, faults, and every tool again."""
-    write_large(folder, MANY_FILES, 20)
-    return [step("tools", edits(MANY_FILES)), step("faults of entries", faults_of_entries()),
-            step("faults of commands", faults_of_commands()), step("tools again", edits(MANY_FILES - 100)),
-            step("after them", [f"may --reach {user(1)} r", "index", "changes", "changes --reach"])]
-
-
-def long_lines(folder: str) -> List[Expect]:
-    """The same files: faults of lines, and of restores of 10 MB: the first ones, since a script has at most 67 MB."""
-    write_large(folder, MANY_FILES, 20)
-    return [step("lines", faults_of_lines()), step("restores", faults_of_restores(MANY_FILES)[:3])]
-
-
-def restores(folder: str) -> List[Expect]:
-    """The other faults of restores, of 5 MB."""
-    write_large(folder, MANY_FILES, 20)
-    return [step("restores", faults_of_restores(MANY_FILES // 3)[3:])]
-
-
-def few_files(folder: str) -> List[Expect]:
-    """All users and groups, and some files."""
-    write_large(folder, 200, MANY_PEOPLE)
+def of_few_files(_: int) -> List[Expect]:
     people = [f"gpasswd -{how} {user(k)} {user(k + 1, 'g')}" for k in range(10) for how in "ad"]
     people += [f"usermod -g {user(k + 5, 'g')} {user(k)}" for k in range(10)]
     people += [f"useradd -u {k} -g {user(k, 'g')} {user(k, 'new')}" for k in range(5)]
@@ -528,12 +511,11 @@ def few_files(folder: str) -> List[Expect]:
             step("faults of commands", faults_of_commands())]
 
 
-def loads(folder: str) -> List[Expect]:
-    """Texts that are loaded by lines, and the faults of their last lines."""
-    passwd = "load passwd\n" + lines(f"{long_name('u', k)}:x:{k}:5:::" for k in range(MANY_PEOPLE))
-    group = "load group\n" + lines(f"{long_name('g', k)}:x:{k}:{long_name('u', k)}" for k in range(MANY_PEOPLE))
-    files, tail, bad = "load dump\n" + "".join(large_dump(200)), "# file: last\n# owner: 5\n", f"{'x' * 60_000}\n."
-    row = f"load: text line {MANY_PEOPLE + 1}: bad row"
+def of_loads(size: int) -> List[Expect]:
+    passwd = "load passwd\n" + lines(f"{long_name('u', k)}:x:{k}:5:::" for k in range(size))
+    group = "load group\n" + lines(f"{long_name('g', k)}:x:{k}:{long_name('u', k)}" for k in range(size))
+    files, tail, bad = "load dump\n" + lines(large_dump(200)), "# file: last\n# owner: 5\n", f"{'x' * 60_000}\n."
+    row, again = f"load: text line {size + 1}: bad row", (passwd + ".", "load: already loaded")
     last = [
         (tail, 0, "header missing"), (f"{tail}# group: 5\nu::7\n", 0, "access list: group:: missing"),
         (f"{tail}# group: 5\nu::7\ng::5\no:5\nd:u::7\n", 0, "default list: group:: missing"),
@@ -541,12 +523,32 @@ def loads(folder: str) -> List[Expect]:
     ]
     number = files.count("\n")
     dumps: List[Unit] = [(f"{files}{text}.", f"load: text line {number + line}: {fault}") for text, line, fault in last]
-    again = (passwd + ".", "load: already loaded")
     return [step("loads", [(passwd + bad, row), passwd + ".", again, (group + bad, row), group + "."]),
-            step("dumps", [*dumps, f"load dump\n{''.join(large_dump(20))}."])]
+            step("dumps", [*dumps, f"load dump\n{lines(large_dump(20))}."])]
 
 
-LARGE = (few_users, long_lines, restores, few_files, loads)
+def large(users: int) -> Callable[[str, int], None]:
+    """All groups, and so many users."""
+    return lambda folder, size: write_people(
+        folder, users, MANY_PEOPLE, long_name, lambda k: (k % users, (7 * k + 1) % users))
+
+
+LARGE = [
+    Shape("few users", "all files and groups, and some users: every tool, faults, and every tool again", large_dump,
+          lambda n: [step("tools", edits(n)), step("faults of entries", faults_of_entries()),
+                     step("faults of commands", faults_of_commands()), step("tools again", edits(n - 100)),
+                     step("after them", [f"may --reach {user(1)} r", "index", "changes", "changes --reach"])],
+          (20_000, 20_000), large(20), 1),
+    Shape("long lines", "the same files: faults of lines, and of restores of 10 MB", large_dump,
+          lambda n: [step("lines", faults_of_lines()), step("restores", faults_of_restores(n)[:3])],
+          (20_000, 20_000), large(20), 1),
+    Shape("restores", "the same files: the other faults of restores, of 5 MB, since a script has at most 67 MB",
+          large_dump, lambda n: [step("restores", faults_of_restores(n // 3)[3:])], (20_000, 20_000), large(20), 1),
+    Shape("few files", "all users and groups, and some files", large_dump, of_few_files,
+          (200, 200), large(MANY_PEOPLE), 1),
+    Shape("loads", "texts that are loaded by lines, and the faults of their last lines", None, of_loads,
+          (MANY_PEOPLE, MANY_PEOPLE), lambda folder, n: None, 1),
+]
 
 
 # Shapes.
@@ -559,18 +561,6 @@ REFUSED: List[Unit] = [
     ("creat --user=u1 --mode=640 d00000/f00", "creat: d00000/f00: exists"), ("rm .", "rm: .: is a directory"),
     ("can nobody .", "can: nobody: no such user"),
 ]
-
-
-class Shape(NamedTuple):
-    """Texts that the program loads, and what it answers, over so many files, users, lines or bytes, or with --full."""
-
-    name: str
-    about: str
-    dump: Callable[[int], Iterable[str]]
-    steps: Callable[[int], List[Expect]]
-    sizes: Tuple[int, int] = (100_000, 1_000_000)
-    people: Callable[[str, int], None] = lambda folder, size: write_people(folder)
-    growth: int = 4
 
 
 def named(k: int) -> str:
@@ -794,46 +784,40 @@ def of_limits(given: argparse.Namespace, runs: Callable[[], Iterator[Run]]) -> L
     return [fault for fault in found if fault]
 
 
-def of_part(given: argparse.Namespace, part: Callable[[str], List[Expect]]) -> List[str]:
-    """Runs a part, and prints its times and the most memory; fails at another message."""
-    with tempfile.TemporaryDirectory(prefix="facl-sizes.") as folder:
-        times, memory = timed(given.program, folder, part(folder))
-    done["large parts"] += 1
-    taken = ", ".join(f"{name} {spent:.2f} s" for name, spent, _ in times)
-    print(f"{part.__name__}: {taken}; at most {memory >> 20} MB", flush=True)
-    return []
-
-
 def least(given: argparse.Namespace, shape: Shape, size: int) -> Tuple[List[str], List[float], int]:
     """The steps with the least time of each, and the most memory in MB."""
     with tempfile.TemporaryDirectory(prefix="facl-sizes.") as folder:
         shape.people(folder, size)
-        write(folder, "dump", (f"{it}\n" for it in shape.dump(size)))
+        if shape.dump:
+            write(folder, "dump", (f"{it}\n" for it in shape.dump(size)))
         steps = shape.steps(size)
-        found = [timed(given.program, folder, steps) for _ in range(given.runs)]
+        found = [timed(given.program, folder, steps) for _ in range(given.runs if shape.growth > 1 else 1)]
     spent = [[time for _, time, _ in times] for times, _ in found]
     names = ["load", *(it.name for it in steps)]
     return names, [min(each) for each in zip(*spent)], max(memory for _, memory in found) >> 20
 
 
 def of_shape(given: argparse.Namespace, shape: Shape) -> List[str]:
-    """Runs a shape at both sizes, twice where a step grows by too much, and prints a row; returns the steps that do."""
-    sizes = (shape.sizes[given.full] // shape.growth, shape.sizes[given.full])
-    best: Dict[int, List[float]] = {}
-    for _ in range(2):
+    """Runs a shape at its sizes, twice where a step grows by too much, and prints a row; returns the steps that do."""
+    if not done["shapes"]:
+        print("| Shape | Sizes | Most memory | Steps, seconds at the one and the other (ratio) |\n|---|---|---|---|")
+    done["shapes"] += 1
+    sizes = sorted({shape.sizes[given.full] // shape.growth, shape.sizes[given.full]})
+    best: List[List[float]] = [[] for _ in sizes]
+    for _ in sizes:
         memory = []
         for at, size in enumerate(sizes):
             names, times, most = least(given, shape, size)
-            best[at] = [min(pair) for pair in zip(times, best.get(at, times))]
+            best[at] = [min(pair) for pair in zip(times, best[at] or times)]
             memory.append(str(most))
-        ratios = [after / before if after >= 0.05 else 0 for before, after in zip(best[0], best[1])]
+        ratios = [after / before if after > max(0.05, before) else 0 for before, after in zip(best[0], best[-1])]
         if max(ratios) <= 6:
             break
-    done["shapes"] += 1
-    grown = [*zip(names, best[0], best[1], ratios)]
-    cells = (f"{name} {few:.3f}, {many:.3f}" + f" ({ratio:.1f})" * (ratio > 0) for name, few, many, ratio in grown)
-    print(f"| {shape.about} | {sizes[0]:,}, {sizes[1]:,} | {', '.join(memory)} MB | {'; '.join(cells)} |", flush=True)
-    return [f"{name} {ratio:.1f} times as long" for name, _, _, ratio in grown if ratio > 6]
+    cells = [f"{name} {', '.join(f'{time:.3f}' for time in times)}" + f" ({ratio:.1f})" * (ratio > 0)
+             for name, ratio, *times in zip(names, ratios, *best)]
+    shown_sizes = ", ".join(f"{size:,}" for size in sizes)
+    print(f"| {shape.about} | {shown_sizes} | {', '.join(memory)} MB | {'; '.join(cells)} |", flush=True)
+    return [f"{name} {ratio:.1f} times as long" for name, ratio in zip(names, ratios) if ratio > 6]
 
 
 def main() -> int:
@@ -844,12 +828,10 @@ def main() -> int:
     given = options.parse_intermixed_args()
     every = not (given.limits or given.large or given.shapes)
     checks = [(it.__name__, partial(of_limits, given, it)) for it in LIMITS if every or given.limits]
-    checks += [(it.__name__, partial(of_part, given, it)) for it in LARGE if every or given.large]
+    checks += [(it.name, partial(of_shape, given, it)) for it in LARGE if every or given.large]
     checks += [(it.name, partial(of_shape, given, it)) for it in SHAPES if every or given.shapes]
     checks = [(name, check) for name, check in checks if not given.words or any(it in name for it in given.words)]
     faults: List[str] = []
-    if every or given.shapes:
-        print("| Shape | Sizes | Most memory | Steps, seconds at the one and the other (ratio) |\n|---|---|---|---|")
     for name, check in checks:
         try:
             faults += [f"{name}: {fault}" for fault in check()]
