@@ -3,8 +3,9 @@
 
 usage: tools/check/sizes.py PROGRAM [--limits] [--large] [--shapes [--full] [--runs N]] [--record] [WORD..]
 
-All three tables, or those that are given; with words, only what has one of them in its name. What is expected is composed
-from the rules of docs/SPECIFICATION.md. The exit status is 1 where something differs, 2 where the words are others.
+All three tables, or those that are given; with words, only what has one of them in its name. What is expected is
+composed from the rules of docs/SPECIFICATION.md. The exit status is 1 where something differs, 2 where the words are
+others.
 
 --limits: each limit at its last value, and one above; all that the program prints is compared. It takes 700 MB of
 memory and as much in the temporary folder.
@@ -13,13 +14,13 @@ memory and as much in the temporary folder.
 names of 200 bytes, paths of 4,000 components, lines of 65,536 bytes and thousands of words, texts of 10 MB. The
 messages are compared, so `no memory` is a failure. It takes 13 seconds and 500 MB.
 
---shapes: texts that the program loads, and steps of lines, over so many files, users, lines or bytes, whose messages are
-compared. The time of a step is to be at most 6 times that at a quarter of the size: as long as it grows by the size, or
-by that and a logarithm, with room for noise and for memory that is out of the caches. Time is processor time of the
-program, the best of N runs (2), and of as many again where it grows by more; a step of less than 50 ms is not compared.
-Where each line of a step looks at everything, as a userdel, the number of lines stays, so the time of a line is compared.
-Where the paths of a shape contain one another, the texts grow by the square, and the size is compared with its half.
---full takes the sizes of the limits, some 3 GB and a quarter of an hour; without it all take two minutes.
+--shapes: texts that the program loads, and steps of lines, over so many files, users, lines or bytes, whose messages
+are compared. The time of a step is to be at most 6 times that at a quarter of the size: as long as it grows by the
+size, or by that and a logarithm, with room for noise and for memory that is out of the caches. Time is processor time
+of the program, the best of N runs (2), and of as many again where it grows by more; a step of less than 50 ms is not
+compared. Where each line of a step looks at everything, as a userdel, the number of lines stays, so the time of a line
+is compared. Where the paths of a shape contain one another, the texts grow by the square, and the size is compared with
+its half. --full takes the sizes of the limits, some 3 GB and a quarter of an hour; without it all take two minutes.
 """
 from __future__ import annotations
 
