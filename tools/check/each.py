@@ -64,7 +64,7 @@ def command(words: List[str], script: bytes = b"", out: str = os.devnull) -> flo
         path = os.path.join(TOP, "commands", words[0])
         done = subprocess.run([path, *words[1:]], input=script, stdout=file, stderr=subprocess.PIPE, check=False)
     if done.returncode != 0:
-        raise Failed("%s: status %d: %s" % (words[0], done.returncode, done.stderr.decode("utf-8", "replace")))
+        raise Failed(f"{words[0]}: status {done.returncode}: {done.stderr!r}")
     return time.monotonic() - start
 
 
@@ -127,8 +127,8 @@ def split(_: argparse.Namespace, work: str) -> List[bool]:
 
 def main() -> int:
     options = options_of(__doc__, files=50_000, users=20, parts=5)
-    for name in ("--index", "--split"):
-        options.add_argument(name, action="store_true")
+    options.add_argument("--index", action="store_true")
+    options.add_argument("--split", action="store_true")
     options.add_argument("--folder", default="/tmp")
     given = options.parse_args()
     os.environ["FACL"] = given.program

@@ -18,9 +18,9 @@ each, and the script their lines in turn. Of each batch, with no second implemen
 
 A batch that breaks one is cut down to as few lines as do, which are printed. --verbose counts the refusals by texts.
 
-With --restart a small tree goes through --lines (50); there are --count (200) of them. After each --every (10) a new
-session on the same state has to answer the same: `index`, which has every verdict, `may --reach` of each user and
-request, `can --reach` and `who --reach` of each file; as far as the root is not removed.
+With --restart a small tree goes through --lines (50), --count (200) times. After each --every (10) a new session on the
+same state has to answer the same, as far as the root is not removed: `index`, which has every verdict, `may --reach` of
+each user and request, `can --reach` and `who --reach` of each file.
 
 With --memory the tree of tools/lib/texts.py, --files (100,000) and --users (1,000), gets --lines (20,000) that are all
 accepted: most change one file or one user or ask something, one of 50 a directory with its hundred files, one of 1,000
@@ -443,8 +443,7 @@ def main() -> int:
             program = Program(given.program, folder, given.restart)
             amount, broken = (states if given.restart else sessions)(program, given)
             what = "states differ after a restart" if given.restart else "batches break a promise"
-            faults = [f"{broken} {what}"] * (broken > 0)
-            amount += f", {program.runs} runs"
+            amount, faults = f"{amount}, {program.runs} runs", [f"{broken} {what}"] * (broken > 0)
     return conclude(given, f"{amount}, seed {given.seed}, {time.monotonic() - started:.0f} s", faults)
 
 

@@ -130,11 +130,10 @@ class Run(Expect):
         words, script = self.words(program, folder), b"".join(self.lines)
         printed = subprocess.run(words, input=script, capture_output=True, check=False)
         told = b"".join(b"line %d: %s\n" % it if it[0] else b"facl: %s\n" % it[1] for it in self.messages)
-        status = 2 if (0 in dict(self.messages)) else 1 if told else 0
-        wanted = (self.out, told.replace(b"FOLDER", folder.encode()), status)
-        pair = (printed.stdout, printed.stderr, printed.returncode), wanted
-        texts = (f"{shown(out)!r}, {shown(err)!r}, {end}" for out, err, end in pair)
-        return None if pair[0] == pair[1] else f"{self.name}: %s in place of %s" % tuple(texts)
+        told, status = told.replace(b"FOLDER", folder.encode()), 2 if 0 in dict(self.messages) else 1 if told else 0
+        pair = (printed.stdout, printed.stderr, printed.returncode), (self.out, told, status)
+        found, due = (f"{shown(out)!r}, {shown(err)!r}, {end}" for out, err, end in pair)
+        return None if pair[0] == pair[1] else f"{self.name}: {found} in place of {due}"
 
 
 class EndlessRun(Run):
