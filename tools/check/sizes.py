@@ -110,7 +110,8 @@ FIRST = 10_000
 
 
 class Run(Expect):
-    """A run of its own, with its texts, whose output is compared too. The message of line 0 is that of an early end."""
+    """A run of its own, with its texts, whose output is compared too. The message of line 0 is that of an early end; in
+    it FOLDER is that of the texts."""
 
     def __init__(self, script: str, out: str = "", messages: Mapping[int, str] = {}, files: Files = WORLD) -> None:
         pairs = [(number, text.encode()) for number, text in messages.items()]
@@ -831,6 +832,8 @@ def main() -> int:
     checks += [(it.name, partial(of_shape, given, it)) for it in LARGE if every or given.large]
     checks += [(it.name, partial(of_shape, given, it)) for it in SHAPES if every or given.shapes]
     checks = [(name, check) for name, check in checks if not given.words or any(it in name for it in given.words)]
+    if not checks:
+        raise Failed("no name has one of these words")
     faults: List[str] = []
     for name, check in checks:
         try:
