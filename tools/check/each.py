@@ -31,7 +31,6 @@ from script import TOP, Failed, run  # noqa: E402
 from session import conclude, options_of  # noqa: E402
 from texts import write_tree  # noqa: E402
 
-SESSION_FILES = 1_048_576
 QUESTIONS = (b"may u3 w\n", b"may --reach u5 r\n", b"who r d00001/f001\n", b"can u1 d00000/f000\n",
              b"getfacl -R d00002\n", b"why --reach u1 d00000/f000\n", b"gpasswd -a u9 g0\nmay u9 r\nchanges --reach\n",
              b"setfacl -m u:u7:rwx d00003/f001\nwho w d00003/f001\nchanges\n")
@@ -79,7 +78,7 @@ def measure(given: argparse.Namespace, work: str) -> List[bool]:
     for script in QUESTIONS + (b"index\n",) * given.index:
         seconds = command(["facl-ask", "--each", *folders], script, joined)
         text = f"{script.decode()!r:55} {seconds:7.1f} s, {os.path.getsize(joined)} bytes"
-        if given.files <= SESSION_FILES:
+        if given.files <= 1_048_576:
             alone = command(["facl-ask", whole], script, one)
             same.append(filecmp.cmp(joined, one, shallow=False))
             text += f", {'' if same[-1] else 'NOT '}equal to one session's, which took {alone:.1f} s"

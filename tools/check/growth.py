@@ -260,8 +260,7 @@ def refused_growths(program: str) -> int:
             for text, content in zip(TEXTS, (PASSWD, GROUP, dump) if dump else ()):
                 write_text(texts, text, [content])
             one = Program(words_of(program, texts), library, name, units_of(script))
-            growths += one.sweep(False)
-            one.sweep(True)
+            growths += max(one.sweep(False), one.sweep(True))
     return growths
 
 
