@@ -20,14 +20,8 @@ while [ $# -gt 0 ]; do
         program=$(realpath -- "$2")
         shift 2
         ;;
-    --help)
-        sed -n '2,/^set/{/^set/!s/^# \{0,1\}//p}' "$0"
-        exit 0
-        ;;
-    -*)
-        sed -n '/^# usage:/,/^#$/s/^# //p' "$0" >&2
-        exit 2
-        ;;
+    --help) show_head ;;
+    -*) usage ;;
     *) break ;;
     esac
 done
