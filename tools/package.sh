@@ -61,7 +61,7 @@ mkdir -p "$root/usr/share/lintian/overrides"
 echo 'facl: unstripped-binary-or-object [usr/bin/facl]' >"$root/usr/share/lintian/overrides/facl"
 {
     printf 'facl (%s) unstable; urgency=low\n\n' "$version"
-    git log -20 --format='  * %<(74,trunc)%s' HEAD
+    git log -20 --format='%w(78,2,4)* %s' HEAD
     git show -s --format='%n -- %an <%ae>  %cD' HEAD
 } | gzip -9n >"$root/usr/share/doc/facl/changelog.gz"
 size=$(du -sk "$root/usr" | cut -f 1)
