@@ -30,9 +30,8 @@ from session import program_at  # noqa: E402
 
 NAMES = ["<script>document.title=1", "<title><b>", "<img src=x onerror=document.title=1>", "&lt;", "{{1}}", "\"'`",
          "javascript:document.title=1"]
-# What is done with a page: the first word of an action, and its script.
-ACTIONS = {
-    "click": "find('#tree .name, label')?.click()",
+ACTIONS = {  # By their first words, in Page.do.
+    "click": "find('#tree .name, label').click()",
     "choose": "const box = document.getElementById('who'); box.value = find('#who option').value; box.onchange()",
     "search": "const box = document.getElementById('search'); box.value = text; box.oninput()",
     "open": "for (let it; it = find('.open'); it.click());"}
@@ -40,15 +39,15 @@ ROWS = """[...document.querySelectorAll('#tree .row')].map(row => ['.name', '.ri
     part => [...row.querySelectorAll(part)].map(it => it.textContent).join('>')).join('|'))"""
 FOUND = """[document.title, document.querySelectorAll('script').length, performance.getEntriesByType('resource').length,
     document.querySelectorAll('img, b, iframe, a, link').length]"""
-# Files of a company with their owner, group and list; and an edit of them.
-EDIT = "setfacl -m u:ines:r /srv/finance/budget.ods\n"
-COMPANY = """0 0 rwx r-x r-x|/ /srv/ /srv/sales/
-anna finance rwx r-x --- group:audit:--x mask::r-x|/srv/finance/ /srv/finance/bills/
+# Files of a company with their owner, group and list.
+COMPANY = """0 0 rwx r-x r-x|/ /srv/ /srv/projects/ /srv/sales/
+anna finance rwx r-x --x|/srv/finance/ /srv/finance/bills/
 anna finance rw- r-- --- user:ben:rw- mask::r--|/srv/finance/budget.ods
-anna finance rw- --- ---|/srv/finance/payroll.ods
+anna finance rw- r-- ---|/srv/finance/audit.pdf /srv/finance/tax.pdf
+anna finance rw- --- ---|/srv/finance/loans.ods /srv/finance/payroll.ods
 dora hr rwx r-x ---|/srv/hr/
 dora hr rw- rw- ---|/srv/hr/contracts.odt /srv/hr/holidays.ods /srv/hr/reviews.odt
-felix sales rw- rw- r--|/srv/sales/leads.ods /srv/sales/offers.odt /srv/sales/prices.ods
+felix sales rw- rw- r--|/srv/projects/hall.odt /srv/projects/shop.odt /srv/sales/offers.odt /srv/sales/prices.ods
 anna finance rw- rw- ---|/srv/finance/plan.ods """ + " ".join(f"/srv/finance/bills/{it}.pdf" for it in range(101, 113))
 
 
@@ -76,9 +75,9 @@ class Page:
 
     def __init__(self, driver: Any, program: str, work: str, snapshot: str, script: str = "") -> None:
         self.driver, self.file = driver, os.path.join(work, os.path.basename(snapshot) + ".html")
-        words = [sys.executable, "-B", f"{TOP}/commands/facl-report", "--program", program, snapshot, "-"]
-        start = time.monotonic()
-        done = subprocess.run(words[:None if script else -1], input=script.encode(), capture_output=True, check=False)
+        words = [sys.executable, "-B", f"{TOP}/commands/facl-report", "--program", program, os.path.basename(snapshot)]
+        start, words, there = time.monotonic(), words + ["-"] * bool(script), os.path.dirname(snapshot)
+        done = subprocess.run(words, cwd=there, input=script.encode(), capture_output=True, check=False)
         Path(self.file).write_bytes(done.stdout)
         expect(done.returncode == 0, f"facl-report: status {done.returncode}: {done.stderr!r}")
         self.seconds, self.opened = time.monotonic() - start, time.monotonic()
@@ -155,13 +154,14 @@ def check_chain(driver: Any, program: str, work: str, levels: int) -> None:
 
 def take_picture(driver: Any, program: str, work: str, file: str) -> int:
     """What Ben may do, and how the edit for Ines lets him write; nothing is cut off."""
-    people, groups = "anna ben dora emil felix greta ines", "finance hr sales audit staff"
-    page = Page(driver, program, work, write_texts(os.path.join(work, "company"), people, groups, COMPANY), EDIT)
-    page.show(1200, 700, scale=2)
-    page.do("choose ben", "click budget.ods").expect(
-        "budget.ods|r-->rw-|changed", "by user:ben:rw-  #effective:r-- \u2192 user:ben:rw-")
+    folder = write_texts(os.path.join(work, "before"), "anna ben dora emil felix ines", "finance hr sales", COMPANY)
+    page = Page(driver, program, work, folder, "setfacl -m u:ines:r /srv/finance/budget.ods\n")
+    page.show(1200, 720, scale=2)
+    page.do("choose ben", "click budget.ods")
+    page.expect("budget.ods|r-->rw-|changed", "by user:ben:rw-  #effective:r-- \u2192 user:ben:rw-")
     high = page.get("Math.max(document.body.scrollHeight, document.querySelector('#side > div').scrollHeight + 110)")
-    expect(high <= 700 and driver.save_screenshot(file), f"{file}: no picture, or the page is {high} points high")
+    expect(high <= 720, f"the page is {high} points high")
+    expect(driver.find_element("tag name", "body").screenshot(file), f"{file}: cannot be written")
     return 0
 
 
