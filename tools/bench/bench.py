@@ -103,7 +103,7 @@ class Step(NamedTuple):
             return [self.line, *first_records(tree.folder, MAX_RESTORED), "."]
         some, groups = tree.some(), max(1, tree.users // 10)
         return [self.line.format(k=k, file=some[k], directory=some[k].split("/")[0], group=k % groups, id=999_900 + k,
-                                 user=k % tree.users, seventh=k * 7 % tree.users, other=k * 37 % tree.users)
+                                 user=k % tree.users, seventh=k * 7 % tree.users)
                 for k in range(self.count(tree))]
 
     def parts(self, tree: Tree) -> int:
@@ -116,8 +116,8 @@ class Step(NamedTuple):
 OF_LOAD = (Step(LOAD, "", "2.5 us", "4 us"), Step(LOAD_BYTES, "", "1,000", "2,500"))
 WHO = Step("`who`", "who r {file}")
 QUESTIONS = (
-    WHO, Step("`who --reach`", "who --reach r {file}"), Step("`may`, a file", "may u{other} w", "30 ns", "30 ns"),
-    Step("`may --reach`, a file", "may --reach u{other} w", "30 ns", "30 ns"))
+    WHO, Step("`who --reach`", "who --reach r {file}"), Step("`may`, a file", "may u{k} w", "30 ns", "30 ns"),
+    Step("`may --reach`, a file", "may --reach u{k} w", "30 ns", "30 ns"))
 CHMOD = Step("`chmod` of one file", "chmod 640 {file}", "40 us", "40 us")
 SETFACL = Step("`setfacl -m` of one file", "setfacl -m u:u{user}:rwx {file}", "40 us", "40 us")
 DIRECTORY = Step("`chmod` of a directory", "chmod 751 {directory}")
@@ -293,8 +293,8 @@ def make_files(folder: str) -> None:
 
 
 def operands(tree: Tree, line: str) -> List[str]:
-    """The files that the calls of a line name; `touch` and `rm` name new ones."""
-    return [f"{it}.{k}" if line in ("touch", "rm") else it for k, it in enumerate(tree.some())]
+    """The files that the calls of a line name, in path order; `touch` and `rm` name new ones."""
+    return [f"{it}.{k}" if line in ("touch", "rm") else it for k, it in enumerate(sorted(tree.some()))]
 
 
 def real_times(tree: Tree) -> Figures:
