@@ -71,7 +71,7 @@ install_files() {
     install -d -m 755 -- "$to/lib/facl" "$to/lib/facl/facl_commands"
     install -m 644 -- "$top"/commands/facl_commands/*.py "$top"/commands/facl_commands/report.css \
         "$top"/commands/facl_commands/report.js "$to/lib/facl/facl_commands"
-    sed -i "s/^version=0$/version=$version/" "$to/bin/facl-snapshot"
+    sed -i "s/^version=0\>/version=$version/" "$to/bin/facl-snapshot"
     sed -i "s/^VERSION = \"0\"/VERSION = \"$version\"/" "$to/lib/facl/facl_commands/__init__.py"
     for name in $python_commands; do
         install -m 755 -- "$top/commands/$name" "$to/lib/facl"

@@ -51,6 +51,10 @@ root=$work/root
 mkdir "$root"
 chmod 755 "$root"
 DESTDIR=$root tools/install.sh --program "$program" --version "$version" /usr >/dev/null
+for command in snapshot ask plan apply report; do
+    said=$(PYTHONDONTWRITEBYTECODE=yes "$root/usr/bin/facl-$command" --version)
+    [ "$said" = "facl-$command $version" ] || fail "facl-$command --version prints $said"
+done
 gzip -9n "$root"/usr/share/man/man1/*.1
 mkdir -p "$root/DEBIAN" "$root/usr/share/doc/facl"
 printf '%s\n' "$origin" >"$root/usr/share/doc/facl/commit"
