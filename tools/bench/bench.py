@@ -12,13 +12,13 @@ usage: tools/bench/bench.py MEASUREMENT PROGRAM [FOLDER] [--files N,..] [--users
            made in FOLDER, which has to take lists (100000 files, 100 users, 3 runs)
   dump     the dump of a real FOLDER by `getfacl -R -p`, loaded, listed, and compared record by record (3 runs)
   live     as root, facl-snapshot, facl-plan and facl-apply beside getfacl and setfacl on a tree that is made in FOLDER,
-           --only some of these steps (100000 files, 30 users, 3 runs)
+           --only some of these steps, with those before them (100000 files, 30 users, 3 runs)
 
 FOLDER is that of temporary files where it may be left out; what is made in it is removed. Times are processor time, the
 best of the runs, as the most memory is the least; those of `live` are by the clock, the median of the runs. Standard
 error has how busy the machine is. What is aimed at is for 1,000,000 files and 1,000 users. FILES are from 102 on, USERS
 from 10 on. The exit status is 1 where the program refuses a line, another command fails, or a record of `dump` differs,
-2 where the words are others or a real tool is not installed.
+2 where the words are others, a real tool is not installed, or `live` is not run as root.
 """
 from __future__ import annotations
 
@@ -453,8 +453,6 @@ def run_steps(given: Words, folder: str, number: int) -> Dict[str, Spent]:
 
 
 def measure_live(given: Words) -> int:
-    if os.geteuid() != 0:
-        raise Failed("run it as root")
     with tempfile.TemporaryDirectory(prefix="facl-bench.", dir=given.folder) as folder:
         os.chmod(folder, 0o755)
         write_live_people(folder, given.users)
@@ -512,6 +510,8 @@ def words() -> Words:
         options.error(f"--only: {given.measurement} has {', '.join(chosen.only) or 'no names'}")
     if given.measurement == "dump" and not given.folder:
         options.error("dump: a FOLDER is missing")
+    if given.measurement == "live" and os.geteuid() != 0:
+        options.error("live: run it as root")
     return given
 
 
