@@ -149,12 +149,18 @@ class Ways(Check):
         lines = [tree.line(), tree.record(tree.chance.choice(tree.all())), tree.record(tree.chance.choice(tree.all()))]
         return (tree, first) if self.planned(tree, b"".join(lines)) else None
 
-    def whole_plan(self, seed: int, more: int) -> Optional[Planned]:
-        """One that changes all files."""
-        tree = Tree(self.work, seed, more)
+    def whole_plan(self, seed: int) -> Planned:
+        """One that changes all files of a larger tree; how long that takes is in seconds."""
+        tree = Tree(self.work, seed, 40)
         first = tree.listing()
-        ids = tree.chance.randrange(2 ** 31), word(tree.top)
-        return (tree, first) if self.planned(tree, b"setfacl -R -m u:%d:rwX,g:audit:--x %s\n" % ids) else None
+        line = b"setfacl -R -m u:%d:rwX,g:audit:--x %s\n" % (tree.chance.randrange(2 ** 31), word(tree.top))
+        expect(self.planned(tree, line), "no plan")
+        started = time.monotonic()
+        must(self.apply(), 0)
+        self.seconds = time.monotonic() - started
+        must(self.apply(UNDO), 0)
+        self.back_to(tree, first)
+        return tree, first
 
     # --- ended early
 
@@ -195,28 +201,33 @@ class Ways(Check):
             self.count(f"kills of {'--undo' if options else 'facl-apply'} at a call that changes or writes")
 
     def at_random(self, tree: Tree, number: int, *options: bytes, ignored: int = 0) -> Done:
-        """A run that gets a signal at a random moment of its work: it has opened the plan by then."""
-        words = self.words(b"facl-apply", *options, self.plan)
-        return self.ended_by(words, number, lambda: time.sleep(tree.chance.uniform(0.03, 0.13)), ignored=ignored)
+        """A run that gets a signal at a random moment: of all, or since it has written that it begins."""
+        limit = time.monotonic() + self.seconds * tree.chance.choice([0, 2])
+
+        def wait() -> None:
+            while time.monotonic() < limit and not self.has_begun():
+                time.sleep(0.0005)
+            time.sleep(tree.chance.uniform(0, 0.02 if self.has_begun() else self.seconds))
+
+        return self.ended_by(self.words(b"facl-apply", *options, self.plan), number, wait, ignored=ignored)
+
+    def has_begun(self) -> bool:
+        """Whether the plan says that its files are between the two."""
+        place = self.name("before.plan/state")
+        return os.path.exists(place) and self.read(place) in (b"applying\n", b"undoing\n")
 
     def check_moments(self, seed: int) -> None:
-        made = self.whole_plan(seed, 0)
-        if made is None:
-            return
-        tree, first = made
+        tree, first = self.whole_plan(seed)
         for turn in range(10):
             if turn % 3 == 2:
                 must(self.apply(), 0)
             self.at_random(tree, signal.SIGKILL, *[UNDO] * (turn % 3 == 2))
+            self.count("kills at random moments" + " in the middle" * self.has_begun())
             self.recover(tree, first, tree.chance.randrange(2))
             self.forget()
-            self.count("kills at random moments")
 
     def check_signals(self, seed: int) -> None:
-        made = self.whole_plan(seed, 40)
-        if made is None:
-            return
-        tree, first = made
+        tree, first = self.whole_plan(seed)
         for number in (signal.SIGHUP, signal.SIGINT, signal.SIGQUIT, signal.SIGTERM):
             self.check_signalled(tree, number, self.at_random(tree, number))
             self.back_to(tree, first)
