@@ -27,18 +27,19 @@ import shutil
 import signal
 import stat
 import sys
+import tempfile
 import time
 from typing import List, Optional, Tuple
 
 sys.dont_write_bytecode = True
 sys.path.insert(0, os.path.join(os.path.dirname(os.path.realpath(__file__)), "..", "lib"))
 from live_tree import (  # noqa: E402
-    CHANGING, MALLORY, PYTHON, USERS, Call, Check, Done, Parts, Tree, copy, expect, main, make,
-    mounted, must, records_of, remove, run, trace, word,
+    CHANGING, MALLORY, USERS, Call, Check, Done, Parts, Tree, child, copy, expect, main, make, mounted, must,
+    records_of, remove, run, trace, word,
 )
 
 PARTS: Parts = {
-    "plans": (200, 6), "kills": (3, 1), "moments": (50, 1), "signals": (20, 1), "faults": (3, 1), "disks": (2, 1),
+    "plans": (200, 4), "kills": (3, 1), "moments": (50, 1), "signals": (20, 1), "faults": (3, 1), "disks": (2, 1),
     "hands": (30, 2), "capabilities": (1, 1), "owners": (10, 1), "chains": (1, 1), "large": (1, 0),
 }
 TEXTS = [b"---", b"--x", b"-w-", b"-wx", b"r--", b"r-x", b"rw-", b"rwx"]
@@ -325,13 +326,15 @@ class Ways(Check):
             if run([b"chattr", b"+" + flag, b"--", name]).returncode != 0:
                 self.count("files that chattr does not take")
                 return
-            must(self.apply(), 1, said=b": Operation not permitted")
-            expect(tree.listing() == first, f"chattr +{flag!r}: not put back")
-            must(run([b"chattr", b"-" + flag, b"--", name]), 0)
-            must(self.apply(), 0)
-            must(run([b"chattr", b"+" + flag, b"--", name]), 0)
-            must(self.apply(UNDO), 4, said=b"1 file is not as before")
-            must(run([b"chattr", b"-" + flag, b"--", name]), 0)
+            try:
+                must(self.apply(), 1, said=b": Operation not permitted")
+                expect(tree.listing() == first, f"chattr +{flag!r}: not put back")
+                must(run([b"chattr", b"-" + flag, b"--", name]), 0)
+                must(self.apply(), 0)
+                must(run([b"chattr", b"+" + flag, b"--", name]), 0)
+                must(self.apply(UNDO), 4, said=b"1 file is not as before")
+            finally:
+                must(run([b"chattr", b"-" + flag, b"--", name]), 0)
             must(self.apply(UNDO), 0)
             self.back_to(tree, first)
             self.count("files that nobody may change")
@@ -508,9 +511,11 @@ def replace_alike(name: bytes, is_same_name: bool) -> None:
 
 def ask_kernel(user: bytes, file: bytes) -> bytes:
     """The requests that the kernel grants, as `can` prints them."""
-    print_all = ("import os, sys; t = sys.argv[2:]\n"
-                 "print(' '.join(t[i] for i in range(1, 8) if os.access(os.fsencode(sys.argv[1]), i)) or 'none')")
-    return must(run([PYTHON, b"-c", print_all.encode(), file, *TEXTS], user=USERS[user][0]), 0).rstrip()
+    with tempfile.TemporaryFile(buffering=0) as answer:
+        os.waitpid(child(USERS[user][0], lambda: answer.write(
+            b" ".join(TEXTS[it] for it in range(1, 8) if os.access(file, it)) or b"none")), 0)
+        answer.seek(0)
+        return answer.read()
 
 
 if __name__ == "__main__":

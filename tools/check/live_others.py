@@ -47,7 +47,7 @@ from live_tree import (  # noqa: E402
 )
 
 PARTS: Parts = {
-    "races": (520, 20), "free": (45, 9), "watched": (20, 1), "trusted": (1, 1), "locks": (20, 1), "by_hand": (320, 10),
+    "races": (520, 12), "free": (45, 9), "watched": (20, 1), "trusted": (1, 1), "locks": (20, 1), "by_hand": (320, 5),
 }
 BEN, MARA, GUEST = UIDS[1:]
 UNDO = b"--undo"

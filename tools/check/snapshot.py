@@ -28,7 +28,7 @@ from live_tree import (  # noqa: E402
 AS_ROOT = "trust private_groups exchange group unreadable without_lists bind_mount file_systems full_disk".split()
 NAMES = ["reach", *"words targets replacing programs names links itself masks rows kills environment chain".split(),
          "streams", "packages", "large_dump", *AS_ROOT]
-PARTS: Parts = {**{name: (1, 1) for name in NAMES}, "kills": (15, 1), "exchange": (5, 1)}
+PARTS: Parts = {**{name: (1, 1) for name in NAMES}, "kills": (15, 2), "exchange": (5, 1)}
 SNAPSHOT = os.fsdecode(os.path.join(COMMANDS, b"facl-snapshot"))
 NOBODY = 65534
 SIGNALS = [getattr(signal, "SIG" + name) for name in "HUP INT QUIT USR1 USR2 ALRM TERM KILL".split()]

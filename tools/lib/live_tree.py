@@ -76,7 +76,7 @@ def expect(is_so: bool, fault: str) -> None:
         raise Fault(fault)
 
 
-def child(user: int, what: Callable[[], None]) -> int:
+def child(user: int, what: Callable[[], object]) -> int:
     """Starts a process of a user, and returns its id."""
     number = os.fork()
     if number == 0:
@@ -434,8 +434,9 @@ class Check:
 
     def forget(self) -> None:
         """Makes the plan one that was never applied."""
-        for name in ("state", "journal"):
-            remove(os.path.join(self.plan, name.encode()))
+        for name in (b"state", b"journal"):
+            with contextlib.suppress(FileNotFoundError):
+                os.unlink(os.path.join(self.plan, name))
 
     def back_to(self, tree: Tree, first: bytes) -> None:
         """The next attempt starts from the first tree and a plan that was not applied."""
