@@ -1,11 +1,11 @@
-"""Whether snapshots are parts of one tree: they record no path with different records, and no user or group with different ids.
+"""Whether snapshots are parts of one tree: they record no path with different records, and no user or group with
+different ids.
 
-Each part writes what it records (blocks_of): a line for each directory, with the name and a checksum of the record of each file
-in it. Only the lines of directories that several have are read.
+Each part writes what it records (blocks_of): a line for each directory, with the name and a checksum of the record of
+each file in it. Only the lines of directories that several have are read.
 """
 from __future__ import annotations
 
-import itertools
 from hashlib import blake2b
 from typing import Dict, Iterable, Iterator, List, NamedTuple, Optional, Tuple
 
@@ -29,7 +29,7 @@ def blocks_of(listings: Iterable[Region]) -> Iterator[bytes]:
     """The line of each directory, with names as the program prints them."""
     inside: Dict[bytes, List[bytes]] = {}
     known: Dict[bytes, bytes] = {}
-    for record in itertools.chain.from_iterable(map(texts_of_records, listings)):
+    for record in (record for listing in listings for record in listing.records()):
         first, _, body = record.partition(b"\n")
         checksum = known.get(body)
         if checksum is None:
@@ -38,13 +38,6 @@ def blocks_of(listings: Iterable[Region]) -> Iterator[bytes]:
         inside.setdefault(above, []).append(checksum + name)
     for above, files in inside.items():
         yield above + b"\0" + b"\0".join(files) + b"\n"
-
-
-def texts_of_records(listing: Region) -> Iterator[bytes]:
-    rest = b""
-    for piece in listing.pieces():
-        *whole, rest = (rest + piece).split(b"\n\n")
-        yield from whole
 
 
 def directories_of(files: Region) -> Iterator[Tuple[bytes, Region]]:

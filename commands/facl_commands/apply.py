@@ -4,11 +4,12 @@ from __future__ import annotations
 import argparse
 import os
 from collections import Counter
-from typing import Dict, List
+from typing import Dict, List, Mapping
 
-from . import VERSION, differences, live, meta, plan_folder, planned
+from . import differences, live, meta, plan_folder, planned
 from .carrying import Carrier
-from .messages import Command, Failure, counted, reason
+from .live import Seen
+from .messages import Command, Failure, counted, parser_of, reason
 from .names import live_name, path_order, shell_word
 from .way import Look, Obstacles, Way, look_at, read_way, unexpected
 
@@ -17,29 +18,26 @@ HELP = """\
 Gives the files of a PLAN, which facl-plan wrote, their new owners, groups, flags and access control lists. Run it as
 root, or as the owner of all of them.
 
-First the files are compared with what they were when the plan was made: where somebody changed or replaced one meanwhile,
-they are named, and nothing is touched. Then each gets its new record, and is compared with the plan: where one differs,
-it is named, and all get their old records back. So they do where the command is interrupted. Where it is killed, run it
-again, to go on or with --undo: PLAN has what it was about.
+First the files are compared with what they were when the plan was made: where somebody changed or replaced one
+meanwhile, they are named, and nothing is touched. Then each gets its new record, and is compared with the plan: where
+one differs, it is named, and all get their old records back. So they do where the command is interrupted. Where it is
+killed, run it again, to go on or with --undo: PLAN has what it was about.
 
-Each file is opened once, without following a symbolic link, and is known by its descriptor from then on: whatever others
-do to its name, no other file is changed. What a plan cannot do is in PLAN/by_hand, which is not run.
+Each file is opened once, without following a symbolic link, and is known by its descriptor from then on: whatever
+others do to its name, no other file is changed. What a plan cannot do is in PLAN/by_hand, which is not run.
 """
 STATUS = """\
-The exit status is 0 where it is done, and 3 where there is nothing to do; 1 where it is not done, and the files are as
-they were; 2 where the words, the plan or the system do not allow it, and nothing is touched; 4 where files are neither as
-they were nor as they should be: they are named; 5 where it is done, and that could not be written.
+The exit status is 0 where it is done, and 3 where there is nothing to do; 1 where it is not done, and the files are
+as they were; 2 where the words, the plan or the system do not allow it, and nothing is touched; 4 where files are
+neither as they were nor as they should be: they are named; 5 where it is done, and that could not be written.
 """
 
 
 def parse(words: List[str]) -> argparse.Namespace:
-    parser = argparse.ArgumentParser(
-        prog="facl-apply", description=HELP, epilog=STATUS, formatter_class=argparse.RawDescriptionHelpFormatter,
-        allow_abbrev=False,
-    )
-    parser.add_argument("--version", action="version", version="%(prog)s " + VERSION)
+    parser = parser_of("facl-apply", HELP, STATUS)
     parser.add_argument("--dry-run", action="store_true", help="compare, say which files would be changed, and stop")
-    parser.add_argument("--undo", action="store_true", help="give the files their old records, with the same comparisons")
+    parser.add_argument("--undo", action="store_true",
+                        help="give the files their old records, with the same comparisons")
     parser.add_argument("--leave-changed", action="store_true",
                         help="with --undo: leave out files that somebody changed or removed since")
     parser.add_argument("--drop-capabilities", action="store_true",
@@ -49,11 +47,6 @@ def parse(words: List[str]) -> argparse.Namespace:
     if given.leave_changed and not given.undo:
         parser.error("--leave-changed is for --undo")
     return given
-
-
-def say_list(command: Command, found: Dict[bytes, bytes]) -> None:
-    for path in sorted(found, key=path_order):
-        command.say(live_name(path) + b": " + found[path])
 
 
 def say_cut_off(command: Command, way: Way, look: Look) -> None:
@@ -66,18 +59,17 @@ def say_cut_off(command: Command, way: Way, look: Look) -> None:
                 (old, new, len(look.files) - old - new))
 
 
-def say_list_with_lines(command: Command, way: Way, look: Look, found: Dict[bytes, bytes]) -> None:
-    """Each file with what was and what is."""
+def say_list(command: Command, way: Way, found: Dict[bytes, bytes], files: Mapping[bytes, Seen] = {}) -> None:
+    """Each file; where it is one of those that were looked at, with what was and what is."""
     when = b"by the plan" if way.is_undo else b"in the snapshot"
     for path in sorted(found, key=path_order):
         command.say(live_name(path) + b": " + found[path])
-        seen = look.files.get(path)
-        for line in () if seen is None else differences.lines(way.start(path), seen.record, when):
+        for line in differences.lines(way.start(path), files[path].record, when) if path in files else ():
             command.say(b"    " + line)
 
 
 def say_changed(command: Command, way: Way, look: Look, found: Dict[bytes, bytes]) -> None:
-    say_list_with_lines(command, way, look, found)
+    say_list(command, way, found, look.files)
     count = counted(len(found), "file is", "files are")
     if way.is_undo:
         command.say(count + b" not as the plan left them, so nothing is touched; --leave-changed takes back the others")
@@ -99,16 +91,10 @@ def nothing_to_do(command: Command, way: Way) -> bool:
     return True
 
 
-def check_obstacles(command: Command, way: Way, look: Look, drops_capabilities: bool) -> None:
-    found = Obstacles(way, drops_capabilities).all(look)
-    if found:
-        say_list(command, found)
-        raise Failure(b"nothing is touched")
-
-
 def warn_of_inodes(command: Command, way: Way) -> None:
     if way.journal is None and planned.NOWHERE in (file.identity for file in way.work.files.values()):
-        command.say(b"warning: the snapshot has no inodes, so a file that was replaced by one of the same owner, group, flags and "
+        command.say(b"warning: the snapshot has no inodes, so a file that was replaced by one of the same owner, "
+                    b"group, flags and "
                     b"lists is not known")
 
 
@@ -127,16 +113,14 @@ def warn_of_names(command: Command, look: Look) -> None:
                     (len(found), live_name(found[0])))
 
 
-def say_unwritten(command: Command, way: Way, error: OSError) -> None:
-    """Where the state of the plan cannot be written, it looks like one that was cut off, and --undo goes all the same."""
-    command.say(way.folder.name + b": cannot be written: " + reason(error) + b"; facl-apply will say that it was cut off")
-
-
 def end(command: Command, way: Way, carrier: Carrier, state: bytes) -> None:
+    """Where the state of the plan cannot be written, it looks like one that was cut off, and --undo goes all the
+    same."""
     try:
         carrier.end(state)
     except OSError as error:
-        say_unwritten(command, way, error)
+        command.say(way.folder.name + b": cannot be written: " + reason(error)
+                    + b"; facl-apply will say that it was cut off")
 
 
 def put_back(command: Command, way: Way, carrier: Carrier) -> int:
@@ -150,24 +134,22 @@ def put_back(command: Command, way: Way, carrier: Carrier) -> int:
 
 
 def say_in_part(command: Command, way: Way, left: Dict[bytes, bytes]) -> int:
-    say_list(command, left)
-    command.say(counted(len(left), "file is", "files are") + b" not as before: mend what keeps facl-apply from it, then run "
+    say_list(command, way, left)
+    command.say(counted(len(left), "file is", "files are")
+                + b" not as before: mend what keeps facl-apply from it, then run "
                 b"facl-apply --undo " + shell_word(way.folder.name))
     return IN_PART
 
 
-def begin(way: Way, carrier: Carrier) -> None:
-    try:
-        carrier.begin()
-    except OSError as error:
-        raise Failure(way.folder.name + b": cannot be written: " + reason(error) + b"; nothing is touched") from error
-
-
 def carry_out(command: Command, way: Way, carrier: Carrier, is_whole: bool) -> int:
-    """Gives the files their new records, or the old ones back. A signal waits until one of these is done; it is the status
-    only where the files are as they were, since else 0 or 4 says more."""
+    """Gives the files their new records, or the old ones back. A signal waits until one of these is done; it is the
+    status only where the files are as they were, since else 0 or 4 says more."""
     with plan_folder.signals_wait():
-        begin(way, carrier)
+        try:
+            carrier.begin()
+        except OSError as error:
+            raise Failure(way.folder.name + b": cannot be written: " + reason(error)
+                          + b"; nothing is touched") from error
         status = give_all(command, way, carrier, is_whole)
         if status != NOT_DONE:
             plan_folder.drop_signals()
@@ -179,17 +161,18 @@ def give_all(command: Command, way: Way, carrier: Carrier, is_whole: bool) -> in
     if way.is_undo and left:
         return say_in_part(command, way, left)
     if left or carrier.is_interrupted() and not way.is_undo:
-        say_list(command, left)
+        say_list(command, way, left)
         return put_back(command, way, carrier)
     whole = plan_folder.UNDONE if way.is_undo else plan_folder.APPLIED
     end(command, way, carrier, whole if is_whole else plan_folder.UNDONE_IN_PART)
-    command.tell(counted(len(carrier.seen), "file is", "files are") + (b" as before" if way.is_undo else b" as planned"))
+    command.tell(counted(len(carrier.seen), "file is", "files are")
+                 + (b" as before" if way.is_undo else b" as planned"))
     return DONE
 
 
 def by_hand(way: Way) -> List[bytes]:
-    """The line that names what is to be done by hand, where there is something. It is made before anything is touched: a script
-    that cannot be read has no part in what is said of the files."""
+    """The line that names what is to be done by hand, where there is something. It is made before anything is touched:
+    a script that cannot be read has no part in what is said of the files."""
     name = b"by_hand_undo" if way.is_undo else b"by_hand"
     is_there = way.folder.has(name) and way.folder.read(name)
     return [b"still to be done by hand: sh " + shell_word(way.file(name))] if is_there else []
@@ -198,11 +181,6 @@ def by_hand(way: Way) -> List[bytes]:
 def tell_all(command: Command, lines: List[bytes]) -> None:
     for line in lines:
         command.tell(line)
-
-
-def print_dry_run(command: Command, way: Way, look: Look) -> None:
-    for path in [*look.files, *look.later]:
-        command.tell(b"would change " + live_name(path) + b": " + differences.parts(way.start(path), way.end(path)))
 
 
 def body(command: Command, words: List[str]) -> int:
@@ -222,13 +200,17 @@ def body(command: Command, words: List[str]) -> int:
         return NOT_DONE
     if changed:
         left = {path: text + b"; it is left as it is" for path, text in changed.items()}
-        say_list_with_lines(command, way, look, left)
+        say_list(command, way, left, look.files)
         look = look.without(changed)
-    check_obstacles(command, way, look, given.drop_capabilities)
+    obstacles = Obstacles(way, given.drop_capabilities).all(look)
+    if obstacles:
+        say_list(command, way, obstacles)
+        raise Failure(b"nothing is touched")
     warn_of_names(command, look)
     warn_of_inodes(command, way)
     if given.dry_run:
-        print_dry_run(command, way, look)
+        for path in [*look.files, *look.later]:
+            command.tell(b"would change " + live_name(path) + b": " + differences.parts(way.start(path), way.end(path)))
         return DONE
     status = carry_out(command, way, Carrier(way, look), not changed)
     tell_all(command, rest if status == DONE else [])

@@ -8,55 +8,55 @@ import signal
 import subprocess
 import termios
 from types import FrameType
-from typing import Dict, Iterator, List, NoReturn, Optional
+from typing import Callable, Dict, Iterable, Iterator, List, NoReturn, Optional
 
-from . import VERSION, environment, headings, texts
-from .messages import SIGNALS, Command, Failure, reason
+from . import overview, texts
+from .answering import answer_unit, below_heading, is_refused, write_messages
+from .messages import SIGNALS, Command, Failure, parser_of, reason
 from .names import shown
-from .program import Answer, Session, find_program
+from .program import Session, environment_of_called, find_program
 from .scripts import Unit, read_script, read_text, read_units
 from .snapshot import check_texts
+from .stops import marked
 from .texts import Source
-from .trusted import read_trusted
 
 ANSWERED, REFUSED = 0, 1
 HELP = """\
 Answers questions and edits over a snapshot, by the program facl.
 
-With SCRIPTs it answers their lines; the SCRIPT - is standard input. Without one, at a terminal, it is a prompt: `help`
-lists the tools, tab completes words, each answer comes below its line, and where a line is refused for its words, the
-synopsis and the likely cause. Else it answers standard input.
+With SCRIPTs it answers their lines; the SCRIPT - is standard input. Without one, at a terminal, it is a prompt:
+`help` lists the tools, tab completes words, each answer comes below its line, and where a line is refused for its
+words, the synopsis and the likely cause. Else it answers standard input.
 
 Where it has one SCRIPT, or standard input that is no terminal, it is the program itself: it prints the same, and ends
-with the same status; below a message about a SCRIPT comes its likely cause. With several SCRIPTs a message names the SCRIPT, and its line there. With --headings each question
-comes above its answer.
+with the same status; below a message about a SCRIPT comes its likely cause. With several SCRIPTs a message names the
+SCRIPT, and its line there. With --headings each question comes above its answer.
 
-SNAPSHOT may be a folder with passwd, group and dump alone. A dump can be given by --dump FILE too, in place of SNAPSHOT.
-What such a dump cannot tell is said on standard error.
+SNAPSHOT may be a folder with passwd, group and dump alone. A dump can be given by --dump FILE too, in place of
+SNAPSHOT. What such a dump cannot tell is said on standard error.
 
-With --each all words are SNAPSHOTs, of parts of one tree, as facl-snapshot --split makes them; HOST:DIR is one on another
-machine. They answer standard input side by side, by GNU parallel, and the answers are joined in the order of paths. A line
-that edits is taken where all its files lie in one of them.
+With --each all words are SNAPSHOTs, of parts of one tree, as facl-snapshot --split makes them; HOST:DIR is one on
+another machine. They answer standard input side by side, by GNU parallel, and the answers are joined in the order of
+paths. A line that edits is taken where all its files lie in one of them.
 
-With --hosts all words are servers, NAME:DIR, each with a snapshot DIR of its own. They answer standard input side by side, by
-GNU parallel and ssh, and each line of an answer and each message begins with the NAME. localhost is this machine.
+With --hosts all words are servers, NAME:DIR, each with a snapshot DIR of its own. They answer standard input side by
+side, by GNU parallel and ssh, and each line of an answer and each message begins with the NAME. localhost is this
+machine.
 """
 STATUS = """\
-The exit status is that of facl: 0 where every line was accepted, 1 where some line was refused, 2 where it ended early,
-or where the words, the snapshot or a script cannot be used. A prompt ends with 0.
+The exit status is that of facl: 0 where every line was accepted, 1 where some line was refused, 2 where it ended
+early, or where the words, the snapshot or a script cannot be used. A prompt ends with 0.
 """
 
 
 def parse(words: List[str]) -> argparse.Namespace:
-    parser = argparse.ArgumentParser(
-        prog="facl-ask", description=HELP, epilog=STATUS, formatter_class=argparse.RawDescriptionHelpFormatter, allow_abbrev=False,
-    )
-    parser.add_argument("--version", action="version", version="%(prog)s " + VERSION)
-    parser.add_argument("--program", metavar="FILE", help="the program facl; without it $FACL, or facl on the path")
+    parser = parser_of("facl-ask", HELP, STATUS)
     parser.add_argument("--headings", action="store_true", help="print each question of a script above its answer")
-    parser.add_argument("--with-root", action="store_true", help="at the prompt, with --each and --hosts: answers about people have uid 0 too")
+    parser.add_argument("--with-root", action="store_true",
+                        help="at the prompt, with --each and --hosts: answers about people have uid 0 too")
     parser.add_argument("--each", action="store_true", help="answer standard input over several SNAPSHOTs side by side")
-    parser.add_argument("--hosts", action="store_true", help="answer standard input over the snapshots of several servers, NAME:DIR")
+    parser.add_argument("--hosts", action="store_true",
+                        help="answer standard input over the snapshots of several servers, NAME:DIR")
     parser.add_argument("--records", action="store_true", help=argparse.SUPPRESS)  # With --part: what it records, too.
     parser.add_argument("--part", action="store_true", help=argparse.SUPPRESS)  # What --each runs for each of them.
     texts.add_source(parser, words)
@@ -65,7 +65,8 @@ def parse(words: List[str]) -> argparse.Namespace:
 
 
 def program_words(program: str, folder: bytes) -> List[bytes]:
-    """The program's command line; it takes no words that are not UTF-8, so the command changes to a folder of such a name."""
+    """The program's command line; it takes no words that are not UTF-8, so the command changes to a folder of such a
+    name."""
     try:
         folder.decode("utf-8")
     except UnicodeDecodeError:
@@ -88,12 +89,6 @@ def take_script(script: str) -> None:
         os.dup2(descriptor, 0)
 
 
-def run_program(program: str, source: Source) -> int:
-    """Runs the program, and returns its status, where the folder is one that is removed after it."""
-    status = subprocess.run(program_words(program, source.folder), env=environment.of_called(), check=False).returncode
-    return status if status >= 0 else 128 - status
-
-
 def units_of_input() -> Dict[int, Unit]:
     """The lines of a script that is the standard input, by their numbers; none where it can be read once alone."""
     try:
@@ -104,11 +99,13 @@ def units_of_input() -> Dict[int, Unit]:
 
 
 def run_explained(command: Command, program: str, source: Source) -> int:
-    """Runs the program over a script by name, and returns its status; below each message comes what was probably meant."""
+    """Runs the program over a script by name, and returns its status; below each message comes what was probably
+    meant."""
     from .causes import explained_by_number
 
     units: Optional[Dict[int, Unit]] = None
-    with subprocess.Popen(program_words(program, source.folder), stderr=subprocess.PIPE, env=environment.of_called()) as run:
+    with subprocess.Popen(program_words(program, source.folder), stderr=subprocess.PIPE,
+                          env=environment_of_called()) as run:
         assert run.stderr is not None
         for line in run.stderr:
             units = units_of_input() if units is None else units
@@ -125,37 +122,35 @@ def become_program(program: str, folder: bytes) -> NoReturn:
     for number in range(3):
         os.set_inheritable(number, True)  # Also one that was closed: the program is not to find it closed.
     try:
-        os.execve(program, words, environment.of_called())
+        os.execve(program, words, environment_of_called())
     except OSError as error:
         raise Failure(os.fsencode(program) + b": " + reason(error)) from error
 
 
-def pieces_of(unit: Unit, answer: Answer, has_headings: bool) -> Iterator[bytes]:
-    """What is printed of an answer."""
-    is_refused = any(b": warning: " not in message for message in answer.messages)
-    return headings.below_heading(unit, answer.output.lines(), is_refused) if has_headings else answer.output.pieces()
-
-
-def answer_scripts(command: Command, program: str, folder: bytes, names: List[str], has_headings: bool) -> int:
-    """Answers several scripts one after another; a message names the script."""
-    from .causes import explained
-
-    status = ANSWERED
+def answer_units(
+    command: Command, program: str, folder: bytes, units: Iterable[Unit], has_headings: bool = False,
+    is_explained: bool = True,
+    place_of: Callable[[Unit], bytes] = lambda unit: unit.place(),
+) -> int:
+    """Answers lines one after another; at a terminal `why --reach` says where the user is stopped."""
+    status, is_terminal = ANSWERED, os.isatty(1)
     with Session(program, folder) as session:
-        for unit in read_units(names):
-            messages = [b"facl: text without end"]
-            if unit.is_ended:
-                answer = session.ask(b"".join(line + b"\n" for line in unit.lines))
-                messages = answer.messages
-                for piece in pieces_of(unit, answer, has_headings):
-                    command.write(piece)
-            command.flush()
-            for message in messages:
-                command.put(command.messages, unit.place() + b": " + message + b"\n")
-                command.explain(explained(unit, message))
-                status = status if b": warning: " in message else REFUSED
-            command.put(command.messages)
+        for unit in units:
+            output, messages = answer_unit(session, unit)
+            lines = marked(unit, output.lines()) if is_terminal else output.lines()
+            pieces = (line + b"\n" for line in lines) if is_terminal else output.pieces()
+            for piece in below_heading(unit, lines, messages) if has_headings else pieces:
+                command.write(piece)
+            write_messages(command, place_of(unit), unit, messages, b"" if is_explained else None)
+            status = REFUSED if is_refused(messages) else status
     return status
+
+
+def answer_input(command: Command, program: str, folder: bytes, is_explained: bool) -> int:
+    """Answers the lines of standard input, each when it is read."""
+    with open(0, "rb", closefd=False) as file:
+        units = read_units(b"", (line[:-1] if line.endswith(b"\n") else line for line in file))
+        return answer_units(command, program, folder, units, False, is_explained, lambda unit: b"line %d" % unit.number)
 
 
 def leave(number: int, _frame: Optional[FrameType]) -> None:
@@ -163,8 +158,8 @@ def leave(number: int, _frame: Optional[FrameType]) -> None:
 
 
 def take_signals() -> None:
-    """At a prompt control-C ends a line, and not the command; the other signals end it as the one exception that prompt_toolkit's
-    loop of events lets through at any moment."""
+    """At a prompt control-C ends a line, and not the command; the other signals end it as the one exception that
+    prompt_toolkit's loop of events lets through at any moment."""
     for number in SIGNALS:
         if signal.getsignal(number) != signal.SIG_IGN:
             signal.signal(number, signal.default_int_handler if number == signal.SIGINT else leave)
@@ -188,20 +183,9 @@ def dim(line: bytes) -> bytes:
     return b"\x1b[2m" + line.rstrip(b"\n") + b"\x1b[0m\n"
 
 
-def say_notices(command: Command, source: Source, has_prompt: bool = False) -> None:
-    """What answers over this snapshot cannot tell; a prompt warns of empty masks among others."""
-    from . import overview
-
-    dump = read_trusted(os.path.join(source.folder, b"dump"))
-    for text in overview.unknown(source.folder, dump):
-        command.say(source.shown + b": " + text if not text.startswith(b"warning: ") else text)
-    for text in () if has_prompt else overview.masks(dump):
-        command.say(text)
-
-
 def prompt(command: Command, program: str, source: Source, with_root: bool) -> int:
     """Answers a person's lines. Only a prompt needs these parts of the package."""
-    from . import manual, meta, overview, terminal
+    from . import manual, meta, terminal
     from .completion import Completer
     from .desk import WORDS_OF_PROMPT, Desk, refuse_early_end
     from .superuser import Superusers, ids_in
@@ -220,7 +204,7 @@ def prompt(command: Command, program: str, source: Source, with_root: bool) -> i
         refuse_early_end(desk.session)
         name = meta.named(source.shown, meta.meta_of(source.folder))
         out(shown(overview.summary(found, name)) + b"; `help` lists the tools, control-D ends\n")
-        say_notices(command, source, has_prompt=True)
+        overview.say_notices(command, source, has_masks=False)
         for warning in overview.warnings(found):
             command.say(warning)
         if terminal.find_toolkit() is None:
@@ -240,14 +224,20 @@ def answer_one(command: Command, given: argparse.Namespace, source: Source) -> i
     if not given.scripts and os.isatty(0) and os.isatty(1):
         return prompt(command, program, source, given.with_root)
     if len(given.scripts) > 1 or given.headings:
-        say_notices(command, source)
-        return answer_scripts(command, program, source.folder, given.scripts or ["-"], given.headings)
-    take_script(given.scripts[0] if given.scripts else "-")
-    say_notices(command, source)
-    if given.scripts and given.scripts[0] != "-":
+        overview.say_notices(command, source)
+        units = [unit for name in given.scripts or ["-"] for unit in read_text(name).units()]
+        return answer_units(command, program, source.folder, units, given.headings)
+    is_named = given.scripts not in ([], ["-"])
+    take_script(given.scripts[0] if is_named else "-")
+    overview.say_notices(command, source)
+    if os.isatty(1):
+        return answer_input(command, program, source.folder, is_named)
+    if is_named:
         return run_explained(command, program, source)
-    if source.is_made:
-        return run_program(program, source)
+    if source.is_made:  # The folder is removed after it.
+        words = program_words(program, source.folder)
+        status = subprocess.run(words, env=environment_of_called(), check=False).returncode
+        return status if status >= 0 else 128 - status
     become_program(program, source.folder)
 
 

@@ -1,12 +1,14 @@
-"""What a restore cannot do, as commands that a person reads, as a script of sh that does it, and as one that takes it back.
+"""What a restore cannot do, as commands that a person reads, as a script of sh that does it, and as one that takes it
+back.
 
-The things of a plan have numbers from 1 in the order in which by_hand does them: changes of users and groups, files that go,
-files that are made. The two scripts know them by these in the file by_hand_done, in which by_hand notes what it has done.
-"""
+The things of a plan have numbers from 1 in the order in which by_hand does them: changes of users and groups, files
+that go, files that are made. The two scripts know them by these in the file by_hand_done, in which by_hand notes what
+it has done. """
 from __future__ import annotations
 
 from typing import Dict, List, NamedTuple, Tuple
 
+from . import by_hand_files, by_hand_undo
 from . import by_hand_texts as texts
 from .messages import counted
 from .names import live_path, parent_of, path_order, shell_word
@@ -16,12 +18,16 @@ from .snapshot import Identity
 
 Identities = Dict[bytes, Identity]  # By path, as in the snapshot; a path that is not there has none.
 NO_IDENTITY = b"-"
+FUNCTIONS = {ADD_MEMBER: b"add_member", REMOVE_MEMBER: b"remove_member", CHANGE_GROUP: b"change_group",
+             ADD_USER: b"add_user",
+             REMOVE_USER: b"remove_user"}
 MADE = {True: b"make_directory", False: b"make_file"}
 REMOVED = {True: b"remove_directory", False: b"remove_file"}
 
 
 class Things(NamedTuple):
-    """What is to be done by hand; the removed paths with what is below a directory first, the made ones with it last."""
+    """What is to be done by hand; the removed paths with what is below a directory first, the made ones with it
+    last."""
 
     people: List[PeopleChange]
     removed: List[bytes]
@@ -46,33 +52,28 @@ def things_of(people: List[PeopleChange], changes: Changes, old: Files, new: Fil
 # --- what a person reads
 
 
-def removal(path: bytes, old: Files) -> bytes:
-    """A directory has to be empty by then: what was put there meanwhile stays."""
-    return (b"rmdir" if old[path].is_directory else b"rm") + b" -- " + shell_word(live_path(path))
-
-
-def creation(path: bytes, new: Files) -> bytes:
-    word = shell_word(live_path(path))
-    return b"mkdir -m 700 -- " + word if new[path].is_directory else b": >" + word
-
-
 def commands_of(people: List[PeopleChange], changes: Changes, old: Files, new: Files) -> List[bytes]:
-    """What is to be done, a line each, in the order of the script."""
+    """What is to be done, a line each, in the order of the script. A directory that goes has to be empty by then: what
+    was put there meanwhile stays."""
     things = things_of(people, changes, old, new, {})
-    removed = [removal(path, old) for path in things.removed]
-    return [shown_change(change) for change in people] + removed + [creation(path, new) for path in things.made]
+    removed = [(b"rmdir -- " if old[path].is_directory else b"rm -- ") + shell_word(live_path(path))
+               for path in things.removed]
+    made = [(b"mkdir -m 700 -- " if new[path].is_directory else b": >") + shell_word(live_path(path))
+            for path in things.made]
+    return [shown_change(change) for change in people] + removed + made
 
 
 # --- words of the scripts
 
 
 def escaped(name: bytes) -> bytes:
-    """A name as characters that a terminal prints: each byte of another one, and a backslash, is a backslash and three octal
-    digits."""
+    """A name as characters that a terminal prints: each byte of another one, and a backslash, is a backslash and three
+    octal digits."""
     found = []
     for character in name.decode("utf-8", "surrogateescape"):
         plain = character.encode("utf-8", "surrogateescape")
-        found.append(plain if character.isprintable() and character != "\\" else b"".join(b"\\%03o" % byte for byte in plain))
+        found.append(plain if character.isprintable() and character != "\\"
+                     else b"".join(b"\\%03o" % byte for byte in plain))
     return b"".join(found)
 
 
@@ -106,21 +107,19 @@ def place_words(path: bytes, inodes: Identities) -> List[bytes]:
 # --- by_hand
 
 
+def ids_of(change: PeopleChange, *group: bytes) -> List[bytes]:
+    """The user and the group of a change, with their ids, as the functions take them."""
+    before = [b"%d" % change.user.gid] * (change.kind in (CHANGE_GROUP, REMOVE_USER))
+    after = [*group, b"%d" % change.gid] if change.kind != REMOVE_USER else []
+    return [word(change.user.name), b"%d" % change.user.uid, *before, *after]
+
+
 def people_line(number: int, change: PeopleChange) -> bytes:
     begins_with_dash = [name for name in (change.user.name, change.group) if name.startswith(b"-")]
     if begins_with_dash:
         text = shown_change(change) + b": " + begins_with_dash[0] + b" is an option for the tools of the system"
         return call(b"refuse", number_word(number), word(text))
-    user = [word(change.user.name), b"%d" % change.user.uid]
-    group = [word(change.group), b"%d" % change.gid]
-    words = {
-        ADD_MEMBER: [b"add_member", number_word(number), *user, *group],
-        REMOVE_MEMBER: [b"remove_member", number_word(number), *user, *group],
-        CHANGE_GROUP: [b"change_group", number_word(number), *user, b"%d" % change.user.gid, *group],
-        ADD_USER: [b"add_user", number_word(number), *user, *group],
-        REMOVE_USER: [b"remove_user", number_word(number), *user, b"%d" % change.user.gid],
-    }
-    return call(*words[change.kind])
+    return call(FUNCTIONS[change.kind], number_word(number), *ids_of(change, word(change.group)))
 
 
 def removal_line(number: int, path: bytes, things: Things) -> bytes:
@@ -173,14 +172,10 @@ def tree_blocks(things: Things) -> List[bytes]:
 
 def what(things: Things) -> bytes:
     """What a script is about."""
-    parts = []
-    if things.people:
-        parts.append(counted(len(things.people), "change of users and groups", "changes of users and groups"))
-    if things.removed:
-        parts.append(counted(len(things.removed), "file or directory goes", "files and directories go"))
-    if things.made:
-        parts.append(counted(len(things.made), "file or directory is made", "files and directories are made"))
-    return b", ".join(parts)
+    nouns = ((len(things.people), "change of users and groups", "changes of users and groups"),
+             (len(things.removed), "file or directory goes", "files and directories go"),
+             (len(things.made), "file or directory is made", "files and directories are made"))
+    return b", ".join(counted(*it) for it in nouns if it[0])
 
 
 def is_blind(things: Things) -> bool:
@@ -203,9 +198,9 @@ def functions_of(things: Things, refuses: bool) -> bytes:
     """The functions that the lines of by_hand call."""
     wanted = [
         (bool(things.people), texts.USERS + texts.CHANGE_USERS),
-        (bool(things.removed or things.made), texts.FOLDERS + texts.PRIVATE),
-        (bool(things.removed), texts.REMOVE),
-        (bool(things.made), texts.MAKE),
+        (bool(things.removed or things.made), by_hand_files.FOLDERS + by_hand_files.PRIVATE),
+        (bool(things.removed), by_hand_files.REMOVE),
+        (bool(things.made), by_hand_files.MAKE),
         (refuses, texts.REFUSE),
     ]
     return b"".join(text for is_wanted, text in wanted if is_wanted)
@@ -230,18 +225,11 @@ def script_of(people: List[PeopleChange], changes: Changes, old: Files, new: Fil
 def people_back(number: int, place: int, people: List[PeopleChange]) -> bytes:
     """The line that takes a change of users back; a comment where nothing does."""
     change = people[place]
-    user = [word(change.user.name), b"%d" % change.user.uid]
     is_removed_later = any(it.kind == REMOVE_USER and it.user.name == change.user.name for it in people[place:])
     if is_removed_later or people_line(number, change).startswith(b"refuse "):
         return comment(shown_change(change))
-    group = [word(change.group), b"%d" % change.gid]
-    words = {
-        ADD_MEMBER: [b"add_member_back", number_word(number), *user, *group],
-        REMOVE_MEMBER: [b"remove_member_back", number_word(number), *user, *group],
-        CHANGE_GROUP: [b"change_group_back", number_word(number), *user, b"%d" % change.user.gid, b"%d" % change.gid],
-        ADD_USER: [b"add_user_back", number_word(number), *user, b"%d" % change.gid],
-    }
-    return call(*words[change.kind])
+    group = [word(change.group)] if change.kind in (ADD_MEMBER, REMOVE_MEMBER) else []
+    return call(FUNCTIONS[change.kind] + b"_back", number_word(number), *ids_of(change, *group))
 
 
 def comment(text: bytes) -> bytes:
@@ -270,9 +258,9 @@ def undo_script_of(people: List[PeopleChange], changes: Changes, old: Files, new
     files, users = undo_lines(things)
     if all(line.startswith(b"# ") for line in files + users):
         return b""
-    head = texts.UNDO_HEAD % {b"blind": texts.BLIND * is_blind(things)}
-    head += texts.LOST_HEAD if any(line.startswith(b"# ") for line in files + users) else b""
-    functions = texts.UNDO
-    functions += texts.FOLDERS + texts.PRIVATE + texts.UNMAKE if things.made else b""
-    functions += texts.USERS + texts.UNDO_USERS if not all(line.startswith(b"# ") for line in users) else b""
-    return head + common(b"by_hand_undo", things) + functions + b"\n" + b"".join(files + users) + texts.UNDO_END
+    head = by_hand_undo.UNDO_HEAD % {b"blind": texts.BLIND * is_blind(things)}
+    head += by_hand_undo.LOST_HEAD if any(line.startswith(b"# ") for line in files + users) else b""
+    functions = by_hand_undo.UNDO
+    functions += by_hand_files.FOLDERS + by_hand_files.PRIVATE + by_hand_undo.UNMAKE if things.made else b""
+    functions += texts.USERS + by_hand_undo.UNDO_USERS if not all(line.startswith(b"# ") for line in users) else b""
+    return head + common(b"by_hand_undo", things) + functions + b"\n" + b"".join(files + users) + by_hand_undo.UNDO_END

@@ -56,8 +56,8 @@ class Carrier:
         self.way.folder.replace(b"journal", planned.journal_text(system.boot(), {**known, **self.identities()}))
 
     def run(self) -> Dict[bytes, bytes]:
-        """Gives the files their new records; returns those that did not get them, with the reason. A plan that is taken back
-        goes on after the first of these; one that is applied ends there, or at a signal, which is no reason."""
+        """Gives the files their new records; returns those that did not get them, with the reason. A plan that is taken
+        back goes on after the first of these; one that is applied ends there, or at a signal, which is no reason."""
         left = self.open_all(self.seen) if os.geteuid() != 0 else {}
         while self.later and (self.way.is_undo or not left):
             left.update(self.open_later())
@@ -74,8 +74,8 @@ class Carrier:
         return left
 
     def open_later(self) -> Dict[bytes, bytes]:
-        """Looks at the files that nobody could look at before, and opens the next directories; returns the files that cannot
-        be changed."""
+        """Looks at the files that nobody could look at before, and opens the next directories; returns the files that
+        cannot be changed."""
         look = look_at(self.way, self.later)
         self.later = look.later
         left = unexpected(self.way, look)
@@ -85,17 +85,19 @@ class Carrier:
         try:
             self.write_journal()
         except OSError as error:
-            left.update({path: b"is not in the journal, which cannot be written: " + reason(error) for path in seen_ones})
+            left.update({path: b"is not in the journal, which cannot be written: " + reason(error)
+                         for path in seen_ones})
         if self.way.is_undo or not left:
             left.update(self.open_all(seen_ones))
         return left
 
     def open_all(self, seen: Dict[bytes, Seen]) -> Dict[bytes, bytes]:
-        """Opens directories to the caller, for the files below: those that the plan opens, and those that a run which was cut off
-        has closed, which get the record of the start again."""
+        """Opens directories to the caller, for the files below: those that the plan opens, and those that a run which
+        was cut off has closed, which get the record of the start again."""
         left = self.give([path for path in seen if opens(self.way, path)])
         if self.later:
-            left.update(self.give_back(path for path, it in seen.items() if was_closed(self.way, path, it.record)))
+            closed = (path for path, it in seen.items() if was_closed(self.way, path, it.record))
+            left.update(self.walk(self.put_one_back, closed, is_whole=True))
         return left
 
     def give(self, paths: Iterable[bytes]) -> Dict[bytes, bytes]:
@@ -104,7 +106,8 @@ class Carrier:
         helpers: List[Helper] = []
         try:
             for part in others:
-                helpers.append(Helper(lambda part=part: self.give_apart(part), keeps_signals=True))  # type: ignore[misc]
+                helpers.append(Helper(lambda part=part: self.give_apart(part),
+                                      keeps_signals=True))  # type: ignore[misc]
             left = self.give_part(first)
             for helper, part in zip(helpers, others):
                 left.update(self.given_by(helper, part))
@@ -114,7 +117,8 @@ class Carrier:
         return left
 
     def parts(self, paths: List[bytes]) -> List[List[bytes]]:
-        """The parts of the processes. Only root changes files in any order, and the names of one file are in one part."""
+        """The parts of the processes. Only root changes files in any order, and the names of one file are in one
+        part."""
         parts = sharing.parts_of(paths) if os.geteuid() == 0 else []
         if len(parts) < 2:
             return [paths]
@@ -124,15 +128,21 @@ class Carrier:
                 *([path for path in part if path not in several] for part in parts[1:])]
 
     def give_part(self, paths: Iterable[bytes]) -> Dict[bytes, bytes]:
+        return self.walk(self.give_one, paths, is_whole=self.way.is_undo)
+
+    def walk(self, step: Callable[[Opener, bytes], None], paths: Iterable[bytes], is_whole: bool) -> Dict[bytes, bytes]:
+        """Does something with each file; returns those with which it could not be done, with the reason. A walk that is
+        not to be whole ends after the first of these, or at a signal, and so do those of other processes."""
         left: Dict[bytes, bytes] = {}
         with Opener() as opener:
             for number, path in enumerate(paths):
-                if not self.way.is_undo and (self.stop.is_set() or number % OFTEN == 0 and self.is_interrupted()):
+                if not is_whole and (self.stop.is_set() or number % OFTEN == 0 and self.is_interrupted()):
                     break
-                fault = fault_of(self.give_one, opener, path)
+                fault = fault_of(step, opener, path)
                 if fault is not None:
                     left[path] = fault
-                    self.stop.set()
+                    if not is_whole:
+                        self.stop.set()
         return left
 
     def give_apart(self, paths: List[bytes]) -> Tuple[List[bytes], Dict[bytes, bytes]]:
@@ -149,7 +159,8 @@ class Carrier:
         if not isinstance(result, tuple):
             self.stop.set()
             self.changed += part
-            return {part[0]: b"may be changed, and so may files after it: the process that was at work on them has ended"}
+            return {part[0]: b"may be changed, and so may files after it: the process that was at work on them has "
+                             b"ended"}
         changed, left = result
         self.changed += changed
         return dict(left)
@@ -180,8 +191,8 @@ class Carrier:
             raise Mismatch(b"was changed: " + differences.parts(seen.record, self.way.start(path)))
 
     def remember_folder(self, opener: Opener, file: OpenFile, seen: Seen) -> None:
-        """Keeps a directory of the file system open, to write out what it has in memory; where there is none that the caller may
-        read, all file systems are written out."""
+        """Keeps a directory of the file system open, to write out what it has in memory; where there is none that the
+        caller may read, all file systems are written out."""
         name = file.name if seen.is_directory else b"/proc/self/fd/%d" % opener.last()
         self.folders[seen.device] = system.NO_DESCRIPTOR
         try:
@@ -217,19 +228,10 @@ class Carrier:
 
     def put_back(self) -> Dict[bytes, bytes]:
         """Gives back the old records, the last first; returns the files that did not get them."""
-        return self.give_back(reversed(list(dict.fromkeys(self.changed))))
-
-    def give_back(self, paths: Iterable[bytes]) -> Dict[bytes, bytes]:
-        """Gives files the records of the start; returns those that did not get them, with the reason."""
-        left: Dict[bytes, bytes] = {}
-        with Opener() as opener:
-            for path in paths:
-                fault = fault_of(self.put_one_back, opener, path)
-                if fault is not None:
-                    left[path] = fault
-        return left
+        return self.walk(self.put_one_back, reversed(list(dict.fromkeys(self.changed))), is_whole=True)
 
     def put_one_back(self, opener: Opener, path: bytes) -> None:
+        """Gives a file the record of the start."""
         file = opener.open(path)
         try:
             seen = file.look()

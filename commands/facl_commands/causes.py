@@ -1,14 +1,15 @@
-"""What was probably meant by a line that is refused: the first cause of the table that fits it, and what is printed below its
-message."""
+"""What was probably meant by a line that is refused: the first cause of the table that fits it, and what is printed
+below its message."""
 from __future__ import annotations
 
 import re
-from typing import Dict, List, Optional, Tuple
+from typing import Dict, List, Optional
 
 from .cause_rows import TABLE, Cause
 from .names import json_text, shown
-from .refused_line import LONG_OF_SHORT, OPTIONS, Line, line_of
+from .refused_line import Line, line_of
 from .scripts import TEXT_WORDS, Unit
+from .tools import OPTIONS, options_of_tool, split
 
 __all__ = ["TABLE", "advice", "explained", "explained_by_number", "find_cause"]
 
@@ -16,7 +17,8 @@ __all__ = ["TABLE", "advice", "explained", "explained_by_number", "find_cause"]
 def find_cause(line: bytes, message: bytes) -> Optional[Cause]:
     """The first cause that fits a refused line and its message, which comes without the number of the line."""
     parsed = line_of(line, message)
-    return next((cause for cause in TABLE if re.match(cause.messages + rb"\Z", message, re.DOTALL) and cause.fits(parsed)), None)
+    return next((cause for cause in TABLE if re.match(cause.messages + rb"\Z", message, re.DOTALL)
+                 and cause.fits(parsed)), None)
 
 
 def advice_of(cause: Cause, line: Line) -> bytes:
@@ -24,14 +26,7 @@ def advice_of(cause: Cause, line: Line) -> bytes:
     known = OPTIONS.get(line.tool(), frozenset())
     options = b", ".join(dict.fromkeys(it.name for it in line.given if it.name not in known))
     text = cause.advice.encode().replace(b"{tool}", line.tool()).replace(b"{options}", options)
-    shortest = known - set(LONG_OF_SHORT.get(line.tool(), {}).values())
-    names: List[bytes] = sorted(shortest, key=option_order)
-    return text.replace(b"{known}", b", ".join(names) or b"no option")
-
-
-def option_order(name: bytes) -> Tuple[bool, bytes, bytes]:
-    """Short options first, by their letters, a small one before the capital one."""
-    return len(name) > 2, name.lower(), name.swapcase()
+    return text.replace(b"{known}", b", ".join(options_of_tool(line.tool(), has_long=False)) or b"no option")
 
 
 def advice(line: bytes, message: bytes) -> Optional[str]:
@@ -45,19 +40,21 @@ def advice(line: bytes, message: bytes) -> Optional[str]:
 
 
 def explained(unit: Unit, message: bytes) -> List[bytes]:
-    """What is said below the message of a refused line: the cause, the lines that would do, each after two spaces, and which
-    lines were taken as its text. Nothing where nothing is known."""
+    """What is said below the message of a refused line: the cause, the lines that would do, each after two spaces, and
+    which lines were taken as its text. Nothing where nothing is known."""
     cause = find_cause(unit.lines[0], message)
     if cause is None:
         return [shown(it) for it in swallowed(unit)]
     line = line_of(unit.lines[0], message)
     instead = [b"  " + it for it in cause.remedy(line) if it != unit.lines[0]]
     text = advice_of(cause, line)
-    return [shown(it) for it in [text if instead or text[-1:] != b":" else text[:-1] + b".", *instead, *swallowed(unit)]]
+    return [shown(it) for it in [text if instead or text[-1:] != b":" else text[:-1] + b".", *instead,
+                                 *swallowed(unit)]]
 
 
 def explained_by_number(units: Dict[int, Unit], message: bytes) -> List[bytes]:
-    """The same of a message as the program prints it, with the number of its line; units by the numbers of their lines."""
+    """The same of a message as the program prints it, with the number of its line; units by the numbers of their
+    lines."""
     found = re.match(rb"line ([0-9]+): (.*)\Z", message, re.DOTALL)
     unit = units.get(int(found[1])) if found else None
     return [] if found is None or unit is None else explained(unit, found[2])
@@ -66,16 +63,13 @@ def explained_by_number(units: Dict[int, Unit], message: bytes) -> List[bytes]:
 def swallowed(unit: Unit) -> List[bytes]:
     """Says of lines that a refused line took, where nobody meant them as its text."""
     taken = len(unit.lines) - 1
-    if taken == 0 or unit.is_ended and is_meant(unit.words):
+    # A line takes its text by an option of setfacl, or is one of load.
+    names = (b"-M", b"-X", b"--modify-file", b"--remove-file", b"--set-file", b"--restore")
+    is_option = unit.is_of(b"setfacl") and any(it.name in names and it.value == b"-" for it in split(unit.words).given)
+    if taken == 0 or unit.is_ended and (is_option or unit.is_of(b"load")):
         return []
     word = next((word for word in unit.words[1:] if word in TEXT_WORDS), None)
-    which = b"line %d was" % (unit.number + 1) if taken == 1 else b"lines %d to %d were" % (unit.number + 1, unit.number + taken)
+    which = b"line %d was" % (unit.number + 1) if taken == 1 else b"lines %d to %d were" % (unit.number + 1,
+                                                                                            unit.number + taken)
     why = b"" if word is None else b", since it has a word " + word
     return [which + b" taken as the text of line %d" % unit.number + why]
-
-
-def is_meant(words: List[bytes]) -> bool:
-    """Whether a line takes its text by an option of setfacl, or is one of load."""
-    options = line_of(b" ".join(words)).given if words[:1] == [b"setfacl"] else []
-    names = (b"-M", b"-X", b"--modify-file", b"--remove-file", b"--set-file", b"--restore")
-    return words[:1] == [b"load"] or any(it.name in names and it.value == b"-" for it in options)

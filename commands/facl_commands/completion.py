@@ -3,28 +3,18 @@ from __future__ import annotations
 
 import bisect
 import re
-from typing import Callable, Dict, Iterator, List, NamedTuple, Optional, Set, Tuple
+from typing import Callable, Iterator, List, NamedTuple, Optional, Tuple
 
 from .manual import Page
-from .names import read_path, shown
+from .names import read_path, shown, sorting_key
 from .people import rows_of
 from .scripts import words_of
+from .tools import (
+    ENTRIES, FILE, GROUP, OTHER, TOOLS, USER, VALUES, lists_of_chacl, operand_kinds, options_of_tool, split,
+)
 
 CANDIDATES = 200  # The most that one word is offered.
-FILE, USER, GROUP, ENTRIES, OTHER = "file", "user", "group", "entries", "other"
-# What operands are, the last for all that follow; and what options have as values.
-OPERANDS: Dict[str, List[str]] = {
-    "can": [USER, FILE], "who": [OTHER, FILE], "may": [USER, OTHER], "why": [USER, FILE], "changes": [OTHER], "index": [OTHER],
-    "getfacl": [FILE], "setfacl": [FILE], "chacl": [ENTRIES, FILE], "chmod": [OTHER, FILE], "creat": [FILE], "rm": [FILE],
-    "attr": [FILE], "setattr": [OTHER, FILE], "gpasswd": [GROUP], "usermod": [USER], "useradd": [OTHER], "userdel": [USER],
-    "load": [OTHER],
-}
-VALUES: Dict[str, Dict[str, str]] = {
-    "setfacl": {"-m": ENTRIES, "-x": ENTRIES, "--modify": ENTRIES, "--remove": ENTRIES, "--set": ENTRIES, "-M": OTHER, "-X": OTHER,
-                "--modify-file": OTHER, "--remove-file": OTHER, "--set-file": OTHER, "--restore": OTHER},
-    "creat": {"--user": USER, "--mode": OTHER, "--umask": OTHER},
-    "gpasswd": {"-a": USER, "-d": USER}, "usermod": {"-g": GROUP}, "useradd": {"-g": GROUP, "-u": OTHER},
-}
+OPERANDS = {tool.decode(): operand_kinds(tool) for tool in TOOLS}
 NAMED_ENTRY = re.compile(r"((?:d(?:efault)?:)?(u(?:ser)?|g(?:roup)?):)([^:]*)\Z")
 PLAIN_WORD = re.compile(r"[A-Za-z0-9_./:=@%+,~^-]*\Z")
 
@@ -34,7 +24,7 @@ class Started(NamedTuple):
 
     start: int  # Where it starts in the line.
     word: str  # Without quotes.
-    before: List[str]
+    before: List[bytes]
 
 
 def started_word(line: str) -> Optional[Started]:
@@ -48,7 +38,7 @@ def started_word(line: str) -> Optional[Started]:
         elif letter in " \t" and not is_open:
             start = place + 1
     before = words_of(line[:start].encode("utf-8", "surrogateescape")) or []
-    return Started(start, line[start:].replace("'", ""), [word.decode("utf-8", "surrogateescape") for word in before])
+    return Started(start, line[start:].replace("'", ""), before)
 
 
 class Paths:
@@ -56,32 +46,29 @@ class Paths:
 
     def __init__(self, dump: bytes) -> None:
         names = re.findall(rb"^# file: (.*)$", dump, re.MULTILINE)
-        self.keys = sorted({self.key(read_path(name)) for name in names})
-
-    @staticmethod
-    def key(path: bytes) -> bytes:
-        return path.replace(b"/", b"\0")
+        self.keys = sorted({sorting_key(read_path(name)) for name in names})
 
     def add(self, path: bytes) -> None:
-        key = self.key(path)
+        key = sorting_key(path)
         place = bisect.bisect_left(self.keys, key)
         if self.keys[place : place + 1] != [key]:
             self.keys.insert(place, key)
 
     def remove(self, path: bytes) -> None:
         """Without the path, and without those below it."""
-        key = self.key(path)
+        key = sorting_key(path)
         del self.keys[bisect.bisect_left(self.keys, key) : bisect.bisect_left(self.keys, key + b"\1")]
 
     def below(self, directory: bytes, start: bytes) -> Iterator[Tuple[bytes, bool]]:
         """The names in a directory that have this start, and whether other paths are below them."""
-        prefix = self.key(directory) + b"\0" if directory else b""
+        prefix = sorting_key(directory) + b"\0" if directory else b""
         place = bisect.bisect_left(self.keys, prefix + start)
         while place < len(self.keys) and self.keys[place].startswith(prefix + start):
             name, has_more, _ = self.keys[place][len(prefix) :].partition(b"\0")
             following = bisect.bisect_left(self.keys, prefix + name + b"\0")
-            is_directory = bool(has_more) or self.keys[following : following + 1] != [] and self.keys[following].startswith(
-                prefix + name + b"\0")
+            is_directory = bool(has_more) or any(
+                key.startswith(prefix + name + b"\0") for key in self.keys[following : following + 1]
+            )
             if name:
                 yield name, is_directory
             place = bisect.bisect_left(self.keys, prefix + name + b"\1")
@@ -103,7 +90,8 @@ def quoted(word: str, is_whole: bool) -> str:
 class Completer:
     """Completes words over a snapshot."""
 
-    def __init__(self, page: Optional[Page], passwd: bytes, group: bytes, dump: Callable[[], bytes], more: List[str]) -> None:
+    def __init__(self, page: Optional[Page], passwd: bytes, group: bytes, dump: Callable[[], bytes],
+                 more: List[str]) -> None:
         self.page = page
         self.users = [written(row[0]) for row in rows_of(passwd)]
         self.groups = [written(row[0]) for row in rows_of(group)]
@@ -129,19 +117,19 @@ class Completer:
         if not started.before:
             return (word + " " for word in [*OPERANDS, *self.more] if word.startswith(started.word))
         tool = started.before[0]
-        if tool == "help":
+        if tool == b"help":
             topics = [*self.page.tools, *self.page.sections] if self.page else []
             return (topic for topic in topics if topic.startswith(started.word))
-        if started.word.startswith("-") and "--" not in started.before:
+        if started.word.startswith("-") and b"--" not in started.before:
             return self.options(tool, started.word)
-        return self.values(kind_of(tool, started.before[1:]), started.word)
+        return self.values(kind_of(started.before), started.word)
 
-    def options(self, tool: str, word: str) -> Iterator[str]:
+    def options(self, tool: bytes, word: str) -> Iterator[str]:
         name, is_value, value = word.partition("=")
         if is_value:
-            return (name + "=" + found for found in self.values(VALUES.get(tool, {}).get(name, OTHER), value))
-        known = self.page.tools[tool].options if self.page and tool in self.page.tools else []
-        return (option for option in known if option.startswith(word))
+            kind = VALUES.get(tool, {}).get(name.encode("utf-8", "surrogateescape"), OTHER)
+            return (name + "=" + found for found in self.values(kind, value))
+        return (option for option in map(bytes.decode, options_of_tool(tool)) if option.startswith(word))
 
     def values(self, kind: str, word: str) -> Iterator[str]:
         if kind in (USER, GROUP):
@@ -169,25 +157,18 @@ class Completer:
 
     def ending(self, name: bytes) -> List[bytes]:
         """Recorded paths whose last components are these, at most three."""
-        end = b"\0" + Paths.key(name)
+        end = b"\0" + sorting_key(name)
         found = (key.replace(b"\0", b"/") for key in self.paths().keys if key.endswith(end))
         return [path for _, path in zip(range(3), found)]
 
 
-def kind_of(tool: str, words: List[str]) -> str:
+def kind_of(words: List[bytes]) -> str:
     """What the next word of a line is."""
-    values = VALUES.get(tool, {})
-    if words and words[-1] in values:
+    values = VALUES.get(words[0], {})
+    if len(words) > 1 and words[-1] in values:
         return values[words[-1]]
-    seen = 0
-    is_value = False
-    for word in words:
-        if not is_value and (not word.startswith("-") or word == "-"):
-            seen += 1
-        is_value = word in values
-    kinds = OPERANDS.get(tool, [OTHER])
-    if tool == "chacl":
-        options: Set[str] = {word for word in words if word.startswith("-")}
-        lists = 0 if options & {"-l", "-R", "-D", "-B"} else 2 if "-b" in options else 1
-        return ENTRIES if seen < lists else FILE
-    return kinds[min(seen, len(kinds) - 1)]
+    line = split(words)
+    if words[0] == b"chacl":
+        return ENTRIES if len(line.operands) < lists_of_chacl(line) else FILE
+    kinds = operand_kinds(words[0]) or [OTHER]
+    return kinds[min(len(line.operands), len(kinds) - 1)]

@@ -2,22 +2,23 @@
 from __future__ import annotations
 
 import re
-from typing import Callable, List, Optional, Set
+from typing import Callable, Iterator, List, Optional, Set
 
-from . import causes, stops
+from . import causes
+from .answering import NO_FILE, is_refused
 from .completion import Completer
 from .manual import Page
 from .messages import Failure
 from .names import read_path, shown, write_name
 from .program import Answer, Session
-from .scripts import LINE_LIMIT, Unit, is_empty, read_script, takes_text, words_of
+from .scripts import LINE_LIMIT, Unit, is_empty, read_units, words_of
+from .stops import marked
 from .superuser import Superusers
+from .tools import EMPTY_ANSWERS, QUESTIONS
 
 Read = Callable[[str], str]  # Reads a line, after a prompt; raises EOFError and KeyboardInterrupt.
 HELP_WORDS, END_WORDS = (b"help", b"?"), (b"quit", b"exit")
 WORDS_OF_PROMPT = ["help", "quit"]
-EMPTY_ANSWERS = {b"who": b"(nobody)\n", **dict.fromkeys((b"may", b"index", b"changes", b"getfacl"), b"(nothing)\n")}
-QUESTIONS = (*EMPTY_ANSWERS, b"can", b"why", b"attr")
 ALONE = b"(each file is judged alone: with --reach after the tool, search on the directories above counts too)\n"
 KEYS = """\
 A line is a tool and its words: `help TOOL` has its options, and `help TOPIC` another section of the manual page.
@@ -76,39 +77,36 @@ class Desk:
         if words[:1] and words[0] in HELP_WORDS:
             self.help(words[1:])
             return True
-        number, lines = self.number, [line]
-        if not is_empty(line) and takes_text(words):
-            try:
-                lines += self.text(read)
-            except KeyboardInterrupt:
-                self.out(b"(the text is given up, and line %d with it)\n" % number)
-                return True
-        for unit in read_script(b"", b"".join(it + b"\n" for it in lines)):
-            self.answer(unit._replace(number=number))
+        if len(line) <= LINE_LIMIT and is_empty(line):
+            return True
+        number = self.number
+        try:
+            unit = next(read_units(b"", self.with_text(line, read)))
+        except KeyboardInterrupt:
+            self.out(b"(the text is given up, and line %d with it)\n" % number)
+            return True
+        self.answer(unit._replace(number=number))
         return True
 
-    def text(self, read: Read) -> List[bytes]:
-        """The lines of a text, with its end."""
-        lines: List[bytes] = []
-        while not lines or lines[-1] != b".":
-            lines.append(self.next_line(read, "%d| " % (self.number + 1)))
-        return lines
+    def with_text(self, line: bytes, read: Read) -> Iterator[bytes]:
+        """A line, and what is read after it for its text, if it takes one."""
+        yield line
+        while True:
+            yield self.next_line(read, "%d| " % (self.number + 1))
 
     def answer(self, unit: Unit) -> None:
         """Answers a line with its text."""
-        lines = b"".join(line + b"\n" for line in unit.lines)
         try:
-            answer = self.session.ask(lines)
-            marked = stops.stops_of(self.session, unit) if stops.is_asked(unit) and not is_refused(answer) else []
+            answer = self.session.ask(unit.text())
         except KeyboardInterrupt:
             self.start_again(b"line %d: given up, and changed nothing\n" % unit.number)
             return
         try:
-            self.show(unit, answer, marked)
+            self.show(unit, answer)
         except KeyboardInterrupt:
             self.out(b"\n(the rest is not shown)\n")
-        if not is_refused(answer) and not unit.is_of(*QUESTIONS):
-            self.accepted.append(lines)
+        if not is_refused(answer.messages) and not unit.is_of(*QUESTIONS):
+            self.accepted.append(unit.text())
             self.superusers.follow(unit)
             self.follow(unit)
 
@@ -120,19 +118,19 @@ class Desk:
             self.session.ask(lines)
         self.out(message)
 
-    def show(self, unit: Unit, answer: Answer, marked: List[bytes]) -> None:
+    def show(self, unit: Unit, answer: Answer) -> None:
         """An answer below its line."""
         count = 0
-        for printed in self.superusers.rest(unit, answer.output.lines()):
-            self.out(shown(printed) + stops.mark_of(printed, marked) + b"\n")
+        for printed in self.superusers.rest(unit, marked(unit, answer.output.lines())):
+            self.out(shown(printed) + b"\n")
             count += 1
-        if not count and not is_refused(answer) and unit.words:
+        if not count and not is_refused(answer.messages) and unit.words:
             self.out(EMPTY_ANSWERS.get(unit.words[0], b""))
         for message in answer.messages:
             self.out(b"line %d: %s\n" % (unit.number, shown(message)))
             for line in self.advice(unit, message):
                 self.out(b"    " + line.encode() + b"\n")
-        if unit.is_of(b"can", b"who", b"may") and b"--reach" not in unit.words and not is_refused(answer):
+        if unit.is_of(b"can", b"who", b"may") and b"--reach" not in unit.words and not is_refused(answer.messages):
             self.note(ALONE)
         if self.superusers.has_left_out:
             self.note(b"(" + self.superusers.note() + b")\n")
@@ -160,7 +158,8 @@ class Desk:
         """Recorded files whose paths end in one that is not there."""
         match = re.match(rb"[a-z]+: (.*): no such file\Z", message, re.DOTALL)
         path = read_path(match[1]) if match else b""
-        return ["There is " + shown(write_name(found)).decode() for found in self.completer.ending(path)] if path else []
+        return ["There is " + shown(write_name(found)).decode()
+                for found in self.completer.ending(path)] if path else []
 
     def follow(self, unit: Unit) -> None:
         """Keeps the paths that are completed up to date."""
@@ -176,23 +175,15 @@ class Desk:
         if self.page is None:
             text = "The manual page is not beside this command: man facl\n"
         elif not topic:
-            text = overview_of(self.page)
+            synopses = "".join("    " + it + "\n" for tool in self.page.tools.values() for it in tool.synopses)
+            topics = [it for it in self.page.sections if it not in ("name", "synopsis", "see also", "options")]
+            text = KEYS + "\nTools:\n" + synopses + "\nTopics: " + ", ".join(topics) + "\n"
         elif topic in self.page.tools:
             text = self.page.tools[topic].text
         else:
-            text = self.page.sections.get(topic.lower(), "There is no tool and no section of this name: `help` lists them.\n")
+            text = self.page.sections.get(topic.lower(),
+                                          "There is no tool and no section of this name: `help` lists them.\n")
         self.out(text.encode())
-
-
-def is_refused(answer: Answer) -> bool:
-    return any(b": warning: " not in message for message in answer.messages)
-
-
-def overview_of(page: Page) -> str:
-    """What `help` prints."""
-    synopses = [synopsis for tool in page.tools.values() for synopsis in tool.synopses]
-    topics = [name for name in page.sections if name not in ("name", "synopsis", "see also", "options")]
-    return KEYS + "\nTools:\n" + "".join("    " + it + "\n" for it in synopses) + "\nTopics: " + ", ".join(topics) + "\n"
 
 
 def refuse_early_end(session: Session) -> None:

@@ -1,7 +1,9 @@
 """What two records of a file do not have in common, in words, as facl-apply prints it."""
 from __future__ import annotations
 
+import contextlib
 import grp
+import os
 import pwd
 from typing import Callable, Iterator, List
 
@@ -22,28 +24,29 @@ def parts(one: Record, other: Record) -> bytes:
 
 
 def user_name(uid: int) -> bytes:
-    try:
-        return pwd.getpwuid(uid).pw_name.encode("utf-8", "surrogateescape")
-    except KeyError:
-        return b"%d" % uid
+    with contextlib.suppress(KeyError):
+        return os.fsencode(pwd.getpwuid(uid).pw_name)
+    return b"%d" % uid
 
 
 def group_name(gid: int) -> bytes:
-    try:
-        return grp.getgrgid(gid).gr_name.encode("utf-8", "surrogateescape")
-    except KeyError:
-        return b"%d" % gid
+    with contextlib.suppress(KeyError):
+        return os.fsencode(grp.getgrgid(gid).gr_name)
+    return b"%d" % gid
+
+
+def letters(bits: int, names: bytes) -> bytes:
+    """Letters, or a - for a bit that is not set; the last one is that of the lowest bit."""
+    return bytes(name if bits >> place & 1 else ord("-") for name, place in zip(names, (2, 1, 0)))
 
 
 def flags_text(flags: int) -> bytes:
     """Flags as getfacl(1) writes them."""
-    return b"".join(letter if flags & bit else b"-" for letter, bit in ((b"s", 0o4000), (b"s", 0o2000), (b"t", 0o1000)))
+    return letters(flags >> 9, b"sst")
 
 
 def permissions_text(permissions: int) -> bytes:
-    if permissions == ABSENT:
-        return b"none"
-    return b"".join(letter if permissions & bit else b"-" for letter, bit in ((b"r", 4), (b"w", 2), (b"x", 1)))
+    return b"none" if permissions == ABSENT else letters(permissions, b"rwx")
 
 
 def key_text(key: Key) -> bytes:

@@ -1,18 +1,16 @@
 """What the program answers about owner, group, flags and lists alone.
 
-The check looks at nothing else of a file, and many files share these. So each is asked of once, by a file of its own with a
-short name, in a session over these files: neither names nor depths of the snapshot's tree come into it.
+The check looks at nothing else of a file, and many files share these. So each is asked of once, by a file of its own
+with a short name, in a session over these files: neither names nor depths of the snapshot's tree come into it.
 """
 from __future__ import annotations
 
-import os
 import re
-import tempfile
-from typing import Dict, Iterator, List, NamedTuple
+from typing import Dict, Iterable, List, NamedTuple
 
-from .people import rows_of, user_word
-from .program import Region, Session
 from .names import script_word
+from .people import rows_of, user_word
+from .program import Region, Session, parts_of, session_over
 from .rights import users_of
 
 ROOM = 60_000  # Bytes of names in a line, which may have 65,536.
@@ -42,44 +40,39 @@ class Answers(NamedTuple):
 def dump_of(bodies: List[bytes]) -> bytes:
     """A dump of a file for each body; one that has a default list is a directory."""
     slash = {True: b"/", False: b""}
-    return b"".join(b"# file: /" + WORD % k + slash[b"\ndefault:" in body] + b"\n" + body + b"\n" for k, body in enumerate(bodies))
+    return b"".join(b"# file: /" + WORD % k + slash[b"\ndefault:" in body] + b"\n" + body + b"\n" for k,
+                    body in enumerate(bodies))
 
 
-def parts_of(count: int) -> Iterator[bytes]:
+def operands_of(count: int) -> List[bytes]:
     """The names of so many files in their order, as the operands of lines that have room for them."""
-    step = ROOM // WORD_SIZE
-    for start in range(0, count, step):
-        yield b" ".join(WORD % k for k in range(start, min(start + step, count)))
+    return list(map(b" ".join, parts_of((WORD % k for k in range(count)), ROOM)))
 
 
-def entries_of(record: bytes) -> bytes:
-    """The entries of a record, with two blanks before an effective permission."""
-    return re.sub(rb"\t+", b"  ", record.partition(b"\n")[2])
-
-
-def ask_lists(session: Session, count: int) -> List[bytes]:
-    lines = b"\n".join(b"getfacl -E -- " + part for part in parts_of(count))
-    return [record.partition(b"\n")[2] for record in session.ask_surely(lines).read().split(b"\n\n")[:-1]]
+def ask_records(session: Session, lines: Iterable[bytes]) -> List[bytes]:
+    """The records that lines of our own print, without the names of the files."""
+    text = session.ask_surely(b"\n".join(lines)).read()
+    return [record.partition(b"\n")[2] for record in text.split(b"\n\n")[:-1]]
 
 
 def ask_reasons(session: Session, passwd: bytes, users: List[bytes], count: int) -> List[List[bytes]]:
     """By which entries each user is judged; one whom no word names has no entries here."""
     rows = {row[0] for row in rows_of(passwd)}
-    parts = list(parts_of(count))
+    parts = operands_of(count)
     found: List[List[bytes]] = [[] for _ in range(count)]
     known: Dict[bytes, bytes] = {}  # Each text once.
     for user in users:
         word = None if user.isdigit() and user not in rows else user_word(passwd, user)
-        lines = b"\n".join(b"why -- %s %s" % (script_word(word), part) for part in parts) if word is not None else b""
-        records = session.ask_surely(lines).read().split(b"\n\n")[:-1] if lines else [b""] * count
-        for reasons, record in zip(found, records):
-            entries = entries_of(record)
+        lines = [] if word is None else [b"why -- %s %s" % (script_word(word), part) for part in parts]
+        for reasons, record in zip(found, ask_records(session, lines) if lines else [b""] * count):
+            entries = re.sub(rb"\t+", b"  ", record)  # Two blanks before an effective permission.
             reasons.append(known.setdefault(entries, entries))
     return found
 
 
 def vectors_of(table: Region, count: int, users: List[bytes]) -> List[bytes]:
-    """Two digits of each user for each file. The lines of a file follow each other, and those of a user have one length."""
+    """Two digits of each user for each file. The lines of a file follow each other, and those of a user have one
+    length."""
     places, size = [], 0
     for user in users:
         places.append(size)
@@ -91,18 +84,15 @@ def vectors_of(table: Region, count: int, users: List[bytes]) -> List[bytes]:
 
 def ask_some(program: str, people: People, bodies: List[bytes]) -> Answers:
     """Asks of bodies that one session has room for."""
-    with tempfile.TemporaryDirectory(prefix="facl-report.") as work:
-        for name, text in (("passwd", people.passwd), ("group", people.group), ("dump", dump_of(bodies))):
-            with open(os.path.join(work, name), "wb") as file:
-                file.write(text)
-        with Session(program, os.fsencode(work)) as session:
-            if people.lines:
-                session.ask_surely(people.lines.rstrip(b"\n"))
-            table = session.ask_surely(b"index")
-            users = users_of(table)
-            vectors = vectors_of(table, len(bodies), users)
-            reasons = ask_reasons(session, people.passwd, users, len(bodies))
-            return Answers(users, vectors, ask_lists(session, len(bodies)), reasons)
+    with session_over(program, people.passwd, people.group, dump_of(bodies)) as session:
+        if people.lines:
+            session.ask_surely(people.lines.rstrip(b"\n"))
+        table = session.ask_surely(b"index")
+        users = users_of(table)
+        vectors = vectors_of(table, len(bodies), users)
+        reasons = ask_reasons(session, people.passwd, users, len(bodies))
+        lists = ask_records(session, [b"getfacl -E -- " + part for part in operands_of(len(bodies))])
+        return Answers(users, vectors, lists, reasons)
 
 
 def ask_labels(program: str, people: People, bodies: List[bytes]) -> Answers:

@@ -1,9 +1,9 @@
 """Hard links: an edit by one name of a file is an edit by each of its names.
 
-Of the names of links a line can touch, or look at, those that are one of its words and, where it goes to whole subtrees,
-those below one; any word is taken for a path, and so is the name in each record of its text. After a line that edits these
-names are asked for. What one name got the others get before a line can touch them or look at them, and at the end.
-"""
+Of the names of links a line can touch, or look at, those that are one of its words and, where it goes to whole
+subtrees, those below one; any word is taken for a path, and so is the name in each record of its text. After a line
+that edits these names are asked for. What one name got the others get before a line can touch them or look at them, and
+at the end. """
 from __future__ import annotations
 
 import re
@@ -11,14 +11,13 @@ from bisect import bisect_left
 from itertools import takewhile
 from typing import Dict, Iterator, List, Optional, Set
 
-from .names import read_path, script_word, shown_path
-from .people import CHANGES
+from . import program
+from .names import read_path, script_word, shown_path, sorting_key
 from .program import Session
-from .records import File, Files, list_all, read_listing, sorting_key, write_record
+from .records import File, Files, list_all, read_listing, write_record
 from .scripts import LINE_LIMIT, Unit
+from .tools import CHANGES_OF_PEOPLE, WITH_FILES
 
-EDITS = (b"setfacl", b"chacl", b"chmod", b"setattr", b"creat", b"rm")
-OF_WORDS = (*EDITS, b"getfacl", b"attr", b"can", b"who", b"why")  # These look at files that their words name.
 # A word that sends a line to whole subtrees: the option alone, or among letters before one that has a value.
 RECURSIVE = re.compile(rb"--recursive\Z|-[^-mxMX]*[rR]")
 RECORD = re.compile(rb"\s*#\s*file: ?(.*)", re.DOTALL)  # The first line of a record of a restore.
@@ -39,7 +38,8 @@ class Links:
                 self.places.setdefault(path, []).append(place)
         self.known = {path: files[path].body for path in self.places}  # The lines of each record, as they were alike.
         self.present = dict(self.known)  # The same as they are now, of names that are there.
-        self.late: Dict[bytes, bytes] = {}  # Names whose present record the program does not have yet, with what it has.
+        self.late: Dict[bytes,
+                        bytes] = {}  # Names whose present record the program does not have yet, with what it has.
         self.open: Set[int] = set()  # The places of sets of which a line can have changed a name.
         self.paths = sorted(self.places, key=sorting_key)
         self.keys = [sorting_key(path) for path in self.paths]
@@ -54,8 +54,8 @@ class Links:
 
     def touched(self, unit: Unit) -> Set[bytes]:
         """The names that a line can touch or look at."""
-        if not unit.is_of(*OF_WORDS):
-            return set() if unit.is_of(*CHANGES) else set(self.places)
+        if not unit.is_of(*WITH_FILES):
+            return set() if unit.is_of(*CHANGES_OF_PEOPLE) else set(self.places)
         named = paths_in(unit)
         found = {path for path in named if path in self.places}
         if any(map(RECURSIVE.match, unit.words[1:])):
@@ -89,11 +89,11 @@ class Links:
     def set_list(self, session: Session, entries: bytes, names: List[bytes]) -> None:
         head = b"setfacl -n --set=%s --" % entries
         for part in parts_of(names, len(head)):
-            session.ask_surely(head + b"".join(map(word_of, part)))
+            session.ask_surely(b" ".join([head, *map(word_of, part)]))
 
     def follow(self, session: Session, unit: Unit) -> Optional[List[bytes]]:
-        """After an edit: each name of a file has what one of them got. Where two names of a file got different lists, nothing
-        more is done, and the names are returned."""
+        """After an edit: each name of a file has what one of them got. Where two names of a file got different lists,
+        nothing more is done, and the names are returned."""
         self.look(session, self.touched(unit))
         for place in sorted(self.open):
             self.sets[place] = names = [path for path in self.sets[place] if path in self.present]
@@ -152,16 +152,16 @@ def directory_above(paths: List[bytes]) -> bytes:
 
 
 def word_of(path: bytes) -> bytes:
-    return b" " + script_word(shown_path(path))
+    return script_word(shown_path(path))
 
 
 def question(paths: List[bytes]) -> bytes:
-    return QUESTION + b"".join(map(word_of, paths)) + b"\n"
+    return b" ".join([QUESTION, *map(word_of, paths)]) + b"\n"
 
 
 def list_to_set(old: bytes, new: bytes) -> bytes:
-    """The list, as a word, that makes one record of another: of a file with the same owner, group and flags. Nothing where
-    these are others, or the list is long."""
+    """The list, as a word, that makes one record of another: of a file with the same owner, group and flags. Nothing
+    where these are others, or the list is long."""
     old_head, head = old.partition(b"\nuser::")[0], new.partition(b"\nuser::")[0]
     entries = new[len(head) + 1 :].rstrip(b"\n").replace(b"\n", b",")
     return entries if old_head == head and len(entries) < LONGEST_LIST else b""
@@ -169,14 +169,4 @@ def list_to_set(old: bytes, new: bytes) -> bytes:
 
 def parts_of(paths: List[bytes], head: int = len(QUESTION)) -> Iterator[List[bytes]]:
     """The names in their order, as many in each part as a line has room for, after a head of so many bytes."""
-    part: List[bytes] = []
-    size = head
-    for path in paths:
-        length = len(word_of(path))
-        if part and size + length > LINE_LIMIT:
-            yield part
-            part, size = [], head
-        part.append(path)
-        size += length
-    if part:
-        yield part
+    return program.parts_of(paths, LINE_LIMIT - head, word_of)

@@ -1,7 +1,7 @@
 """Access control lists as the bytes of their extended attributes (acl(5), xattr(7)); all numbers are little-endian.
 
-The program makes the bytes of new lists. Here they are only read, to be compared, and a list is made that grants no more
-than two others.
+The program makes the bytes of new lists. Here they are only read, to be compared, and a list is made that grants no
+more than two others.
 """
 from __future__ import annotations
 
@@ -36,12 +36,14 @@ def entries_of(data: bytes) -> Entries:
     """The entries of a list; struct.error where the bytes are none."""
     if data[:4] != HEAD:
         raise struct.error("not the version 2")
-    return {(tag, number if tag in NAMED else NO_ID): permissions for tag, permissions, number in ENTRY.iter_unpack(data[4:])}
+    return {(tag, number if tag in NAMED else NO_ID): permissions for tag, permissions,
+            number in ENTRY.iter_unpack(data[4:])}
 
 
 def bytes_of(entries: Entries) -> bytes:
     """A list in the order of its keys, as the program and libacl write it."""
-    return HEAD + b"".join(ENTRY.pack(tag, permissions, number) for (tag, number), permissions in sorted(entries.items()))
+    return HEAD + b"".join(ENTRY.pack(tag, permissions, number) for (tag, number),
+                           permissions in sorted(entries.items()))
 
 
 def canonical(data: bytes) -> bytes:

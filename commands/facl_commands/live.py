@@ -1,7 +1,7 @@
 """Files of the live system: each is opened once by its path, and then known by its descriptor alone.
 
-A path is followed component by component from the root, and never through a symbolic link. What is asked and changed of a
-file goes by /proc/self/fd, so it is of the very file that was opened, whatever becomes of its name.
+A path is followed component by component from the root, and never through a symbolic link. What is asked and changed of
+a file goes by /proc/self/fd, so it is of the very file that was opened, whatever becomes of its name.
 """
 from __future__ import annotations
 
@@ -86,7 +86,8 @@ def seen_of(status: Status, name: bytes, follow: bool = True) -> Seen:
         raise NotFound(b"is a symbolic link now")
     access = attribute(name, lists.ACCESS, follow)
     default = attribute(name, lists.DEFAULT, follow) if stat.S_ISDIR(mode) else None
-    return Seen(device, inode, birth, mode, names, owner, group, MINIMAL[mode & 0o777] if access is None else LISTS[access],
+    return Seen(device, inode, birth, mode, names, owner, group, MINIMAL[mode & 0o777] if access is None
+                else LISTS[access],
                 b"" if default is None else LISTS[default])
 
 
@@ -142,14 +143,16 @@ class OpenFile:
 
 
 def flags_meanwhile(now: int, end: int, is_directory: bool) -> int:
-    """The flags while owner and list change: a plain file runs as nobody else, and names in a directory stay protected."""
+    """The flags while owner and list change: a plain file runs as nobody else, and names in a directory stay
+    protected."""
     if is_directory:
         return now | end & stat.S_ISVTX
     return now & ~(stat.S_ISUID | stat.S_ISGID) if (now | end) & (stat.S_ISUID | stat.S_ISGID) else now
 
 
 def change(file: OpenFile, now: Record, end: Record, is_directory: bool) -> None:
-    """Gives a file its new record; at no moment is anybody granted by it what neither the present nor the new record grants.
+    """Gives a file its new record; at no moment is anybody granted by it what neither the present nor the new record
+    grants.
 
     One call changes a list, and one owner and group. Between two of them there is a list that grants no more than both.
     """
@@ -183,8 +186,8 @@ def is_between(now: Record, old: Record, new: Record) -> bool:
 
 
 class Opener:
-    """Opens files by their paths. The directories of the last path are kept open, so in path order each is opened once; of a
-    long path the last ones alone."""
+    """Opens files by their paths. The directories of the last path are kept open, so in path order each is opened once;
+    of a long path the last ones alone."""
 
     def __init__(self) -> None:
         self.root = os.open(b"/", PATH | os.O_DIRECTORY)
@@ -256,7 +259,8 @@ class Opener:
 
 def not_found(error: OSError) -> NotFound:
     """Why a path does not lead to a file."""
-    return NotFound(b"is gone" if isinstance(error, (FileNotFoundError, NotADirectoryError)) else b"cannot be opened: " + reason(error))
+    return NotFound(b"is gone" if isinstance(error, (FileNotFoundError, NotADirectoryError)) else b"cannot be opened: "
+                    + reason(error))
 
 
 def open_part(folder: int, part: bytes) -> int:

@@ -1,6 +1,7 @@
 """How a command ends: messages that name it, its exit status, its streams, and what it does when it is interrupted."""
 from __future__ import annotations
 
+import argparse
 import errno
 import gc
 import os
@@ -9,11 +10,23 @@ import sys
 from types import FrameType
 from typing import IO, Callable, Iterable, List, NoReturn, Optional
 
+from . import VERSION
 from .names import shown
 
 UNUSABLE = 2  # The status where the words, the input or the system do not allow it.
 NOT_SAID = 5  # The status where all is done, and what was to be printed could not be written.
-SIGNALS = (signal.SIGHUP, signal.SIGINT, signal.SIGQUIT, signal.SIGTERM)  # Each ends a command, and leaves nothing behind.
+SIGNALS = (signal.SIGHUP, signal.SIGINT, signal.SIGQUIT,
+           signal.SIGTERM)  # Each ends a command, and leaves nothing behind.
+
+
+def parser_of(name: str, description: str, status: str) -> argparse.ArgumentParser:
+    """What reads the words of a command; they may not be cut short."""
+    parser = argparse.ArgumentParser(
+        prog=name, description=description, epilog=status, formatter_class=argparse.RawDescriptionHelpFormatter,
+        allow_abbrev=False,
+    )
+    parser.add_argument("--version", action="version", version="%(prog)s " + VERSION)
+    return parser
 
 
 class Failure(Exception):

@@ -2,7 +2,6 @@
 from __future__ import annotations
 
 import os
-import socket
 from typing import Dict, List, NamedTuple, Optional
 
 from .names import json_text
@@ -48,12 +47,12 @@ def meta_of(folder: bytes) -> Meta:
 
 def fields_of(meta: Meta) -> Dict[str, Optional[str]]:
     """For JSON."""
-    known = (None, None) if meta is UNKNOWN else (json_text(meta.host), json_text(meta.date))
-    return dict(zip(("host", "date"), known))
+    return {name: None if meta is UNKNOWN else json_text(text) for name,
+            text in (("host", meta.host), ("date", meta.date))}
 
 
 def is_of_another_host(meta: Meta) -> bool:
-    return meta is not UNKNOWN and meta.host != os.fsencode(socket.gethostname())
+    return meta is not UNKNOWN and meta.host != os.fsencode(os.uname().nodename)
 
 
 def named(name: bytes, meta: Meta) -> bytes:

@@ -1,4 +1,5 @@
-"""Names of files and users in texts: their escapes, as the section SCRIPTS of the manual page has them, and their quotes.
+"""Names of files and users in texts: their escapes, as the section SCRIPTS of the manual page has them, and their
+quotes.
 
 A path is its components with a slash between each two, as bytes; the root is the empty path.
 """
@@ -11,7 +12,8 @@ from typing import List, Tuple
 ESCAPE = re.compile(rb"\\([0-3][0-7][0-7]|\\)")
 SAFE = re.compile(rb"[\x20-\x7e\t]*\Z")
 # Characters that a terminal obeys, and those that change the direction of a text; a tab is between the fields of a row.
-CONTROL_CODES = (*range(9), *range(10, 32), *range(127, 160), 0x61C, 0x200E, 0x200F, *range(0x2028, 0x202F), *range(0x2066, 0x206A))
+CONTROL_CODES = (*range(9), *range(10, 32), *range(127, 160), 0x61C, 0x200E, 0x200F, *range(0x2028, 0x202F),
+                 *range(0x2066, 0x206A))
 CONTROLS = {code: "".join("\\%03o" % byte for byte in chr(code).encode()) for code in CONTROL_CODES}
 PLAIN_SHELL_WORD = re.compile(rb"[A-Za-z0-9_./:=@%+,-]+\Z")
 
@@ -36,8 +38,22 @@ def path_order(path: bytes) -> List[bytes]:
     return path.split(b"/") if path else []
 
 
+def sorting_key(path: bytes) -> bytes:
+    """The same as bytes: no component has a NUL byte."""
+    return path.replace(b"/", b"\0")
+
+
 def parent_of(path: bytes) -> bytes:
     return path.rpartition(b"/")[0]
+
+
+def directories_above(path: bytes) -> List[bytes]:
+    """The nearest first, and the root last."""
+    found = []
+    while path:
+        path = parent_of(path)
+        found.append(path)
+    return found
 
 
 def shown_path(path: bytes) -> bytes:
@@ -80,6 +96,6 @@ def json_text(text: bytes) -> str:
 
 
 def shown(text: bytes) -> bytes:
-    """What a person reads of a text: bytes that are no UTF-8, and characters that control a terminal or change the direction
-    of a text, are escapes."""
+    """What a person reads of a text: bytes that are no UTF-8, and characters that control a terminal or change the
+    direction of a text, are escapes."""
     return text if SAFE.match(text) else json_text(text).translate(CONTROLS).encode()

@@ -1,9 +1,9 @@
-"""A file that a command makes: in a folder that nobody else can write, under a name that nothing had, whole or not at all."""
+"""A file that a command makes: in a folder that nobody else can write, under a name that nothing had, whole or not at
+all."""
 from __future__ import annotations
 
 import errno
 import os
-import secrets
 import signal
 
 from . import system, trusted
@@ -30,11 +30,12 @@ class NewFile:
         raise Failure(name + b": is there already, and is not replaced")
 
     def write(self, text: bytes) -> None:
-        """Makes the file with this text. Where that fails, or is interrupted, nothing is left behind; once the file has its
-        name, signals wait for the end of the command."""
-        made = b".facl-" + secrets.token_hex(16).encode()
+        """Makes the file with this text. Where that fails, or is interrupted, nothing is left behind; once the file has
+        its name, signals wait for the end of the command."""
+        made = b".facl-" + os.urandom(16).hex().encode()
         try:
-            descriptor = os.open(made, os.O_WRONLY | os.O_CREAT | os.O_EXCL | os.O_NOFOLLOW | os.O_CLOEXEC, PRIVATE, dir_fd=self.folder)
+            descriptor = os.open(made, os.O_WRONLY | os.O_CREAT | os.O_EXCL | os.O_NOFOLLOW | os.O_CLOEXEC, PRIVATE,
+                                 dir_fd=self.folder)
             with open(descriptor, "wb") as file:
                 file.write(text)
                 file.flush()

@@ -6,18 +6,22 @@ from collections import Counter
 from typing import Dict, FrozenSet, Iterator, List, NamedTuple, Optional, Set, Tuple
 
 from .messages import counted
-from .names import PLAIN_SHELL_WORD, script_word
-from .owners import ESCAPED_IN_NAMES
+from .names import PLAIN_SHELL_WORD, script_word, sorting_key
+from .owners import ESCAPED_IN_NAMES, OWNER
 from .people import Group, People, User
 from .program import Session
-from .records import Files, sorting_key
-from .rights import NOTHING, SEARCH, Answers, Vector, directory_of
+from .records import Files
+from .rights import NOTHING, SEARCH, Answers, directory_of, lanes, places_in
 
-OWNERS = re.compile(rb"# owner: ([0-9]+)\n# group: ([0-9]+)\n")
 NAMED = re.compile(rb"^(user|group):([0-9]+):(...)$", re.MULTILINE)
 MASK, OWNING_GROUP = re.compile(rb"^mask::(...)$", re.MULTILINE), re.compile(rb"^group::(...)$", re.MULTILINE)
+ONE_OR_NONE = bytes([0]) + bytes([1]) * 255
 MOST_DIRECTORIES = 8  # So many at most are opened by one line.
 ROOM_FOR_NAMES = 60_000  # Bytes of their words in a line.
+AT_ONCE = 1_000  # Questions.
+
+
+Pair = Tuple[bytes, bytes]  # The record of a file before, or nothing, and after.
 
 
 class Side(NamedTuple):
@@ -42,8 +46,10 @@ class NoGain(NamedTuple):
     def text(self) -> bytes:
         which = self.directory + (b" and " + below(self.opened - 1) if self.opened > 1 else b"")
         verb = b" grant" if self.opened > 1 else b" grants"
-        rest = b", and " + below(self.closed) + (b" grants none" if self.closed == 1 else b" grant none") if self.closed else b""
-        return which + verb + b" no search (" + b", ".join(map(shown_entry, self.entries)) + b")" + rest + b"; add: " + self.edit
+        rest = b", and " + below(self.closed) + (b" grants none" if self.closed == 1
+                                                 else b" grant none") if self.closed else b""
+        return which + verb + b" no search (" + b", ".join(map(shown_entry,
+                                                               self.entries)) + b")" + rest + b"; add: " + self.edit
 
 
 def below(number: int) -> bytes:
@@ -66,7 +72,8 @@ class Closed:
 
     def __init__(self, answers: Answers, place: int) -> None:
         self.alone, self.place = answers.alone, place
-        self.highest: Dict[bytes, Optional[bytes]] = {b"": None}  # By directory, as directory_of has it: the highest closed path.
+        # By directory, as directory_of has it: the highest closed path.
+        self.highest: Dict[bytes, Optional[bytes]] = {b"": None}
         self.closed: Dict[bytes, Set[bytes]] = {}  # By the highest: the others.
 
     def is_closed(self, path: bytes) -> bool:
@@ -92,9 +99,10 @@ class Closed:
 
 
 def named_ids(old: bytes, new: bytes) -> Tuple[FrozenSet[int], FrozenSet[int]]:
-    """The ids of users and groups that a record names otherwise than before: by an entry, as the owner or the owning group."""
+    """The ids of users and groups that a record names otherwise than before: by an entry, as the owner or the owning
+    group."""
     entries = set(NAMED.findall(new)) - set(NAMED.findall(old))
-    before, after = OWNERS.match(old), OWNERS.match(new)
+    before, after = OWNER.match(old), OWNER.match(new)
     assert after is not None
     ids: Dict[bytes, Set[int]] = {b"user": set(), b"group": set()}
     for kind, number, _ in entries:
@@ -119,6 +127,40 @@ def groups_by_user(people: People) -> Dict[bytes, Set[int]]:
     return found
 
 
+class Tally:
+    """In how many files each of some users gains, and when that was first so. Users are bytes of a number, 1 who
+    gains."""
+
+    def __init__(self, named: Dict[int, Named], users: int) -> None:
+        self.named, self.users = named, users
+        self.sum = self.load = 0  # Of files that are not in the totals yet: so many that no byte has more than 255.
+        self.totals: Dict[int, int] = Counter()
+        self.seen = 0
+        self.first: List[Tuple[int, bytes]] = []
+
+    def add(self, order: int, gaining: int, number: int) -> None:
+        new = gaining & ~self.seen
+        if new:
+            self.first.append((order, new.to_bytes(self.users, "little")))
+            self.seen |= new
+        if self.load + number > 255:
+            self.empty()
+        if number > 255:
+            self.totals.update({place: number for place in places_in(gaining.to_bytes(self.users, "little"))})
+        else:
+            self.sum, self.load = self.sum + gaining * number, self.load + number
+
+    def empty(self) -> None:
+        numbers = self.sum.to_bytes(self.users, "little")
+        self.totals.update({place: numbers[place] for place in places_in(numbers)})
+        self.sum = self.load = 0
+
+    def result(self) -> Iterator[Tuple[int, int, int]]:
+        """When each of them gained first, the place, and the number of files."""
+        self.empty()
+        return ((order, place, self.totals[place]) for order, new in self.first for place in places_in(new))
+
+
 class Finder:
     """Finds files that grant a user more than before, where an edit names the user."""
 
@@ -126,10 +168,11 @@ class Finder:
         self.old, self.new = old, new
         self.users = {name_in_index(user.name): user for user in new.people.users}
         stopped = {k for row in set(new.answers.reached.values()) for k, one in enumerate(row) if not one}
-        self.places = [k for k, name in enumerate(new.answers.users) if k in stopped and name in self.users and name not in left_out]
+        self.places = [k for k, name in enumerate(new.answers.users) if k in stopped and name in self.users
+                       and name not in left_out]
         old_places = {name: k for k, name in enumerate(old.answers.users)}
         self.old_places = [old_places.get(name) for name in new.answers.users]
-        self.lists: Dict[Tuple[FrozenSet[int], FrozenSet[int]], List[Named]] = {}
+        self.lists: Dict[Tuple[FrozenSet[int], FrozenSet[int]], Tuple[Dict[int, Named], int]] = {}
         self.groups = groups_by_user(new.people)
         before = groups_by_user(old.people)
         self.of_uid: Dict[int, List[int]] = {}
@@ -144,46 +187,54 @@ class Finder:
     def user(self, place: int) -> User:
         return self.users[self.new.answers.users[place]]
 
-    def named(self, old: bytes, new: bytes) -> List[Named]:
-        """Those whom a record names otherwise than before, and those who are in a group in which they were not."""
+    def named(self, old: bytes, new: bytes) -> Tuple[Dict[int, Named], int]:
+        """Those whom a record names otherwise than before, and those who are in a group in which they were not; and the
+        same as a number."""
         uids, gids = ids = named_ids(old, new)
-        if ids in self.lists:
-            return self.lists[ids]
-        found = {place: Named(place, gid) for gid in sorted(gids, reverse=True) for place in self.of_gid.get(gid, ())}
-        found.update((place, Named(place, None)) for uid in uids for place in self.of_uid.get(uid, ()))
-        found.update((place, Named(place, None)) for place in self.joined)
-        self.lists[ids] = list(found.values())
+        if ids not in self.lists:
+            found = {place: Named(place, gid) for gid in sorted(gids, reverse=True)
+                     for place in self.of_gid.get(gid, ())}
+            found.update((place, Named(place, None)) for uid in uids for place in self.of_uid.get(uid, ()))
+            found.update((place, Named(place, None)) for place in self.joined)
+            places = bytearray(len(self.new.answers.users))
+            for place in found:
+                places[place] = 1
+            self.lists[ids] = found, lanes(places)
         return self.lists[ids]
 
-    def gaining(self, named: List[Named], old: Optional[Vector], new: Vector) -> Tuple[Named, ...]:
-        """Those of them who have more than before on a file alone."""
-        if not named:
-            return ()
-        if old is None:
-            before = bytes([NOTHING]) * len(new)
-        elif self.old.answers.users == self.new.answers.users:
-            before = old
-        else:
-            before = bytes([NOTHING if place is None else old[place] for place in self.old_places])
-        return tuple([it for it in named if new[it.place] & ~before[it.place]])
+    def gaining(self, named: int, path: bytes) -> int:
+        """Those of them who have more on a file alone than before."""
+        before, now = self.old.answers.alone.get(path), self.new.answers.alone[path]
+        if before is None:
+            before = bytes([NOTHING]) * len(now)
+        elif self.old.answers.users != self.new.answers.users:
+            before = bytes([NOTHING if place is None else before[place] for place in self.old_places])
+        more = (lanes(now) & ~lanes(before)).to_bytes(len(now), "little").translate(ONE_OR_NONE)
+        return lanes(more) & named
 
     def counts(self) -> Iterator[Tuple[Named, bytes, int]]:
-        """With the directory of the files, as directory_of has it, and their number."""
-        known: Dict[Tuple[bytes, bytes], Tuple[Named, ...]] = {}
-        found: Dict[Tuple[Tuple[Named, ...], bytes], int] = Counter()
+        """With the directory of the files, as directory_of has it, and their number; a user by one group or another in
+        the order of the first files."""
+        known: Dict[Pair, Tuple[Dict[int, Named], int]] = {}
+        numbers: Dict[Tuple[Pair, bytes], int] = Counter()
         for path, file in self.new.files.items():
             before = self.old.files.get(path)
             pair = b"" if before is None else before.body, file.body
             if pair[0] == pair[1] and not self.joined:
                 continue
             if pair not in known:
-                old, new = self.old.answers.alone.get(path), self.new.answers.alone[path]
-                known[pair] = self.gaining(self.named(*pair), old, new)
-            if known[pair]:
-                found[known[pair], directory_of(path)] += 1
-        for (users, directory), number in found.items():
-            reached = self.new.answers.reached[directory]
-            yield from ((it, directory, number) for it in users if not reached[it.place])
+                by_place, places = self.named(*pair)
+                known[pair] = by_place, self.gaining(places, path) if places else 0
+            if known[pair][1]:
+                numbers[pair, directory_of(path)] += 1
+        tallies: Dict[Tuple[int, bytes], Tally] = {}
+        for order, ((pair, directory), number) in enumerate(numbers.items()):
+            by_place, gaining = known[pair]
+            tally = tallies.setdefault((id(by_place), directory), Tally(by_place, len(self.new.answers.users)))
+            tally.add(order, gaining & ~lanes(self.new.answers.reached[directory]), number)
+        found = [(order, tally.named[place], directory, number)
+                 for (_, directory), tally in tallies.items() for order, place, number in tally.result()]
+        yield from (it[1:] for it in sorted(found, key=lambda it: it[0]))
 
 
 def perms(letters: bytes) -> bytes:
@@ -200,12 +251,13 @@ def effective(entry: bytes) -> bytes:
 
 def id_word(name: bytes, number: int) -> bytes:
     """What names a user or a group in an entry: the id where the name is not plain."""
-    return name if PLAIN_SHELL_WORD.match(name) and not name.isdigit() and not set(name) & set(b":,") else b"%d" % number
+    is_plain = PLAIN_SHELL_WORD.match(name) and not name.isdigit() and not set(name) & set(b":,")
+    return name if is_plain else b"%d" % number
 
 
 def entry_of_group(body: bytes, group: Group, granted: bytes) -> Tuple[bytes, bytes]:
     """What the entry of a group begins with, and its permissions so far, or what others have."""
-    owners, owning = OWNERS.match(body), OWNING_GROUP.search(body)
+    owners, owning = OWNER.match(body), OWNING_GROUP.search(body)
     assert owners is not None and owning is not None
     if int(owners[2]) == group.gid:
         return b"g::", owning[1]
@@ -214,8 +266,8 @@ def entry_of_group(body: bytes, group: Group, granted: bytes) -> Tuple[bytes, by
 
 
 def opening(entries: List[bytes], body: bytes, user: User, group: Optional[Group]) -> bytes:
-    """The entries that give search on a directory, by an entry of the group or the user: they take nothing from the user, and
-    the mask gets no more than that needs. Entries decide on the user so far."""
+    """The entries that give search on a directory, by an entry of the group or the user: they take nothing from the
+    user, and the mask gets no more than that needs. Entries decide on the user so far."""
     granted = perms(b"".join(map(effective, entries)))
     kind = entries[0].split(b":")
     if kind[:2] == [b"user", b""]:
@@ -244,55 +296,70 @@ def operand(name: bytes) -> bytes:
     return word(b"./" + name if name.startswith(b"-") else name)
 
 
-def ask_entries(session: Session, user: User, names: List[bytes]) -> List[List[bytes]]:
-    """Those that decide on the user, of directories in path order."""
+def question(user: User, names: List[bytes]) -> bytes:
+    """What decides on a user on directories in path order."""
     asked = b"%d" % user.uid if user.name.isdigit() else name_in_index(user.name)
-    text = session.ask_surely(b"why -- " + script_word(asked) + b"".join(b" " + script_word(name) for name in names)).read()
-    return [block.split(b"\n")[1:] for block in text.split(b"\n\n")[:-1]]
+    return b"why -- " + b" ".join(map(script_word, [asked, *names]))
 
 
-class Asker:
-    """Asks what decides on closed directories, and what opens them."""
+def ask_entries(session: Session, questions: List[Tuple[User, List[bytes]]]) -> Iterator[List[List[bytes]]]:
+    """The entries that decide on each user, of each directory."""
+    for start in range(0, len(questions), AT_ONCE):
+        part = questions[start : start + AT_ONCE]
+        text = session.ask_surely(b"\n".join(question(*it) for it in part)).read()
+        blocks = iter(text.split(b"\n\n"))
+        for _, names in part:
+            yield [next(blocks).split(b"\n")[1:] for _ in names]
 
-    def __init__(self, session: Session, new: Side) -> None:
-        self.session, self.new = session, new
-        self.groups = {group.gid: group for group in reversed(new.people.groups)}
 
-    def shown(self, paths: List[bytes]) -> List[bytes]:
-        """The directories that one line can open: all of them, or the first, or none whose name a line has no room for."""
-        sizes = [len(script_word(self.new.answers.names[path])) for path in paths[: MOST_DIRECTORIES + 1]]
-        if len(paths) <= MOST_DIRECTORIES and sum(sizes) < ROOM_FOR_NAMES:
-            return paths
-        return paths[:1] if sizes[0] < ROOM_FOR_NAMES else []
+def shown_directories(new: Side, paths: List[bytes]) -> List[bytes]:
+    """The directories that one line can open: all of them, or the first, or none whose name a line has no room for."""
+    sizes = [len(script_word(new.answers.names[path])) for path in paths[: MOST_DIRECTORIES + 1]]
+    if len(paths) <= MOST_DIRECTORIES and sum(sizes) < ROOM_FOR_NAMES:
+        return paths
+    return paths[:1] if sizes[0] < ROOM_FOR_NAMES else []
 
-    def no_gain(self, user: User, named: Named, files: int, closed: Set[bytes]) -> Optional[NoGain]:
-        paths = sorted(closed, key=sorting_key)
-        shown = self.shown(paths)
-        if not shown:
-            return None
-        names = [self.new.answers.names[path] for path in shown]
-        found = ask_entries(self.session, user, names)
-        group = None if named.gid is None else self.groups.get(named.gid)
-        edits = [opening(entries, self.new.files[path].body, user, group) for path, entries in zip(shown, found)]
-        if len(set(edits)) > 1:
-            names = names[:1]
-        edit = b"setfacl -n -m " + word(edits[0]) + b"".join(b" " + operand(name) for name in names)
-        name = self.new.answers.users[named.place]
-        return NoGain(name, files, names[0], found[0], edit, len(names), len(paths) - len(names))
+
+class Behind(NamedTuple):
+    """Files that would grant a user more, behind closed directories."""
+
+    user: bytes  # As in the index.
+    row: User
+    gid: Optional[int]
+    files: int
+    closed: List[bytes]  # In path order.
+    shown: List[bytes]
+
+
+def no_gain(new: Side, group: Optional[Group], it: Behind, entries: List[List[bytes]]) -> NoGain:
+    names = [new.answers.names[path] for path in it.shown]
+    edits = [opening(found, new.files[path].body, it.row, group) for path, found in zip(it.shown, entries)]
+    if len(set(edits)) > 1:
+        names = names[:1]
+    edit = b"setfacl -n -m " + word(edits[0]) + b"".join(b" " + operand(name) for name in names)
+    return NoGain(it.user, it.files, names[0], entries[0], edit, len(names), len(it.closed) - len(names))
 
 
 def find(session: Session, old: Side, new: Side, left_out: Set[bytes]) -> List[NoGain]:
     """By users in their order, and by closed directories in path order; the session is as it is after the edits."""
-    finder, asker = Finder(old, new, left_out), Asker(session, new)
+    finder = Finder(old, new, left_out)
     closed: Dict[int, Closed] = {}
     totals: Dict[Tuple[int, bytes], int] = Counter()
-    groups: Dict[Tuple[int, bytes], Named] = {}
+    named_by: Dict[Tuple[int, bytes], Named] = {}
     for named, directory, number in finder.counts():
         highest = closed.setdefault(named.place, Closed(new.answers, named.place)).add(directory)
         assert highest is not None
         key = named.place, highest
         totals[key] += number
-        groups[key] = named if named.gid is None else groups.get(key, named)
-    ordered = sorted(totals, key=lambda key: (key[0], sorting_key(key[1])))
-    found = (asker.no_gain(finder.user(key[0]), groups[key], totals[key], closed[key[0]].closed[key[1]]) for key in ordered)
-    return [it for it in found if it is not None]
+        named_by[key] = named if named.gid is None else named_by.get(key, named)
+    behind: List[Behind] = []
+    for place, highest in sorted(totals, key=lambda key: (key[0], sorting_key(key[1]))):
+        paths = sorted(closed[place].closed[highest], key=sorting_key)
+        user, gid = new.answers.users[place], named_by[place, highest].gid
+        behind.append(Behind(user, finder.user(place), gid, totals[place, highest], paths,
+                             shown_directories(new, paths)))
+    behind = [it for it in behind if it.shown]
+    groups = {group.gid: group for group in reversed(new.people.groups)}
+    answers = ask_entries(session, [(it.row, [new.answers.names[path] for path in it.shown]) for it in behind])
+    return [no_gain(new, None if it.gid is None else groups.get(it.gid), it, entries) for it,
+            entries in zip(behind, answers)]

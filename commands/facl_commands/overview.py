@@ -9,17 +9,19 @@ import re
 from typing import Iterator, List, NamedTuple, Set
 
 from . import texts as source_texts
-from .messages import counted
+from .messages import Command, counted
 from .names import live_name
 from .people import rows_of
 from .records import EMPTY_MASK, OTHERS_WITH_SOMETHING
 from .snapshot import NEEDED, read_links
+from .texts import Source
 from .trusted import read_trusted
 
 FILE_NAME = re.compile(rb"^# file: (.*)$", re.MULTILINE)
 GROUP_IDS = re.compile(rb"^(?:# group: |(?:default:)?group:)([0-9]+)(?:$|:)", re.MULTILINE)
 USER_IDS = re.compile(rb"^(?:# owner: |(?:default:)?user:)([0-9]+)(?:$|:)", re.MULTILINE)
-EMPTY_MASKS = b"lists with an empty mask whose others have something, which Linux grants to named users and groups too, and facl does not"
+EMPTY_MASKS = (b"lists with an empty mask whose others have something, which Linux grants to named users and groups "
+               b"too, and facl does not")
 
 
 class Texts(NamedTuple):
@@ -87,8 +89,10 @@ def warnings(texts: Texts) -> Iterator[bytes]:
         (EMPTY_MASKS, list(open_empty_masks(texts.dump))),
         (b"ids in the dump without a row in passwd or group", ids_without_row(texts)),
         (b"members of groups without a row in passwd", members_without_row(texts)),
-        (b"rows of passwd with a carriage return, which facl takes for a part of a name", rows_with_returns(texts.passwd)),
-        (b"rows of group with a carriage return, which facl takes for a part of a name", rows_with_returns(texts.group)),
+        (b"rows of passwd with a carriage return, which facl takes for a part of a name",
+         rows_with_returns(texts.passwd)),
+        (b"rows of group with a carriage return, which facl takes for a part of a name",
+         rows_with_returns(texts.group)),
     ]
     for text, names in found:
         if names:
@@ -105,11 +109,15 @@ def unknown(folder: bytes, dump: bytes) -> Iterator[bytes]:
         passwd, group = (read_trusted(os.path.join(folder, name)) for name in (b"passwd", b"group"))
         names = source_texts.names_without_row(passwd, group, dump)
         if names:
-            yield warning_of(b"users and groups in the dump without a row, with which the program does not load it", names)
+            yield warning_of(b"users and groups in the dump without a row, with which the program does not load it",
+                             names)
 
 
-def masks(dump: bytes) -> Iterator[bytes]:
-    """The warning of empty masks, where there are any."""
-    names = list(open_empty_masks(dump))
+def say_notices(command: Command, source: Source, has_masks: bool = True) -> None:
+    """What answers over this snapshot cannot tell, and the warning of empty masks, where there are any."""
+    dump = read_trusted(os.path.join(source.folder, b"dump"))
+    for text in unknown(source.folder, dump):
+        command.say(source.shown + b": " + text if not text.startswith(b"warning: ") else text)
+    names = list(open_empty_masks(dump)) if has_masks else []
     if names:
-        yield warning_of(EMPTY_MASKS, names)
+        command.say(warning_of(EMPTY_MASKS, names))

@@ -1,22 +1,21 @@
-"""chown and chgrp in a script of facl-plan: what they do, as the records that setfacl --restore takes. And what a user who is
-removed leaves behind."""
+"""chown and chgrp in a script of facl-plan: what they do, as the records that setfacl --restore takes. And what a user
+who is removed leaves behind."""
 from __future__ import annotations
 
 import re
-from typing import Dict, Iterable, Iterator, List, NamedTuple, Optional, Tuple, Union
+from typing import Dict, Iterable, List, NamedTuple, Optional, Tuple, Union
 
 from .messages import counted
-from .names import SAFE, live_name, live_path, read_name, script_word, shell_word, shown, shown_path
+from .names import SAFE, live_name, live_path, read_name, script_word, shell_word, shown, shown_path, sorting_key
 from .people import People
-from .program import Session
-from .records import File, Files, read_listing, sorting_key, write_records
+from .planned import HEAD_OF_RECORD
+from .program import Session, parts_of
+from .records import File, Files, read_listing, write_records
 from .scripts import LINE_LIMIT, WORD, Unit, takes_text
 
-TOOLS = (b"chown", b"chgrp")
 RESTORE = b"setfacl --restore=-"
 TEXT_LIMIT = 60 << 20  # A run of the program takes 64 MiB, of which others have a part.
 NO_ID = 0xFFFFFFFF  # chown(2) takes it for "stays".
-HEAD = re.compile(rb"# owner: [0-9]+\n# group: [0-9]+\n(?:# flags: ([s-])([s-])([t-])\n)?")
 SET_FLAGS = re.compile(rb"\n# flags: (?:s|-s)")
 MASK, OWNING_GROUP = re.compile(rb"^mask::..([x-])", re.MULTILINE), re.compile(rb"^group::..([x-])", re.MULTILINE)
 ESCAPED_IN_NAMES = re.compile(rb"[\\\n\r\t :,#]")  # As the program prints names of users and groups.
@@ -49,8 +48,11 @@ class Ids(NamedTuple):
 
 
 def restoring(session: Session, people: People, unit: Unit) -> Union[Unit, bytes]:
-    """The line of setfacl, with its text, that does what a line of chown or chgrp asks for; or the message of its refusal."""
-    if not is_utf8(unit.lines[0]):
+    """The line of setfacl, with its text, that does what a line of chown or chgrp asks for; or the message of its
+    refusal."""
+    try:
+        unit.lines[0].decode("utf-8")
+    except UnicodeDecodeError:
         return unit  # The program says so.
     try:
         line = read_line(unit)
@@ -63,14 +65,6 @@ def restoring(session: Session, people: People, unit: Unit) -> Union[Unit, bytes
     if len(text) > TEXT_LIMIT:
         return unit.words[0] + b": too many files"
     return Unit(unit.script, unit.number, RESTORE.split(b" "), [RESTORE, *text.split(b"\n")[:-1], b"."], True)
-
-
-def is_utf8(text: bytes) -> bool:
-    try:
-        text.decode("utf-8")
-    except UnicodeDecodeError:
-        return False
-    return True
 
 
 # --- the words of a line
@@ -102,13 +96,9 @@ def read_owner(tool: bytes, word: bytes) -> Tuple[Optional[bytes], Optional[byte
     else:
         user, colon, group = word.partition(b":")
     is_login_group = bool(colon) and not group
-    if not user and not group or is_login_group and is_id(user):
+    if not user and not group or is_login_group and read_name(user.strip(b" \t")).isdigit():
         raise Refused(b"usage")
     return user or None, group if colon else None
-
-
-def is_id(word: bytes) -> bool:
-    return read_name(word.strip(b" \t")).isdigit()
 
 
 def read_ids(line: Line, people: People) -> Ids:
@@ -138,23 +128,14 @@ def ask_files(session: Session, line: Line) -> Files:
     """The files of a line as they are now."""
     found: Files = {}
     begin = b"getfacl -n -E -R --" if line.is_recursive else b"getfacl -n -E --"
-    for place, words in portions(line.files, LINE_LIMIT - len(begin)):
-        answer = session.ask(begin + words + b"\n")
+    place = 0
+    for words in parts_of(line.files, LINE_LIMIT - len(begin)):
+        answer = session.ask(b" ".join([begin, *words]) + b"\n")
         if answer.messages:
             raise Refused(fault_of(answer.messages[0], place))
         found.update(read_listing(answer.output.read()))
+        place += len(words)
     return found
-
-
-def portions(words: List[bytes], limit: int) -> Iterator[Tuple[int, bytes]]:
-    """The words, each after a space, cut into lines; before each the number of words that were in others."""
-    place, line = 0, b""
-    for number, word in enumerate(words):
-        if line and len(line) + 1 + len(word) > limit:
-            yield place, line
-            place, line = number, b""
-        line += b" " + word
-    yield place, line
 
 
 def fault_of(message: bytes, place: int) -> bytes:
@@ -182,16 +163,20 @@ def changed_files(session: Session, line: Line, files: Files, ids: Ids) -> Files
 
 
 def new_body(body: bytes, keeps_flags: bool, ids: Ids) -> bytes:
-    head = HEAD.match(body)
+    head = HEAD_OF_RECORD.match(body)
     assert head is not None
-    flags = b"".join(head.groups(b"-"))
-    return head_of(body, ids, flags if keeps_flags else cleared(flags, body)) + body[head.end() :]
+    old, flags = (int(head[1]), int(head[2])), b"".join(head.groups(b"-")[2:])
+    uid, gid = (now if new is None else new for now, new in zip(old, ids))
+    flags = flags if keeps_flags else cleared(flags, body)
+    return b"# owner: %d\n# group: %d\n" % (uid, gid) + (b"" if flags == b"---" else b"# flags: " + flags
+                                                         + b"\n") + body[head.end() :]
 
 
 def asks_as_directory(session: Session, path: bytes) -> bool:
     """Whether the program takes a file for a directory, which a listing of it alone does not show."""
     question = b"setfacl --test -m d:u::rwx -- " + script_word(shown_path(path)) + b"\n"
-    return not any(message.endswith(b": only directories have default lists") for message in session.ask(question).messages)
+    return not any(message.endswith(b": only directories have default lists")
+                   for message in session.ask(question).messages)
 
 
 def cleared(flags: bytes, body: bytes) -> bytes:
@@ -200,14 +185,6 @@ def cleared(flags: bytes, body: bytes) -> bytes:
     group_class = MASK.search(body) or OWNING_GROUP.search(body)
     assert group_class is not None
     return b"-" + (b"-" if group_class[1] == b"x" else flags[1:2]) + flags[2:]
-
-
-def head_of(body: bytes, ids: Ids, flags: bytes) -> bytes:
-    owner = OWNER.match(body)
-    assert owner is not None
-    old = (int(owner[1]), int(owner[2]))
-    uid, gid = (now if new is None else new for now, new in zip(old, ids))
-    return b"# owner: %d\n# group: %d\n" % (uid, gid) + (b"" if flags == b"---" else b"# flags: " + flags + b"\n")
 
 
 # --- what a user who is removed leaves
@@ -228,28 +205,19 @@ def left_behind(before: People, after: People, files: Files) -> List[Left]:
     gone = {user.uid: Left(user.name, user.uid, [], []) for user in reversed(before.users) if user.uid not in present}
     if gone:
         for path in sorted(files, key=sorting_key):
-            add_to(gone, path, files[path].body)
+            owner = OWNER.match(files[path].body)
+            if owner is not None and int(owner[1]) in gone:
+                gone[int(owner[1])].owned.append(path)
+            for uid in {int(word) for word in NAMED_USER.findall(files[path].body)} & set(gone):
+                gone[uid].named.append(path)
     return [left for left in gone.values() if left.owned or left.named][::-1]
-
-
-def add_to(gone: Dict[int, Left], path: bytes, body: bytes) -> None:
-    owner = OWNER.match(body)
-    if owner is not None and int(owner[1]) in gone:
-        gone[int(owner[1])].owned.append(path)
-    for uid in {int(word) for word in NAMED_USER.findall(body)} & set(gone):
-        gone[uid].named.append(path)
 
 
 def notes(left: Left) -> List[bytes]:
     """The lines of a report."""
-    name = shown(left.name)
-    found = []
-    if left.owned:
-        found.append(name + b" is removed and still owns " + counted(len(left.owned), "file") + b", first: " + live_name(left.owned[0]))
-    if left.named:
-        found.append(name + b" is removed and still named in the lists of " + counted(len(left.named), "file") + b", first: "
-                     + live_name(left.named[0]))
-    return found
+    return [b"%s is removed and still %s %s, first: %s" % (shown(left.name), how, counted(len(paths), "file"),
+                                                           live_name(paths[0]))
+            for how, paths in ((b"owns", left.owned), (b"named in the lists of", left.named)) if paths]
 
 
 def comments(left: Left) -> List[bytes]:

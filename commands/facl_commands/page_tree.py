@@ -1,13 +1,13 @@
 """The files of a page: those of the listings before and after the edits, each with a number, without their paths.
 
-A path of many components is not kept: a file has its name and the number of what it is in. A listing comes in path order,
-so that the files which its next file can be in are the last one and those that this one is in.
+A path of many components is not kept: a file has its name and the number of what it is in. A listing comes in path
+order, so that the files which its next file can be in are the last one and those that this one is in.
 """
 from __future__ import annotations
 
 from typing import Dict, Iterable, Iterator, List, NamedTuple, Set, Tuple
 
-from .names import read_name
+from .names import read_name, sorting_key
 from .program import Region
 
 ABOVE = -1  # What no recorded directory is above.
@@ -25,14 +25,11 @@ class Record(NamedTuple):
 
 def records_of(listing: Region) -> Iterator[Record]:
     """The records of a listing of the program, one after another."""
-    rest = b""
-    for piece in listing.pieces():
-        *whole, rest = (rest + piece).split(b"\n\n")
-        for record in whole:
-            first, _, body = record.partition(b"\n")
-            name = first[len(HEAD) :]
-            path = b"" if name == b"." else (read_name(name) if b"\\" in name else name).rstrip(b"/")
-            yield Record(path, path == b"" or name.endswith(b"/") or b"\ndefault:" in body, body + b"\n")
+    for record in listing.records():
+        first, _, body = record.partition(b"\n")
+        name = first[len(HEAD) :]
+        path = b"" if name == b"." else (read_name(name) if b"\\" in name else name).rstrip(b"/")
+        yield Record(path, path == b"" or name.endswith(b"/") or b"\ndefault:" in body, body + b"\n")
 
 
 class Labels:
@@ -75,7 +72,8 @@ class Tree:
         """Adds the files of a listing."""
         found = Listing([GONE] * len(self.names), set())
         last = b""
-        way: List[Tuple[int, int]] = []  # For what the last path is in, and for itself: the path's length, and its number.
+        way: List[Tuple[int,
+                        int]] = []  # For what the last path is in, and for itself: the path's length, and its number.
         for record in records:
             while way and not is_below(record.path, last, way[-1][0]):
                 way.pop()
@@ -98,7 +96,7 @@ class Tree:
         while coming:
             number = coming.pop()
             found.append(number)
-            coming += sorted(inside.get(number, []), key=lambda it: self.names[it].replace(b"/", b"\0"), reverse=True)
+            coming += sorted(inside.get(number, []), key=lambda it: sorting_key(self.names[it]), reverse=True)
         return found[1:]
 
 

@@ -1,12 +1,13 @@
 """Users and groups, as far as commands that change them have to be written for the live system."""
 from __future__ import annotations
 
-from typing import Callable, Dict, List, NamedTuple, Optional, Tuple
+from typing import Callable, Dict, List, NamedTuple, Optional
 
 from .names import read_name, shell_word
+from .tools import Split, split
 
-CHANGES = (b"gpasswd", b"usermod", b"useradd", b"userdel")
-ADD_MEMBER, REMOVE_MEMBER, CHANGE_GROUP, ADD_USER, REMOVE_USER = b"gpasswd -a", b"gpasswd -d", b"usermod -g", b"useradd", b"userdel"
+ADD_MEMBER, REMOVE_MEMBER, CHANGE_GROUP = b"gpasswd -a", b"gpasswd -d", b"usermod -g"
+ADD_USER, REMOVE_USER = b"useradd", b"userdel"
 
 
 class User(NamedTuple):
@@ -61,36 +62,15 @@ def rows_of(text: bytes) -> List[List[bytes]]:
     return list(found.values())
 
 
-def uid_of_row(passwd: bytes, name: bytes) -> bytes:
-    """The id in the row of a name; the name itself where there is no row."""
-    return next((fields[2] for fields in rows_of(passwd) if fields[0] == name), name)
-
-
 def user_word(passwd: bytes, name: bytes) -> Optional[bytes]:
-    """What names a user in a line: the name, or in the place of digits alone the id, which means the first user who has it;
-    None where that is another one."""
+    """What names a user in a line: the name, or in the place of digits alone the id, which means the first user who has
+    it; None where that is another one."""
     if not name.isdigit():
         return name
-    uid = int(uid_of_row(passwd, name))
-    first = next(fields[0] for fields in rows_of(passwd) if int(fields[2]) == uid)
+    rows = rows_of(passwd)
+    uid = int(next((fields[2] for fields in rows if fields[0] == name), name))
+    first = next(fields[0] for fields in rows if int(fields[2]) == uid)
     return b"%d" % uid if first == name else None
-
-
-def options_of(words: List[bytes]) -> Tuple[Dict[bytes, bytes], List[bytes]]:
-    """The values of options of one letter, and the operands, of the words after a tool."""
-    given: Dict[bytes, bytes] = {}
-    operands: List[bytes] = []
-    rest = list(words)
-    while rest:
-        word = rest.pop(0)
-        if word == b"--":
-            return given, operands + rest
-        if word[:1] == b"-" and len(word) > 1:
-            value = word[2:]
-            given[word[1:2]] = value[1:] if value[:1] == b"=" else value or rest.pop(0)
-        else:
-            operands.append(word)
-    return given, operands
 
 
 class People:
@@ -110,36 +90,34 @@ class People:
 
     def change(self, words: List[bytes]) -> Optional[PeopleChange]:
         """Does what an accepted line does, and returns it; None where nothing changes."""
-        given, operands = options_of(words[1:])
-        does: Dict[bytes, Callable[[Dict[bytes, bytes], bytes], Optional[PeopleChange]]] = {
+        does: Dict[bytes, Callable[[Split], Optional[PeopleChange]]] = {
             b"gpasswd": self.gpasswd, b"usermod": self.usermod, b"useradd": self.useradd, b"userdel": self.userdel
         }
-        return does[words[0]](given, operands[0])
+        return does[words[0]](split(words))
 
-    def gpasswd(self, given: Dict[bytes, bytes], operand: bytes) -> Optional[PeopleChange]:
-        group = self.group(operand)
-        option = b"a" if b"a" in given else b"d"
-        user = self.user(given[option])
-        if (user.name in group.members) == (option == b"a"):
+    def gpasswd(self, line: Split) -> Optional[PeopleChange]:
+        group, is_added = self.group(line.operands[0]), line.has(b"-a")
+        user = self.user(line.value(b"-a", b"-d"))
+        if (user.name in group.members) == is_added:
             return None
-        group.members[:] = [it for it in group.members if it != user.name] + [user.name] * (option == b"a")
-        return PeopleChange(ADD_MEMBER if option == b"a" else REMOVE_MEMBER, user, group.name, group.gid)
+        group.members[:] = [it for it in group.members if it != user.name] + [user.name] * is_added
+        return PeopleChange(ADD_MEMBER if is_added else REMOVE_MEMBER, user, group.name, group.gid)
 
-    def usermod(self, given: Dict[bytes, bytes], operand: bytes) -> Optional[PeopleChange]:
-        user, group = self.user(operand), self.group(given[b"g"])
+    def usermod(self, line: Split) -> Optional[PeopleChange]:
+        user, group = self.user(line.operands[0]), self.group(line.value(b"-g"))
         if user.gid == group.gid:
             return None
         self.users[self.users.index(user)] = user._replace(gid=group.gid)
         return PeopleChange(CHANGE_GROUP, user, group.name, group.gid)
 
-    def useradd(self, given: Dict[bytes, bytes], operand: bytes) -> PeopleChange:
-        group = self.group(given[b"g"])
-        user = User(read_name(operand), int(given[b"u"]), group.gid)
+    def useradd(self, line: Split) -> PeopleChange:
+        group = self.group(line.value(b"-g"))
+        user = User(read_name(line.operands[0]), int(line.value(b"-u")), group.gid)
         self.users.append(user)
         return PeopleChange(ADD_USER, user, group.name, group.gid)
 
-    def userdel(self, _given: Dict[bytes, bytes], operand: bytes) -> PeopleChange:
-        user = self.user(operand)
+    def userdel(self, line: Split) -> PeopleChange:
+        user = self.user(line.operands[0])
         self.users.remove(user)
         for group in self.groups:
             group.members[:] = [it for it in group.members if it != user.name]

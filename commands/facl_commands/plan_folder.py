@@ -19,7 +19,8 @@ from .messages import SIGNALS, Failure, reason
 
 VERSION = b"facl-plan 2\n"
 LOCK = b"lock"  # Nobody but the owner can open it, also where a group reads the plan.
-NAMES = (LOCK, b"plan", b"edits", b"old", b"new", b"files", b"by_hand", b"by_hand_undo", b"by_hand_done", b"meta", b"journal", b"state")
+NAMES = (LOCK, b"plan", b"edits", b"old", b"new", b"files", b"by_hand", b"by_hand_undo", b"by_hand_done", b"meta",
+         b"journal", b"state")
 NEW = b".new"  # At the end of a name while the file is written.
 # What facl-apply has done, in the file `state`; without it nothing was done.
 APPLYING, APPLIED, UNDOING, UNDONE = b"applying\n", b"applied\n", b"undoing\n", b"undone\n"
@@ -102,7 +103,8 @@ class Place(NamedTuple):
     def open(self) -> Folder:
         """Opens and locks the plan that is there."""
         try:
-            descriptor = os.open(self.name, os.O_RDONLY | os.O_DIRECTORY | os.O_NOFOLLOW | os.O_CLOEXEC, dir_fd=self.above)
+            descriptor = os.open(self.name, os.O_RDONLY | os.O_DIRECTORY | os.O_NOFOLLOW | os.O_CLOEXEC,
+                                 dir_fd=self.above)
         except OSError as error:
             raise Failure(self.shown + b": " + reason(error)) from error
         fault = trusted.fault_of(descriptor, os.fstat(descriptor))
@@ -190,7 +192,8 @@ def new_folder(place: Place) -> Tuple[bytes, Folder]:
 
 @contextmanager
 def signals_wait() -> Iterator[None]:
-    """No signal comes between the calls within. One that is ignored is not blocked: it would be kept, and look like one that waits."""
+    """No signal comes between the calls within. One that is ignored is not blocked: it would be kept, and look like one
+    that waits."""
     heeded = {number for number in SIGNALS if signal.getsignal(number) != signal.SIG_IGN}
     before = signal.pthread_sigmask(signal.SIG_BLOCK, heeded)
     try:
@@ -206,8 +209,8 @@ def drop_signals() -> None:
 
 
 def write_plan(target: Target, files: Dict[bytes, bytes], group: Optional[int]) -> Optional[bytes]:
-    """Writes a plan whole beside its place, and puts it there; with a group, its members can read it. Returns the name of the
-    one that was there where that is kept."""
+    """Writes a plan whole beside its place, and puts it there; with a group, its members can read it. Returns the name
+    of the one that was there where that is kept."""
     place = target.place
     made: Optional[Tuple[bytes, Folder]] = None
     try:

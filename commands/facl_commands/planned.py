@@ -1,19 +1,18 @@
-"""What facl-apply does, as facl-plan writes it: the files of a plan, each with the file that it has to be, its old record and
-its new one. And what it found when it began, the journal."""
+"""What facl-apply does, as facl-plan writes it: the files of a plan, each with the file that it has to be, its old
+record and its new one. And what it found when it began, the journal."""
 from __future__ import annotations
 
 import json
-import os
 import re
-import tempfile
-from typing import Dict, Iterable, List, NamedTuple, Optional, Tuple
+from typing import TYPE_CHECKING, Dict, Iterable, List, NamedTuple, Optional, Tuple
 
 from .lists import Record
 from .messages import Failure
 from .names import path_order
-from .program import Session
-from .records import Changes, Files
 from .snapshot import Identity, Snapshot
+
+if TYPE_CHECKING:
+    from .records import Changes, Files
 
 HEAD_OF_RECORD = re.compile(rb"# owner: ([0-9]+)\n# group: ([0-9]+)\n(?:# flags: ([s-])([s-])([t-])\n)?")
 ATTRIBUTES = re.compile(rb"system\.posix_acl_access=0x([0-9a-f]+)\n(?:system\.posix_acl_default=0x([0-9a-f]+)\n)?\n")
@@ -39,23 +38,18 @@ class Work(NamedTuple):
 
 def ask_records(program: str, bodies: Iterable[bytes]) -> Dict[bytes, Record]:
     """The records that bodies of listings are; their lists as the program prints their bytes. Each is asked of once."""
+    from .program import session_over  # facl-apply needs none.
+
     known = list(dict.fromkeys(bodies))
-    with tempfile.TemporaryDirectory(prefix="facl-plan.") as folder:
-        for name, text in (("passwd", b""), ("group", b""), ("dump", dump_of(known))):
-            with open(os.path.join(folder, name), "wb") as file:
-                file.write(text)
-        with Session(program, os.fsencode(folder)) as session:
-            found: List[Tuple[bytes, bytes]] = []
-            for place in range(0, len(known), PORTION):
-                lines = b"\n".join(b"attr %d" % number for number in range(place, min(place + PORTION, len(known))))
-                found += ATTRIBUTES.findall(session.ask_surely(lines).read())
+    # Directories that have these bodies; their names are their numbers.
+    dump = b"".join(b"# file: %d/\n%s\n" % (number, body) for number, body in enumerate(known))
+    found: List[Tuple[bytes, bytes]] = []
+    with session_over(program, b"", b"", dump) as session:
+        for place in range(0, len(known), PORTION):
+            lines = b"\n".join(b"attr %d" % number for number in range(place, min(place + PORTION, len(known))))
+            found += ATTRIBUTES.findall(session.ask_surely(lines).read())
     assert len(found) == len(known)
     return {body: record_of(body, *lists) for body, lists in zip(known, found)}
-
-
-def dump_of(bodies: List[bytes]) -> bytes:
-    """A dump of directories that have these bodies; their names are their numbers."""
-    return b"".join(b"# file: %d/\n%s\n" % (number, body) for number, body in enumerate(bodies))
 
 
 def record_of(body: bytes, access: bytes, default: bytes) -> Record:
@@ -86,9 +80,11 @@ def read_work(name: bytes, text: bytes) -> Work:
     """What work_text wrote; each path once, in path order."""
     try:
         fields = json.loads(text)
-        records = [Record(int(a), int(b), int(c), bytes.fromhex(d), bytes.fromhex(e)) for a, b, c, d, e in fields["records"]]
+        records = [Record(int(a), int(b), int(c), bytes.fromhex(d), bytes.fromhex(e)) for a, b, c, d,
+                   e in fields["records"]]
         files = {
-            path.encode("latin-1"): PlannedFile(bool(kind), Identity(device, inode, birth), same, records[old], records[new])
+            path.encode("latin-1"): PlannedFile(bool(kind), Identity(device, inode, birth), same, records[old],
+                                                records[new])
             for path, kind, device, inode, birth, same, old, new in fields["files"]
         }
         paths = list(files)
@@ -120,15 +116,16 @@ def journal_text(boot: str, files: Dict[bytes, Identity]) -> bytes:
 def read_journal(name: bytes, text: bytes) -> Journal:
     try:
         fields = json.loads(text)
-        files = {path.encode("latin-1"): Identity(device, inode, birth) for path, device, inode, birth in fields["files"]}
+        files = {path.encode("latin-1"): Identity(device, inode, birth) for path, device, inode,
+                 birth in fields["files"]}
         return Journal(str(fields["boot"]), files)
     except (ValueError, KeyError, TypeError, AttributeError) as error:
         raise Failure(name + b": is not as facl-apply wrote it") from error
 
 
 class Devices:
-    """Whether files are those that were recorded. After another start of the system a device can have another number: then
-    each recorded one is one of the present ones."""
+    """Whether files are those that were recorded. After another start of the system a device can have another number:
+    then each recorded one is one of the present ones."""
 
     def __init__(self, boot: str, present_boot: str) -> None:
         self.is_same_start = boot == present_boot and boot != "-"

@@ -1,17 +1,18 @@
 """Runs the program over a snapshot, and asks it line by line."""
 from __future__ import annotations
 
+import contextlib
 import os
-import secrets
 import shutil
 import subprocess
-import sys
 import tempfile
 from types import TracebackType
-from typing import IO, Dict, Iterator, List, NamedTuple, Optional, Type
+from typing import IO, Callable, Dict, Iterable, Iterator, List, NamedTuple, Optional, Type
 
 from .messages import Failure
 
+# What would have a called program take other words, or read other files, than it is given.
+LEFT_OUT = ("POSIXLY_CORRECT", "PYTHONPATH", "PYTHONHOME", "PERL5LIB", "PERL5OPT", "PARALLEL")
 FILE_LIMIT = 268_435_456  # Bytes of a text that the program loads.
 HOME = os.path.dirname(os.path.dirname(os.path.realpath(__file__)))  # commands/, or PREFIX/lib/facl.
 INSTALLED = os.path.join(HOME, "..", "..", "bin", "facl")
@@ -19,7 +20,8 @@ BUILT = os.path.join(HOME, "..", "crates", "facl_cli", "out", "facl_cli")
 
 
 def find_program(given: Optional[str]) -> str:
-    """The program: the given one, $FACL, facl on the path, or the one that is installed or built beside the commands."""
+    """The program: the given one, $FACL, facl on the path, or the one that is installed or built beside the
+    commands."""
     wanted = given or os.environ.get("FACL", "")
     if wanted:
         found = shutil.which(wanted)
@@ -30,6 +32,14 @@ def find_program(given: Optional[str]) -> str:
     if found is None:
         raise Failure(b"the program facl is not on the path: give it by --program FILE")
     return os.path.abspath(found)
+
+
+def lines_of(pieces: Iterable[bytes], end: bytes = b"\n") -> Iterator[bytes]:
+    """The lines of a text that comes in pieces, without their ends."""
+    rest = b""
+    for piece in pieces:
+        *whole, rest = (rest + piece).split(end)
+        yield from whole
 
 
 class Region(NamedTuple):
@@ -49,12 +59,13 @@ class Region(NamedTuple):
             place += len(piece)
             yield piece
 
-    def lines(self) -> Iterator[bytes]:
-        """Its lines, without their line feeds."""
-        rest = b""
-        for piece in self.pieces():
-            *whole, rest = (rest + piece).split(b"\n")
-            yield from whole
+    def lines(self, end: bytes = b"\n") -> Iterator[bytes]:
+        """Its lines, without their ends."""
+        return lines_of(self.pieces(), end)
+
+    def records(self) -> Iterator[bytes]:
+        """The records of a listing, without the empty line after each and the end of the last one."""
+        return self.lines(b"\n\n")
 
 
 class Answer(NamedTuple):
@@ -64,9 +75,8 @@ class Answer(NamedTuple):
     messages: List[bytes]
 
 
-def small_environment() -> Dict[str, str]:
-    """What the program is started with, whatever the caller's environment has."""
-    return {"LC_ALL": "C", "PATH": os.environ.get("PATH", os.defpath)}
+def environment_of_called() -> Dict[str, str]:
+    return {name: value for name, value in os.environ.items() if name not in LEFT_OUT}
 
 
 class Session:
@@ -80,10 +90,10 @@ class Session:
         words = [program, "--passwd", "passwd", "--group", "group", "--dump", "dump"]
         self.folder = folder
         self.number = 0
-        self.output = tempfile.TemporaryFile(prefix=os.path.basename(sys.argv[0]) + ".")
+        self.output = tempfile.TemporaryFile(prefix="facl-session.")
         self.run = subprocess.Popen(
-            words, cwd=folder, env=small_environment(), stdin=subprocess.PIPE, stdout=self.output, stderr=subprocess.PIPE,
-            start_new_session=True,
+            words, cwd=folder, env={"LC_ALL": "C", "PATH": os.environ.get("PATH", os.defpath)}, stdin=subprocess.PIPE,
+            stdout=self.output, stderr=subprocess.PIPE, start_new_session=True,
         )
 
     def __enter__(self) -> Session:
@@ -99,7 +109,7 @@ class Session:
     def ask(self, lines: bytes) -> Answer:
         """Answers whole lines with their texts: one line that is a unit, or lines without messages."""
         assert self.run.stderr is not None
-        token = secrets.token_hex(16).encode()
+        token = os.urandom(16).hex().encode()
         start = os.fstat(self.output.fileno()).st_size
         first = self.number + 1
         self.number += lines.count(b"\n") + 1
@@ -114,7 +124,8 @@ class Session:
                 raise self.early_end(messages)
             messages.append(message.rstrip(b"\n"))
         region = Region(self.output, start, os.fstat(self.output.fileno()).st_size)
-        return Answer(region, [without_number(message, first) for message in messages])
+        begin = b"line %d: " % first  # The number is that of our own stream of lines.
+        return Answer(region, [it[len(begin) :] if it.startswith(begin) else it for it in messages])
 
     def ask_surely(self, line: bytes) -> Region:
         """Answers a line of our own, which cannot be refused."""
@@ -138,12 +149,34 @@ class Session:
         if last.startswith(b"facl: setup: "):
             return Failure(b"%s: the program does not load it: %s" % (self.folder, last))
         if last == b"facl: dump: cannot read" and os.path.getsize(os.path.join(self.folder, b"dump")) > FILE_LIMIT:
-            return Failure(self.folder + b": its dump has more than 268,435,456 bytes, the most that the program reads: take several "
+            return Failure(self.folder + b": its dump has more than 268,435,456 bytes, the most that the program "
+                                         b"reads: take several "
                            b"snapshots by facl-snapshot --split")
         return Failure(b"the program ended early: %s" % last)
 
 
-def without_number(message: bytes, first: int) -> bytes:
-    """A message without the number of the line, which is that of our own stream of lines."""
-    begin = b"line %d: " % first
-    return message[len(begin) :] if message.startswith(begin) else message
+@contextlib.contextmanager
+def session_over(program: str, passwd: bytes, group: bytes, dump: bytes) -> Iterator[Session]:
+    """A session over texts, which are in a folder of their own as long as it goes on."""
+    with tempfile.TemporaryDirectory(prefix="facl-texts.") as folder:
+        for name, text in (("passwd", passwd), ("group", group), ("dump", dump)):
+            with open(os.path.join(folder, name), "wb") as file:
+                file.write(text)
+        with Session(program, os.fsencode(folder)) as session:
+            yield session
+
+
+def parts_of(items: Iterable[bytes], room: int, word_of: Callable[[bytes], bytes] = bytes) -> Iterator[List[bytes]]:
+    """Items in their order, as many in each part as a line has room for, with a blank for the word of each; one that is
+    too long is alone."""
+    part: List[bytes] = []
+    size = 0
+    for item in items:
+        length = len(word_of(item)) + 1
+        if part and size + length > room:
+            yield part
+            part, size = [], 0
+        part.append(item)
+        size += length
+    if part:
+        yield part

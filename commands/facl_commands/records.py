@@ -6,7 +6,7 @@ from functools import lru_cache
 from typing import Dict, Iterable, List, NamedTuple, Tuple
 
 from .messages import Failure
-from .names import read_path, script_word, shown_path, write_name
+from .names import read_path, script_word, shown_path, sorting_key, write_name
 from .program import Session
 
 EMPTY_MASK = re.compile(rb"^mask::---$", re.MULTILINE)
@@ -38,34 +38,26 @@ class Changes(NamedTuple):
     removed: List[bytes]
 
 
-def name_in_record(path: bytes, is_directory: bool) -> bytes:
-    """The name of a file in a record that goes to the live system; that of a directory ends in a slash."""
-    return b"/" + write_name(path) + (b"/" if is_directory and path else b"")
-
-
 def write_record(path: bytes, file: File) -> bytes:
     return write_records({path: file}, [path])
 
 
 def write_records(files: Files, paths: Iterable[bytes]) -> bytes:
-    """The records of files; a name without escapes is written as it is."""
+    """The records of files for the live system; the name of a directory ends in a slash, and one without escapes is written
+    as it is."""
     parts: List[bytes] = []
     for path in paths:
         is_directory, body = files[path]
         if is_directory or b"\\" in path or b"\n" in path or b"\r" in path:
-            parts += (b"# file: ", name_in_record(path, is_directory), b"\n", body, b"\n")
+            parts += (b"# file: /", write_name(path), b"/" * (is_directory and path != b""), b"\n", body, b"\n")
         else:
             parts += (b"# file: /", path, b"\n", body, b"\n")
     return b"".join(parts)
 
 
-def sorting_key(path: bytes) -> bytes:
-    """What paths are sorted by: no component has a NUL byte, so that these are in the order of the components."""
-    return path.replace(b"/", b"\0")
-
-
 def path_of(name: bytes) -> bytes:
-    """The path that a name in a listing is; only one with an escape, or with a component that is none, has to be read."""
+    """The path that a name in a listing is; only one with an escape, or with a component that is none, has to be
+    read."""
     if b"\\" in name or b"//" in name or b"/." in name or name[:1] == b".":
         return read_path(name)
     return name.strip(b"/")
@@ -95,8 +87,8 @@ def read_bodies(text: bytes) -> Tuple[List[bytes], List[bytes]]:
 
 
 def list_files(text: bytes) -> Listing:
-    """The files of a listing. A file is a directory by its name, its default entries, or another file below it. Files of one
-    kind with the same lines are one value."""
+    """The files of a listing. A file is a directory by its name, its default entries, or another file below it. Files
+    of one kind with the same lines are one value."""
     names, bodies = read_bodies(text)
     paths = paths_of(names)
     parents = {b"", *[path.rpartition(b"/")[0] for path in paths]}
@@ -136,10 +128,6 @@ def compare(old: Files, new: Files) -> Changes:
 
 
 @lru_cache(maxsize=4096)
-def is_open_empty_mask(body: bytes) -> bool:
-    return bool(EMPTY_MASK.search(body)) and bool(OTHERS_WITH_SOMETHING.search(body))
-
-
 def has_open_empty_mask(file: File) -> bool:
     """Whether Linux grants named users and groups what others have, as the mask is empty."""
-    return is_open_empty_mask(file.body)
+    return bool(EMPTY_MASK.search(file.body)) and bool(OTHERS_WITH_SOMETHING.search(file.body))

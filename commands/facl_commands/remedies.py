@@ -1,18 +1,52 @@
-"""The lines that would do what a refused line was probably meant to do. A word in capital letters is for the person to fill in."""
+"""The lines that would do what a refused line was probably meant to do. A word in capital letters is for the person to
+fill in."""
 from __future__ import annotations
 
 import re
 from typing import Callable, Dict, FrozenSet, List, Optional
 
-from .refused_line import OPTIONS, TOOLS_OF_PLANS, Line, Option, quoted
+from . import tools
+from .refused_line import Line, quoted
+from .tools import ALL, OPTIONS
 
 CLAUSE = re.compile(rb"([ugoa]*)((?:[-+=](?:[rwxXst]*|[ugo]))+)\Z")
 TRIADS = re.compile(rb"[-dlbcps]?(([r-])([w-])([xsS-]))(([r-])([w-])([xsS-]))(([r-])([w-])([xtT-]))[.+]?\Z")
 REDIRECTION = re.compile(rb"\s*\d?(?:>>?|<{1,3})(?:&\d|\s*[^\s|;&<>]+)?")
 PARTS = re.compile(rb"\s*(?:;|&&|\|\|)\s*")
-TOOLS = frozenset(OPTIONS) - set(TOOLS_OF_PLANS)
+TOOLS = frozenset(tools.TOOLS)
+PLACEHOLDERS = (b"USER", b"GROUP", b"FILE", b"PERMS", b"MODE", b"UID", b"NAME", b"NEWFILE")
+# The operands of tools whose missing words have no cause of their own.
+WORDS_OF_TOOLS: Dict[bytes, bytes] = {name: ALL[name].operands.encode() for name in
+                  b"can who may why getfacl chmod rm attr userdel chown chgrp".split()}
 
 Remedy = Callable[[Line], List[bytes]]
+# What words of a remedy in braces stand for.
+FIELDS: Dict[str, Remedy] = {
+    "{tool}": lambda line: [line.tool()],
+    "{given}": lambda line: [it.name for it in line.given],
+    "{-R}": lambda line: [b"-R"] * line.has(b"-R", b"--recursive"),
+    "{-r}": lambda line: [b"-r"] * line.has(b"-r", b"-R", b"--recursive"),
+    "{-d}": lambda line: [b"-d"] * line.has(b"-d"),
+    "{deep}": lambda line: [b"-R"] * (line.has(b"-R", b"--recursive") or line.tool() in (b"tree", b"dir", b"du")),
+    "{--user}": lambda line: [b"--user=" + (line.value(b"--user") or b"USER")],
+    "{--umask}": lambda line: [b"--umask=" + line.operand(0, b"022")],
+    "{-n=-v}": lambda line: [line.value(b"-n") + b"=" + line.value(b"-v")],
+    "{uid}": lambda line: [line.value(b"-u", b"--uid") or b"UID"],
+    "{group}": lambda line: [line.value(b"-g", b"--gid", b"--ingroup") or b"GROUP"],
+    "{user}": lambda line: [line.operand(0, b"USER")],
+    "{name}": lambda line: [line.operand(-1, b"NAME")],
+    "{file}": lambda line: [line.operand(0, b"FILE")],
+    "{files}": lambda line: line.operands or [b"FILE"],
+    "{second word}": lambda line: [(line.words + [b"FILE"])[1]],
+    "{last}": lambda line: [line.operand(-1, b"FILE")],
+    "{path}": lambda line: [next((word for word in line.operands if b"/" in word), b"FILE")],
+    "{operands}": lambda line: line.operands,
+    "{two}": lambda line: line.operands[:2],
+    "{third}": lambda line: line.operands[2:3],
+    "{but last}": lambda line: line.operands[:-1],
+    "{backwards}": lambda line: line.operands[::-1],
+}
+FIELD = re.compile(r"\{[^}]*\}|\S+")
 
 
 def none(_line: Line) -> List[bytes]:
@@ -23,33 +57,16 @@ def built(*words: bytes) -> bytes:
     return b" ".join(word if word in PLACEHOLDERS else quoted(word) for word in words)
 
 
-PLACEHOLDERS = (b"USER", b"GROUP", b"FILE", b"PERMS", b"MODE", b"UID", b"NAME", b"NEWFILE")
-
-
-def file_of(line: Line, place: int = 0) -> bytes:
-    return line.operands[place] if len(line.operands) > place else b"FILE"
-
-
-def files_of(line: Line, place: int = 0) -> List[bytes]:
-    return line.operands[place:] or [b"FILE"]
-
-
-def asks(*begin: bytes) -> Remedy:
-    """These words and the line's first FILE."""
-    return lambda line: [built(*begin, file_of(line))]
-
-
-def asks_files(*begin: bytes) -> Remedy:
-    return lambda line: [built(*begin, *files_of(line))]
+def as_written(form: str) -> Remedy:
+    """A line of words and fields."""
+    parts = FIELD.findall(form)
+    return lambda line: [built(*[word for part in parts
+                                 for word in (FIELDS[part](line) if part in FIELDS else [part.encode()])])]
 
 
 def replaced(pattern: bytes, by: bytes) -> Remedy:
     """The line with what the pattern is replaced."""
     return lambda line: [re.sub(pattern, by, line.text)]
-
-
-def is_tool_line(text: bytes) -> bool:
-    return text.split()[:1] != [] and text.split()[0] in OPTIONS
 
 
 def before_pipe(line: Line) -> List[bytes]:
@@ -62,7 +79,7 @@ def without_redirection(line: Line) -> List[bytes]:
 
 def parts(line: Line) -> List[bytes]:
     """The commands of one line as lines."""
-    return [part for part in PARTS.split(line.text.rstrip(b"& \t")) if is_tool_line(part)]
+    return [part for part in PARTS.split(line.text.rstrip(b"& \t")) if part.split()[:1] and part.split()[0] in OPTIONS]
 
 
 def single_quotes(line: Line) -> List[bytes]:
@@ -71,8 +88,10 @@ def single_quotes(line: Line) -> List[bytes]:
 
 
 def quotes_for_backslash(line: Line) -> List[bytes]:
-    words = re.findall(rb"(?:\\.|[^ \t])+", line.text)
-    return [b" ".join(b"'" + re.sub(rb"\\([ \t])", rb"\1", word) + b"'" if re.search(rb"\\[ \t]", word) else word for word in words)]
+    def quotes(word: bytes) -> bytes:
+        return b"'" + re.sub(rb"\\([ \t])", rb"\1", word) + b"'" if re.search(rb"\\[ \t]", word) else word
+
+    return [b" ".join(map(quotes, re.findall(rb"(?:\\.|[^ \t])+", line.text)))]
 
 
 def escaped_bytes(line: Line) -> List[bytes]:
@@ -88,11 +107,6 @@ def with_quote_escaped(line: Line) -> List[bytes]:
 # --- users and groups
 
 
-def membership(option: bytes) -> Remedy:
-    """Of a tool whose operands are a user and a group."""
-    return lambda line: [built(b"gpasswd", option, *line.operands[:2])]
-
-
 def memberships(line: Line) -> List[bytes]:
     """Of usermod -aG."""
     groups = next((option.value for option in line.given if option.name in (b"-G", b"--groups") and option.value), b"")
@@ -104,19 +118,10 @@ def memberships(line: Line) -> List[bytes]:
 
 def members(line: Line) -> List[bytes]:
     """Of gpasswd -M and groupmems."""
-    group = line.value(b"-g") or (line.operands or [b"GROUP"])[0]
+    group = line.value(b"-g") or line.operand(0, b"GROUP")
     names = line.value(b"-M") or line.value(b"-a") or line.value(b"-d") or b"USER"
     option = b"-d" if line.tool() == b"groupmems" and line.has(b"-d") else b"-a"
     return [built(b"gpasswd", option, name, group) for name in names.split(b",") if name]
-
-
-def new_user(line: Line) -> List[bytes]:
-    uid, group = line.value(b"-u", b"--uid") or b"UID", line.value(b"-g", b"--gid", b"--ingroup") or b"GROUP"
-    return [built(b"useradd", b"-u", uid, b"-g", group, (line.operands or [b"NAME"])[-1])]
-
-
-def user_first(line: Line) -> List[bytes]:
-    return [built(line.tool(), *[it.name for it in line.given], *line.operands[::-1])]
 
 
 # --- questions
@@ -143,23 +148,12 @@ def found_files(line: Line) -> List[bytes]:
     return [built(b"getfacl", b"-R", start)]
 
 
-def listing(line: Line) -> List[bytes]:
-    is_deep = line.has(b"-R", b"--recursive") or line.tool() in (b"tree", b"dir", b"du")
-    return [built(b"getfacl", *[b"-R"] * is_deep, *files_of(line))]
-
-
-def without_words(line: Line) -> List[bytes]:
-    return [built(line.tool(), *[it.name for it in line.given if it.name in OPTIONS[line.tool()]])]
-
-
 def one_file_each(line: Line) -> List[bytes]:
     """Of a tool that takes one FILE: a name with spaces, or a line for each FILE."""
     first = 0 if line.tool() in (b"attr", b"creat") else 1
     head = [line.tool(), *[it.name + b"=" * bool(it.value) + it.value for it in line.given], *line.operands[:first]]
     files = line.operands[first:]
-    if all(b"/" in file for file in files):
-        return [built(*head, file) for file in files]
-    return [built(*head, b" ".join(files))]
+    return [built(*head, file) for file in (files if all(b"/" in file for file in files) else [b" ".join(files)])]
 
 
 def with_placeholders(line: Line) -> List[bytes]:
@@ -168,13 +162,6 @@ def with_placeholders(line: Line) -> List[bytes]:
     if len(wanted) == 2 and len(operands) == 1 and b"/" in operands[0]:
         operands = [wanted[0], *operands]
     return [built(line.tool(), *[it.name for it in line.given], *operands, *wanted[len(operands) :])]
-
-
-# How many operands each tool takes at least.
-WORDS_OF_TOOLS: Dict[bytes, bytes] = {
-    b"can": b"USER FILE", b"who": b"PERMS FILE", b"may": b"USER PERMS", b"why": b"USER FILE", b"getfacl": b"FILE", b"chmod": b"MODE FILE",
-    b"rm": b"FILE", b"attr": b"FILE", b"userdel": b"USER", b"chown": b"USER FILE", b"chgrp": b"GROUP FILE",
-}
 
 
 def nearest_tool(line: Line) -> Optional[bytes]:
@@ -203,18 +190,19 @@ def mode_line(line: Line) -> List[bytes]:
     """Of chmod with a symbolic mode: one octal mode where each class is given whole, else entries of setfacl."""
     mode = mode_of(line)
     clauses = [(found[1], found[2]) for found in map(CLAUSE.match, mode.split(b",")) if found is not None]
-    recursive = [b"-R"] * line.has(b"-R", b"--recursive")
+    recursive = FIELDS["{-R}"](line)
     files = [word for word in line.operands if word != mode] or [b"FILE"]
-    flags = sum(flag_of(*clause) for clause in clauses)
     if re.search(rb"[st]", mode):
-        return [built(b"chmod", *recursive, b"%dNNN" % flags, *files)]
+        return [built(b"chmod", *recursive, b"%dNNN" % sum(flag_of(*clause) for clause in clauses), *files)]
     classes: Dict[bytes, bytes] = {}
     for clause in clauses:
         classes.update(permissions_of(*clause))
     if len(classes) == 3 and all(re.fullmatch(rb"[rwx]*|-", perms) for perms in classes.values()):
         return [built(b"chmod", *recursive, b"".join(digit_of(classes[name]) for name in (b"u", b"g", b"o")), *files)]
-    lines = [entries_line(recursive, classes, files, False)]
-    return lines + [entries_line(recursive, classes, files, True)] * (b"g" in classes)
+    # The mask is in the place of the owning group where there is one.
+    tags: List[Dict[bytes, bytes]] = [{}, {b"g": b"m"}] if b"g" in classes else [{}]
+    entries = [b",".join(tag.get(name, name) + b"::" + perms for name, perms in classes.items()) for tag in tags]
+    return [built(b"setfacl", *recursive, b"-n", b"-m", it, *files) for it in entries]
 
 
 def flag_of(names: bytes, changes: bytes) -> int:
@@ -237,13 +225,6 @@ def digit_of(permissions: bytes) -> bytes:
     return b"%d" % sum(bit for bit, letter in ((4, b"r"), (2, b"w"), (1, b"x")) if letter in permissions)
 
 
-def entries_line(recursive: List[bytes], classes: Dict[bytes, bytes], files: List[bytes], has_mask: bool) -> bytes:
-    """The entries, with the mask in the place of the owning group where there is one."""
-    tag = {b"u": b"u", b"g": b"m" if has_mask else b"g", b"o": b"o"}
-    entries = b",".join(tag[name] + b"::" + perms for name, perms in classes.items())
-    return built(b"setfacl", *recursive, b"-n", b"-m", entries, *files)
-
-
 def triads_of(line: Line) -> Optional["re.Match[bytes]"]:
     """The nine letters that ls prints of a mode, in the place of the mode."""
     return next((found for found in map(TRIADS.match, line.words[1:]) if found is not None), None)
@@ -260,30 +241,25 @@ def letters_as_digits(line: Line) -> List[bytes]:
 
 # --- options and entries
 
+SAYING_MORE = frozenset((b"-v", b"-c", b"-f", b"--verbose", b"--changes", b"--silent", b"--quiet"))
 # Options of the system's tools without which a line does the same here.
 HARMLESS: Dict[bytes, FrozenSet[bytes]] = {
     b"getfacl": frozenset((b"-p", b"-t", b"-L", b"-P", b"--absolute-names", b"--tabular", b"--logical", b"--physical")),
-    b"setfacl": frozenset((b"-L", b"-P", b"--logical", b"--physical")), b"userdel": frozenset((b"-r", b"-f", b"--remove", b"--force")),
-    b"chmod": frozenset((b"-v", b"-c", b"-f", b"--verbose", b"--changes", b"--silent", b"--quiet")),
-    b"rm": frozenset((b"-i", b"-I", b"-v")),
-    b"chown": frozenset((b"-v", b"-c", b"-f", b"--verbose", b"--changes", b"--silent", b"--quiet", b"--preserve-root")),
-    b"chgrp": frozenset((b"-v", b"-c", b"-f", b"--verbose", b"--changes", b"--silent", b"--quiet", b"--preserve-root")),
+    b"setfacl": frozenset((b"-L", b"-P", b"--logical", b"--physical")), b"rm": frozenset((b"-i", b"-I", b"-v")),
+    b"userdel": frozenset((b"-r", b"-f", b"--remove", b"--force")), b"chmod": SAYING_MORE,
+    b"chown": SAYING_MORE | {b"--preserve-root"}, b"chgrp": SAYING_MORE | {b"--preserve-root"},
 }
 
 
 def without_harmless(line: Line) -> List[bytes]:
     """The line without options that say nothing here, where it has no others."""
-    known, harmless = OPTIONS[line.tool()], HARMLESS.get(line.tool(), frozenset())
-    if any(option.name not in known | harmless for option in line.given):
+    known, words = OPTIONS[line.tool()], [line.tool()]
+    if any(option.name not in known.union(HARMLESS.get(line.tool(), ())) for option in line.given):
         return []
-    options = [word for option in line.given if option.name in known for word in words_of_option(option)]
-    return [built(line.tool(), *options, *line.operands)]
-
-
-def words_of_option(option: Option) -> List[bytes]:
-    if option.name.startswith(b"--"):
-        return [option.name + b"=" * bool(option.value) + option.value]
-    return [option.name] + [option.value] * bool(option.value)
+    for name, value in line.given:
+        if name in known:
+            words += [name + b"=" + value] if name.startswith(b"--") and value else [name] + [value] * bool(value)
+    return [built(*words, *line.operands)]
 
 
 def joined_entries(line: Line) -> List[bytes]:
@@ -297,15 +273,9 @@ def joined_entries(line: Line) -> List[bytes]:
     return [built(*words)]
 
 
-def letters_first(line: Line) -> List[bytes]:
-    """Of -mR: -Rm."""
-    return [re.sub(rb"(\s-)([mx])([Rdnbk]+)(?=\s)", rb"\1\3\2", line.text)]
-
-
 def colons_for_equals(line: Line) -> List[bytes]:
     """The line with the entries of chmod's form as entries."""
+    def with_colons(word: bytes) -> bytes:
+        return re.sub(rb"(?<![^,])([ugo]|user|group|other)=([rwxX-]*)(?=,|\Z)", rb"\1::\2", word).replace(b"=", b":")
+
     return [built(*[word if word[:1] == b"-" or b"/" in word else with_colons(word) for word in line.words])]
-
-
-def with_colons(word: bytes) -> bytes:
-    return re.sub(rb"(?<![^,])([ugo]|user|group|other)=([rwxX-]*)(?=,|\Z)", rb"\1::\2", word).replace(b"=", b":")

@@ -1,7 +1,7 @@
 """facl-report: one page of HTML about who may do what, which needs no network and no other file.
 
-All names are data of the page, in JSON; its script writes them as text alone. A policy in the page allows this one script
-and this one style, by their checksums, and nothing from outside.
+All names are data of the page, in JSON; its script writes them as text alone. A policy in the page allows this one
+script and this one style, by their checksums, and nothing from outside.
 """
 from __future__ import annotations
 
@@ -11,38 +11,38 @@ import hashlib
 import json
 import os
 import re
-import secrets
 from collections import Counter
 from typing import Dict, Generic, Hashable, Iterable, Iterator, List, NamedTuple, Optional, Set, Tuple, TypeVar
 
-from . import VERSION, meta, overview, plan, texts
+from . import meta, overview, plan, texts
 from .label_answers import Answers, People, ask_labels
-from .messages import Command, Failure, counted
+from .messages import Command, Failure, counted, parser_of
 from .names import shown as shown_bytes
 from .names import write_name
 from .new_file import NewFile
 from .page_tree import ABOVE, GONE, Labels, Listing, Record, Tree, records_of
-from .people import CHANGES, rows_of
+from .people import rows_of
 from .program import Session, find_program
 from .records import File, Files
-from .scripts import Unit, read_units
+from .scripts import Unit, read_text
 from .snapshot import Snapshot, read_snapshot
 from .superuser import Superusers, ids_in
 from .texts import Source
-from .trusted import read_trusted
+from .tools import CHANGES_OF_PEOPLE
 
 HERE = os.path.dirname(os.path.realpath(__file__))
 WRITTEN, REFUSED = 0, 1
 ABSENT = b"00"  # In the place of a byte of `index`, which always grants the request for nothing.
 GREATEST_ID = 4_294_967_294
 HELP = """\
-Writes one page of HTML, to standard output or to a new FILE: a tree of the files of a snapshot, in which the rights of a
-user or a group are shown by colour, along the path of each file or on the file alone; the list of a file, and who may do what
-with it, by which entries; with SCRIPTs, what their edits change. The page needs no network. The SCRIPT - is standard input.
+Writes one page of HTML, to standard output or to a new FILE: a tree of the files of a snapshot, in which the rights
+of a user or a group are shown by colour, along the path of each file or on the file alone; the list of a file, and
+who may do what with it, by which entries; with SCRIPTs, what their edits change. The page needs no network. The
+SCRIPT - is standard input.
 """
 STATUS = """\
-The exit status is 0 where the page is written; 1 where lines were refused: then none is; 2 where the words, the snapshot
-or a script cannot be used, or FILE cannot be made; 5 where FILE is written, and a message was not.
+The exit status is 0 where the page is written; 1 where lines were refused: then none is; 2 where the words, the
+snapshot or a script cannot be used, or FILE cannot be made; 5 where FILE is written, and a message was not.
 """
 PAGE = """\
 <!DOCTYPE html>
@@ -80,15 +80,13 @@ class Who(NamedTuple):
 
 
 def parse(words: List[str]) -> argparse.Namespace:
-    parser = argparse.ArgumentParser(
-        prog="facl-report", description=HELP, epilog=STATUS, formatter_class=argparse.RawDescriptionHelpFormatter, allow_abbrev=False,
-    )
-    parser.add_argument("--version", action="version", version="%(prog)s " + VERSION)
-    parser.add_argument("--program", metavar="FILE", help="the program facl; without it $FACL, or facl on the path")
+    parser = parser_of("facl-report", HELP, STATUS)
     view = parser.add_mutually_exclusive_group()
-    view.add_argument("--file-alone", action="store_true", help="open the page with each file judged alone, and not along its path")
+    view.add_argument("--file-alone", action="store_true",
+                      help="open the page with each file judged alone, and not along its path")
     view.add_argument("--reach", action="store_true", help="open it along paths, as it does without a word")
-    parser.add_argument("--with-root", action="store_true", help="also the users of uid 0, to whom the kernel grants nearly everything")
+    parser.add_argument("--with-root", action="store_true",
+                        help="also the users of uid 0, to whom the kernel grants nearly everything")
     parser.add_argument("--output", metavar="FILE", help="write the page to a new file that its owner alone may read")
     texts.add_source(parser, words)
     parser.add_argument("scripts", metavar="SCRIPT", nargs="*")
@@ -121,10 +119,11 @@ class Probes:
         wanted = [("group", row[0], row) for row in groups if row[2] in named]
         wanted += [("everybody", b"everybody", unnamed)] if unnamed else []
         ids = unused_ids(snapshot.passwd, [*bodies, changes])
-        token = secrets.token_hex(8).encode()
+        token = os.urandom(8).hex().encode()
         self.whos = [Who(kind, name, b"probe-%s-%d" % (token, place)) for place, (kind, name, _) in enumerate(wanted)]
         self.lines = b"".join(
-            b"useradd -u %d -g %s -- %s\n" % (next(ids), row[2], who.user) for who, (_, _, row) in zip(self.whos, wanted)
+            b"useradd -u %d -g %s -- %s\n" % (next(ids), row[2], who.user)
+            for who, (_, _, row) in zip(self.whos, wanted)
         )
 
 
@@ -162,8 +161,8 @@ class Tables:
         return self.known_entries[text]
 
     def decisions(self, reasons: List[bytes], places: List[int]) -> List[object]:
-        """By which entries of a list the shown users are judged: those that judge the most of them, and the others' by their
-        places."""
+        """By which entries of a list the shown users are judged: those that judge the most of them, and the others' by
+        their places."""
         numbers = {place: self.entries_number(reasons[it]) for place, it in enumerate(places) if it >= 0}
         most = Counter(numbers.values()).most_common(1)[0][0] if numbers else 0
         return [most, {place: number for place, number in numbers.items() if number != most}]
@@ -190,7 +189,8 @@ class View:
         places = [known.get(who.user, -1) for who in whos]  # -1 where the user is not there.
         self.rows = [tables.rows.number(digits_of(vector, places)) for vector in state.answers.vectors]
         self.rows.append(tables.rows.number(""))
-        self.lists = [tables.lists.number((shown_lines(it), body)) for it, body in zip(state.answers.lists, bodies)] + [GONE]
+        self.lists = [tables.lists.number((shown_lines(it), body)) for it, body in zip(state.answers.lists, bodies)]
+        self.lists.append(GONE)
         self.decisions = {
             number: tables.decisions(reasons, places) for number, reasons in zip(self.lists, state.answers.reasons)
         }
@@ -205,7 +205,8 @@ def digits_of(vector: bytes, places: List[int]) -> str:
 
 
 class Builder:
-    """The data of the page: the files in path order, by columns, so that a file is in an earlier one, and nothing is nested."""
+    """The data of the page: the files in path order, by columns, so that a file is in an earlier one, and nothing is
+    nested."""
 
     def __init__(self, tree: Tree, whos: List[Who], old: View, new: View, tables: Tables) -> None:
         self.tree, self.whos, self.old, self.new, self.tables = tree, whos, old, new, tables
@@ -220,41 +221,48 @@ class Builder:
         return insides[number]
 
     def files(self) -> Dict[str, object]:
-        """The columns: the place of what a file is in, its name, row and list, and of a directory the reach of what is in it;
-        and by places the row and list before, and the reach, where these are others."""
+        """The columns: the place of what a file is in, its name, row and list, and of a directory the reach of what is
+        in it; and by places the row and list before, and the reach, where these are others."""
         places = [ABOVE] * (len(self.tree.names) + 1)  # The last one is that of ABOVE itself.
         columns: List[Tuple[int, str, int, int, int]] = []
         changed: Dict[int, Tuple[int, int]] = {}
         reached: Dict[int, int] = {}
         for place, number in enumerate(self.tree.order()):
             places[number] = place
-            old, new = ((view.rows[view.label(number)], view.lists[view.label(number)]) for view in (self.old, self.new))
+            old, new = ((view.rows[view.label(number)], view.lists[view.label(number)])
+                        for view in (self.old, self.new))
             was, is_now = (number in view.listing.directories for view in (self.old, self.new))
             if old != new or was != is_now:
                 changed[place] = old
             before = now = ABOVE
             if was or is_now:
-                before, now = self.inner(self.old, self.insides[0], number), self.inner(self.new, self.insides[1], number)
+                before, now = (self.inner(view, insides, number)
+                               for view, insides in zip((self.old, self.new), self.insides))
             if before != now:
                 reached[place] = before
-            columns.append((places[self.tree.parents[number]], shown(write_name(self.tree.names[number])) or "/", *new, now))
+            name = shown(write_name(self.tree.names[number])) or "/"
+            columns.append((places[self.tree.parents[number]], name, *new, now))
         names = ("parents", "names", "rights", "records", "inner")
         return {**dict(zip(names, zip(*columns))), "changed": changed, "reached": reached}
 
     def all_decisions(self) -> Tuple[List[object], Dict[int, object]]:
-        """The decisions of each list, as they are now; and by its number of each that had others before, or is no more there."""
+        """The decisions of each list, as they are now; and by its number of each that had others before, or is no more
+        there."""
         now, before = self.new.decisions, self.old.decisions
         lists = [now.get(number) for number in range(len(self.tables.lists.values))]
         return list(lists), {number: it for number, it in before.items() if it != lists[number]}
 
-    def data(self, title: str, has_script: bool, is_alone: bool = False, left_out: Iterable[bytes] = ()) -> Dict[str, object]:
+    def data(
+        self, title: str, has_script: bool, is_alone: bool = False, left_out: Iterable[bytes] = ()
+    ) -> Dict[str, object]:
         files = self.files()
         decisions, before = self.all_decisions()
         return {
             "title": title, "script": has_script, "alone": is_alone, "without": sorted(map(shown, left_out)),
             "whos": [[who.kind, shown(who.name)] for who in self.whos], "start": self.start,
             "files": files, "rows": self.tables.rows.values, "lists": [text for text, _ in self.tables.lists.values],
-            "reaches": self.tables.reaches.values, "entries": self.tables.entries.values, "decisions": decisions, "before": before,
+            "reaches": self.tables.reaches.values, "entries": self.tables.entries.values, "decisions": decisions,
+            "before": before,
         }
 
 
@@ -270,7 +278,8 @@ def part_of_page(name: str) -> str:
 def page_of(data: Dict[str, object]) -> bytes:
     """The page; no letter of the data can end its element."""
     style, script = part_of_page("report.css"), part_of_page("report.js")
-    policy = "default-src 'none'; script-src %s; style-src %s; base-uri 'none'; form-action 'none'" % (checksum(script), checksum(style))
+    sources = checksum(script), checksum(style)
+    policy = "default-src 'none'; script-src %s; style-src %s; base-uri 'none'; form-action 'none'" % sources
     text = json.dumps(data, ensure_ascii=False, separators=(",", ":"))
     for letter in "<>&\u2028\u2029":
         text = text.replace(letter, "\\u%04x" % ord(letter))
@@ -293,8 +302,7 @@ def keep(records: Iterator[Record], wanted: List[List[bytes]], kept: Files) -> I
 
 def answer_scripts(command: Command, run: plan.Run, units: List[Unit]) -> int:
     """Answers the scripts, and returns how many lines were refused."""
-    for unit in units:
-        run.answer(unit)
+    run.answer_all(units)
     for message in run.messages:
         command.say(message.unit.place() + b": " + message.text)
     return sum(not message.is_warning for message in run.messages)
@@ -307,15 +315,11 @@ def users_shown(old: List[bytes], new: List[bytes], probes: List[Who], left_out:
     return [Who("user", user, user) for user in users if user not in others] + probes
 
 
-def changes_of_people(units: List[Unit]) -> bytes:
-    return b"".join(unit.lines[0] + b"\n" for unit in units if unit.is_of(*CHANGES))
-
-
 def data_of(program: str, snapshot: Snapshot, tree: Tree, listings: List[Tuple[Listing, Labels]], units: List[Unit],
             given: argparse.Namespace) -> Dict[str, object]:
     """The data of the page, of one listing, or of two with scripts between them."""
     bodies = [labels.bodies() for _, labels in listings]
-    changes = changes_of_people(units)
+    changes = b"".join(unit.lines[0] + b"\n" for unit in units if unit.is_of(*CHANGES_OF_PEOPLE))
     probes = Probes(snapshot, [body for its in bodies for body in its], changes)
     states = [
         State(listing, ask_labels(program, People(snapshot.passwd, snapshot.group, lines + probes.lines), its))
@@ -328,21 +332,16 @@ def data_of(program: str, snapshot: Snapshot, tree: Tree, listings: List[Tuple[L
     tables = Tables()
     views = [View(state, its, whos, tables) for state, its in zip(states, bodies)]
     title = shown(meta.named(snapshot.folder, meta.meta_of(snapshot.folder)))
-    return Builder(tree, whos, views[0], views[-1], tables).data(title, len(listings) > 1, given.file_alone, superusers.names)
-
-
-def say_notices(command: Command, source: Source) -> None:
-    dump = read_trusted(os.path.join(source.folder, b"dump"))
-    for text in (*overview.unknown(source.folder, dump), *overview.masks(dump)):
-        command.say(text if text.startswith(b"warning: ") else source.shown + b": " + text)
+    return Builder(tree, whos, views[0], views[-1], tables).data(title, len(listings) > 1, given.file_alone,
+                                                                 superusers.names)
 
 
 def page_over(command: Command, given: argparse.Namespace, source: Source) -> Optional[bytes]:
     """The page; None where lines were refused."""
     snapshot = read_snapshot(source.folder, needs_links=False)
     program = find_program(given.program)
-    units = read_units(given.scripts)
-    say_notices(command, source)
+    units = [unit for name in given.scripts for unit in read_text(name).units()]
+    overview.say_notices(command, source)
     tree = Tree()
     linked: Files = {}
     with Session(program, snapshot.folder) as session:

@@ -1,21 +1,27 @@
 """Who may do what: what the program answers before the edits and after them, and what differs.
 
 What a user may do with a file depends on its owner, group and list alone, which are lines of its record: files with one
-record are judged alike, so that of each of these one block of `index` is read. Along a path, what is in one directory is
-reached by the same users: those who have search on it, and on each recorded directory above.
+record are judged alike, so that of each of these one block of `index` is read. Along a path, what is in one directory
+is reached by the same users: those who have search on it, and on each recorded directory above.
 """
 from __future__ import annotations
 
+import re
+import struct
 from typing import Collection, Dict, Iterator, List, NamedTuple, Optional, Set, Tuple
 
 from .messages import Failure
 from .program import Region, Session
-from .records import Listing, sorting_key
+from .names import sorting_key
+from .records import Listing
 
 ABSENT = "absent"  # Of a file or a user that is not there.
 REQUESTS = ["---", "--x", "-w-", "-wx", "r--", "r-x", "rw-", "rwx"]
 NOTHING = 1  # The byte of `index` that grants no more than the request for nothing.
 SEARCH = 1 << 1  # Its bit of the request for search.
+HAS_SEARCH = bytes([byte >> 1 & 1 for byte in range(256)])  # Of a byte of `index`.
+ALL_OR_NOTHING = bytes([NOTHING]) + bytes([255]) * 255
+NOT_ZERO = re.compile(rb"[^\0]")
 Vector = bytes  # A byte of `index` for each user, on one file.
 
 
@@ -25,7 +31,8 @@ class Answers(NamedTuple):
     names: Dict[bytes, bytes]  # By path: the name as the program prints it.
     users: List[bytes]
     alone: Dict[bytes, Vector]  # By path, in path order: on each file alone.
-    reached: Dict[bytes, bytes]  # By directory, as directory_of has it: for each user 1 who can get to what is in it, else 0.
+    reached: Dict[bytes,
+                  bytes]  # By directory, as directory_of has it: for each user 1 who can get to what is in it, else 0.
     vectors: Dict[bytes, Vector]  # By path: what counts, along paths or on each file alone.
 
 
@@ -46,8 +53,8 @@ class Group:
 
 
 class Changes(NamedTuple):
-    """The groups, in the order of their first files; each file with its group, in path order; and those users of whom there
-    would be more, but that they are left out."""
+    """The groups, in the order of their first files; each file with its group, in path order; and those users of whom
+    there would be more, but that they are left out."""
 
     groups: List[Group]
     files: List[Tuple[bytes, Group]]
@@ -74,6 +81,20 @@ def granted(byte: int) -> str:
 GRANTED = [granted(byte) for byte in range(256)]
 
 
+def lanes(numbers: bytes) -> int:
+    """Bytes as one number, to reckon with all of them at once."""
+    return int.from_bytes(numbers, "little")
+
+
+def both(one: bytes, other: bytes) -> bytes:
+    return (lanes(one) & lanes(other)).to_bytes(len(one), "little")
+
+
+def places_in(numbers: bytes) -> Iterator[int]:
+    """The places of bytes that are not 0."""
+    return (found.start() for found in NOT_ZERO.finditer(numbers))
+
+
 def users_of(table: Region) -> List[bytes]:
     """The users of an index, in their order: those of its first file."""
     users: List[bytes] = []
@@ -87,28 +108,21 @@ def users_of(table: Region) -> List[bytes]:
     return users
 
 
-def vector_in(block: bytes, name: bytes, users: List[bytes], known: Dict[bytes, Vector]) -> Vector:
-    """The bytes in the lines of one file, of which each has two digits, a user and the name. Without the name, lines that
-    have the same digits are the same text, which is read once."""
-    text = block.replace(b" " + name + b"\n", b"\n")
-    if text not in known:
-        rows = text.split(b"\n")[:-1]
-        if [row[3:] for row in rows] != users:
-            raise Failure(b"the program does not list the users and files of `index` in their order: " + name)
-        known[text] = bytes([int(row[:2], 16) for row in rows])
-    return known[text]
-
-
 def read_table(table: Region, users: List[bytes], listing: Listing) -> Dict[bytes, Vector]:
-    """For each record what `index` has of the first file that has it. All lines of a file have one length but for the user."""
+    """For each record what `index` has of the first file that has it. All lines of a file have one length but for the
+    user; without the name, the digits have the same places in each file's lines."""
     found: Dict[bytes, Vector] = {}
-    known: Dict[bytes, Vector] = {}
-    fixed = sum(len(user) + len(b"XX  \n") for user in users)
+    ends = [b" " + user + b"\n" for user in users]
+    digits, rest = (struct.Struct("".join(form % len(end) for end in ends)) for form in ("2s%dx", "2x%ds"))
+    fixed = digits.size + len(users)  # With the blank before each name.
     place = table.start
     for name, file in zip(listing.names, listing.files.values()):
         end = place + fixed + len(users) * len(name)
         if file.body not in found:
-            found[file.body] = vector_in(Region(table.file, place, end).read(), name, users, known)
+            text = Region(table.file, place, end).read().replace(b" " + name + b"\n", b"\n")
+            if len(text) != digits.size or list(rest.unpack(text)) != ends:
+                raise Failure(b"the program does not list the users and files of `index` in their order: " + name)
+            found[file.body] = bytes.fromhex(b"".join(digits.unpack(text)).decode())
         place = end
     if place != table.end:
         raise Failure(b"the program does not list the files of `index` as getfacl does")
@@ -131,7 +145,7 @@ def reached_of(vectors: Dict[bytes, Vector], users: int) -> Dict[bytes, bytes]:
                 found[directory] = above
                 continue
             if (above, vector) not in known:
-                known[above, vector] = bytes([one if byte & SEARCH else 0 for one, byte in zip(above, vector)])
+                known[above, vector] = both(above, vector.translate(HAS_SEARCH))
             found[directory] = known[above, vector]
     return found
 
@@ -143,11 +157,6 @@ def directories_to_find(directory: bytes, found: Dict[bytes, bytes]) -> List[byt
         wanted.append(directory)
         directory = directory_of(directory[:-1])
     return wanted[::-1]
-
-
-def along_path(vector: Vector, reached: bytes) -> Vector:
-    """What is granted along a path: nothing to those who cannot get there."""
-    return bytes([byte if is_reached else NOTHING for byte, is_reached in zip(vector, reached)])
 
 
 def ask_rights(session: Session, listing: Listing, along_paths: bool) -> Answers:
@@ -162,28 +171,36 @@ def ask_rights(session: Session, listing: Listing, along_paths: bool) -> Answers
 
 
 def along_paths_of(alone: Dict[bytes, Vector], reached: Dict[bytes, bytes]) -> Dict[bytes, Vector]:
+    """What is granted along paths: the request for nothing alone to those who cannot get there."""
     known: Dict[Tuple[Vector, bytes], Vector] = {}
     found = {}
     for path, vector in alone.items():
         pair = vector, reached[directory_of(path)]
         if pair not in known:
-            known[pair] = along_path(*pair)
+            known[pair] = both(vector, pair[1].translate(ALL_OR_NOTHING))
         found[path] = known[pair]
     return found
 
 
-def differing(old: Dict[bytes, int], new: Dict[bytes, int]) -> Iterator[Difference]:
-    """The users with other rights. One who is absent, or to whom the file is, has none."""
-    for user in [*old, *(user for user in new if user not in old)]:
+def differing(users: List[bytes], old: Dict[bytes, int], new: Dict[bytes, int]) -> Iterator[Difference]:
+    """Those of the users with other rights. One who is absent, or to whom the file is, has none."""
+    for user in users:
         before = GRANTED[old[user]] if user in old else ABSENT
         after = GRANTED[new[user]] if user in new else ABSENT
         if before != after and {before, after} != {ABSENT, "none"}:
             yield Difference(user, before, after)
 
 
-def by_user(users: List[bytes], vector: Optional[Vector]) -> Dict[bytes, int]:
-    """The bytes of each user; of no user where there is no file."""
-    return {} if vector is None else dict(zip(users, vector))
+def differences(old: Answers, new: Answers, before: Optional[Vector], after: Optional[Vector]) -> List[Difference]:
+    """What differs between the bytes of all users; without a file there are none."""
+    if old.users == new.users and before is not None and after is not None:
+        places = list(places_in((lanes(before) ^ lanes(after)).to_bytes(len(after), "little")))
+        users = [old.users[k] for k in places]
+        bytes_of = [{old.users[k]: it[k] for k in places} for it in (before, after)]
+    else:
+        bytes_of = [{} if it is None else dict(zip(side.users, it)) for side, it in ((old, before), (new, after))]
+        users = [*bytes_of[0], *(user for user in bytes_of[1] if user not in bytes_of[0])]
+    return list(differing(users, *bytes_of))
 
 
 def paths_of(old: Answers, new: Answers) -> List[bytes]:
@@ -193,7 +210,8 @@ def paths_of(old: Answers, new: Answers) -> List[bytes]:
 
 
 def changes(old: Answers, new: Answers, left_out: Collection[bytes] = ()) -> Changes:
-    """What differs, for all users but those who are left out. Two files with the same rights before and after are alike."""
+    """What differs, for all users but those who are left out. Two files with the same rights before and after are
+    alike."""
     found = Changes([], [], set())
     known: Dict[Tuple[Optional[Vector], Optional[Vector]], Group] = {}
     before_of, after_of = old.vectors.get, new.vectors.get
@@ -201,10 +219,9 @@ def changes(old: Answers, new: Answers, left_out: Collection[bytes] = ()) -> Cha
         pair = before_of(path), after_of(path)
         group = known.get(pair)
         if group is None:
-            before, after = by_user(old.users, pair[0]), by_user(new.users, pair[1])
-            differences = list(differing(before, after))
-            found.left_out.update(it.user for it in differences if it.user in left_out)
-            group = known[pair] = Group([it for it in differences if it.user not in left_out])
+            its = differences(old, new, *pair)
+            found.left_out.update(it.user for it in its if it.user in left_out)
+            group = known[pair] = Group([it for it in its if it.user not in left_out])
             found.groups.append(group)
         if group.differences:
             name = new.names.get(path) or old.names[path]

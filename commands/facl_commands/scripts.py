@@ -3,7 +3,7 @@ from __future__ import annotations
 
 import os
 import re
-from typing import List, NamedTuple, Optional, Tuple
+from typing import Iterable, Iterator, List, NamedTuple, Optional
 
 from .messages import Failure, reason
 
@@ -23,6 +23,12 @@ class Unit(NamedTuple):
 
     def place(self) -> bytes:
         return b"%s, line %d" % (self.script, self.number)
+
+    def text(self) -> bytes:
+        return b"".join([line + b"\n" for line in self.lines])
+
+    def tool(self) -> bytes:
+        return self.words[0] if self.words else b""
 
     def is_of(self, *tools: bytes) -> bool:
         """Whether its tool is one of these."""
@@ -45,48 +51,46 @@ def takes_text(words: List[bytes]) -> bool:
     return words[:1] == [b"load"] or any(word in TEXT_WORDS for word in words[1:])
 
 
-def end_of_text(lines: List[bytes], place: int) -> Tuple[int, bool]:
-    """The place after the text that starts at a place, and whether the text is ended."""
-    while place < len(lines):
-        place += 1
-        if lines[place - 1] == b".":
-            return place, True
-    return place, False
-
-
-def read_script(name: bytes, content: bytes) -> List[Unit]:
-    """The units of a script, without its blank lines and comments."""
-    lines = content.split(b"\n")
-    if lines[-1] == b"":
-        lines.pop()
-    units = []
-    place = 0
-    while place < len(lines):
-        begin, line = place, lines[place]
-        place, is_ended = place + 1, True
+def read_units(name: bytes, lines: Iterable[bytes]) -> Iterator[Unit]:
+    """The units of lines, one by one, without blank lines and comments."""
+    rest = iter(lines)
+    count = 0
+    for line in rest:
+        count += 1
+        number, taken, is_ended = count, [line], True
         words = None if len(line) > LINE_LIMIT else words_of(line)
         if len(line) <= LINE_LIMIT and is_empty(line):
             continue
         if words is not None and takes_text(words):
-            place, is_ended = end_of_text(lines, place)
-        units.append(Unit(name, begin + 1, words or [], lines[begin:place], is_ended))
-    return units
+            is_ended = False
+            for text in rest:
+                taken.append(text)
+                is_ended = text == b"."
+                if is_ended:
+                    break
+        count = number + len(taken) - 1
+        yield Unit(name, number, words or [], taken, is_ended)
 
 
-def shown_name(name: str) -> bytes:
-    """How messages name a script."""
-    return b"standard input" if name == "-" else os.fsencode(name)
+def read_script(name: bytes, content: bytes) -> List[Unit]:
+    """The units of a script."""
+    lines = content.split(b"\n")
+    return list(read_units(name, lines if lines[-1] else lines[:-1]))
 
 
-def read_text(name: str) -> bytes:
+class Script(NamedTuple):
+    name: bytes  # As messages have it.
+    text: bytes
+
+    def units(self) -> List[Unit]:
+        return read_script(self.name, self.text)
+
+
+def read_text(name: str) -> Script:
     """What is in a script; the name - is standard input."""
+    shown = b"standard input" if name == "-" else os.fsencode(name)
     try:
         with open(0 if name == "-" else name, "rb", closefd=name != "-") as file:
-            return file.read()
+            return Script(shown, file.read())
     except OSError as error:
-        raise Failure(shown_name(name) + b": " + reason(error)) from error
-
-
-def read_units(names: List[str]) -> List[Unit]:
-    """The lines of all scripts."""
-    return [unit for name in names for unit in read_script(shown_name(name), read_text(name))]
+        raise Failure(shown + b": " + reason(error)) from error

@@ -1,7 +1,7 @@
 """facl-ask --hosts: a script over a snapshot of each of several servers, by GNU parallel and ssh.
 
-Each line that a server prints, and each of its messages, begins with the server's name, so that the lines can be searched and
-sorted by it.
+Each line that a server prints, and each of its messages, begins with the server's name, so that the lines can be
+searched and sorted by it.
 """
 from __future__ import annotations
 
@@ -10,12 +10,13 @@ import os
 import tempfile
 from typing import Dict, Iterator, List, NamedTuple
 
-from . import headings, overview
-from .each import HERE, HOST, NO_OPERAND, Answered, Part, is_refused, program_option, run_hosts, superusers_of
-from .causes import explained
+from . import overview
+from .answering import heading, lines_to_show, write_messages
+from .each import superusers_of
 from .messages import UNUSABLE, Command, Failure
 from .names import shown
-from .scripts import Unit, read_script, read_text
+from .scripts import Unit, read_text
+from .side_by_side import HERE, HOST, Answered, Part, checked_operand, program_option, run_hosts
 from .superuser import Superusers
 
 ANSWERED, REFUSED = 0, 1
@@ -38,34 +39,25 @@ def read_servers(words: List[bytes]) -> List[Server]:
         match = HOST.match(word)
         if match is None:
             raise Failure(word + b": a server is NAME:DIR, and NAME starts with a letter, a digit or _")
-        if NO_OPERAND.match(match[2]):
-            raise Failure(word + b": parallel cannot be given a snapshot of this name: rename the folder")
+        checked_operand(word, match[2])
         if match[1] in found:
-            raise Failure(word + b": is the second snapshot of " + match[1] + b": ask each of one server in a run of its own")
+            raise Failure(word + b": is the second snapshot of " + match[1]
+                          + b": ask each of one server in a run of its own")
         found[match[1]] = Server(match[1], match[2])
     return list(found.values())
 
 
-def write_messages(command: Command, server: Server, unit: Unit, messages: List[bytes]) -> None:
-    command.flush()
-    for message in messages:
-        command.put(command.messages, server.name + b": line %d: %s\n" % (unit.number, message))
-        command.explain(explained(unit, message), server.name + b": ")
-    command.put(command.messages)
-
-
-def say_notices(command: Command, server: Server, part: Part) -> None:
-    """What its snapshot cannot tell, and its empty masks."""
-    found = [*part.head.unknown, *([overview.warning_of(overview.EMPTY_MASKS, part.head.masks)] if part.head.masks else [])]
-    for text in found:
+def say(command: Command, server: Server, texts: List[bytes]) -> None:
+    for text in texts:
         command.put(command.messages, server.name + b": " + shown(text) + b"\n")
     command.put(command.messages)
 
 
-def answer_lines(unit: Unit, server: Server, answered: Answered, superusers: Superusers, has_headings: bool) -> Iterator[bytes]:
+def answer_lines(unit: Unit, server: Server, answered: Answered, superusers: Superusers,
+                 has_headings: bool) -> Iterator[bytes]:
     """The lines of a server's answer, each of which begins with its name."""
     lines = superusers.rest(unit, answered.output.lines())
-    for line in headings.lines_to_show(unit, lines, is_refused(answered)) if has_headings else lines:
+    for line in lines_to_show(unit, lines, answered.header.messages) if has_headings else lines:
         yield server.name + b": " + line + b"\n"
 
 
@@ -83,38 +75,36 @@ class Printer:
         for server, part in self.parts.items():
             answered, superusers = part.answers[unit.number], self.superusers[server]
             text = b"".join(answer_lines(unit, server, answered, superusers, self.has_headings))
-            self.command.write(text if has_heading or not text else headings.heading(unit) + text)
+            self.command.write(text if has_heading or not text else heading(unit) + text)
             has_heading = has_heading or text != b""
-            write_messages(self.command, server, unit, answered.header.messages)
-            if is_refused(answered):
+            place = server.name + b": line %d" % unit.number
+            write_messages(self.command, place, unit, answered.header.messages, server.name + b": ")
+            if answered.is_refused():
                 self.status = REFUSED
             else:
                 superusers.follow(unit)
         self.command.write(b"\n" if self.has_headings and has_heading else b"")
 
-    def say_who_is_left_out(self) -> None:
-        """Once, of all servers."""
-        found = next((it for it in self.superusers.values() if it.has_left_out), None)
-        if found is not None:
-            self.command.say(found.note())
-
 
 def body(command: Command, words: List[str], given: argparse.Namespace) -> int:
-    """Answers standard input over all servers. One that does not answer leaves the answers of the others as they are."""
+    """Answers standard input over all servers. One that does not answer leaves the answers of the others as they
+    are."""
     servers = read_servers([os.fsencode(word) for word in words])
     script = read_text("-")
     with tempfile.TemporaryDirectory(prefix="facl-ask.") as work:
-        outcomes = run_hosts({it.host(): [it.folder] for it in servers}, program_option(given.program), script, work)
+        outcomes = run_hosts({it.host(): [it.folder] for it in servers}, program_option(given.program), script.text,
+                             work)
         failures = {it: found for it in servers for found in [outcomes[it.host()]] if isinstance(found, Failure)}
         parts = {it: found[0] for it in servers for found in [outcomes[it.host()]] if not isinstance(found, Failure)}
         for server, part in parts.items():
-            say_notices(command, server, part)
+            masks = [overview.warning_of(overview.EMPTY_MASKS, part.head.masks)] if part.head.masks else []
+            say(command, server, [*part.head.unknown, *masks])
         printer = Printer(command, parts, given)
-        for unit in read_script(b"standard input", script):
+        for unit in script.units():
             printer.write_line(unit)
-        printer.say_who_is_left_out()
+        for left_out in [it for it in printer.superusers.values() if it.has_left_out][:1]:
+            command.say(left_out.note())
     command.flush()
     for server, failure in failures.items():
-        command.put(command.messages, server.name + b": " + shown(failure.text) + b"\n")
-    command.put(command.messages)
+        say(command, server, [failure.text])
     return UNUSABLE if failures else printer.status

@@ -47,11 +47,6 @@ def nanoseconds(text: bytes) -> int:
     return int(seconds) * 1_000_000_000 + int(rest.ljust(9, b"0")) if seconds.isdigit() else 0
 
 
-def boot_of(text: bytes) -> str:
-    """What the first record has after its word."""
-    return text.partition(b"\0")[0].partition(b" ")[2].decode("ascii", "replace") or "-"
-
-
 def check_texts(folder: bytes) -> int:
     """Opens the folder; fails where the program would not find its texts, or somebody else can have written them."""
     if not os.path.isdir(folder):
@@ -85,7 +80,8 @@ def read_snapshot(folder: bytes, needs_links: bool = True) -> Snapshot:
     links = read_optional(descriptor, folder, b"links")
     inodes = read_optional(descriptor, folder, b"inodes")
     os.close(descriptor)
+    boot = inodes.partition(b"\0")[0].partition(b" ")[2].decode("ascii", "replace") or "-"  # In the first record.
     try:
-        return Snapshot(folder, passwd, group, read_links(links), boot_of(inodes), read_inodes(inodes))
+        return Snapshot(folder, passwd, group, read_links(links), boot, read_inodes(inodes))
     except ValueError as error:
         raise Failure(folder + b"/inodes: is not as facl-snapshot wrote it: make the snapshot again") from error

@@ -4,8 +4,9 @@ from __future__ import annotations
 from typing import Dict, Iterable, Iterator, Set
 
 from .names import read_name
-from .people import options_of, rows_of
+from .people import rows_of
 from .scripts import Unit
+from .tools import split
 
 NOTE = b"left out of who, index and changes: %s, to whom the kernel grants nearly everything; --with-root for all"
 
@@ -20,9 +21,9 @@ class Superusers:
     def follow(self, unit: Unit) -> None:
         """A user whom an accepted line makes may be one too."""
         if unit.is_of(b"useradd"):
-            given, operands = options_of(unit.words[1:])
-            if not given.get(b"u", b"1").strip(b"0") and self.names:
-                self.names.update(map(read_name, operands[:1]))
+            line = split(unit.words)
+            if line.has(b"-u") and not line.value(b"-u").strip(b"0") and self.names:
+                self.names.update(map(read_name, line.operands[:1]))
 
     def is_kept(self, user: bytes) -> bool:
         is_kept = read_name(user) not in self.names

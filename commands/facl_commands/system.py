@@ -1,4 +1,5 @@
-"""Calls of Linux that Python does not have: a status with the birth, a rename that replaces nothing, and an end of writing."""
+"""Calls of Linux that Python does not have: a status with the birth, a rename that replaces nothing, and an end of
+writing."""
 from __future__ import annotations
 
 import ctypes
@@ -24,7 +25,8 @@ MOUNTS_FILE = "/proc/self/mountinfo"
 BOOT_FILE = "/proc/sys/kernel/random/boot_id"
 
 
-# Of a file: mode, owner, group, names, device, inode, and birth in nanoseconds since 1970, 0 where the file system has none.
+# Of a file: mode, owner, group, names, device, inode, and birth in nanoseconds since 1970, 0 where the file system has
+# none.
 Status = Tuple[int, int, int, int, int, int, int]
 
 
@@ -40,7 +42,8 @@ DEVICES = DeviceNumbers()
 
 
 class KeptBirths(Dict[Tuple[int, int], bool]):
-    """Whether files of a device keep their birth: on an overlay a file is copied when it is first changed, and gets another one."""
+    """Whether files of a device keep their birth: on an overlay a file is copied when it is first changed, and gets
+    another one."""
 
     def __missing__(self, parts: Tuple[int, int]) -> bool:
         self[parts] = b"%d:%d" % parts not in overlays()
@@ -51,8 +54,8 @@ KEPT_BIRTHS = KeptBirths()
 
 
 def overlay_of(descriptor: int, device: int) -> int:
-    """Whether an open file is on an overlay: OF_ONE keeps device and inode where a file is copied at its first change, but for
-    one of several names; a file of OF_SEVERAL, whose layers are on several file systems, gets others."""
+    """Whether an open file is on an overlay: OF_ONE keeps device and inode where a file is copied at its first change,
+    but for one of several names; a file of OF_SEVERAL, whose layers are on several file systems, gets others."""
     statfs = getattr(LIBRARY, "fstatfs", None)
     if statfs is None or statfs(descriptor, BUFFER) != 0 or int.from_bytes(BUFFER.raw[:4], "little") != OVERLAY:
         return NO_OVERLAY

@@ -1,6 +1,7 @@
 """Lines of a person at a terminal: by prompt_toolkit where it is installed, else by Python alone."""
 from __future__ import annotations
 
+import contextlib
 import importlib
 import os
 import stat
@@ -30,14 +31,15 @@ def part(name: str) -> Any:
 
 
 def has_history(home: str) -> bool:
-    """Whether lines can be kept in a folder: nobody else can write there, and the file, which is made where there is none, is
-    the user's own; nobody else may read it then."""
+    """Whether lines can be kept in a folder: nobody else can write there, and the file, which is made where there is
+    none, is the user's own; nobody else may read it then."""
     try:
         folder = trusted.open_folder(os.fsencode(home))
     except Failure:
         return False
     try:
-        file = os.open(HISTORY, os.O_RDWR | os.O_CREAT | os.O_NOFOLLOW | os.O_NONBLOCK | os.O_CLOEXEC, PRIVATE, dir_fd=folder)
+        file = os.open(HISTORY, os.O_RDWR | os.O_CREAT | os.O_NOFOLLOW | os.O_NONBLOCK | os.O_CLOEXEC, PRIVATE,
+                       dir_fd=folder)
     except OSError:
         return False
     finally:
@@ -74,18 +76,12 @@ def reader(known: Completer) -> Read:
     """Reads lines by prompt_toolkit, else by Python's own readline, without completion."""
     toolkit: Any = find_toolkit()
     if toolkit is None:
-        return plain_reader()
+        with contextlib.suppress(ImportError):  # Lines are read without a history then.
+            importlib.import_module("readline")
+        return input
     session = toolkit.PromptSession(history=history(), completer=completer_of(known), complete_while_typing=False)
 
     def read(prompt: str) -> str:
         return str(session.prompt(prompt))
 
     return read
-
-
-def plain_reader() -> Read:
-    try:
-        importlib.import_module("readline")
-    except ImportError:
-        pass  # Lines are read without a history.
-    return input

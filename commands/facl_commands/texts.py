@@ -1,7 +1,8 @@
-"""Any dump: a folder with passwd, group and dump alone, or three files by name, also without the directories above its files.
+"""Any dump: a folder with passwd, group and dump alone, or three files by name, also without the directories above its
+files.
 
-A command calls add_source for its words and opens what is given by opened; then notice has what such a snapshot cannot tell,
-find_tops the files that no recorded directory is above, and list_below listings from these on.
+A command calls add_source for its words and opens what is given by opened; then notice has what such a snapshot cannot
+tell, find_tops the files that no recorded directory is above, and list_below listings from these on.
 """
 from __future__ import annotations
 
@@ -13,11 +14,10 @@ import subprocess
 import tempfile
 from typing import Iterator, List, NamedTuple, Optional, Set
 
-from . import environment
 from .messages import Failure, reason
-from .names import path_order, read_name, read_path, script_word, shown_path
+from .names import directories_above, path_order, read_name, read_path, script_word, shown_path
 from .people import rows_of
-from .program import Region, Session
+from .program import Region, Session, environment_of_called, parts_of
 from .trusted import open_trusted, read_trusted
 
 DUMP = b"dump"
@@ -29,7 +29,6 @@ LIVE_ROOT = b"# file: /\n"  # As facl-snapshot writes it.
 FILE_NAME = re.compile(rb"[ \t]*#[ \t]*file:[ ]?(.*)", re.DOTALL)
 PIECE = 1 << 20
 ROOM = 60_000  # Bytes of names in a line, which may have 65,536.
-NO_FILE = b": no such file"
 
 
 class Source(NamedTuple):
@@ -40,18 +39,15 @@ class Source(NamedTuple):
     is_made: bool  # Whether the folder is made here, and goes with the command.
 
 
-def is_dump_given(words: List[str]) -> bool:
-    """Whether --dump is in the place of SNAPSHOT."""
-    options = words[: words.index("--")] if "--" in words else words
-    return any(word == "--dump" or word.startswith("--dump=") for word in options)
-
-
 def add_source(parser: argparse.ArgumentParser, words: List[str], group_option: str = "--group") -> None:
-    """Takes SNAPSHOT, or --dump FILE in its place."""
+    """Takes SNAPSHOT, or --dump FILE in its place; and which program is to answer."""
+    parser.add_argument("--program", metavar="FILE", help="the program facl; without it $FACL, or facl on the path")
     parser.add_argument("--dump", metavar="FILE", help="a file of getfacl -R, in place of SNAPSHOT")
     parser.add_argument("--passwd", metavar="FILE", help="with --dump: the users; without it those of the system")
-    parser.add_argument(group_option, metavar="FILE", dest="group_file", help="with --dump: the groups; without it those of the system")
-    if is_dump_given(words):
+    parser.add_argument(group_option, metavar="FILE", dest="group_file",
+                        help="with --dump: the groups; without it those of the system")
+    options = words[: words.index("--")] if "--" in words else words
+    if any(word == "--dump" or word.startswith("--dump=") for word in options):
         parser.set_defaults(snapshot=None)
     else:
         parser.add_argument("snapshot", metavar="SNAPSHOT")
@@ -59,7 +55,8 @@ def add_source(parser: argparse.ArgumentParser, words: List[str], group_option: 
 
 @contextlib.contextmanager
 def opened(given: argparse.Namespace) -> Iterator[Source]:
-    """A folder with the texts that are given; where they are files, one with links to them, which is removed at the end."""
+    """A folder with the texts that are given; where they are files, one with links to them, which is removed at the
+    end."""
     if given.dump is None:
         if given.passwd is not None or given.group_file is not None:
             raise Failure(b"--passwd and the file of groups go with --dump: a SNAPSHOT has its own")
@@ -80,7 +77,8 @@ def opened(given: argparse.Namespace) -> Iterator[Source]:
 def getent(words: List[bytes]) -> bytes:
     """Rows of the system; keys that nobody has give none."""
     try:
-        return subprocess.run([b"getent", *words], stdin=subprocess.DEVNULL, stdout=subprocess.PIPE, env=environment.of_called(), check=False).stdout
+        return subprocess.run([b"getent", *words], stdin=subprocess.DEVNULL, stdout=subprocess.PIPE, check=False,
+                              env=environment_of_called()).stdout
     except OSError as error:
         raise Failure(b"getent: " + reason(error)) from error
 
@@ -109,7 +107,8 @@ def names_in(database: str, lines: Set[bytes]) -> Set[bytes]:
 
 
 def rows_of_system(database: str, dump: bytes) -> bytes:
-    """passwd or group of the system, also the rows that it gives only where it is asked for them by a name or id of the dump."""
+    """passwd or group of the system, also the rows that it gives only where it is asked for them by a name or id of the
+    dump."""
     word = database.encode()
     text = getent([word])
     known = {field for row in rows_of(text) for field in (row[0], row[2])}
@@ -125,7 +124,8 @@ def names_without_row(passwd: bytes, group: bytes, dump: bytes) -> List[bytes]:
     lines = distinct_lines(dump)
     for kind, database, rows in zip(KINDS, ("passwd", "group"), (passwd, group)):
         known = {row[0] for row in rows_of(rows)}
-        found += [kind.encode() + b" " + name for name in sorted(names_in(database, lines) - known) if not name.isdigit()]
+        found += [kind.encode() + b" " + name for name in sorted(names_in(database, lines) - known)
+                  if not name.isdigit()]
     return found
 
 
@@ -139,23 +139,11 @@ def notice(folder: bytes, dump: bytes) -> Optional[bytes]:
     return b"; ".join(found) or None
 
 
-def has_recorded_above(path: bytes, recorded: Set[bytes]) -> bool:
-    """Whether a directory above a path is recorded."""
-    above = path
-    while b"/" in above:
-        above = above.rpartition(b"/")[0]
-        if above in recorded:
-            return True
-    return False
-
-
 def tops_of(dump: bytes) -> List[bytes]:
     """The paths that no recorded directory is above, in path order; the root alone where it is recorded."""
     comments = (line for piece in pieces_of(dump) for line in piece if b"#" in line[:9])
     recorded = {read_path(match[1]) for match in map(FILE_NAME.match, comments) if match is not None}
-    if b"" in recorded:
-        return [b""]
-    return sorted((path for path in recorded if not has_recorded_above(path, recorded)), key=path_order)
+    return sorted((path for path in recorded if recorded.isdisjoint(directories_above(path))), key=path_order)
 
 
 def find_tops(session: Session, folder: bytes) -> List[bytes]:
@@ -167,33 +155,19 @@ def find_tops(session: Session, folder: bytes) -> List[bytes]:
 
 def operands_of(paths: List[bytes]) -> List[List[bytes]]:
     """The words of paths, in groups that a line has room for."""
-    found: List[List[bytes]] = [[]]
-    room = ROOM
-    for path in paths:
-        word = script_word(shown_path(path))
-        if len(word) >= room and found[-1]:
-            found.append([])
-            room = ROOM
-        room -= len(word) + 1
-        found[-1].append(word)
-    return found
+    return list(parts_of([script_word(shown_path(path)) for path in paths], ROOM))
 
 
 def list_below(session: Session, tops: List[bytes]) -> List[Region]:
     """Listings of the files as they are now, in path order, with ids as numbers; a top that is gone has none."""
-    found: List[Region] = []
-    for words in operands_of(tops) if tops else []:
-        answer = session.ask(b"getfacl -R -n -E -- " + b" ".join(words) + b"\n")
-        if not answer.messages:
-            found.append(answer.output)
-        elif not answer.messages[0].endswith(NO_FILE):
-            raise Failure(b"the program refused to list the files: " + answer.messages[0])
-        elif len(words) > 1:
-            found += [region for word in words for region in list_word(session, word)]
-    return found
+    return [region for words in operands_of(tops) for region in list_words(session, words)]
 
 
-def list_word(session: Session, word: bytes) -> List[Region]:
-    """The listing of one top; none where it is gone."""
-    answer = session.ask(b"getfacl -R -n -E -- " + word + b"\n")
-    return [] if answer.messages else [answer.output]
+def list_words(session: Session, words: List[bytes]) -> List[Region]:
+    """The listings of some tops, one by one where not all of them are there."""
+    answer = session.ask(b"getfacl -R -n -E -- " + b" ".join(words) + b"\n")
+    if not answer.messages:
+        return [answer.output]
+    if not answer.messages[0].endswith(b": no such file"):
+        raise Failure(b"the program refused to list the files: " + answer.messages[0])
+    return [region for word in words for region in list_words(session, [word])] if len(words) > 1 else []

@@ -1,7 +1,7 @@
 """Files and folders that nobody else than root and the caller can have written.
 
-Each component on the way to a file, links and what they lead to included, belongs to root or to the caller, and no other
-user can write there; a sticky directory may be written by all, since what is in it belongs to its owner.
+Each component on the way to a file, links and what they lead to included, belongs to root or to the caller, and no
+other user can write there; a sticky directory may be written by all, since what is in it belongs to its owner.
 """
 from __future__ import annotations
 

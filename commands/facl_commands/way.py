@@ -1,4 +1,5 @@
-"""A plan on its way to the live system or back: its files are looked at, and what keeps one from its new record is found."""
+"""A plan on its way to the live system or back: its files are looked at, and what keeps one from its new record is
+found."""
 from __future__ import annotations
 
 import os
@@ -84,7 +85,8 @@ def closes(way: Way, path: bytes) -> bool:
 
 
 def was_closed(way: Way, path: bytes, now: Record) -> bool:
-    """Whether a run that was cut off has left a directory closed to the caller which is only to be closed at the end."""
+    """Whether a run that was cut off has left a directory closed to the caller which is only to be closed at the
+    end."""
     return way.is_in_part() and closes(way, path) and not owner_permissions(now.access) & 1
 
 
@@ -99,8 +101,8 @@ def fault_of(way: Way, devices: Devices, path: bytes, seen: Seen) -> Optional[by
 
 
 def look_at(way: Way, paths: Iterable[bytes]) -> Look:
-    """The files of a plan as they are on the live system; those below a directory that the plan opens to the caller are left
-    for later, until it is open."""
+    """The files of a plan as they are on the live system; those below a directory that the plan opens to the caller are
+    left for later, until it is open."""
     look = Look({}, {}, [])
     devices = Devices(way.boot(), system.boot())
     if os.geteuid() == 0:
@@ -113,7 +115,8 @@ def look_at(way: Way, paths: Iterable[bytes]) -> Look:
         for path in paths:
             if any(path.startswith(it + b"/") for it in opened):
                 look.later.append(path)
-            elif take(way, devices, look, path, looking.look_at_one(opener, path)) and is_closed(way, path, look.files[path].record):
+            elif (take(way, devices, look, path, looking.look_at_one(opener, path))
+                  and is_closed(way, path, look.files[path].record)):
                 opened.append(path)
     return look
 
@@ -163,8 +166,8 @@ def no_longer_one_file(way: Way, look: Look) -> Dict[bytes, bytes]:
 
 
 def loses_group_flag(start: Record, end: Record) -> bool:
-    """Whether the system takes set-group-ID away on this way or back: who is not root and not in the file's group loses it by
-    a new list or mode."""
+    """Whether the system takes set-group-ID away on this way or back: who is not root and not in the file's group loses
+    it by a new list or mode."""
     return (
         bool((start.flags | end.flags) & stat.S_ISGID) and (start.access, start.flags) != (end.access, end.flags)
         and end.group not in {os.getegid(), *os.getgroups()}
@@ -198,7 +201,8 @@ class Obstacles:
         except NotFound as error:
             return error.text
         try:
-            return b"was replaced by another file" if file.look().identity != seen.identity else self.of_file(file, path, seen)
+            is_same = file.look().identity == seen.identity
+            return self.of_file(file, path, seen) if is_same else b"was replaced by another file"
         finally:
             file.close()
 
@@ -212,8 +216,9 @@ class Obstacles:
             return b"is on a file system that is mounted read-only"
         has_names = seen.names > 1 and not seen.is_directory
         if self.overlays[device] == system.OF_SEVERAL or has_names and self.overlays[device] == system.OF_ONE:
-            return b"would become another file, since it is " + (b"one of several names" if has_names else b"on another file system") + \
-                   b" in a lower layer of an overlay: chmod it to the mode that it has, and make a new snapshot and a new plan"
+            why = b"one of several names" if has_names else b"on another file system"
+            return (b"would become another file, since it is " + why + b" in a lower layer of an overlay: chmod it to "
+                    b"the mode that it has, and make a new snapshot and a new plan")
         if not self.has_lists[device] and (end.default or not is_minimal(end.access)):
             return b"is on a file system without access control lists"
         if self.drops_capabilities or seen.is_directory or seen.record.ids() == end.ids():
@@ -223,11 +228,12 @@ class Obstacles:
         return None
 
     def has_more(self, seen: Seen, end: Record) -> bool:
-        """Whether a file itself has to be opened: its file system is not known yet, or has an obstacle or is an overlay, or its owner
-        changes."""
+        """Whether a file itself has to be opened: its file system is not known yet, or has an obstacle or is an
+        overlay, or its owner changes."""
         device = seen.device
         is_free = device in self.read_only and self.has_lists[device] and not self.read_only[device]
-        return not is_free or self.overlays[device] != system.NO_OVERLAY or seen.owner != end.owner or seen.group != end.group
+        return (not is_free or self.overlays[device] != system.NO_OVERLAY
+                or seen.owner != end.owner or seen.group != end.group)
 
     def all(self, look: Look) -> Dict[bytes, bytes]:
         """The obstacles of all files."""

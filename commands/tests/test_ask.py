@@ -20,7 +20,7 @@ from common import COMMANDS, HERE, Case, Done, outside_the_gate, restore_signals
 
 sys.path.insert(0, COMMANDS)
 
-from facl_commands import completion, manual, overview, terminal  # noqa: E402
+from facl_commands import completion, manual, overview, terminal, tools  # noqa: E402
 from facl_commands.desk import ALONE, WORDS_OF_PROMPT, Desk  # noqa: E402
 from facl_commands.messages import Failure  # noqa: E402
 from facl_commands.names import shown  # noqa: E402
@@ -151,6 +151,47 @@ class AsTheProgram(Case):
         self.assertEqual(self.run_command("facl-ask", ["--help"]).status, 0)
 
 
+class OutAtATerminal(Case):
+    """Answers of a script that go to a terminal, and the same in a pipe."""
+
+    MARK = b"    <-- here is no search: nothing below is reached"
+    QUESTIONS = b"why --reach guest srv/share/one\nfrob\nwhy guest srv/share/one\nload x\n"
+
+    def at_terminal(self, words: List[str], text: bytes) -> Tuple[int, bytes, bytes]:
+        side, other = pty.openpty()
+        attributes = termios.tcgetattr(other)
+        attributes[1] &= ~termios.OPOST
+        termios.tcsetattr(other, termios.TCSANOW, attributes)
+        words = [sys.executable, os.path.join(COMMANDS, "facl-ask"), *words]
+        done = subprocess.run(words, input=text, stdout=other, stderr=subprocess.PIPE, cwd=self.folder, check=False)
+        os.close(other)
+        out = b""
+        try:
+            while True:
+                piece = os.read(side, 65536)
+                if not piece:
+                    break
+                out += piece
+        except OSError:  # Linux says so where the other side is closed.
+            pass
+        os.close(side)
+        return done.returncode, out, done.stderr
+
+    def test_where_the_user_is_stopped(self) -> None:
+        self.write("script", self.QUESTIONS)
+        cases: List[Tuple[List[str], bytes]] = [
+            (["before"], self.QUESTIONS), (["before", "-"], self.QUESTIONS), (["before", "script"], b""),
+            (["before", "script", "script"], b""), (["--headings", "before", "script"], b""),
+        ]
+        for words, text in cases:
+            with self.subTest(words):
+                wanted = self.run_command("facl-ask", words, text)
+                found = self.at_terminal(words, text)
+                self.assertEqual(found[1].count(self.MARK), 1 + words.count("script") // 2)
+                self.assertIn(b"# file: srv/share" + self.MARK + b"\nother::---\n", found[1])
+                self.assertEqual((found[0], found[1].replace(self.MARK, b""), found[2]), tuple(wanted))
+
+
 class AnyDump(Case):
     """A folder of three texts, and texts by name."""
 
@@ -243,9 +284,9 @@ class Manual(unittest.TestCase):
                 self.assertNotEqual(session.ask(name.encode() + b" --frob\n.\n").messages[0], b"facl: unknown tool")
 
     def test_options(self) -> None:
-        self.assertEqual(self.page.tools["getfacl"].options[:7], ["-a", "-c", "-e", "-E", "-n", "-R", "-s"])
-        self.assertIn("--restore", self.page.tools["setfacl"].options)
-        self.assertEqual(self.page.tools["may"].options, ["--reach"])
+        self.assertEqual(tools.options_of_tool(b"getfacl")[:7], [b"-a", b"-c", b"-e", b"-E", b"-n", b"-R", b"-s"])
+        self.assertIn(b"--restore", tools.options_of_tool(b"setfacl"))
+        self.assertEqual(tools.options_of_tool(b"may"), [b"--reach"])
 
     def test_no_macro_is_left(self) -> None:
         for text in [*self.page.sections.values(), *(tool.text for tool in self.page.tools.values())]:

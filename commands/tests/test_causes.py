@@ -5,13 +5,13 @@ import os
 import re
 import sys
 import unittest
-from typing import Callable, Dict, List, Optional
+from typing import Callable, Dict, List, Optional, Set
 
 from common import COMMANDS, HERE
 
 sys.path.insert(0, COMMANDS)
 
-from facl_commands import causes, completion, manual, owners, refused_line, remedies  # noqa: E402
+from facl_commands import causes, completion, manual, owners, refused_line, remedies, tools  # noqa: E402
 from facl_commands.people import People  # noqa: E402
 from facl_commands.program import Session, find_program  # noqa: E402
 from facl_commands.scripts import Unit, read_script  # noqa: E402
@@ -31,6 +31,19 @@ def units_of(lines: bytes) -> List[Unit]:
     return read_script(b"edits", lines)
 
 
+def options_of_manual() -> Dict[bytes, Set[bytes]]:
+    """The options that synopses and tags of each tool name."""
+    with open(next(filter(os.path.exists, manual.PLACES)), encoding="utf-8") as file:
+        (_, lines), = [it for it in manual.cut(file.read().splitlines(), "SH") if it[0] == "TOOLS"]
+    found: Dict[bytes, Set[bytes]] = {}
+    for head, part in manual.cut(lines, "SS"):
+        tags = [line for above, line in zip([".TP", *part], part) if above in (".TP", ".TQ")]
+        words = re.findall(r"(?<![\w-])--?[A-Za-z][A-Za-z-]*", " ".join(map(manual.line_text, tags)))
+        options = found.setdefault(head.split(" ")[0].encode(), set())
+        options.update(it.encode() for word in words for it in ([word] if word[1] == "-" else ["-" + letter for letter in word[1:]]))
+    return found
+
+
 class Asked(unittest.TestCase):
     """A test with a session of its own."""
 
@@ -44,7 +57,7 @@ class Asked(unittest.TestCase):
         """What is said of a line; of chown and chgrp as facl-plan says it."""
         if not unit.is_ended:
             return [b"facl: text without end"]
-        if is_plan and unit.is_of(*owners.TOOLS):
+        if is_plan and unit.is_of(*tools.TOOLS_OF_PLANS):
             done = owners.restoring(self.session, self.people, unit)
             if isinstance(done, bytes):
                 return [done]
@@ -79,10 +92,8 @@ class Rows(Asked):
                     self.assertEqual(self.messages(unit, True), [])
 
     def test_the_options_are_those_of_the_manual(self) -> None:
-        page = manual.find_page()
-        assert page is not None
-        self.assertEqual({name: set(options) for name, options in refused_line.OPTIONS.items() if name not in owners.TOOLS},
-                         {name.encode(): {it.encode() for it in tool.options} for name, tool in page.tools.items()})
+        self.assertEqual({name: set(options) for name, options in tools.OPTIONS.items() if name not in tools.TOOLS_OF_PLANS},
+                         options_of_manual())
         self.assertEqual(remedies.TOOLS, {name.encode() for name in completion.OPERANDS})
 
 

@@ -16,7 +16,7 @@ from common import COMMANDS, HERE, Case, outside_the_gate
 
 sys.path.insert(0, COMMANDS)
 
-from facl_commands import owners  # noqa: E402
+from facl_commands import owners, tools  # noqa: E402
 from facl_commands.links import Links  # noqa: E402
 from facl_commands.names import path_order, script_word, write_name  # noqa: E402
 from facl_commands.people import People  # noqa: E402
@@ -42,7 +42,7 @@ class Run:
         """Does a line, and returns its messages."""
         (unit,) = read_script(b"edits", line + b"\n")
         self.links.before(self.session, unit)
-        if unit.is_of(*owners.TOOLS):
+        if unit.is_of(*tools.TOOLS_OF_PLANS):
             done = owners.restoring(self.session, self.people, unit)
             if isinstance(done, bytes):
                 return [done]
@@ -275,7 +275,7 @@ class Beside(unittest.TestCase):
 
     def line(self, paths: List[bytes]) -> Tuple[List[bytes], List[bytes]]:
         """The words of a line, for a shell, and as they are written in a script."""
-        tool = self.random.choice(owners.TOOLS)
+        tool = self.random.choice(tools.TOOLS_OF_PLANS)
         user, group = self.random.choice(self.USERS), self.random.choice(self.GROUPS)
         forms = [user, user + b":" + group, b":" + group] + [user + b":"] * (not user.isdigit())
         options: List[bytes] = self.random.choice([[], [], [b"-R"], [b"--recursive"]])

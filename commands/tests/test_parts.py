@@ -12,7 +12,7 @@ from common import COMMANDS, HERE, Case
 
 sys.path.insert(0, COMMANDS)
 
-from facl_commands import names, people, records, scripts  # noqa: E402
+from facl_commands import names, people, records, scripts, tools  # noqa: E402
 from facl_commands.program import Session, find_program  # noqa: E402
 
 
@@ -112,8 +112,8 @@ class Records(unittest.TestCase):
 class People(unittest.TestCase):
     def test_options(self) -> None:
         for words in ([b"-a", b"x", b"g"], [b"g", b"-a", b"x"], [b"-ax", b"g"], [b"-a=x", b"g"], [b"-a", b"x", b"--", b"g"]):
-            self.assertEqual(people.options_of(words), ({b"a": b"x"}, [b"g"]))
-        self.assertEqual(people.options_of([b"-a==x", b"--", b"-g"]), ({b"a": b"=x"}, [b"-g"]))
+            self.assertEqual(tools.split([b"gpasswd", *words]), ([(b"-a", b"x")], [b"g"]))
+        self.assertEqual(tools.split([b"gpasswd", b"-a==x", b"--", b"-g"]), ([(b"-a", b"=x")], [b"-g"]))
 
     def test_first_rows_count(self) -> None:
         found = people.People(b"# no row\nx:x:1:1::/:\n\nx:x:2:2::/:\ny:x:1:1::/:\n", b"g:x:5:y,,x\n")

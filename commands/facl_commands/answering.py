@@ -1,0 +1,76 @@
+"""Answers of the program to the lines of a script: which messages refuse a line, and how answers and messages are
+printed."""
+from __future__ import annotations
+
+from typing import Iterable, Iterator, List, Optional
+
+from .messages import Command
+from .names import shown
+from .program import Answer, Region, Session
+from .scripts import Unit
+from .tools import EMPTY_ANSWERS
+
+TEXT_WITHOUT_END = b"facl: text without end"
+WARNING = b"setfacl: warning: default entries dropped"  # The one message of a line that is accepted.
+NO_FILE = b": no such file"
+NOTHING = b"(nothing)"
+
+
+def is_refused(messages: List[bytes]) -> bool:
+    """Whether a line with these messages is refused."""
+    return any(message != WARNING for message in messages)
+
+
+def lacks_file(messages: List[bytes]) -> bool:
+    """Whether a line is refused since a file is not there."""
+    return messages[:1] != [] and messages[0].endswith(NO_FILE)
+
+
+def answer_unit(session: Session, unit: Unit) -> Answer:
+    if not unit.is_ended:
+        return Answer(Region(session.output, 0, 0), [TEXT_WITHOUT_END])
+    return session.ask(unit.text())
+
+
+def write_messages(command: Command, place: bytes, unit: Unit, messages: List[bytes],
+                   begin: Optional[bytes] = b"") -> None:
+    """The messages of a line, after what was printed so far, each with its place; below it, after a beginning, what was
+    probably meant."""
+    command.flush()
+    for message in messages:
+        command.put(command.messages, place + b": " + message + b"\n")
+        if begin is not None:
+            from .causes import explained  # Few runs need it.
+
+            command.explain(explained(unit, message), begin)
+    command.put(command.messages)
+
+
+# --- answers with the question above each, as facl-plan prints them
+
+
+def heading(unit: Unit) -> bytes:
+    """The line of a script, with its place."""
+    return b"# " + shown(unit.place() + b": " + unit.lines[0]) + b"\n"
+
+
+def lines_to_show(unit: Unit, lines: Iterable[bytes], messages: List[bytes]) -> Iterator[bytes]:
+    """The lines of an answer as a person reads them; one that says so where a question has an empty answer."""
+    is_empty = True
+    for line in lines:
+        is_empty = False
+        yield shown(line)
+    if is_empty and unit.is_of(*EMPTY_ANSWERS) and not is_refused(messages):
+        yield NOTHING
+
+
+def below_heading(unit: Unit, lines: Iterable[bytes], messages: List[bytes]) -> Iterator[bytes]:
+    """An answer below its line, and an empty line; nothing of a line that prints nothing."""
+    last = None
+    for line in lines_to_show(unit, lines, messages):
+        if last is None:
+            yield heading(unit)
+        yield line + b"\n"
+        last = line
+    if last:
+        yield b"\n"
