@@ -3,6 +3,7 @@ from __future__ import annotations
 
 import os
 import signal
+from functools import partial
 from typing import Callable, Dict, Iterable, List, Optional, Set, Tuple
 
 from . import differences, live, plan_folder, planned, sharing, system
@@ -106,8 +107,7 @@ class Carrier:
         helpers: List[Helper] = []
         try:
             for part in others:
-                helpers.append(Helper(lambda part=part: self.give_apart(part),
-                                      keeps_signals=True))  # type: ignore[misc]
+                helpers.append(Helper(partial(self.give_apart, part), keeps_signals=True))
             left = self.give_part(first)
             for helper, part in zip(helpers, others):
                 left.update(self.given_by(helper, part))

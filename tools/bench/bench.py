@@ -3,7 +3,7 @@
 
 usage: tools/bench/bench.py MEASUREMENT PROGRAM [FOLDER] [--files N,..] [--users N] [--runs N] [--only NAME,..]
 
-  tools    each tool on the trees of tools/lib/make_tree.py (10000,100000,1000000 files, 1000 users, 3 runs)
+  tools    each tool on the trees of tools/lib/texts.py (10000,100000,1000000 files, 1000 users, 3 runs)
   index    the index of who may do what on files of few and of different labels, --only one of these (100000 files, 1000
            users, 2 runs)
   limits   a line of each kind on as many files and users as can be, 1048576 and 65536, of 1000 labels (1 run); it takes
@@ -36,7 +36,7 @@ from typing import Callable, Dict, Iterable, List, NamedTuple, Optional, Tuple
 
 sys.dont_write_bytecode = True
 sys.path.insert(0, os.path.join(os.path.dirname(os.path.realpath(__file__)), "..", "lib"))
-from make_tree import PER_DIRECTORY, record, text_file, write_people, write_tree  # noqa: E402
+from texts import PER_DIRECTORY, record, text_file, write_people, write_tree  # noqa: E402
 from measured import MAX_RESTORED, MeasuredSession, best_of, first_records  # noqa: E402
 from script import TOP, Failed, run, say  # noqa: E402
 from session import program_at, write_system_people  # noqa: E402
@@ -164,7 +164,7 @@ def session_times(program: str, tree: Tree, steps: Iterable[Step]) -> Figures:
 
 
 def best_times(given: Words, tree: Tree, steps: Iterable[Step], number_of: Optional[NumberOf] = None) -> Figures:
-    """The best of the runs, on a tree whose files have the labels of some numbers, or on that of make_tree.py."""
+    """The best of the runs, on a tree whose files have the labels of some numbers, or on that of texts.py."""
     with tempfile.TemporaryDirectory(prefix="facl-bench.") as folder:
         if number_of:
             write_labels(folder, tree.files, tree.users, number_of)

@@ -5,7 +5,7 @@ usage: tools/bench/tree_bench.py [FILES [USERS]]
 
 Copies the crates below acl_tree to a temporary folder, with what is proved of them, proves and builds a small program
 over them there (tools/bench/tree_bench.rt.txt), and runs it over a tree of FILES files (100,000) and USERS users
-(1,000), as tools/lib/make_tree.py writes it. It prints what a record of a restore takes that changes nothing, and of
+(1,000), as tools/lib/texts.py writes it. It prints what a record of a restore takes that changes nothing, and of
 one that changes each list; a file of a `setfacl -R -m` over all; and `creat`, `rm` and `gpasswd`, the median of four
 hundred. Times are processor time. The exit status is 1 where the program is not built or fails, 2 where the words are
 others.
@@ -27,7 +27,7 @@ HERE = os.path.dirname(os.path.realpath(__file__))
 sys.path.insert(0, os.path.join(HERE, "..", "lib"))
 import script  # noqa: E402
 from crates import Crates, folder_of  # noqa: E402
-from make_tree import write_tree  # noqa: E402
+from texts import write_tree  # noqa: E402
 
 PROGRAM = "tree_bench"
 USES = ["acl_dump", "acl_edit", "acl_names", "acl_people", "acl_syntax", "acl_tree"]

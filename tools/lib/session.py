@@ -44,7 +44,8 @@ def conclude(given: argparse.Namespace, amount: str, faults: Sequence[str]) -> i
     found = "; ".join(faults) or "nothing"
     print(f"{amount}: {found}")
     if given.record:
-        record(amount, found)
+        record(amount, found, " ".join("--" + name for name, value in vars(given).items()
+                                       if value is True and name not in ("record", "verbose")))
     return 1 if faults else 0
 
 
