@@ -176,7 +176,7 @@ def compare(world: World, when: str) -> Tuple[int, int]:
 def compare_plan(world: World) -> Tuple[int, int]:
     """The same of the rights that facl-plan names, beside those that the kernel grants before and after facl-apply."""
     before = kernel(world)["along"]
-    edits = "".join(f"setfacl -m {world.entry()} {world.chance.choice(world.files[1:])}\n" for _ in range(40))
+    edits = "".join(f"setfacl -m {world.entry()} {world.chance.choice(world.files[1:])}\n" for _ in range(400))
     rows = world.command("facl-plan", "--full", world.snapshot, "-", text=edits).splitlines()
     world.command("facl-apply", world.snapshot + ".plan")
     kept = world.kept()
