@@ -2,25 +2,22 @@
 # Installs the program as `facl`, the commands facl-snapshot, facl-ask, facl-plan, facl-apply and facl-report, and
 # their manual pages.
 #
-# usage: tools/install.sh [--program FILE] [--version VERSION] [PREFIX]      into PREFIX/bin, PREFIX/lib/facl and PREFIX/share/man
-#        tools/install.sh --uninstall [PREFIX]           removes what it installs
+# usage: tools/install.sh [--program FILE] [--version VERSION] [PREFIX]    into bin, lib/facl and share/man of PREFIX
+#        tools/install.sh --uninstall [PREFIX]                              removes what it installs
 #
 # PREFIX is /usr/local. FILE is a program that is built; without it crates/facl_cli/out/facl_cli, which tools/prove.py
 # proves and builds. With DESTDIR in the environment all goes below that folder. The exit status is 2 where the words are
 # others, there is no program, or PREFIX cannot be written.
 set -eu
 top=$(cd "$(dirname "$0")/.." && pwd)
-
-fail() {
-    echo "tools/install.sh: $1" >&2
-    exit 2
-}
+# shellcheck source=tools/lib/program.sh
+. "$top/tools/lib/program.sh"
 
 warn() {
-    echo "tools/install.sh: warning: $1" >&2
+    echo "$script_name: warning: $1" >&2
 }
 
-program=$top/crates/facl_cli/out/facl_cli
+program=$built
 version=0
 action=install
 while [ $# -gt 0 ]; do
@@ -40,14 +37,8 @@ while [ $# -gt 0 ]; do
         action=uninstall
         shift
         ;;
-    --help)
-        sed -n '2,/^set/{/^set/!s/^# \{0,1\}//p}' "$0"
-        exit 0
-        ;;
-    -*)
-        sed -n '/^# usage:/,/^#$/s/^# //p' "$0" >&2
-        exit 2
-        ;;
+    --help) show_head ;;
+    -*) usage ;;
     *) break ;;
     esac
 done
@@ -80,7 +71,7 @@ install_files() {
     install -d -m 755 -- "$to/lib/facl" "$to/lib/facl/facl_commands"
     install -m 644 -- "$top"/commands/facl_commands/*.py "$top"/commands/facl_commands/report.css \
         "$top"/commands/facl_commands/report.js "$to/lib/facl/facl_commands"
-    sed -i "s/^version=0$/version=$version/" "$to/bin/facl-snapshot"
+    sed -i "s/^version=0\>/version=$version/" "$to/bin/facl-snapshot"
     sed -i "s/^VERSION = \"0\"/VERSION = \"$version\"/" "$to/lib/facl/facl_commands/__init__.py"
     for name in $python_commands; do
         install -m 755 -- "$top/commands/$name" "$to/lib/facl"
@@ -109,10 +100,10 @@ say_what_is_missing() {
 
 if [ $action = uninstall ]; then
     uninstall
-    echo "tools/install.sh: removed from $prefix"
+    echo "$script_name: removed from $prefix"
 else
     check_parts
     install_files
     [ -n "${DESTDIR:-}" ] || say_what_is_missing
-    echo "tools/install.sh: facl, facl-snapshot, facl-ask, facl-plan, facl-apply and facl-report are in $prefix/bin; man facl"
+    echo "$script_name: facl, facl-snapshot, facl-ask, facl-plan, facl-apply and facl-report are in $prefix/bin; man facl"
 fi

@@ -20,14 +20,8 @@ while [ $# -gt 0 ]; do
         program=$(realpath -- "$2")
         shift 2
         ;;
-    --help)
-        sed -n '2,/^set/{/^set/!s/^# \{0,1\}//p}' "$0"
-        exit 0
-        ;;
-    -*)
-        sed -n '/^# usage:/,/^#$/s/^# //p' "$0" >&2
-        exit 2
-        ;;
+    --help) show_head ;;
+    -*) usage ;;
     *) break ;;
     esac
 done
@@ -57,6 +51,10 @@ root=$work/root
 mkdir "$root"
 chmod 755 "$root"
 DESTDIR=$root tools/install.sh --program "$program" --version "$version" /usr >/dev/null
+for command in snapshot ask plan apply report; do
+    said=$(PYTHONDONTWRITEBYTECODE=yes "$root/usr/bin/facl-$command" --version)
+    [ "$said" = "facl-$command $version" ] || fail "facl-$command --version prints $said"
+done
 gzip -9n "$root"/usr/share/man/man1/*.1
 mkdir -p "$root/DEBIAN" "$root/usr/share/doc/facl"
 printf '%s\n' "$origin" >"$root/usr/share/doc/facl/commit"
@@ -67,7 +65,7 @@ mkdir -p "$root/usr/share/lintian/overrides"
 echo 'facl: unstripped-binary-or-object [usr/bin/facl]' >"$root/usr/share/lintian/overrides/facl"
 {
     printf 'facl (%s) unstable; urgency=low\n\n' "$version"
-    git log -20 --format='  * %<(74,trunc)%s' HEAD
+    git log -20 --format='%w(78,2,4)* %s' HEAD
     git show -s --format='%n -- %an <%ae>  %cD' HEAD
 } | gzip -9n >"$root/usr/share/doc/facl/changelog.gz"
 size=$(du -sk "$root/usr" | cut -f 1)

@@ -21,11 +21,6 @@ add_text() {
     ln -s "$(realpath -- "$2")" "$work/${1#--}" 2>/dev/null || fail "$1 twice"
 }
 
-usage() {
-    sed -n '/^# usage:/,/^#$/s/^# //p' "$0" >&2
-    exit 2
-}
-
 # read_session WORD..: the script and the texts, in work
 read_session() {
     if [ $# -eq 0 ]; then

@@ -1,9 +1,9 @@
 """Carries a plan out: each file gets its new record, or all that were changed get their old ones back."""
 from __future__ import annotations
 
-import functools
 import os
 import signal
+from functools import partial
 from typing import Callable, Dict, Iterable, List, Optional, Set, Tuple
 
 from . import differences, live, plan_folder, planned, sharing, system
@@ -107,7 +107,7 @@ class Carrier:
         helpers: List[Helper] = []
         try:
             for part in others:
-                helpers.append(Helper(functools.partial(self.give_apart, part), keeps_signals=True))
+                helpers.append(Helper(partial(self.give_apart, part), keeps_signals=True))
             left = self.give_part(first)
             for helper, part in zip(helpers, others):
                 left.update(self.given_by(helper, part))

@@ -1,6 +1,7 @@
 """Looks at many files by several processes side by side, which change nothing."""
 from __future__ import annotations
 
+from functools import partial
 from typing import List, Union
 
 from .live import NotFound, Opener, Seen
@@ -44,7 +45,7 @@ def look_at_all(paths: List[bytes]) -> List[Found]:
     helpers: List[Helper] = []
     try:
         for part in parts[1:]:
-            helpers.append(Helper(lambda part=part: plain_look(part), keeps_signals=False))  # type: ignore[misc]
+            helpers.append(Helper(partial(plain_look, part), keeps_signals=False))
         found = look(parts[0]) if parts else []
         for helper, part in zip(helpers, parts[1:]):
             found += found_by(helper, part)

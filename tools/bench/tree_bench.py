@@ -4,11 +4,11 @@
 usage: tools/bench/tree_bench.py [FILES [USERS]]
 
 Copies the crates below acl_tree to a temporary folder, with what is proved of them, proves and builds a small program
-over them there (tools/bench/tree_bench.rt.txt), and runs it over a tree of FILES files, 100,000 unless it is given, and USERS
-users, 1,000 unless it is given, as tools/lib/make_tree.py writes it. It prints what a record of a restore takes that changes
-nothing, and of one that changes each list; a file of a `setfacl -R -m` over all; and `creat`, `rm` and `gpasswd`, the
-median of four hundred. Time is processor time. The exit status is 1 where the program is not built or fails, 2 where the
-words are others.
+over them there (tools/bench/tree_bench.rt.txt), and runs it over a tree of FILES files (100,000) and USERS users
+(1,000), as tools/lib/texts.py writes it. It prints what a record of a restore takes that changes nothing, and of
+one that changes each list; a file of a `setfacl -R -m` over all; and `creat`, `rm` and `gpasswd`, the median of four
+hundred. Times are processor time. The exit status is 1 where the program is not built or fails, 2 where the words are
+others.
 """
 from __future__ import annotations
 
@@ -19,6 +19,7 @@ import statistics
 import subprocess
 import sys
 import tempfile
+from pathlib import Path
 from typing import Dict, List
 
 sys.dont_write_bytecode = True
@@ -26,7 +27,7 @@ HERE = os.path.dirname(os.path.realpath(__file__))
 sys.path.insert(0, os.path.join(HERE, "..", "lib"))
 import script  # noqa: E402
 from crates import Crates, folder_of  # noqa: E402
-from make_tree import write_tree  # noqa: E402
+from texts import write_tree  # noqa: E402
 
 PROGRAM = "tree_bench"
 USES = ["acl_dump", "acl_edit", "acl_names", "acl_people", "acl_syntax", "acl_tree"]
@@ -41,36 +42,33 @@ def copy_crates(room: str) -> str:
     folder = os.path.join(room, "crates", PROGRAM)
     os.makedirs(os.path.join(folder, "src"))
     shutil.copy(os.path.join(HERE, "tree_bench.rt.txt"), os.path.join(folder, "src", "main.rt"))
-    with open(os.path.join(room, "crates.txt"), "w", encoding="utf-8") as out:
-        out.writelines(row + "\n" for crate, row in crates.rows.items() if crate in needed)
-        out.write(f"{PROGRAM}: {' '.join(USES)}\n")
+    rows = [row for crate, row in crates.rows.items() if crate in needed] + [f"{PROGRAM}: {' '.join(USES)}"]
+    Path(room, "crates.txt").write_text("\n".join(rows) + "\n", encoding="utf-8")
     return folder
 
 
 def build(folder: str) -> str:
     """Proves and builds the program; returns its path."""
-    done = subprocess.run(["rt", "run"], cwd=folder, stdin=subprocess.DEVNULL, stdout=subprocess.PIPE, stderr=subprocess.STDOUT, check=False)
+    done = subprocess.run(["rt", "run"], cwd=folder, stdin=subprocess.DEVNULL, capture_output=True, check=False)
     program = os.path.join(folder, "out", PROGRAM)
     if not os.path.exists(program):
-        raise script.Failed("the program is not built: " + done.stdout.decode(errors="replace")[-2000:])
+        printed = (done.stdout + done.stderr).decode(errors="replace")
+        raise script.Failed("the program is not built: " + printed[-2000:])
     return program
 
 
 def write_texts(room: str, files: int, users: int) -> List[str]:
     """The texts of a tree, and its dump with another permission in each list."""
     write_tree(room, files, users)
-    with open(os.path.join(room, "dump"), encoding="utf-8") as dump:
-        with open(os.path.join(room, "changed"), "w", encoding="utf-8") as out:
-            out.writelines(re.sub(r"^(user:u\d+:)rw-$", r"\1--x", line) for line in dump)
+    text = Path(room, "dump").read_text(encoding="utf-8")
+    Path(room, "changed").write_text(re.sub(r"^(user:u\d+:)rw-$", r"\1--x", text, flags=re.M), encoding="utf-8")
     return [os.path.join(room, name) for name in ("passwd", "group", "dump", "dump", "changed")]
 
 
 def times_of(printed: str) -> Dict[str, List[int]]:
     """The times of each command in nanoseconds, by its name, in their order."""
-    times: Dict[str, List[int]] = {}
-    for name, nanoseconds in re.findall(r"^([a-z -]+): (\d+) ns", printed, re.M):
-        times.setdefault(name, []).append(int(nanoseconds))
-    return times
+    found = re.findall(r"^(.+): (\d+) ns", printed, re.M)
+    return {name: [int(time) for its, time in found if its == name] for name in dict(found)}
 
 
 def print_times(times: Dict[str, List[int]], files: int) -> None:

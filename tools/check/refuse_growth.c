@@ -1,6 +1,6 @@
 /* A malloc that refuses one growth: the one with the number REFUSE, counted from 1; where REFUSE_ON is set all after it
-   too. It reports on descriptor 9, if that is open, that it did. Preloaded by tools/check/each_growth.sh under the built
-   program; no part of facl. */
+   too. It reports on the descriptor REPORT that it did. Preloaded by tools/check/growth.py under the built program; no
+   part of facl. */
 #define _GNU_SOURCE
 #include <dlfcn.h>
 #include <stddef.h>
@@ -20,7 +20,7 @@ static int refused(void) {
     growths++;
     if (wanted && goes_on && growths > wanted) return 1;
     if (growths != wanted) return 0;
-    (void)!write(9, "refused\n", 8);
+    (void)!write(atoi(getenv("REPORT")), "refused\n", 8);
     return 1;
 }
 

@@ -158,7 +158,8 @@ class File:
             return [(b"user", None)]
         if (b"user", uid) in self.entries:
             return [(b"user", uid)]
-        matching = [(tag, it) for tag, it in self.entries if tag == b"group" and (self.group if it is None else it) in groups]
+        keys = [key for key in self.entries if key[0] == b"group"]
+        matching = [key for key in keys if (self.group if key[1] is None else key[1]) in groups]
         return matching or [(b"other", None)]
 
     def effective(self, key: Key) -> int:

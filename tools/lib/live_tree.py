@@ -1,7 +1,11 @@
-"""What the checks of the live side share: random trees and plans on a real file system, and commands under strace."""
+"""What the checks of the live side share: users, random trees and plans on a real file system, mounts, files by their
+descriptors, commands under strace or ended early, other users at work; and how such a check runs, with its options."""
 from __future__ import annotations
 
-import errno
+import argparse
+import contextlib
+import ctypes
+import glob
 import os
 import random
 import re
@@ -11,35 +15,44 @@ import stat
 import subprocess
 import sys
 import tempfile
-from typing import Callable, Dict, List, NamedTuple, Optional, Tuple
+import time
+import traceback
+from collections import Counter
+from typing import Callable, Dict, Iterator, List, NamedTuple, NoReturn, Optional, Sequence, Tuple, Type, Union
 
-from script import TOP
+import record
+import script
+from session import program_at
 
-COMMANDS = os.path.join(TOP, "commands")
+COMMANDS = os.fsencode(os.path.join(script.TOP, "commands"))
 USERS = {b"ines": (70001, 70100), b"ben": (70002, 70100), b"mara": (70003, 70200), b"guest": (70009, 70300)}
 GROUPS = {b"staff": (70100, b""), b"design": (70200, b"ines"), b"guests": (70300, b""), b"audit": (70400, b"ben,mara")}
 UIDS = [uid for uid, _ in USERS.values()]
 GIDS = [gid for gid, _ in GROUPS.values()]
-NAMES = [b"a", b"b c", b"-d", b"e\nf", b"g\\h", b"i\\012j", b"k'l", b'm"n', b"o\xe9p", b" q", b"r ", b"# file: s", b"t\ru", b"*", b"$v",
-         b"w\tx", b"y,z"]
-ACCESS, DEFAULT = b"system.posix_acl_access", b"system.posix_acl_default"
-TEXTS = [b"---", b"--x", b"-w-", b"-wx", b"r--", b"r-x", b"rw-", b"rwx"]
+MALLORY = UIDS[0]  # The user who meddles.
+NAMES = [b"a", b"b c", b"-d", b"e\nf", b"g\\h", b"i\\012j", b"k'l", b'm"n', b"o\xe9p", b" q", b"r ", b"# file: s",
+         b"t\ru", b"*", b"$v", b"w\tx", b"y,z"]
 # One that each user can run.
 PYTHON = b"/usr/bin/python3" if os.path.exists("/usr/bin/python3") else os.fsencode(sys.executable)
 CHANGING = ["setxattr", "removexattr", "chmod", "fchmodat", "chown", "lchown", "fchownat"]
+LIBRARY = ctypes.CDLL(None, use_errno=True)
+HERE, EXCHANGE = -100, 2
+Done = subprocess.CompletedProcess[bytes]
+State = Tuple[object, ...]
+Table = Dict[str, Tuple[int, int]]  # Owners and modes of files, and of directories, whose names end in a slash.
+Name = Union[str, bytes]
+Parts = Dict[str, Tuple[int, int]]  # How often each part of a check is tried, and with --quick.
 
 
 class Fault(Exception):
     """Something is not as it has to be."""
 
 
-class Given(NamedTuple):
-    program: str
-    work: bytes
+# --- users and commands
 
 
 def become(user: int) -> None:
-    """Makes this process one of a user without rights, of USERS or with no group."""
+    """Makes this process one of a user without rights, of USERS or with a group of its own number."""
     if user:
         name, gid = next(((name, ids[1]) for name, ids in USERS.items() if ids[0] == user), (b"", user))
         os.setgroups([number for number, members in GROUPS.values() if name in members.split(b",")])
@@ -47,10 +60,64 @@ def become(user: int) -> None:
         os.setresuid(user, user, user)
 
 
-def run(words: List[bytes], text: bytes = b"", user: int = 0, variables: Optional[Dict[str, str]] = None,
-        ) -> "subprocess.CompletedProcess[bytes]":
+def run(words: Sequence[bytes], text: bytes = b"", user: int = 0, variables: Optional[Dict[str, str]] = None) -> Done:
     return subprocess.run(words, input=text, capture_output=True, env={**os.environ, **(variables or {})}, check=False,
                           preexec_fn=lambda: become(user))
+
+
+def must(done: Done, *statuses: int, said: bytes = b"") -> bytes:
+    """The output of a run, which has to have ended with one of these statuses and a message."""
+    expect(done.returncode in statuses and said in done.stderr, f"not {statuses}, {said!r}: {done}")
+    return done.stdout
+
+
+def expect(is_so: bool, fault: str) -> None:
+    if not is_so:
+        raise Fault(fault)
+
+
+def child(user: int, what: Callable[[], object]) -> int:
+    """Starts a process of a user, and returns its id."""
+    number = os.fork()
+    if number == 0:
+        try:
+            become(user)
+            what()
+            os._exit(0)
+        finally:
+            traceback.print_exc()
+            os._exit(1)
+    return number
+
+
+def exchange(one: bytes, other: bytes) -> None:
+    LIBRARY.renameat2(HERE, one, HERE, other, EXCHANGE)
+
+
+# --- files
+
+
+def make(name: bytes, mode: int = 0o644, owner: int = 0, group: int = 0, text: bytes = b"") -> bytes:
+    """A file, or a directory where the name ends in a slash; its name."""
+    if name.endswith(b"/"):
+        os.mkdir(name)
+    else:
+        with open(name, "wb") as file:
+            file.write(text)
+    if owner or group:
+        os.chown(name, owner, group)
+    os.chmod(name, mode)
+    return name.rstrip(b"/")
+
+
+def make_tree(top: bytes, files: Table, links: Optional[Dict[str, str]] = None) -> None:
+    """A tree in the place of what was there; links, of MALLORY, lead to names in it."""
+    remove(top)
+    for name, (owner, mode) in {"": (0, 0o755), **files}.items():
+        make(os.path.join(top, name.encode()), mode, owner, GIDS[0], b"of " + name.encode())
+    for name, target in (links or {}).items():
+        os.symlink(os.path.join(top, target.encode()), os.path.join(top, name.encode()))
+        os.lchown(os.path.join(top, name.encode()), MALLORY, GIDS[0])
 
 
 def copy(folder: bytes, target: bytes) -> None:
@@ -58,10 +125,49 @@ def copy(folder: bytes, target: bytes) -> None:
     must(run([b"cp", b"-a", b"-T", b"--", folder, target]), 0)
 
 
-def must(done: "subprocess.CompletedProcess[bytes]", *statuses: int) -> bytes:
-    if done.returncode not in statuses:
-        raise Fault(f"status {done.returncode} of {done.args}: {done.stdout!r} {done.stderr!r}")
-    return done.stdout
+def remove(name: bytes) -> None:
+    """Removes what is there, of any kind and depth."""
+    must(run([b"rm", b"-rf", b"--", name]), 0)
+
+
+@contextlib.contextmanager
+def mounted(place: bytes, *words: bytes) -> Iterator[None]:
+    """A file system at a place, which is made where it is not there."""
+    if not os.path.lexists(place):
+        os.mkdir(place)
+    must(run([b"mount", *words, place]), 0)
+    try:
+        yield
+    finally:
+        must(run([b"umount", b"-l", place]), 0)
+
+
+def state_of(name: bytes, follow: bool = True) -> State:
+    """Owner, group, mode, lists and other attributes, and the bytes of a plain file."""
+    look = os.stat(name, follow_symlinks=follow)
+    lists = [(it, os.getxattr(name, it, follow_symlinks=follow)) for it in os.listxattr(name, follow_symlinks=follow)]
+    content = b""
+    if stat.S_ISREG(look.st_mode):
+        with open(name, "rb") as file:
+            content = file.read()
+    return look.st_uid, look.st_gid, look.st_mode, sorted(lists), content
+
+
+class Held:
+    """Files that are held open, with what the system says of each, whatever becomes of its name."""
+
+    def __init__(self, names: List[bytes]) -> None:
+        self.open = {name: os.open(name, os.O_PATH | os.O_NOFOLLOW | os.O_CLOEXEC) for name in names}
+
+    def close(self) -> None:
+        for descriptor in self.open.values():
+            os.close(descriptor)
+
+    def states(self) -> Dict[bytes, State]:
+        return {name: state_of(b"/proc/self/fd/%d" % descriptor) for name, descriptor in self.open.items()}
+
+
+# --- trees and records
 
 
 def word(path: bytes) -> bytes:
@@ -69,57 +175,55 @@ def word(path: bytes) -> bytes:
     return b"'" + b"".join(bytes([it]) if 32 < it < 127 and it not in b"'\\" else b"\\%03o" % it for it in path) + b"'"
 
 
-def remove(name: bytes) -> None:
-    if os.path.islink(name):
-        os.unlink(name)
-    else:
-        shutil.rmtree(name)
+def records_of(text: bytes) -> Dict[bytes, List[bytes]]:
+    """The records of a listing by name: their lines, sorted, without effective permissions."""
+    found = {}
+    for one in text.split(b"\n\n"):
+        if one.startswith(b"# file: "):
+            first, *lines = one.split(b"\n")
+            name = re.sub(rb"\\(\d\d\d|\\)", lambda it: b"\\" if it[1] == b"\\" else bytes([int(it[1], 8)]), first[8:])
+            found[b"/" + name.strip(b"/")] = sorted(line.split(b"\t")[0] for line in lines)
+    return found
 
 
 class Tree:
     """A random tree, with a chance of its own."""
 
-    def __init__(self, given: Given, seed: int) -> None:
-        self.given = given
+    def __init__(self, work: bytes, seed: int, more: int = 0) -> None:
         self.chance = random.Random(seed)
-        self.top = os.path.join(given.work, b"tree " + b"\xe9" * self.chance.randrange(2))
+        self.top = os.path.join(work, b"tree " + b"\xe9" * self.chance.randrange(2))
         self.folders = [self.top]
         self.files: List[bytes] = []
-        for left in os.listdir(given.work):
-            if left.startswith(b"tree "):
-                remove(os.path.join(given.work, left))
+        for left in glob.glob(os.path.join(work, b"tree *")):
+            remove(left)
         os.mkdir(self.top)
         self.look(self.top)
-        for _ in range(self.chance.randrange(4, 14)):
+        for _ in range(self.chance.randrange(4, 14) + more):
             self.add()
 
     @classmethod
-    def of(cls, given: Given, top: bytes, names: List[bytes]) -> Tree:
+    def of(cls, top: bytes, names: Sequence[bytes] = ()) -> Tree:
         """A folder with some plain files."""
         tree = cls.__new__(cls)
-        tree.given, tree.chance, tree.top = given, random.Random(0), top
-        tree.folders, tree.files = [top], [os.path.join(top, name) for name in names]
-        for place in tree.files:
-            open(place, "x").close()
+        tree.chance, tree.top, tree.folders = random.Random(0), top, [top]
+        tree.files = [make(os.path.join(top, name)) for name in names]
         return tree
 
     def add(self) -> None:
         place = os.path.join(self.chance.choice(self.folders), self.chance.choice(NAMES))
+        kind = self.chance.random()
         if os.path.lexists(place):
             return
-        kind = self.chance.random()
-        if kind < 0.3:
-            os.mkdir(place)
-            self.folders.append(place)
-        elif kind < 0.45 and self.files:
-            os.link(self.chance.choice(self.files), place)
-            self.files.append(place)
-        elif kind < 0.5:
+        if 0.45 <= kind < 0.5:
             os.symlink(b"nowhere", place)
             return
+        if kind < 0.3:
+            os.mkdir(place)
+        elif kind < 0.45 and self.files:
+            os.link(self.chance.choice(self.files), place)
         else:
-            open(place, "x").close()
-            self.files.append(place)
+            make(place)
+        (self.folders if kind < 0.3 else self.files).append(place)
         self.look(place)
 
     def all(self) -> List[bytes]:
@@ -141,8 +245,8 @@ class Tree:
         """Gives a new file a random look."""
         is_folder = os.path.isdir(place)
         os.chown(place, self.chance.choice(UIDS), self.chance.choice(GIDS))
-        usual = self.chance.choice([0o755, 0o750, 0o711, 0o777] if is_folder else [0o644, 0o640, 0o600, 0o755, 0o604, 0])
-        os.chmod(place, usual | self.chance.choice([0, 0, 0, 0o1000, 0o2000, 0o4000, 0o6000]))
+        modes = [0o755, 0o750, 0o711, 0o777] if is_folder else [0o644, 0o640, 0o600, 0o755, 0o604, 0]
+        os.chmod(place, self.chance.choice(modes) | self.chance.choice([0, 0, 0, 0o1000, 0o2000, 0o4000, 0o6000]))
         if self.chance.random() < 0.5:
             must(run([b"setfacl", b"-m", self.entries(), b"--", place]), 0)
         if is_folder and self.chance.random() < 0.4:
@@ -151,19 +255,19 @@ class Tree:
             os.chmod(place, os.stat(place).st_mode & 0o7777 & ~self.chance.choice([0o030, 0o070, 0o020]))
 
     def whole_list(self) -> bytes:
-        base = b"u::%s,g::%s,o::%s" % (self.permissions(), self.permissions(), self.permissions())
-        if self.chance.random() < 0.5:
-            return base
-        return base + b",%s:%s,m::%s" % (self.named(), self.permissions(), self.permissions())
+        any_of_them = self.permissions
+        more = b",%s:%s,m::%s" % (self.named(), any_of_them(), any_of_them()) if self.chance.random() < 0.5 else b""
+        return b"u::%s,g::%s,o::%s" % (any_of_them(), any_of_them(), any_of_them()) + more
 
     def record(self, place: bytes) -> bytes:
         """A text for --restore; often of a list that grants nothing, with other flags."""
-        nothing = self.chance.random() < 0.5
-        text = self.whole_list() if not nothing else b"u::---,g::---,o::---" + self.chance.choice([b"", b",u:70002:---,m::---"])
+        nothing = b"u::---,g::---,o::---" + self.chance.choice([b"", b",u:70002:---,m::---"])
+        entries = self.whole_list() if self.chance.random() >= 0.5 else nothing
+        ids = self.chance.choice(UIDS), self.chance.choice(GIDS)
+        flags = self.chance.choice([b"s--", b"-s-", b"--t", b"sst", b"---"])
         name = b"".join(b"\\%03o" % it if it in b"\\\n\r" else bytes([it]) for it in place)
-        head = b"# file: %s\n# owner: %d\n# group: %d\n" % (name, self.chance.choice(UIDS), self.chance.choice(GIDS))
-        flags = b"# flags: " + self.chance.choice([b"s--", b"-s-", b"--t", b"sst", b"---"]) + b"\n"
-        return b"setfacl --restore=-\n" + head + flags + text.replace(b",", b"\n") + b"\n.\n"
+        head = b"# file: %s\n# owner: %d\n# group: %d\n# flags: %s\n" % (name, *ids, flags)
+        return b"setfacl --restore=-\n" + head + entries.replace(b",", b"\n") + b"\n.\n"
 
     def line(self) -> bytes:
         kind = self.chance.randrange(13)
@@ -172,6 +276,7 @@ class Tree:
         both = b" ".join(map(word, {place, self.chance.choice(self.all())}))
         if kind == 12:
             return self.record(place)
+        modes = [0o750, 0o640, 0o2770, 0o4711, 0o604, 0o1777]
         lines: List[Callable[[], bytes]] = [
             lambda: b"setfacl -m %s %s" % (self.entries(), both),
             lambda: b"setfacl -m %s %s" % (self.entries(), word(place)),
@@ -182,8 +287,7 @@ class Tree:
             lambda: b"setfacl --set %s %s" % (self.whole_list(), both),
             lambda: b"setfacl -b %s" % both,
             lambda: b"setfacl -k %s" % word(folder),
-            lambda: b"chmod %s%o %s" % (b"-R " * (self.chance.random() < 0.3),
-                                        self.chance.choice([0o750, 0o640, 0o2770, 0o4711, 0o604, 0o1777]), both),
+            lambda: b"chmod %s%o %s" % (b"-R " * (self.chance.random() < 0.3), self.chance.choice(modes), both),
             lambda: b"chacl -B %s" % word(place),
             lambda: b"who r %s" % word(place),
         ]
@@ -191,113 +295,9 @@ class Tree:
 
     def listing(self) -> bytes:
         """All of it, with the kinds and modes too."""
-        names = []
-        for place, folders, files in os.walk(self.top):
-            names += [place] + [os.path.join(place, name) for name in files]
-        names.sort()
-        listed = [it for it in names if not os.path.islink(it)]
-        printed = must(run([b"getfacl", b"-n", b"-p", b"--", *listed]), 0) if listed else b""
-        return printed + b"".join(b"%o %s\n" % (os.lstat(it).st_mode, it) for it in names)
-
-
-def escaped(name: bytes) -> bytes:
-    return re.sub(rb"\\([0-3][0-7][0-7]|\\)", lambda it: b"\\" if it[1] == b"\\" else bytes([int(it[1], 8)]), name)
-
-
-def records_of(text: bytes) -> Dict[bytes, List[bytes]]:
-    """The records of a listing by name: their lines, sorted, without effective permissions."""
-    found = {}
-    for record in text.split(b"\n\n"):
-        if record.startswith(b"# file: "):
-            first, *lines = record.split(b"\n")
-            found[b"/" + escaped(first[8:]).strip(b"/")] = sorted(line.split(b"\t")[0] for line in lines)
-    return found
-
-
-def write(name: bytes, text: bytes, mode: int = 0o644) -> None:
-    with open(name, "wb") as file:
-        file.write(text)
-    os.chmod(name, mode)
-
-
-class Check:
-    def __init__(self, given: Given) -> None:
-        self.given = given
-        self.work = given.work
-        self.counts: Dict[str, int] = {}
-        self.numbers: Dict[str, int] = {}  # How often each part is tried.
-        self.plan = os.path.join(self.work, b"before.plan")
-        self.bin = os.path.join(self.work, b"bin")
-        os.mkdir(self.bin)
-        passwd = b"".join(b"%s:x:%d:%d::/:/bin/sh\n" % (name, *ids) for name, ids in USERS.items())
-        group = b"".join(b"%s:x:%d:%s\n" % (name, *row) for name, row in GROUPS.items())
-        write(os.path.join(self.work, b"passwd.txt"), passwd)
-        write(os.path.join(self.work, b"group.txt"), group)
-        write(os.path.join(self.bin, b"getent"), b'#!/bin/sh\ncat "%s/$1.txt"\n' % self.work, 0o755)
-
-    def count(self, what: str, number: int = 1) -> None:
-        self.counts[what] = self.counts.get(what, 0) + number
-
-    def words(self, name: bytes, *words: bytes) -> List[bytes]:
-        """The words that start a command."""
-        start = [] if name == b"facl-snapshot" else [PYTHON, b"-I"]
-        return [*start, os.path.join(os.fsencode(COMMANDS), name), *words]
-
-    def command(self, name: bytes, *words: bytes, user: int = 0) -> "subprocess.CompletedProcess[bytes]":
-        """Runs a command, as a user where one is given."""
-        return run(self.words(name, *words), user=user, variables=self.variables())
-
-    def variables(self) -> Dict[str, str]:
-        return {"PATH": os.fsdecode(self.bin) + ":" + os.environ["PATH"], "FACL": self.given.program}
-
-    def apply(self, *words: bytes) -> "subprocess.CompletedProcess[bytes]":
-        return self.command(b"facl-apply", *words, self.plan)
-
-    def forget(self) -> None:
-        """Makes the plan one that was never applied."""
-        for name in (b"state", b"journal"):
-            if os.path.exists(os.path.join(self.plan, name)):
-                os.unlink(os.path.join(self.plan, name))
-
-    def back_to(self, tree: "Tree", first: bytes) -> None:
-        """The next attempt starts from the first tree and a plan that was not applied."""
-        if tree.listing() != first:
-            raise Fault("not as before")
-        self.forget()
-
-    def name(self, name: bytes) -> bytes:
-        return os.path.join(self.work, name)
-
-    def planned(self, tree: Tree, script: bytes) -> bool:
-        """Takes a snapshot and makes a plan; whether there is something to restore."""
-        for left in os.listdir(self.work):
-            if left.startswith(b"before.plan"):
-                shutil.rmtree(self.name(left))
-        # facl-plan loads it next.
-        must(self.command(b"facl-snapshot", b"--program", b"true", self.name(b"before"), tree.top), 0)
-        write(self.name(b"edits"), script)
-        done = self.command(b"facl-plan", b"--keep-going", self.name(b"before"), self.name(b"edits"))
-        must(done, 0, 1, 3)
-        self.count("lines", script.count(b"\n"))
-        self.count("lines refused", len([it for it in done.stderr.splitlines() if b", line " in it and b"warning" not in it]))
-        is_split = b"names of one file get different lists" in done.stderr
-        if is_split:
-            self.count("plans refused for hard links")
-        return os.path.exists(self.name(b"before.plan/new")) and os.path.getsize(self.name(b"before.plan/new")) > 0
-
-    def read(self, name: bytes) -> bytes:
-        with open(self.name(name), "rb") as file:
-            return file.read()
-
-    def expected(self) -> Dict[bytes, List[bytes]]:
-        """The records of the snapshot with the planned ones in their places."""
-        return {**records_of(self.read(b"before/dump")), **records_of(self.read(b"before.plan/new"))}
-
-    def check_tree(self, tree: Tree, wanted: Dict[bytes, List[bytes]], when: str) -> None:
-        for name, record in records_of(tree.listing()).items():
-            if name not in wanted or wanted[name] != record:
-                raise Fault(f"{when}: {name!r} is {record!r} and not {wanted.get(name)!r}")
-
+        names = sorted(os.path.join(place, name) for place, _, files in os.walk(self.top) for name in [b"", *files])
+        listed = must(run([b"getfacl", b"-n", b"-p", b"--", *[it for it in names if not os.path.islink(it)]]), 0)
+        return listed + b"".join(b"%o %s\n" % (os.lstat(it).st_mode, it) for it in names)
 
 
 # --- commands under strace
@@ -318,32 +318,31 @@ class Traced(NamedTuple):
     def calls(self, start: bytes = b"") -> List[Tuple[Call, bytes]]:
         """The calls, each with its line; with a text those from its first line on."""
         found: List[Tuple[Call, bytes]] = []
-        counts: Dict[str, int] = {}
-        is_on = False
+        counts: Counter[str] = Counter()
         for line in self.lines:
             match = re.match(rb"[0-9]+ +([a-z0-9]+)[(]", line)
             if match is not None:
                 name = match[1].decode()
-                counts[name] = counts.get(name, 0) + 1
-                is_on = is_on or start in line
-                if is_on:
+                counts[name] += 1
+                if found or start in line:
                     found.append((Call(name, counts[name]), line))
         return found
 
 
-def trace(check: Check, words: List[bytes], names: List[str], injected: List[str], action: Optional[Callable[[int], None]] = None,
-          user: int = 0) -> Traced:
-    """Runs a command under strace. Where a fault that is injected is the signal STOP, the action is called with how often that
-    was so far, and the command goes on after it."""
+def trace(check: Check, words: List[bytes], names: List[str], injected: List[str],
+          action: Optional[Callable[[int], None]] = None, user: int = 0) -> Traced:
+    """Runs a command under strace. Where a fault that is injected is the signal STOP, the action is called with how
+    often that was so far, and the command goes on after it."""
     reader, writer = os.pipe()
     os.fchown(writer, user, -1)
     options = ["strace", "-f", "-qq", "-o", f"/dev/fd/{writer}", "-e", "trace=" + ",".join(names)]
-    options += [word for text in injected for word in ("-e", "inject=" + text)]
+    options += [part for text in injected for part in ("-e", "inject=" + text)]
     lines = []
     stops = 0
     with tempfile.TemporaryFile() as said, open(reader, "rb") as trace_of:
-        with subprocess.Popen([*map(os.fsencode, options), *words], stdin=subprocess.DEVNULL, stdout=said, stderr=said, pass_fds=[writer],
-                              env={**os.environ, **check.variables()}, preexec_fn=lambda: become(user)) as traced:
+        with subprocess.Popen([*map(os.fsencode, options), *words], stdin=subprocess.DEVNULL, stdout=said, stderr=said,
+                              pass_fds=[writer], env={**os.environ, **check.variables()},
+                              preexec_fn=lambda: become(user)) as traced:
             os.close(writer)
             for line in trace_of:
                 lines.append(line)
@@ -356,56 +355,195 @@ def trace(check: Check, words: List[bytes], names: List[str], injected: List[str
         return Traced(traced.returncode, said.read(), lines)
 
 
-# --- files by their descriptors
-
-
-class Held:
-    """Files that are held open, with what the system says of each, whatever becomes of its name."""
-
-    def __init__(self, names: List[bytes]) -> None:
-        self.open = {name: os.open(name, os.O_PATH | os.O_NOFOLLOW | os.O_CLOEXEC) for name in names}
-
-    def close(self) -> None:
-        for descriptor in self.open.values():
-            os.close(descriptor)
-
-    def states(self) -> Dict[bytes, Tuple[object, ...]]:
-        return {name: state_of(descriptor) for name, descriptor in self.open.items()}
-
-    def give(self, states: Dict[bytes, Tuple[object, ...]]) -> None:
-        """Gives the files what they had."""
-        for name, state in states.items():
-            give_state(self.open[name], state)
-
-
-def state_of(descriptor: int) -> Tuple[object, ...]:
-    """Owner, group, mode, both lists, and the bytes of a plain file."""
-    look = os.fstat(descriptor)
-    link = b"/proc/self/fd/%d" % descriptor
-    content = b""
-    if stat.S_ISREG(look.st_mode):
-        with open(link, "rb") as file:
-            content = file.read()
-    return look.st_uid, look.st_gid, look.st_mode, attribute(link, ACCESS), attribute(link, DEFAULT), content
-
-
-def give_state(descriptor: int, state: Tuple[object, ...]) -> None:
-    link = b"/proc/self/fd/%d" % descriptor
-    owner, group, mode, access, default, _ = state
-    assert isinstance(owner, int) and isinstance(group, int) and isinstance(mode, int)
-    os.chown(link, owner, group)
-    for name, data in ((ACCESS, access), (DEFAULT, default)):
-        if isinstance(data, bytes):
-            os.setxattr(link, name, data)
-        elif attribute(link, name) is not None:
-            os.removexattr(link, name)
-    os.chmod(link, stat.S_IMODE(mode))
-
-
-def attribute(link: bytes, name: bytes) -> Optional[bytes]:
+def wait_for_all(group: int) -> None:
+    """Until no process of a group is there."""
     try:
-        return os.getxattr(link, name)
-    except OSError as error:
-        if error.errno not in (errno.ENODATA, errno.ENOTSUP):
-            raise
-        return None
+        while True:
+            os.killpg(group, 0)
+            time.sleep(0.01)
+    except ProcessLookupError:
+        pass
+
+
+# --- a check
+
+
+class Check:
+    """A check: each part is a method check_PART, which is called with a seed for each try."""
+
+    tools = ["getfacl", "setfacl", "strace", "setcap", "chattr", "mkfs.ext4", "prlimit", "mount"]
+    without_root: Sequence[str] = ()  # The parts that every user can run.
+
+    def __init__(self, given: argparse.Namespace, work: bytes) -> None:
+        self.given, self.program, self.work = given, os.fsencode(given.program), work
+        self.counts: Counter[str] = Counter()
+        self.plan = self.name("before.plan")
+        self.bin = make(self.name("bin/"), 0o755)
+        users, groups = {b"root": (0, 0), **USERS}, {b"root": (0, b""), **GROUPS}
+        rows = [b"%s:x:%d:%d::/:/bin/sh\n" % (name, *ids) for name, ids in users.items()]
+        make(self.name("passwd.txt"), text=b"".join(rows))
+        make(self.name("group.txt"), text=b"".join(b"%s:x:%d:%s\n" % (name, *row) for name, row in groups.items()))
+        make(self.name("bin/getent"), 0o755, text=b'#!/bin/sh\ncat "%s/$1.txt"\n' % self.work)
+
+    def begin(self) -> None:
+        """Before each try."""
+
+    def count(self, what: str, number: int = 1) -> None:
+        self.counts[what] += number
+
+    def name(self, name: Name) -> bytes:
+        """The path of a name in the work folder."""
+        return os.path.join(self.work, os.fsencode(name))
+
+    def read(self, name: Name) -> bytes:
+        with open(self.name(name), "rb") as file:
+            return file.read()
+
+    def variables(self) -> Dict[str, str]:
+        return {"PATH": os.fsdecode(self.bin) + ":" + os.environ["PATH"], "FACL": self.given.program}
+
+    def words(self, name: bytes, *words: bytes) -> List[bytes]:
+        """The words that start a command."""
+        start = [] if name == b"facl-snapshot" else [PYTHON, b"-I"]
+        return [*start, os.path.join(COMMANDS, name), *words]
+
+    def command(self, name: bytes, *words: bytes, user: int = 0) -> Done:
+        """Runs a command, as a user where one is given."""
+        return run(self.words(name, *words), user=user, variables=self.variables())
+
+    def apply(self, *words: bytes, user: int = 0) -> Done:
+        return self.command(b"facl-apply", *words, self.plan, user=user)
+
+    def ended_by(self, words: List[bytes], number: int, wait: Callable[[], None], to_all: bool = False,
+                 ignored: int = 0) -> Done:
+        """A run that gets a signal after a wait, or with it all that it runs; over when no process of it is left."""
+
+        def before() -> None:
+            for each in (signal.SIGHUP, signal.SIGINT, signal.SIGQUIT):  # Ignored in the background.
+                signal.signal(each, signal.SIG_IGN if each == ignored else signal.SIG_DFL)
+
+        pipe = subprocess.PIPE
+        with subprocess.Popen(words, stdin=subprocess.DEVNULL, stdout=pipe, stderr=pipe, start_new_session=True,
+                              env={**os.environ, **self.variables()}, preexec_fn=before) as running:
+            wait()
+            with contextlib.suppress(ProcessLookupError):
+                (os.killpg if to_all else os.kill)(running.pid, number)
+            out, said = running.communicate()
+        wait_for_all(running.pid)
+        return Done(words, running.returncode, out, said)
+
+    def forget(self) -> None:
+        """Makes the plan one that was never applied."""
+        for name in (b"state", b"journal"):
+            with contextlib.suppress(FileNotFoundError):
+                os.unlink(os.path.join(self.plan, name))
+
+    def back_to(self, tree: Tree, first: bytes) -> None:
+        """The next attempt starts from the first tree and a plan that was not applied."""
+        expect(tree.listing() == first, "not as before")
+        self.forget()
+
+    def remove_plans(self) -> None:
+        for left in glob.glob(self.name("before.plan*")):
+            remove(left)
+
+    def planned(self, tree: Tree, text: bytes) -> bool:
+        """Takes a snapshot, which facl-plan loads, and makes a plan; whether there is something to restore."""
+        self.remove_plans()
+        must(self.command(b"facl-snapshot", b"--program", b"true", self.name("before"), tree.top), 0)
+        make(self.name("edits"), text=text)
+        done = self.command(b"facl-plan", b"--keep-going", self.name("before"), self.name("edits"))
+        must(done, 0, 1, 3)
+        self.count("lines", text.count(b"\n"))
+        refused = [it for it in done.stderr.splitlines() if b", line " in it and b"warning" not in it]
+        self.count("lines refused", len(refused))
+        if b"names of one file get different lists" in done.stderr:
+            self.count("plans refused for hard links")
+        return os.path.exists(self.name("before.plan/new")) and self.read("before.plan/new") != b""
+
+    def expected(self) -> Dict[bytes, List[bytes]]:
+        """The records of the snapshot with the planned ones in their places."""
+        return {**records_of(self.read("before/dump")), **records_of(self.read("before.plan/new"))}
+
+    def check_tree(self, tree: Tree, wanted: Dict[bytes, List[bytes]], when: str) -> None:
+        for name, lines in records_of(tree.listing()).items():
+            expect(wanted.get(name) == lines, f"{when}: {name!r} is {lines!r} and not {wanted.get(name)!r}")
+
+
+# --- how it runs
+
+
+def given_of(parts: Parts, document: Optional[str]) -> argparse.Namespace:
+    """The options; of each part the number of tries. Where a part has an option, those without one are left out."""
+    options = argparse.ArgumentParser(description=document, formatter_class=argparse.RawDescriptionHelpFormatter)
+    options.add_argument("program", metavar="PROGRAM", type=program_at, help="one that is built")
+    options.add_argument("--folder", default="/tmp", help="where the files are made (/tmp)")
+    options.add_argument("--seed", type=int, default=1)
+    options.add_argument("--quick", action="store_true", help="few tries of each part")
+    options.add_argument("--record", action="store_true", help="write the row of docs/CHECKS.md")
+    for name, (usual, quick) in parts.items():
+        options.add_argument("--" + name, type=int, metavar="N", help=f"so many tries of it ({usual}, or {quick})")
+    given = options.parse_args()
+    is_all = all(getattr(given, name) is None for name in parts)
+    for name, (usual, quick) in parts.items():
+        setattr(given, name, (quick if given.quick else usual) if is_all else getattr(given, name) or 0)
+    return given
+
+
+def run_part(check: Check, part: str) -> List[str]:
+    """Tries a part, and returns its faults."""
+    faults = []
+    started = time.monotonic()
+    for seed in range(check.given.seed * 100000, check.given.seed * 100000 + getattr(check.given, part)):
+        try:
+            check.begin()
+            getattr(check, "check_" + part)(seed)
+        except Exception as fault:  # Of the check itself too, which goes on.
+            faults.append(f"{part}, seed {seed}: {type(fault).__name__}: {fault}")
+            edits = check.read("edits") if os.path.exists(check.name("edits")) else b""
+            print(f"{faults[-1]}\n{edits.decode(errors='backslashreplace')}", flush=True)
+    print(f"{time.monotonic() - started:7.1f} seconds of {part}", flush=True)
+    return faults
+
+
+def run_parts(check: Check, parts: List[str]) -> Tuple[List[str], bool]:
+    """The faults of all parts, and whether it came to its end; what was counted so far counts in any case."""
+    faults = []
+    try:
+        for part in parts:
+            if os.geteuid() and part not in check.without_root:
+                script.say(f"without {part}, which needs root")
+            else:
+                faults += run_part(check, part)
+    except KeyboardInterrupt:
+        print("ended early")
+        return faults, False
+    return faults, True
+
+
+def main(kind: Type[Check], parts: Parts, document: Optional[str]) -> NoReturn:
+    """Runs a check: the status is 1 where something is not as it has to be, 2 where it cannot run."""
+    given = given_of(parts, document)
+    missing = [f"{tool} is not installed" for tool in kind.tools if shutil.which(tool) is None]
+    if os.geteuid() and not kind.without_root:
+        missing.append("run it as root")
+    if missing:
+        script.say(missing[0])
+        sys.exit(2)
+    script.at_signals(signal.default_int_handler)
+    work = os.fsencode(os.path.realpath(tempfile.mkdtemp(prefix="facl-live.", dir=given.folder)))
+    tried = [part for part in parts if getattr(given, part)]
+    try:
+        os.chmod(work, 0o755)
+        check = kind(given, work)
+        faults, is_whole = run_parts(check, tried)
+    finally:
+        run([b"chattr", b"-R", b"-f", b"-i", b"-a", work])
+        remove(work)
+    counted = [f"{number:7,d} {name}" for name, number in sorted(check.counts.items())]
+    print("\n".join(counted + [f"{len(faults)} faults"]))
+    if given.record and is_whole:
+        amount = ", ".join(f"{part} {getattr(given, part):,}" for part in tried)
+        found = f"{len(faults)} faults, first: {faults[0]:.300}" if faults else "nothing"
+        record.record(f"{amount}: {'; '.join(map(str.strip, counted))}", found)
+    sys.exit(1 if faults else 0)

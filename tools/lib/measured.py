@@ -1,12 +1,12 @@
-"""What measurements have in common: a session that counts seconds and bytes, records to restore, and options."""
+"""What measurements of the program have in common: a session that counts seconds and bytes, and records to restore."""
 from __future__ import annotations
 
-import argparse
 import os
-from typing import Dict, List, Optional
+import subprocess
+from typing import IO, Dict, List, Union
 
 from script import Failed
-from session import Session, program_at
+from session import Session
 
 # At most so many records of the dump are restored, since the bytes of a script are limited.
 MAX_RESTORED = 100_000
@@ -15,8 +15,8 @@ MAX_RESTORED = 100_000
 class MeasuredSession(Session):
     """The program, loaded, with what that took."""
 
-    def __init__(self, program: str, folder: str) -> None:
-        super().__init__(program, folder)
+    def __init__(self, program: str, folder: str, out: Union[int, IO[bytes]] = subprocess.DEVNULL) -> None:
+        super().__init__(program, folder, out)
         self.spent = 0.0
         try:
             self.load = self.answer([])
@@ -50,13 +50,3 @@ def first_records(folder: str, count: int) -> List[str]:
 def best_of(runs: List[Dict[str, float]]) -> Dict[str, float]:
     """The least of each figure."""
     return {name: min(run[name] for run in runs) for name in runs[0]}
-
-
-def measuring_options(head: Optional[str], files: int, users: int, runs: int) -> argparse.ArgumentParser:
-    """The options of a measurement on a tree that it makes."""
-    options = argparse.ArgumentParser(description=head, formatter_class=argparse.RawDescriptionHelpFormatter)
-    options.add_argument("program", type=program_at)
-    options.add_argument("--files", type=int, default=files)
-    options.add_argument("--users", type=int, default=users)
-    options.add_argument("--runs", type=int, default=runs)
-    return options

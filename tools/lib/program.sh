@@ -14,6 +14,18 @@ fail() {
     exit 2
 }
 
+# usage: prints how the script is called, and ends it
+usage() {
+    sed -n '/^# usage:/,/^#$/s/^# //p' "$0" >&2
+    exit 2
+}
+
+# show_head: prints the head of the script, and ends it
+show_head() {
+    sed -n '2,/^set/{/^set/!s/^# \{0,1\}//p}' "$0"
+    exit 0
+}
+
 clean_up() {
     [ -z "$work" ] || rm -rf -- "$work"
 }

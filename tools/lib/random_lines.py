@@ -103,8 +103,8 @@ class Grammar:
         if self.chance(0.03):
             return self.one("z:", ":", "u:joe:r", "mask:x", "o:joe", "user", "d", "::::")
         return self.one(
-            "u:" + self.user(), "g:" + self.group(), "user:" + self.user(), "group:" + self.group(), "m:", "mask:", "u:", "g:", "o:",
-            self.user(), "m", "other:", " u : " + self.user() + " ",
+            "u:" + self.user(), "g:" + self.group(), "user:" + self.user(), "group:" + self.group(),
+            "m:", "mask:", "u:", "g:", "o:", self.user(), "m", "other:", " u : " + self.user() + " ",
         )  # fmt: skip
 
     def entry(self, perms: bool = True) -> str:
@@ -131,7 +131,8 @@ class Grammar:
 
     def path(self, top: str) -> str:
         if self.chance(0.05):
-            return self.one("nosuch", top + "/..", ".", "-", "''", top + "/a/b/c/d", top + "\\000", "./-", "/", top + "/\\057")
+            names = "nosuch", top + "/..", ".", "-", "''", top + "/a/b/c/d", top + "\\000", "./-", "/", top + "/\\057"
+            return self.one(*names)
         path = top + self.random.choice(FILES)
         if self.chance(0.1):
             path = self.one("/" + path, "./" + path, path + "/", path.replace("/", "//", 1), path + "/.")
@@ -158,7 +159,8 @@ class Grammar:
         return flags + self.paths(top), []
 
     def chmod(self, top: str) -> Words:
-        mode = self.one("8", "00000", "-1", "''", "u+x", "") if self.chance(0.05) else "%o" % self.random.randrange(0o10000)
+        is_bad = self.chance(0.05)
+        mode = self.one("8", "00000", "-1", "''", "u+x", "") if is_bad else "%o" % self.random.randrange(0o10000)
         return self.some(0.3, "-R") + [mode] + self.paths(top), []
 
     def reaching(self, words: List[str]) -> List[str]:
@@ -190,8 +192,9 @@ class Grammar:
 
     def setattr(self, top: str) -> Words:
         name = self.one("system.posix_acl_access", "system.posix_acl_default", "system.posix_acl_access", "user.x")
-        tags = [(1, 2**32 - 1)] + self.some(0.3, (2, 1000), (2, 1002)) + [(4, 2**32 - 1)] + self.some(0.3, (8, 60), (8, 70))
-        tags += [(16, 2**32 - 1)] * (len(tags) > 2) + [(32, 2**32 - 1)]
+        nobody = 2**32 - 1
+        tags = [(1, nobody), *self.some(0.3, (2, 1000), (2, 1002)), (4, nobody), *self.some(0.3, (8, 60), (8, 70))]
+        tags += [(16, nobody)] * (len(tags) > 2) + [(32, nobody)]
         if self.chance(0.1):
             self.random.shuffle(tags)
         value = (2).to_bytes(4, "little")
@@ -204,7 +207,9 @@ class Grammar:
 
     def creat(self, top: str) -> Words:
         words = self.some(0.4, "-d") + self.option(["--user"], self.user())
-        words += self.option(["--mode"], self.one("1000", "9", "''") if self.chance(0.05) else "%o" % self.random.randrange(0o1000))
+        is_bad = self.chance(0.05)
+        mode = self.one("1000", "9", "''") if is_bad else "%o" % self.random.randrange(0o1000)
+        words += self.option(["--mode"], mode)
         words += self.option(["--umask"], "%o" % self.random.randrange(0o1000)) if self.chance(0.5) else []
         parent = self.path(top) if self.chance(0.2) else top + self.one("", "/a", "/d", "/a/b", "/n1")
         return words + [self.quoted(parent.strip("'") + "/" + self.one("n1", "n2", "x y", "n\\012", "f"))], []
@@ -223,7 +228,9 @@ class Grammar:
         if self.chance(0.2):
             return ["-u", self.one("1000", "1001", "1002"), "-g", self.group(), self.one("lisa", "joe", "ann")], []
         name = self.one("lisa", "8", "a:b", "''") if self.chance(0.1) else "n%d" % self.random.randrange(40)
-        return ["-u", self.one("1000", "-1", "4294967295") if self.chance(0.1) else str(self.random.randrange(2000, 2040)), "-g", self.group(), name], []
+        is_bad = self.chance(0.1)
+        number = self.one("1000", "-1", "4294967295") if is_bad else str(self.random.randrange(2000, 2040))
+        return ["-u", number, "-g", self.group(), name], []
 
     def userdel(self, top: str) -> Words:
         # The users are those of all sessions of a run: some have to stay.
@@ -248,18 +255,21 @@ class Grammar:
         if "m" in kind:
             words += self.option(["-m", "--modify"], self.joined(self.entries(True)))
         if kind == "--set":
-            words += self.option(["--set"], self.joined(self.whole() + ["d:" + it for it in self.whole()] * self.chance(0.3)))
+            access, default = self.whole(), ["d:" + it for it in self.whole()]
+            words += self.option(["--set"], self.joined(access + default * self.chance(0.3)))
         if kind in ("-M", "-X", "--set-file"):
             words += self.one([kind, "-"], [kind + "-"] if len(kind) == 2 else [kind + "=-"], [kind + "=-"])
             text = self.whole() if kind == "--set-file" else self.entries(kind == "-M")
-            text = [it.replace("'", "") + self.one("", " # why", "\t") for it in text] + self.some(0.2, "", "# more", "  ")
+            text = [it.replace("'", "") + self.one("", " # why", "\t") for it in text]
+            text += self.some(0.2, "", "# more", "  ")
         return words + self.paths(top), text
 
     def restore(self, top: str) -> Words:
         text: List[str] = []
         for path in self.paths(top):
             text += ["# file: " + path.replace("'", "")]
-            text += self.some(0.5, "# owner: " + self.user(), "# group: " + self.group(), "# flags: " + self.one("s--", "-st", "---", "sst", "x--"))
+            head = "# owner: " + self.user(), "# group: " + self.group()
+            text += self.some(0.5, *head, "# flags: " + self.one("s--", "-st", "---", "sst", "x--"))
             text += self.whole() + (["default:" + it for it in self.whole()] if self.chance(0.2) else [])
             text += self.some(0.7, "") + self.some(0.05, "# owner: joe", "junk")
         return self.some(0.2, "--test") + [self.one("--restore=-", "--restore -")], [it.replace("'", "") for it in text]
@@ -300,14 +310,15 @@ class Grammar:
             return words[:at] + [words[at]] + words[at:]
         if kind == "tool":
             return [self.one("frob", "Getfacl", "''", "getfacl's'", "--help")] + words[1:]
-        more = {"more": self.path(top), "option": self.one("--help", "-z", "-V", "--", "-", "-M-", "--restore=-", "-nM-"), "end": "--"}
-        return words[:at] + [more.get(kind, "''")] + words[at:]
+        path, option = self.path(top), self.one("--help", "-z", "-V", "--", "-", "-M-", "--restore=-", "-nM-")
+        return words[:at] + [{"more": path, "option": option, "end": "--"}.get(kind, "''")] + words[at:]
 
     def broken(self, top: str) -> bytes:
         """A line that is at fault as a line, or does nothing."""
         if self.chance(0.004):
             return b"getfacl " + b"a" * self.one(65527, 65528, 65529)
-        return self.one(b"", b" \t ", b"# a comment -", b"can 'joe " + top.encode(), b"getfacl \xff", b"getfacl \r", b"'", b"getfacl \xff '", b"\0")
+        return self.one(b"", b" \t ", b"# a comment -", b"can 'joe " + top.encode(), b"getfacl \xff", b"getfacl \r",
+                        b"'", b"getfacl \xff '", b"\0")
 
     def session(self, top: str) -> List[Unit]:
         return [self.unit(top) for _ in range(self.random.randint(4, 16))]
@@ -319,10 +330,12 @@ class Grammar:
                 continue
             is_directory = path in ("", "/a", "/a/b", "/d", "/d/e")
             text += [f"# file: {top}{path}" + ("/" if is_directory else "")]
-            text += ["# owner: " + self.one("lisa", "joe", "ann", "0", "77"), "# group: " + self.one("staff", "users", "60")]
+            owner, group = self.one("lisa", "joe", "ann", "0", "77"), self.one("staff", "users", "60")
+            text += ["# owner: " + owner, "# group: " + group]
             text += ["# flags: " + self.one("s--", "-s-", "--t", "sst", "---")] * self.chance(0.2)
             for front in ["", "default:"] if is_directory and self.chance(0.3) else [""]:
                 named = self.some(0.3, "user:joe:rw-", "user:1002:r--", "group:adm:rwx")
-                text += [front + it for it in ["user::rwx", *named, "group::r-x", *["mask::r-x"] * bool(named), "other::--x"]]
+                mask = ["mask::r-x"] * bool(named)
+                text += [front + it for it in ["user::rwx", *named, "group::r-x", *mask, "other::--x"]]
             text += [""]
         return "\n".join(text).encode() + b"\n"

@@ -1,20 +1,24 @@
-"""The program on the texts of a folder: its words, the tools that it has, and a session that is sent lines."""
+"""The program on the texts of a folder: its words, its tools, and sessions that are sent lines, with their output kept,
+or their messages compared and their time counted."""
 from __future__ import annotations
 
 import argparse
 import contextlib
 import os
 import subprocess
+import tempfile
 import threading
 import time
-from types import TracebackType
-from typing import IO, Iterable, Iterator, List, Optional, Type, TypeVar, Union
+from typing import IO, Iterable, Iterator, List, Optional, Sequence, Tuple, TypeVar, Union
 
+from record import record
 from script import Failed
 
 TEXTS = ("passwd", "group", "dump")
 UNKNOWN = b"facl: unknown tool\n"
 Own = TypeVar("Own", bound="Session")
+Wanted = Tuple[int, bytes]
+Times = Tuple[str, float, float]
 
 
 def program_at(word: str) -> str:
@@ -25,10 +29,36 @@ def program_at(word: str) -> str:
     return path
 
 
+def options_of(head: Optional[str], **numbers: Optional[int]) -> argparse.ArgumentParser:
+    """The words of a check: the program, options that take a number, and whether docs/CHECKS.md is to have its row."""
+    options = argparse.ArgumentParser(description=head, formatter_class=argparse.RawDescriptionHelpFormatter)
+    options.add_argument("program", metavar="PROGRAM", type=program_at)
+    for name, value in numbers.items():
+        options.add_argument("--" + name, type=int, default=value, metavar="N")
+    options.add_argument("--record", action="store_true")
+    return options
+
+
+def conclude(given: argparse.Namespace, amount: str, faults: Sequence[str]) -> int:
+    """Says how much a check looked at and what it found, in its row of docs/CHECKS.md too; returns its exit status."""
+    found = "; ".join(faults) or "nothing"
+    print(f"{amount}: {found}")
+    if given.record:
+        record(amount, found, " ".join("--" + name for name, value in vars(given).items()
+                                       if value is True and name not in ("record", "verbose")))
+    return 1 if faults else 0
+
+
 def words_of(program: str, folder: str) -> List[str]:
     """The program with its options for those of the texts that the folder has."""
     there = [name for name in TEXTS if os.path.exists(os.path.join(folder, name))]
     return [program] + [word for name in there for word in ("--" + name, os.path.join(folder, name))]
+
+
+def write_text(folder: str, name: str, chunks: Iterable[bytes]) -> None:
+    """Writes one of the texts that the program loads."""
+    with open(os.path.join(folder, name), "wb", buffering=1 << 20) as out:
+        out.writelines(chunks)
 
 
 def write_system_people(folder: str) -> None:
@@ -45,21 +75,22 @@ def has_tool(program: str, tool: str) -> bool:
 
 
 class Session:
-    """The program, started. After the lines of a call comes one that is refused: its message shows that the lines before it
-    are answered, since a line is answered before the next one is read. It is a context, at whose end the program is ended."""
+    """The program, started. After the lines of a call comes one that is refused: its message shows that those before it
+    are answered, since each is before the next one is read. It is a context, at whose end the program is ended."""
 
     def __init__(self, program: str, folder: str, out: Union[int, IO[bytes]] = subprocess.DEVNULL) -> None:
         self.lines_sent = 0
         self.mark: Optional[bytes] = None
         self.started = time.perf_counter()
-        self.run = subprocess.Popen(words_of(program, folder), stdin=subprocess.PIPE, stdout=out, stderr=subprocess.PIPE)
+        words = words_of(program, folder)
+        self.run = subprocess.Popen(words, stdin=subprocess.PIPE, stdout=out, stderr=subprocess.PIPE)
         assert self.run.stdin and self.run.stderr
         self.stdin, self.stderr = self.run.stdin, self.run.stderr
 
     def __enter__(self: Own) -> Own:
         return self
 
-    def __exit__(self, kind: Optional[Type[BaseException]], fault: Optional[BaseException], at: Optional[TracebackType]) -> None:
+    def __exit__(self, *_: object) -> None:
         self.stop()
 
     def send(self, lines: Iterable[bytes]) -> None:
@@ -92,7 +123,7 @@ class Session:
         writer.join()
 
     def processor_time(self) -> float:
-        """The processor time of the program so far, by its clock in the kernel; time that passed where there is none."""
+        """The processor time of the program so far, by its clock in the kernel; else the time that passed."""
         try:
             return time.clock_gettime((~self.run.pid << 3) | 2)
         except OSError:
@@ -127,3 +158,82 @@ class Session:
         with contextlib.suppress(BrokenPipeError):
             self.stdin.close()
         self.stderr.close()
+
+
+class KeptSession(Session):
+    """A session whose output is kept in a file without a name."""
+
+    def __init__(self, program: str, folder: str) -> None:
+        self.kept, self.place = tempfile.TemporaryFile(), 0
+        super().__init__(program, folder, self.kept)
+
+    def answer(self, lines: Iterable[bytes]) -> Tuple[bytes, List[bytes]]:
+        """What lines print, and their messages."""
+        messages = list(self.messages(lines))
+        end = os.fstat(self.kept.fileno()).st_size
+        printed, self.place = os.pread(self.kept.fileno(), end - self.place, self.place), end
+        return printed, messages
+
+    def stop(self) -> None:
+        super().stop()
+        self.kept.close()
+
+
+class Expect:
+    """Lines that are sent, as an iterable of bytes, and what has to come of them: the messages as pairs of a line's
+    number, counted from 1 in these lines, and what the message has after `line N: `."""
+
+    def __init__(self, name: str, lines: Iterable[bytes], messages: Iterable[Wanted] = ()) -> None:
+        self.name, self.lines, self.messages = name, lines, messages
+
+
+class TimedRun(Session):
+    """A session whose messages are compared."""
+
+    def answer(self, step: Expect) -> Tuple[float, float]:
+        """The processor time and the time that a step takes."""
+        started, before = time.perf_counter(), self.processor_time()
+        first, wanted = self.lines_sent, iter(step.messages)
+        try:
+            for message in self.messages(step.lines):
+                compare(message, next(wanted, None), first)
+            missing = next(wanted, None)
+            if missing:
+                raise Failed("it did not print %r" % shown(missing[1]))
+        except Failed as fault:
+            raise Failed("%s: %s" % (step.name, fault)) from None
+        return self.processor_time() - before, time.perf_counter() - started
+
+    def end_with_memory(self) -> int:
+        """Ends the session in order. Returns its most memory, in bytes."""
+        memory = self.most_memory()
+        self.stdin.close()
+        rest = self.stderr.read()
+        status = self.run.wait()
+        if rest or status != 1:
+            raise Failed("at the end: status %d, %r" % (status, shown(rest)))
+        return memory
+
+
+def compare(message: bytes, wanted: Optional[Wanted], lines_before: int) -> None:
+    """Fails where a message is not the one that is wanted."""
+    if wanted is None:
+        raise Failed("it printed %r" % shown(message))
+    number, text = wanted
+    if message != b"line %d: %s\n" % (lines_before + number, text):
+        raise Failed("it printed %r in place of %r" % (shown(message), shown(text)))
+
+
+def shown(text: bytes) -> bytes:
+    return text if len(text) <= 300 else text[:200] + b".." + text[-100:]
+
+
+def timed(program: str, folder: str, steps: Iterable[Expect]) -> Tuple[List[Times], int]:
+    """For the load of the texts and for each step its processor time and time, and the most memory."""
+    with TimedRun(program, folder) as run:
+        _, passed = run.answer(Expect("load", ()))
+        # The clock of the first step started after the program did, so all that it has spent counts.
+        times = [("load", run.processor_time(), passed)]
+        for step in steps:
+            times.append((step.name, *run.answer(step)))
+        return times, run.end_with_memory()

@@ -19,8 +19,7 @@ from measured import MeasuredSession, best_of, first_records  # noqa: E402
 from random_lines import Unit, is_of_tools, numbers_of, script_of  # noqa: E402
 from record import with_row  # noqa: E402
 from script import Failed  # noqa: E402
-from session import Session, has_tool, program_at, words_of  # noqa: E402
-from timed_run import Step, TimedRun, timed  # noqa: E402
+from session import Expect, Session, TimedRun, has_tool, program_at, timed, words_of  # noqa: E402
 
 # Refuses `frob` and `mark`, warns of `warn`, ends at `end`, and prints all other lines.
 PROGRAM = r"""#!/bin/sh
@@ -87,12 +86,12 @@ class Case(unittest.TestCase):
         self.assertEqual([has_tool(self.program, tool) for tool in ("chmod", "frob")], [True, False])
 
     def test_measures(self) -> None:
-        steps = [Step("one", [b"a\nfrob\n"], [(2, b"facl: unknown tool")]), Step("two", [b"a\n"])]
+        steps = [Expect("one", [b"a\nfrob\n"], [(2, b"facl: unknown tool")]), Expect("two", [b"a\n"])]
         times, memory = timed(self.program, self.folder, steps)
         self.assertEqual(([name for name, _, _ in times], memory > 0), (["load", "one", "two"], True))
-        for step, fault in ((Step("x", [b"frob\n"]), "x: it printed b'line 1: facl: unknown tool"),
-                            (Step("x", [b"a\n"], [(1, b"text")]), "x: it did not print b'text'"),
-                            (Step("x", [b"frob\n"], [(1, b"text")]), "in place of b'text'")):
+        for step, fault in ((Expect("x", [b"frob\n"]), "x: it printed b'line 1: facl: unknown tool"),
+                            (Expect("x", [b"a\n"], [(1, b"text")]), "x: it did not print b'text'"),
+                            (Expect("x", [b"frob\n"], [(1, b"text")]), "in place of b'text'")):
             with self.assertRaisesRegex(Failed, fault), TimedRun(self.program, self.folder) as run:
                 run.answer(step)
         with MeasuredSession(self.program, self.folder) as session:

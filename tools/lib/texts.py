@@ -1,23 +1,38 @@
-#!/usr/bin/env python3
-"""Writes the texts of a tree for measurements: passwd, group and dump.
+"""Texts for checks and measurements: records written in a line each, a list as an attribute, and a tree of any size.
 
-usage: tools/lib/make_tree.py FOLDER FILES USERS
-
-The tree has FILES records: the root, and directories of about a hundred plain files each. Each file has two named
-users, a named group and a mask; each directory a default list. There are USERS users and a tenth as many groups. The
-exit status is 2 where the words are others.
+The tree has so many records: the root, and directories of about a hundred plain files each. Each file has two named
+users, a named group and a mask; each directory a default list. There are a tenth as many groups as users.
 """
 from __future__ import annotations
 
 import os
-import sys
-from typing import IO, List
-
-sys.dont_write_bytecode = True
-
-import script  # noqa: E402
+from typing import IO, Iterable, List
 
 PER_DIRECTORY = 100
+
+
+def lines(them: Iterable[str]) -> str:
+    return "".join(f"{line}\n" for line in them)
+
+
+def attribute(count: int, first: int = 100_000) -> str:
+    """The hex digits of a list of so many entries, its users from this one on."""
+    users = "".join(f"02000400{(first + k).to_bytes(4, 'little').hex()}" for k in range(count - 4))
+    return f"0200000001000700ffffffff{users}04000400ffffffff10000400ffffffff20000000ffffffff"
+
+
+def dump_of(*rows: str) -> bytes:
+    """A dump of records that are each written as `PATH|OWNER|GROUP|FLAGS|ENTRY ENTRY..`; the flags may be empty."""
+    records = []
+    for row in rows:
+        path, owner, group, flags, entries = row.split("|")
+        head = f"# file: {path}\n# owner: {owner}\n# group: {group}\n" + f"# flags: {flags}\n" * bool(flags)
+        records.append(head + entries.replace(" ", "\n") + "\n")
+    return "\n".join(records).encode()
+
+
+ROOT_AND_FILE = dump_of(
+    ".|lisa|staff||user::rwx group::r-x other::r-x", "f|lisa|staff||user::rw- group::r-- other::---")
 
 
 def text_file(folder: str, name: str) -> IO[str]:
@@ -72,14 +87,3 @@ def write_dump(folder: str, files: int, users: int, groups: int) -> None:
 def write_tree(folder: str, files: int, users: int) -> None:
     """Writes the three texts."""
     write_dump(folder, files, users, write_people(folder, users))
-
-
-def main() -> int:
-    if len(sys.argv) != 4 or not all(word.isdigit() for word in sys.argv[2:]):
-        script.usage(__doc__)
-    write_tree(sys.argv[1], int(sys.argv[2]), int(sys.argv[3]))
-    return 0
-
-
-if __name__ == "__main__":
-    script.run(main)

@@ -1,0 +1,529 @@
+#!/usr/bin/env python3
+"""Measures the program and the commands, and prints tables in Markdown.
+
+usage: tools/bench/bench.py MEASUREMENT PROGRAM [FOLDER] [--files N,..] [--users N] [--runs N] [--only NAME,..]
+
+  tools    each tool on the trees of tools/lib/texts.py (10000,100000,1000000 files, 1000 users, 3 runs)
+  index    the index of who may do what on files of few and of different labels, --only one of these (100000 files, 1000
+           users, 2 runs)
+  limits   a line of each kind on as many files and users as can be, 1048576 and 65536, of 1000 labels (1 run); it takes
+           14 GB of memory, most for the last line, after which what is reached at all files is made again
+  real     the program beside getfacl(1), setfacl(1), chmod(1), touch(1) and rm(1) on one tree, whose real files are
+           made in FOLDER, which has to take lists (100000 files, 100 users, 3 runs)
+  dump     the dump of a real FOLDER by `getfacl -R -p`, loaded, listed, and compared record by record (3 runs)
+  live     as root, facl-snapshot, facl-plan and facl-apply beside getfacl and setfacl on a tree that is made in FOLDER,
+           --only some of these steps, with those before them (100000 files, 30 users, 3 runs)
+
+FOLDER is that of temporary files where it may be left out; what is made in it is removed. Times are processor time, the
+best of the runs, as the most memory is the least; those of `live` are by the clock, the median of the runs. Standard
+error has how busy the machine is. What is aimed at is for 1,000,000 files and 1,000 users. FILES are from 102 on, USERS
+from 10 on. The exit status is 1 where the program refuses a line, another command fails, or a record of `dump` differs,
+2 where the words are others, a real tool is not installed, or `live` is not run as root.
+"""
+from __future__ import annotations
+
+import argparse
+import os
+import re
+import shutil
+import statistics
+import struct
+import subprocess
+import sys
+import tempfile
+import time
+from typing import Callable, Dict, Iterable, List, NamedTuple, Optional, Tuple
+
+sys.dont_write_bytecode = True
+sys.path.insert(0, os.path.join(os.path.dirname(os.path.realpath(__file__)), "..", "lib"))
+from texts import PER_DIRECTORY, record, text_file, write_people, write_tree  # noqa: E402
+from measured import MAX_RESTORED, MeasuredSession, best_of, first_records  # noqa: E402
+from script import TOP, Failed, run, say  # noqa: E402
+from session import program_at, write_system_people  # noqa: E402
+
+Words = argparse.Namespace
+Figures = Dict[str, float]
+NumberOf = Callable[[int], int]  # The number of a file's label, by the file's own number.
+LOAD, LOAD_BYTES = "load, a file", "most bytes a file of the load"
+# The whole index is printed where it has at most so many lines: they are composed in memory.
+MAX_PAIRS = 20_000_000
+
+
+# What is printed.
+
+def shown(name: str, value: float) -> str:
+    """A figure in the unit that suits it."""
+    if "bytes" in name:
+        return f"{value:,.0f}"
+    if "memory" in name:
+        return f"{value / 1e9:.2f} GB"
+    for unit, size in (("s", 1), ("ms", 1e-3), ("us", 1e-6)):
+        if value >= size:
+            return f"{value / size:.2f} {unit}"
+    return f"{value / 1e-9:.1f} ns"
+
+
+def print_table(heads: List[str], rows: Dict[str, List[str]]) -> None:
+    print("| " + " | ".join(heads) + " |\n|" + "---|" * len(heads))
+    for name, cells in rows.items():
+        print("| " + " | ".join([name, *cells]) + " |", flush=True)
+
+
+# The program on trees that are made.
+
+class Tree(NamedTuple):
+    """The texts in a folder, their sizes, how many files lines name, and how many lines look at much or change it."""
+
+    folder: str
+    files: int
+    users: int
+    named: int
+    few: int
+
+    def some(self) -> List[str]:
+        """Plain files all over the tree."""
+        directories = max(1, (self.files - 1) // (PER_DIRECTORY + 1))
+        return [f"d{k * 37 % directories:05}/f{k % PER_DIRECTORY:03}" for k in range(self.named)]
+
+
+class Step(NamedTuple):
+    """Lines of a kind: one with `{file}` for each of the named files, another with a brace a few times, and one without
+    one once. Then what is aimed at for files of few labels, and of different ones."""
+
+    name: str
+    line: str
+    few: str = ""
+    different: str = ""
+
+    def count(self, tree: Tree) -> int:
+        return tree.named if "{file}" in self.line else tree.few if "{" in self.line else 1
+
+    def lines(self, tree: Tree) -> List[str]:
+        if "--restore" in self.line:
+            return [self.line, *first_records(tree.folder, MAX_RESTORED), "."]
+        some, groups = tree.some(), max(1, tree.users // 10)
+        return [self.line.format(k=k, file=some[k], directory=some[k].split("/")[0], group=k % groups, id=999_900 + k,
+                                 user=k % tree.users, seventh=k * 7 % tree.users)
+                for k in range(self.count(tree))]
+
+    def parts(self, tree: Tree) -> int:
+        """What the time of the lines is divided by."""
+        if "--restore" in self.line:
+            return min(tree.files, MAX_RESTORED)
+        return self.count(tree) * (tree.files if self.name.endswith("a file") else 1)
+
+
+OF_LOAD = (Step(LOAD, "", "2.5 us", "4 us"), Step(LOAD_BYTES, "", "1,000", "2,500"))
+WHO = Step("`who`", "who r {file}")
+QUESTIONS = (
+    WHO, Step("`who --reach`", "who --reach r {file}"), Step("`may`, a file", "may u{k} w", "30 ns", "30 ns"),
+    Step("`may --reach`, a file", "may --reach u{k} w", "30 ns", "30 ns"))
+CHMOD = Step("`chmod` of one file", "chmod 640 {file}", "40 us", "40 us")
+SETFACL = Step("`setfacl -m` of one file", "setfacl -m u:u{user}:rwx {file}", "40 us", "40 us")
+DIRECTORY = Step("`chmod` of a directory", "chmod 751 {directory}")
+FIRST = Step("`chmod` of the first file", "chmod 000 d00000/f000")
+CHANGES = Step("`changes` of one file", "changes", "50 ms", "50 ms")
+NEW = (Step("`creat`", "creat --user=u1 --mode=640 {file}.{k}", "40 us", "40 us"),
+       Step("`rm` of one file", "rm {file}.{k}", "40 us", "40 us"))
+MEMBERS = (Step("`gpasswd -a` of `few`", "gpasswd -a u{k} few", "20 ms", "60 ms"),
+           Step("`gpasswd -a` of `half`", "gpasswd -a u{k} half", "20 ms", "60 ms"))
+USERS = (Step("`useradd`", "useradd -u {id} -g g0 new{k}", "100 ms", "1.5 s"),
+         Step("`userdel`", "userdel new{k}", "100 ms", "1.5 s"))
+NO_SEARCH = Step("`chmod 700 .`", "chmod 700 .")
+OF_ALL = (Step("`chmod -R .`, a file", "chmod -R 750 .", "1.2 us", "2.5 us"),
+          Step("`setfacl -R -m .`, a file", "setfacl -R -m u:u1:rX .", "1.5 us", "1.5 us"),
+          Step("`setfacl --restore`, a record", "setfacl --restore=-", "3 us", "3 us"))
+# The steps of the sessions, in their order; the last one of `limits` changes all verdicts along paths.
+OF_TOOLS = (
+    Step("`getfacl -R .`, a file", "getfacl -R ."), Step("`getfacl` of one file", "getfacl {file}"),
+    Step("`can`", "can u{user} {file}"), Step("`can --reach`", "can --reach u{user} {file}"), *QUESTIONS,
+    CHMOD, SETFACL, DIRECTORY, Step("`gpasswd -a`", "gpasswd -a u{seventh} g{group}"), *OF_ALL, *NEW, *USERS)
+OF_INDEX = (
+    *QUESTIONS, FIRST, CHANGES, Step("`changes --reach` of one file", "changes --reach"), CHMOD, SETFACL, *NEW,
+    DIRECTORY, *MEMBERS, *USERS, NO_SEARCH, Step("`chmod 755 .`", "chmod 755 ."), *OF_ALL)
+OF_LIMITS = (
+    WHO, Step("`can`", "can u1 {file}"), Step("`why --reach`", "why --reach u1 {file}"), Step("`may`", "may u1 w"),
+    Step("`getfacl`", "getfacl {file}"), CHMOD, CHANGES, SETFACL, *NEW, Step("`usermod -g`", "usermod -g g1 u2"),
+    *MEMBERS, NO_SEARCH)
+
+
+def session_times(program: str, tree: Tree, steps: Iterable[Step]) -> Figures:
+    """What a load takes, and each step of the session after it: seconds, or bytes."""
+    with MeasuredSession(program, tree.folder) as session:
+        found = {LOAD: session.load / tree.files, "load, a file and user": session.load / tree.files / tree.users}
+        found[LOAD_BYTES] = session.memory / tree.files
+        found["bytes a file after it"] = session.present_memory() / tree.files
+        for step in steps:
+            found[step.name] = session.answer(step.lines(tree)) / step.parts(tree)
+        found["most bytes a file of the session"] = session.most_memory() / tree.files
+        found["bytes a file at its end"] = session.present_memory() / tree.files
+        if tree.files * tree.users <= MAX_PAIRS:
+            found["`index`, a file and user"] = session.answer(["index"]) / tree.files / tree.users
+        session.end()
+    return found
+
+
+def best_times(given: Words, tree: Tree, steps: Iterable[Step], number_of: Optional[NumberOf] = None) -> Figures:
+    """The best of the runs, on a tree whose files have the labels of some numbers, or on that of texts.py."""
+    with tempfile.TemporaryDirectory(prefix="facl-bench.") as folder:
+        if number_of:
+            write_labels(folder, tree.files, tree.users, number_of)
+        else:
+            write_tree(folder, tree.files, tree.users)
+        best = best_of([session_times(given.program, tree._replace(folder=folder), steps) for _ in range(given.runs)])
+    say(f"{tree.files:,} files are measured")
+    return best
+
+
+def measure_tools(given: Words) -> int:
+    columns = [best_times(given, Tree("", files, given.users, 1_000, 10), OF_TOOLS) for files in given.files]
+    names = dict.fromkeys(name for best in columns for name in best)
+    print_table([f"{given.users:,} users", *(f"{files:,} files" for files in given.files)],
+                {name: [shown(name, best[name]) if name in best else "" for best in columns] for name in names})
+    files, best = given.files[-1], columns[-1]
+    share = best["`chmod -R .`, a file"] * files / best["`chmod` of one file"]
+    print(f"\nA `chmod` of one file among {files:,} takes 1/{share:,.0f} of the time of a `chmod -R` of them all.")
+    print("At most 1/2,000 is aimed at among 1,000,000.")
+    return 0
+
+
+# The index.
+
+TEXTS = ("---", "--x", "-w-", "-wx", "r--", "r-x", "rw-", "rwx")
+NUMBER_OF: Dict[str, NumberOf] = {"few": lambda n: 1, "different": lambda n: n}
+LABELS = 1_000  # Of the tree of all limits.
+
+
+def entries(number: int, users: int, groups: int, named: str) -> List[str]:
+    """A list that no other number has, but for the numbers of other owners or groups."""
+    owner, turn = number % users, number // (users * groups)
+    user, group = TEXTS[(6 + turn) % 8], TEXTS[(4 + turn // 8) % 8]
+    more = [f"group:{named}:r-x"] if named else []
+    return ["user::rwx", f"user:u{owner}:{user}", "group::r-x", f"group:g{owner % groups}:{group}", *more,
+            "mask::rwx", "other::r-x"]
+
+
+def write_labels(folder: str, files: int, users: int, number_of: NumberOf) -> None:
+    """Files with the labels of some numbers: half of them mention the group `half`, and one of a hundred `few`."""
+    groups = write_people(folder, users)
+    with open(os.path.join(folder, "group"), "a", encoding="utf-8") as out:
+        out.write("half:x:900000:\nfew:x:900001:\n")
+    with text_file(folder, "dump") as out:
+        out.write(record(".", 0, 0, ["user::rwx", "group::r-x", "other::r-x"]))
+        for n in range(1, files):
+            directory, place = divmod(n - 1, PER_DIRECTORY + 1)
+            path = f"d{directory:05}/f{place - 1:03}" if place else f"d{directory:05}/"
+            number = number_of(n)
+            named = "few" if n % 100 == 1 else "half" if n % 2 else ""
+            out.write(record(path, number % users, number // users % groups, entries(number, users, groups, named)))
+
+
+def measure_index(given: Words) -> int:
+    tree, kinds = Tree("", given.files[-1], given.users, 200, 4), given.only or list(NUMBER_OF)
+    columns = {kind: best_times(given, tree, OF_INDEX, NUMBER_OF[kind]) for kind in kinds}
+    aims = {kind: {step.name: getattr(step, kind) for step in (*OF_LOAD, *OF_INDEX)} for kind in kinds}
+    heads = [head for kind in kinds for head in (f"{kind} labels", "aimed at")]
+    print_table([f"{tree.files:,} files, {tree.users:,} users", *heads],
+                {name: [cell for kind in kinds for cell in (shown(name, columns[kind][name]), aims[kind].get(name, ""))]
+                 for name in columns[kinds[0]]})
+    return 0
+
+
+def measure_limits(given: Words) -> int:
+    files, users = given.files[-1], given.users
+    best = best_times(given, Tree("", files, users, 1, 1), OF_LIMITS, lambda n: n % LABELS)
+    rows = {"load, and one `who`": [shown("", best[LOAD] * files + best["`who`"]), "10 s"],
+            "most memory of the load": [shown("memory", best[LOAD_BYTES] * files), "1.5 GB"]}
+    rows.update({step.name: [shown(step.name, best[step.name]), ""] for step in OF_LIMITS})
+    rows["most memory of the session"] = [shown("memory", best["most bytes a file of the session"] * files), ""]
+    print_table([f"{files:,} files of {LABELS:,} labels, {users:,} users", "", "aimed at"], rows)
+    return 0
+
+
+# Other commands.
+
+class Spent(NamedTuple):
+    """What a command took: seconds of the processor and by the clock, and bytes of the largest of its processes."""
+
+    processor: float
+    seconds: float
+    memory: int
+
+
+def spent(words: List[str], folder: str, output: str = os.devnull, **variables: str) -> Spent:
+    """Runs a command in a folder; it has to end with the status 0."""
+    started = time.perf_counter()
+    with open(output, "wb") as out, tempfile.TemporaryFile() as messages:
+        child = subprocess.Popen(words, cwd=folder, env={**os.environ, **variables}, stdout=out, stderr=messages)
+        try:
+            _, status, usage = os.wait4(child.pid, 0)
+        except BaseException:
+            child.kill()
+            child.wait()
+            raise
+        seconds = time.perf_counter() - started
+        child.returncode = os.waitstatus_to_exitcode(status)
+        messages.seek(0)
+        text = messages.read(2_000).decode(errors="replace").strip()
+    if child.returncode != 0:
+        raise Failed(f"{' '.join(words[:4])}: status {child.returncode}: {text}")
+    return Spent(usage.ru_utime + usage.ru_stime, seconds, usage.ru_maxrss * 1024)
+
+
+# The program beside the real tools, by the same lines but one: a call over all files, or a call a file.
+OVER_ALL = ("getfacl -R -n", "chmod -R 750", "setfacl -R -m u:1001:rX")
+EACH = {"setfacl -m u:1001:rwx": "", "chmod 640": "", "touch": "creat --user=u1 --mode=640", "rm": ""}
+RESTORE = "setfacl --restore"
+TIMES_QUICKER = {"setfacl -R -m u:1001:rX": "6", RESTORE: "8"}  # That is aimed at.
+
+
+def make_files(folder: str) -> None:
+    """The real files of a dump, and the dump with ids, since the system knows no such users, and without owners, whom
+    only root may set."""
+    os.mkdir(f"{folder}/tree")
+    with open(f"{folder}/dump", encoding="utf-8") as dump, open(f"{folder}/restored", "w", encoding="utf-8") as out:
+        for line in dump:
+            path = line[len("# file: ") : -1] if line.startswith("# file: ") else ""
+            if path.endswith("/"):
+                os.mkdir(f"{folder}/tree/{path}")
+            elif path not in ("", "."):
+                open(f"{folder}/tree/{path}", "wb").close()
+            if not line.startswith(("# owner: ", "# group: ")):
+                out.write(re.sub(r"(user|group):[ug](\d+):", lambda it: f"{it[1]}:{1000 + int(it[2])}:", line))
+
+
+def operands(tree: Tree, line: str) -> List[str]:
+    """The files that the calls of a line name, in path order; `touch` and `rm` name new ones."""
+    return [f"{it}.{k}" if line in ("touch", "rm") else it for k, it in enumerate(sorted(tree.some()))]
+
+
+def real_times(tree: Tree) -> Figures:
+    """What the real tools take, a file."""
+    top = f"{tree.folder}/tree"
+    found = {line: spent([*line.split(), "."], top).processor / tree.files for line in OVER_ALL}
+    found[RESTORE] = spent(["setfacl", "--restore=../restored"], top).processor / tree.files
+    for line in EACH:
+        found[line] = sum(spent([*line.split(), it], top).processor for it in operands(tree, line)) / tree.named
+    return found
+
+
+def our_times(program: str, tree: Tree) -> Figures:
+    """The same of the program, and what a load takes, a file."""
+    records = min(tree.files, MAX_RESTORED)
+    with MeasuredSession(program, tree.folder) as session:
+        found = {"load": session.load / tree.files}
+        found.update({line: session.answer([line + " ."]) / tree.files for line in OVER_ALL})
+        found[RESTORE] = session.answer(["setfacl --restore=-", *first_records(tree.folder, records), "."]) / records
+        for line, ours in EACH.items():
+            found[line] = session.answer([f"{ours or line} {it}" for it in operands(tree, line)]) / tree.named
+        session.end()
+    return found
+
+
+def measure_real(given: Words) -> int:
+    with tempfile.TemporaryDirectory(prefix="facl-bench.", dir=given.folder) as folder:
+        tree = Tree(folder, given.files[-1], given.users, 1_000, 0)
+        write_tree(folder, tree.files, tree.users)
+        make_files(folder)
+        ours = best_of([our_times(given.program, tree) for _ in range(given.runs)])
+        real = best_of([real_times(tree) for _ in range(given.runs)])
+    rows = {"load": ["", shown("", ours["load"]), "", "2.5 us"]}
+    for line, seconds in real.items():
+        quicker, aim = f"{seconds / ours[line]:.1f}", TIMES_QUICKER.get(line, "")
+        name = f"`{line}`, beside `{EACH[line]}`" if EACH.get(line) else f"`{line}`"
+        rows[name] = [shown("", seconds), shown("", ours[line]), quicker, aim]
+    heads = ["real tool", "the program", "times quicker", "aimed at"]
+    print_table([f"{tree.files:,} files, {tree.users:,} users, a file", *heads], rows)
+    return 0
+
+
+# A dump of a real folder.
+
+Records = Dict[bytes, List[bytes]]
+
+
+def records_of(listing: str) -> Records:
+    """The records of a listing by their paths as they are written, without slashes at the ends: owner, group, flags and
+    entries, sorted, without comments."""
+    found: Records = {}
+    path: Optional[bytes] = None
+    with open(listing, "rb") as lines:
+        for line in lines:
+            line = line.rstrip(b"\n")
+            if line.startswith(b"# file: "):
+                # A backslash is written as two, or by its number.
+                path = line[len(b"# file: ") :].strip(b"/").replace(rb"\134", rb"\\") or b"."
+                found[path] = []
+            elif line and path is not None:
+                found[path].append(line if line.startswith(b"# ") else line.split(b"#")[0].rstrip())
+    return {path: sorted(record) for path, record in found.items()}
+
+
+def listed_times(program: str, folder: str, top: str) -> Figures:
+    """What the load of the texts takes, and a listing of all of it, which is written."""
+    with open(f"{folder}/listing", "wb") as out, MeasuredSession(program, folder, out) as session:
+        listed = session.answer([f"getfacl -R '{top}'"])
+        session.end()
+    return {"load": session.load, "`getfacl -R`": listed, "most bytes of the load": session.memory}
+
+
+def measure_dump(given: Words) -> int:
+    tree = os.path.abspath(given.folder)
+    with tempfile.TemporaryDirectory(prefix="facl-bench.") as folder:
+        with open(f"{folder}/dump", "wb") as out:
+            subprocess.run(["getfacl", "-R", "-p", tree], stdout=out, stderr=subprocess.DEVNULL, check=False)
+        write_system_people(folder)
+        best = best_of([listed_times(given.program, folder, tree.strip("/") or ".") for _ in range(given.runs)])
+        size = os.path.getsize(f"{folder}/dump")
+        wanted, found = records_of(f"{folder}/dump"), records_of(f"{folder}/listing")
+    print_table([f"a dump of {len(wanted):,} files and {size:,} bytes", "a file"],
+                {name: [shown(name, value / max(1, len(wanted)))] for name, value in best.items()})
+    differing = sorted(path for path in {*wanted, *found} if wanted.get(path) != found.get(path))
+    for path in differing[:10]:
+        say(f"differs: {path.decode(errors='replace')}")
+    print(f"\n{len(differing)} of {len(wanted)} records are not listed as the dump has them.")
+    return 1 if differing or not wanted else 0
+
+
+# The commands for live systems.
+
+FIRST_ID = 70_000  # Of the users, each of whom has a group of the same id, and of guest, who is the first.
+MODES = (0o600, 0o640, 0o644, 0o755)
+LIST_ATTRIBUTE, NO_ID = "system.posix_acl_access", 0xFFFFFFFF
+SYSTEM_TOOLS = ("getfacl -R -n", "setfacl --restore")
+
+
+def write_live_people(folder: str, users: int) -> None:
+    """Users and groups, and a getent that prints them, so that no account is made."""
+    names, ids = ["guest", *(f"u{k}" for k in range(1, users))], [f"{FIRST_ID + k}" for k in range(users)]
+    texts = {"passwd": "".join(f"{name}:x:{it}:{it}::/:/bin/sh\n" for name, it in zip(names, ids)),
+             "group": "".join(f"g{k}:x:{it}:{names[k // 2]}\n" for k, it in enumerate(ids)),
+             "getent": f'#!/bin/sh\ncat "{folder}/$1"\n', "edits": f"setfacl -R -m u:guest:rX {folder}/srv\n"}
+    for name, text in texts.items():
+        with open(f"{folder}/{name}", "w", encoding="utf-8") as out:
+            out.write(text)
+    os.chmod(f"{folder}/getent", 0o755)
+
+
+def list_bytes(user: int) -> bytes:
+    """The attribute of a list with a named user: version 2, and for each entry its kind, permissions and id."""
+    rows = [(1, 6, NO_ID), (2, 4, user), (4, 4, NO_ID), (16, 4, NO_ID), (32, 0, NO_ID)]
+    return struct.pack("<I", 2) + b"".join(struct.pack("<HHI", *row) for row in rows)
+
+
+def make_live_tree(folder: str, files: int, users: int) -> None:
+    """Directories of a thousand files, which are of all users but guest; every tenth file has a named user."""
+    os.mkdir(f"{folder}/srv", 0o755)
+    for number in range(files):
+        directory, place = divmod(number, 1_000)
+        if place == 0:
+            os.mkdir(f"{folder}/srv/d{directory:04}", 0o755)
+        name = f"{folder}/srv/d{directory:04}/file{place:03}"
+        os.close(os.open(name, os.O_CREAT | os.O_EXCL | os.O_WRONLY, 0o600))
+        owner = FIRST_ID + 1 + number % (users - 1)
+        os.chown(name, owner, owner)
+        os.chmod(name, MODES[number % len(MODES)])
+        if number % 10 == 0:
+            os.setxattr(name, LIST_ATTRIBUTE, list_bytes(FIRST_ID + 1 + number // 10 % (users - 1)))
+
+
+def live_steps(folder: str, number: int) -> Dict[str, List[str]]:
+    """The steps of a run, in their order."""
+    plan = f"plan{number}"
+    return {
+        "getfacl -R -n": ["getfacl", "-R", "-n", "-p", f"{folder}/srv"],
+        "setfacl --restore": ["setfacl", "--restore=records"],
+        "facl-snapshot": ["facl-snapshot", "before", f"{folder}/srv"],
+        "facl-plan": ["facl-plan", "--plan", plan, "before", "edits"],
+        "facl-plan --file-alone": ["facl-plan", "--file-alone", "--plan", plan + ".alone", "before", "edits"],
+        "facl-apply": ["facl-apply", plan],
+        "facl-apply --undo": ["facl-apply", "--undo", plan],
+    }
+
+
+def run_steps(given: Words, folder: str, number: int) -> Dict[str, Spent]:
+    path = f"{folder}:{os.path.join(TOP, 'commands')}:{os.environ['PATH']}"
+    found = {}
+    for name, words in live_steps(folder, number).items():
+        if not given.only or name in given.only or name in SYSTEM_TOOLS:
+            output = f"{folder}/records" if name == SYSTEM_TOOLS[0] else os.devnull
+            found[name] = spent(words, folder, output, PATH=path, FACL=given.program)
+            say(f"run {number}: {name}: {found[name].seconds:.2f} s")
+    return found
+
+
+def measure_live(given: Words) -> int:
+    with tempfile.TemporaryDirectory(prefix="facl-bench.", dir=given.folder) as folder:
+        os.chmod(folder, 0o755)
+        write_live_people(folder, given.users)
+        make_live_tree(folder, given.files[-1], given.users)
+        say(f"{given.files[-1]:,} files are made")
+        runs = [run_steps(given, folder, number) for number in range(given.runs)]
+    seconds = {name: statistics.median(found[name].seconds for found in runs) for name in runs[0]}
+    both = sum(seconds[name] for name in SYSTEM_TOOLS)
+    most = {name: max(found[name].memory for found in runs) / (1 << 20) for name in runs[0]}
+    print_table([f"{given.files[-1]:,} files, {given.users} users", "seconds", "times the system's tools", "MiB"],
+                {name: [f"{it:.2f}", f"{it / both:.1f}", f"{most[name]:,.0f}"] for name, it in seconds.items()})
+    return 0
+
+
+class Measurement(NamedTuple):
+    """The sizes of a tree and the runs where none are given, and the real tools that are needed."""
+
+    measure: Callable[[Words], int]
+    files: List[int]
+    users: int
+    runs: int
+    needs: Tuple[str, ...] = ()
+    only: Iterable[str] = ()
+
+
+MEASUREMENTS = {
+    "tools": Measurement(measure_tools, [10_000, 100_000, 1_000_000], 1_000, 3),
+    "index": Measurement(measure_index, [100_000], 1_000, 2, only=NUMBER_OF),
+    "limits": Measurement(measure_limits, [1_048_576], 65_536, 1),
+    "real": Measurement(measure_real, [100_000], 100, 3, ("getfacl", "setfacl")),
+    "dump": Measurement(measure_dump, [102], 10, 3, ("getfacl",)),
+    "live": Measurement(measure_live, [100_000], 30, 3, ("getfacl", "setfacl"), live_steps("", 0)),
+}
+
+
+def words() -> Words:
+    """The words of the call."""
+    options = argparse.ArgumentParser(description=__doc__, formatter_class=argparse.RawDescriptionHelpFormatter)
+    options.add_argument("measurement", choices=MEASUREMENTS)
+    options.add_argument("program", type=program_at)
+    options.add_argument("folder", nargs="?")
+    options.add_argument("--files", type=lambda text: [int(number) for number in text.split(",")])
+    options.add_argument("--users", type=int)
+    options.add_argument("--runs", type=int)
+    options.add_argument("--only", type=lambda text: text.split(","), default=[])
+    given = options.parse_args()
+    chosen = MEASUREMENTS[given.measurement]
+    given.files = given.files or chosen.files
+    given.users, given.runs = given.users or chosen.users, given.runs or chosen.runs
+    if min(given.files) < PER_DIRECTORY + 2 or given.users < 10 or given.runs < 1:
+        options.error("FILES from 102 on, USERS from 10 on, RUNS from 1 on")
+    if len(given.files) > 1 and given.measurement != "tools":
+        options.error("several FILES are of `tools` alone")
+    if set(given.only) - set(chosen.only):
+        options.error(f"--only: {given.measurement} has {', '.join(chosen.only) or 'no names'}")
+    if given.measurement == "dump" and not given.folder:
+        options.error("dump: a FOLDER is missing")
+    if given.measurement == "live" and os.geteuid() != 0:
+        options.error("live: run it as root")
+    return given
+
+
+def main() -> int:
+    given = words()
+    missing = [tool for tool in MEASUREMENTS[given.measurement].needs if not shutil.which(tool)]
+    if missing:
+        say(f"{' and '.join(missing)} of the Debian package acl: not installed")
+        return 2
+    say("load of the machine: %.1f, %.1f and %.1f in the last 1, 5 and 15 minutes" % os.getloadavg())
+    return MEASUREMENTS[given.measurement].measure(given)
+
+
+if __name__ == "__main__":
+    run(main)
