@@ -252,7 +252,8 @@ def plan_over(command: Command, given: argparse.Namespace, source: texts.Source)
         if kept is not None:
             command.say(b"the plan that was there is " + kept + b" now")
     if given.json:
-        command.write(json_report(outcome, given.full, changes, commands, written))
+        for part in json_report(outcome, given.full, changes, commands, written):
+            command.write(part)
     elif is_shown:
         if outcome.about is not meta.UNKNOWN:
             command.tell(meta.named(source.shown, outcome.about))

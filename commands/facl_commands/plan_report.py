@@ -2,6 +2,7 @@
 from __future__ import annotations
 
 import argparse
+import itertools
 import json
 import os
 from functools import lru_cache
@@ -14,6 +15,7 @@ from .names import json_text, live_path, shell_word, shown, shown_path
 from .records import Changes, Files
 from .scripts import Unit
 
+AT_ONCE = 100_000  # Parts of JSON that are written at once.
 PLAIN = bytes(range(0x20, 0x7F)) + b"\t\n"  # What is shown as it is, and what is between lines.
 
 
@@ -144,8 +146,9 @@ def texts(found: Iterable[bytes]) -> List[str]:
 def rights_json(outcome: Outcome, is_full: bool) -> List[Dict[str, object]]:
     """The changes by user and kind, or those of each file."""
     if is_full:
-        return [{"user": json_text(it.user), "from": it.old, "to": it.new, "file": json_text(file)}
-                for file, group in outcome.rights.files for it in group.differences]
+        users = {it.user: json_text(it.user) for group in outcome.rights.groups for it in group.differences}
+        return [{"user": users[it.user], "from": it.old, "to": it.new, "file": name}
+                for file, group in outcome.rights.files for name in [json_text(file)] for it in group.differences]
     return [{"user": json_text(user), "from": old, "to": new, "files": count, "first": json_text(first)}
             for user, old, new, count, first in rights.kinds(outcome.rights, outcome.users)]
 
@@ -163,7 +166,7 @@ def message_json(it: Message) -> Dict[str, object]:
 
 
 def json_report(outcome: Outcome, is_full: bool, changes: Changes, commands: List[bytes],
-                plan: Optional[bytes]) -> bytes:
+                plan: Optional[bytes]) -> Iterator[bytes]:
     names = [texts(map(outcome.name_of, paths)) for paths in (changes.changed, changes.made, changes.removed)]
     report = {
         "snapshot": meta.fields_of(outcome.about),
@@ -186,4 +189,7 @@ def json_report(outcome: Outcome, is_full: bool, changes: Changes, commands: Lis
         "refused": [message_json(it) for it in outcome.refusals()],
         "warnings": [message_json(it) for it in outcome.messages if it.is_warning],
     }
-    return json.dumps(report, indent=2).encode() + b"\n"
+    parts = json.JSONEncoder(indent=2).iterencode(report)
+    for first in parts:
+        yield (first + "".join(itertools.islice(parts, AT_ONCE))).encode()
+    yield b"\n"
