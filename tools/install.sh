@@ -91,8 +91,8 @@ say_what_is_missing() {
     for needed in 'getfacl acl' 'setfacl acl' 'getent libc-bin' 'find findutils' 'xargs findutils' 'python3 python3'; do
         command -v "${needed% *}" >/dev/null || warn "${needed% *} is missing (package ${needed#* }), which the commands call"
     done
-    ! command -v python3 >/dev/null || python3 -c 'import sys; sys.exit(sys.version_info < (3, 7))' ||
-        warn "python3 is older than 3.7, which the commands need"
+    ! command -v python3 >/dev/null || python3 -c 'import sys; sys.exit(sys.version_info < (3, 9))' ||
+        warn "python3 is older than 3.9, which the commands need"
     ! command -v python3 >/dev/null || python3 -c 'import prompt_toolkit' 2>/dev/null ||
         warn "without the package python3-prompt-toolkit the prompt of facl-ask completes no words"
     case :$PATH: in *:"$prefix/bin":*) ;; *) warn "$prefix/bin is not on the path" ;; esac

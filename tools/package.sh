@@ -76,7 +76,7 @@ Version: $version
 Architecture: $architecture
 Maintainer: $(git show -s --format='%an <%ae>' HEAD)
 Installed-Size: $size
-Depends: libc6, acl, python3 (>= 3.7)
+Depends: libc6, acl, python3 (>= 3.9)
 Recommends: python3-prompt-toolkit
 Suggests: parallel
 Section: admin

@@ -22,6 +22,8 @@ function element(name, properties, ...inner) {
   return made;
 }
 
+function counted(count, what) { return count + " " + what + (count === 1 ? "" : "s"); }
+
 // The greatest requests that a byte of `index` grants.
 const GRANTED = Array.from({length: 256}, (_, byte) => {
   if (!byte) return "absent";
@@ -289,9 +291,9 @@ function start() {
   const bar = element("div", {className: "bar"}, element("label", {}, "What may ", select, " do"),
     choice("along paths", alongPaths, it => { alongPaths = it; }), element("label", {}, "Find ", field));
   if (data.script) bar.append(choice("changes alone", changesAlone, it => { changesAlone = it; if (it) openChanges(); }));
-  const counts = files + " files, " + data.whos.filter(it => it[0] === "user").length + " users"
+  const counts = counted(files, "file") + ", " + counted(data.whos.filter(it => it[0] === "user").length, "user")
     + (data.without.length ? " (without " + data.without.join(", ") + ")" : "")
-    + (data.script ? ", " + Object.keys(changed).length + " files changed" : "");
+    + (data.script ? ", " + counted(Object.keys(changed).length, "file") + " changed" : "");
   document.body.append(element("header", {}, element("h1", {textContent: data.title + ": " + counts}), bar),
     element("main", {}, element("div", {id: "tree"}), element("div", {id: "side"})));
   draw();
