@@ -5,8 +5,8 @@ from typing import Dict, FrozenSet, List, NamedTuple, Optional, Tuple
 
 QUESTION, EDIT, PEOPLE, LOAD, OF_PLANS = "question", "edit", "people", "load", "of plans"
 FILE, USER, GROUP, ENTRIES, OTHER = "file", "user", "group", "entries", "other"  # Kinds of words.
-KINDS = {"FILE": FILE, "USER": USER, "GROUP": GROUP,
-         "LIST": ENTRIES}  # By the names of operands; those of others are OTHER.
+# By the names of operands; those of others are OTHER.
+KINDS = {"FILE": FILE, "USER": USER, "GROUP": GROUP, "LIST": ENTRIES}
 
 
 class Tool(NamedTuple):
@@ -29,13 +29,13 @@ ALL: Dict[bytes, Tool] = {
     b"changes": Tool(QUESTION, "", "--reach", b"(nothing)\n"),
     b"index": Tool(QUESTION, "", "", b"(nothing)\n"),
     b"getfacl": Tool(
-        QUESTION, "FILE", "-a|--access -c|--omit-header -e|--all-effective -E|--no-effective -s|--skip-base "
-                          "-R|--recursive "
-        "-n|--numeric", b"(nothing)\n",
+        QUESTION, "FILE",
+        "-a|--access -c|--omit-header -e|--all-effective -E|--no-effective -s|--skip-base -R|--recursive -n|--numeric",
+        b"(nothing)\n",
     ),
     b"setfacl": Tool(
-        EDIT, "FILE", "-b|--remove-all -k|--remove-default -x|--remove:entries -X|--remove-file:other "
-                      "-m|--modify:entries "
+        EDIT, "FILE",
+        "-b|--remove-all -k|--remove-default -x|--remove:entries -X|--remove-file:other -m|--modify:entries "
         "-M|--modify-file:other -n|--no-mask --mask -d|--default -R|--recursive --set:entries --set-file:other "
         "--restore:other --test",
     ),
