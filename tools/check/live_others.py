@@ -265,8 +265,6 @@ class Others(Check):
         self.check_raced(Race(mode, one, other, Call("", 0), None), traced)
         self.count(f"runs of {mode} with exchanges all the time, status {done.returncode}")
 
-    # --- moments
-
     def check_watched(self, seed: int) -> None:
         """Ten files and three directories change; nobody gets what neither record grants."""
         top = self.name("watched")
@@ -301,8 +299,6 @@ class Others(Check):
                 expect(seen <= first | last, f"user {user} saw {seen - first - last} of {name!r}; {first}, {last}")
         self.count("moments in which somebody looked", sum(watcher.rounds for watcher in watchers))
         self.count("changes of files that were watched", len(descriptors))
-
-    # --- trust
 
     def check_trusted(self, seed: int) -> None:
         tree = Tree(self.work, seed)
@@ -366,8 +362,6 @@ class Others(Check):
             self.count("plans whose name is wanted")
         remove(folder)
 
-    # --- locks
-
     def words_of(self, name: bytes) -> List[bytes]:
         words = [self.plan] if name == b"facl-apply" else [self.name("before"), self.name("edits")]
         return self.words(name, *words)
@@ -412,8 +406,6 @@ class Others(Check):
             must(self.apply(UNDO), 0, 3)
             self.back_to(tree, first)
             found.clear()
-
-    # --- by hand
 
     def check_by_hand(self, seed: int) -> None:
         """One race of by_hand and by_hand_undo, by one of two shells."""
@@ -477,11 +469,12 @@ class Others(Check):
         found: List[State] = []
         for top in (self.hand + b"/secret", self.hand + b"/mine"):
             for folder, folders, names in os.walk(top):
-                for name in [os.path.join(folder, it) for it in folders + names + [b""]]:
+                is_secret = top.endswith(b"secret")
+                for name in [os.path.join(folder, it) for it in folders + names + [b""] * is_secret]:
                     look = os.lstat(name)
                     listed = sorted(os.listdir(name)) if stat.S_ISDIR(look.st_mode) else None
-                    known = (name, look.st_ctime_ns, look.st_nlink) if top.endswith(b"secret") else ()
-                    if known or look.st_uid == 0:
+                    known = (name, look.st_ctime_ns, look.st_nlink) if is_secret else ()
+                    if is_secret or look.st_uid == 0:
                         found.append((listed, look.st_ino, *state_of(name, follow=False), *known))
         return sorted(found, key=repr)
 

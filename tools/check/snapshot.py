@@ -25,9 +25,9 @@ from live_tree import (  # noqa: E402
     state_of,
 )
 
-AS_ROOT = "trust private_groups exchange group unreadable without_lists bind_mount file_systems full_disk".split()
-NAMES = ["reach", *"words targets replacing programs names links itself masks rows kills environment chain".split(),
-         "streams", "packages", "large_dump", *AS_ROOT]
+AS_ROOT = "trust private_groups exchange group unreadable without_lists file_systems full_disk".split()
+NAMES = "reach words targets replacing programs names links warnings rows kills chain streams packages".split()
+NAMES += ["large_dump", *AS_ROOT]
 PARTS: Parts = {**{name: (1, 1) for name in NAMES}, "kills": (15, 2), "exchange": (5, 1)}
 SNAPSHOT = os.fsdecode(os.path.join(COMMANDS, b"facl-snapshot"))
 NOBODY = 65534
@@ -127,8 +127,6 @@ class Snapshots(Check):
 
     def contents(self, folder: str) -> Dict[str, State]:
         return {name: state_of(self.name(f"{folder}/{name}")) for name in sorted(os.listdir(self.text(folder)))}
-
-    # --- parts of all users
 
     def check_reach(self, _seed: int) -> None:
         """A folder below a directory of mode 700, and FOLDERs that overlap."""
@@ -240,15 +238,19 @@ class Snapshots(Check):
         self.took(0, "before odd odd/-d", out=["symbolic links left out: 3"], lacks=["pointed/", "odd/to_folder"])
         self.took(0, "before odd/to_folder", out=["symbolic links left out: 0"], has=["pointed/file"])
         self.took(2, "other odd/to_nothing")
-
-    def check_itself(self, _seed: int) -> None:
-        """What this command makes while it is at work is not recorded."""
         self.took(0, "odd/snapshot odd")
-        expect(b"snapshot" not in self.read("odd/snapshot/dump"), "the snapshot has itself")
+        expect(b"snapshot" not in self.read("odd/snapshot/dump"), "the snapshot has what the command makes meanwhile")
 
-    def check_masks(self, _seed: int) -> None:
+    def check_warnings(self, _seed: int) -> None:
+        """Lists with an empty mask; words of getfacl and find in the environment; names that a terminal would obey."""
         self.took(0, "before masks", "empty mask whose others have something, which Linux grants to named users and "
                   f"groups too, and facl does not: 1, first: {self.text('masks/open')}")
+        self.took(0, "--program FACL before odd", has=["odd/-x"], POSIXLY_CORRECT="1", TMPDIR="/nowhere", CDPATH="/",
+                  QUOTING_STYLE="c", BLOCK_SIZE="1", _POSIX2_VERSION="199209")
+        name = "shown/e\033[31m\nfacl-snapshot: all is well\udcc2\udc9b\u202e\u00e9"
+        self.make(name)
+        os.link(self.name(name), self.name("shown/other"))
+        self.took(0, "before shown", "/shown/e\\033[31m\\012facl-snapshot: all is well\\302\\233\\342\\200\\256\u00e9")
 
     def with_getent(self, passwd: str, group: str, script: str = 'cat "${0%/*}/$1.txt"') -> None:
         """A getent that prints these texts comes first on the path."""
@@ -313,15 +315,6 @@ class Snapshots(Check):
         while not os.path.exists(self.mark):
             time.sleep(0.05)
 
-    def check_environment(self, _seed: int) -> None:
-        """Words of getfacl and find in the environment, and what a terminal would do with names."""
-        self.took(0, "--program FACL before odd", has=["odd/-x"], POSIXLY_CORRECT="1", TMPDIR="/nowhere", CDPATH="/",
-                  QUOTING_STYLE="c", BLOCK_SIZE="1", _POSIX2_VERSION="199209")
-        name = "shown/e\033[31m\nfacl-snapshot: all is well\udcc2\udc9b\u202e\u00e9"
-        self.make(name)
-        os.link(self.name(name), self.name("shown/other"))
-        self.took(0, "before shown", "/shown/e\\033[31m\\012facl-snapshot: all is well\\302\\233\\342\\200\\256\u00e9")
-
     def check_chain(self, _seed: int) -> None:
         """A long chain of directories, which sorts before a folder: that is recorded."""
         self.make(*[f"chain/z_payroll/{number}" for number in range(21)], "chain/a/", "chain/b/")
@@ -374,8 +367,6 @@ class Snapshots(Check):
         expect(large == ["dump"], f"larger than the limit: {large}")
         self.nothing_left()
 
-    # --- parts of root
-
     def check_unreadable(self, _seed: int) -> None:
         """As nobody: files that cannot be read are counted; a directory that cannot be looked into is a directory."""
         self.make("shut/none/file", "shut/names/sub/")
@@ -419,7 +410,7 @@ class Snapshots(Check):
         return [f"left out as other file systems: {len(names)}, first: {self.text('systems/' + names[0])}"]
 
     def check_file_systems(self, _seed: int) -> None:
-        """Other file systems below a FOLDER, and those that the kernel makes."""
+        """Other file systems below a FOLDER, those that the kernel makes, and two names of one directory."""
         self.make("systems/proc/", "systems/file")
         below = self.name("systems/")
         with contextlib.ExitStack() as mounts:
@@ -439,9 +430,6 @@ class Snapshots(Check):
                       lacks=["systems/kernel/", "systems/kernel/kernel/"])
             for place in ("/proc", "/proc/sys", "/sys/fs", self.text("systems/kernel/kernel")):
                 self.took(2, "other " + place, f"facl-snapshot: {place}: is never recorded")
-
-    def check_bind_mount(self, _seed: int) -> None:
-        """Two names of one directory."""
         with mounted(self.name("mount"), b"--bind", self.name("odd/-d")):
             self.took(0, "before mount odd/-d")
         expect(self.name("mount/") in self.lines("links"), "links lacks a folder that is mounted twice")

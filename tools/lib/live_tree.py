@@ -294,10 +294,11 @@ class Tree:
         return lines[kind]() + b"\n"
 
     def listing(self) -> bytes:
-        """All of it, with the kinds and modes too."""
+        """All of it, with the kinds and modes too; nothing where it is gone."""
         names = sorted(os.path.join(place, name) for place, _, files in os.walk(self.top) for name in [b"", *files])
-        listed = must(run([b"getfacl", b"-n", b"-p", b"--", *[it for it in names if not os.path.islink(it)]]), 0)
-        return listed + b"".join(b"%o %s\n" % (os.lstat(it).st_mode, it) for it in names)
+        listed = [it for it in names if not os.path.islink(it)]
+        printed = must(run([b"getfacl", b"-n", b"-p", b"--", *listed]), 0) if listed else b""
+        return printed + b"".join(b"%o %s\n" % (os.lstat(it).st_mode, it) for it in names)
 
 
 # --- commands under strace
