@@ -236,13 +236,9 @@ class Others(Check):
             is_so = done.status != 0 or race.mode != "apply" or now[self.of("d/f")] == after[self.of("d/f")]
             expect(is_so, f"as planned, {what}")
             return
-        wrong = {
-            0: [name for name in now if now[name] != after[name]],
-            1: [name for name in now if now[name] != before[name]],
-            2: [name for name in now if now[name] != before[name]],
-            4: [name for name in now if now[name] != self.old[name] and name + b": " not in done.said],
-        }
-        expect(wrong.get(done.status) == [], what)
+        wanted = {0: after, 1: before, 2: before}.get(done.status)
+        unsaid = [name for name in now if now[name] != self.old[name] and name + b": " not in done.said]
+        expect(now == wanted if wanted else done.status == 4 and not unsaid, what)
 
     def check_free(self, seed: int) -> None:
         """MALLORY exchanges as fast as it can during a run."""

@@ -264,10 +264,10 @@ class Snapshots(Check):
                          "ina:x:70001:0::/:/bin/sh\n",
                          f"root:x:0:\nown:x:{os.getgid()}:\nstaff:x:5:ines,dora,dora\nlab:x:6:emil\n")
         self.make("masks/ids")
-        self.set("u:4711:r,g:4712:r,u:1:r,g:5:r", "masks/ids")
+        self.set("u:4711:r,u:4714:r,g:4712:r,u:1:r,g:5:r", "masks/ids")
         self.set("d:u:4713:r", "masks")
         self.took(1, "--program FACL before masks", "most users that the dump names have no row in passwd",
-                  "ids in the dump without a row in passwd or group: 4, first: user 4711",
+                  "ids in the dump without a row in passwd or group: 5, first: user 4711",
                   "members of groups without a row in passwd: 2, first: dora", f"rows of passwd {returns}mara",
                   no=["rows of group", "passwd is empty"])
         self.with_getent("", "staff:x:0:ines\r\nlab:x:6:\n")
