@@ -544,7 +544,8 @@ def main(kind: Type[Check], parts: Parts, document: Optional[str]) -> NoReturn:
     counted = [f"{number:7,d} {name}" for name, number in sorted(check.counts.items())]
     print("\n".join(counted + [f"{len(faults)} faults"]))
     if given.record and is_whole:
-        amount = ", ".join(f"{part} {getattr(given, part):,}" for part in tried)
+        numbers = {part: getattr(given, part) for part in tried}
+        amount = ", ".join(part if number == 1 else f"{part} {number:,}" for part, number in numbers.items())
         found = f"{len(faults)} faults, first: {faults[0]:.300}" if faults else "nothing"
         record.record(f"{amount}: {'; '.join(map(str.strip, counted))}", found)
     sys.exit(1 if faults else 0)
