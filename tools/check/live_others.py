@@ -15,7 +15,7 @@ tries:
 - trusted: plans and snapshots that others can write, or that are reached by a link of theirs.
 - locks: facl-apply and facl-plan at once on one plan; each of them while the other one is stopped in the middle.
 - by_hand: MALLORY owns the folder in which by_hand removes a file and a directory and makes a tree and a file. It
-  exchanges, links and renames there all the time, or once, at a random moment: the folder, the names, the closed
+  exchanges, links and renames there all the time, or once, at a random moment: the folder, what goes, the closed
   folders, what is made, with symbolic links to a folder of root, and with files and directories of root in its own
   folder. In two of three races each call of the script that looks at or changes a file is delayed, so that each step is
   hit; in two of five only by_hand_undo is raced; in half what is made inherits a list. Then the files of root are as
@@ -47,12 +47,12 @@ from live_tree import (  # noqa: E402
 )
 
 PARTS: Parts = {
-    "races": (520, 12), "free": (45, 9), "watched": (20, 1), "trusted": (1, 1), "locks": (20, 1), "by_hand": (320, 5),
+    "races": (520, 12), "free": (45, 9), "watched": (20, 1), "trusted": (1, 1), "locks": (20, 1), "by_hand": (320, 6),
 }
 BEN, MARA, GUEST = UIDS[1:]
 UNDO = b"--undo"
 PR_SET_DUMPABLE = 4
-STEPS = ["the folder", "names", "closed folders", "targets", "all"]
+STEPS = ["the folder", "the file", "the directory", "closed folders", "targets", "all"]
 ENTERED = 77  # The status of a process of MALLORY that could enter a closed folder.
 LOOKING = ["openat", "newfstatat", "fstat", "statx", "getxattr", "fstatfs", "flock", "rename", "fsync", "syncfs"]
 BY_HAND = ",".join(CHANGING) + ",chdir,mkdir,unlink,unlinkat,rmdir,rename,renameat2,newfstatat,statx,openat"
@@ -83,6 +83,9 @@ PLANNED = ["open/a", "open/d", "open/d/f", "open/z"]
 # What MALLORY exchanges; the last one is a change of its own files.
 EXCHANGES = [("a", "link_a"), ("d", "link_d"), ("a", "private"), ("a", "other"), ("d", "root_folder"), ("z", "private"),
              ("d/f", "private"), ("d", "empty"), ("a", "alike"), ("", "")]
+TAMPER = {"owner": b'chown 70001 "$0"', "all": b'chmod 777 "$0"', "group": b'chgrp 70100 "$0"; chmod 770 "$0"',
+          "list": b'setfacl -m u:70001:rwx "$0"', "link": b'mv "$0" "$0.old"; ln -s "$0.old" "$0"',
+          "fifo": b'mv "$0" "$0.old"; mkfifo -m 600 "$0"'}
 # What somebody else changes of a plan and of a snapshot; and folders of a plan, with the status of facl-apply.
 TAMPERED = [("before.plan" + name, how) for name, how in (
     ("", "owner"), ("", "all"), ("", "group"), ("", "list"), ("/files", "owner"), ("/files", "all"), ("/files", "list"),
@@ -310,7 +313,7 @@ class Others(Check):
         is_plan = name.startswith("before.plan")
         folder, kept = self.plan if is_plan else self.name("before"), self.name("kept")
         copy(folder, kept)
-        tamper(self.name(name), how)
+        must(run([b"sh", b"-ec", TAMPER[how], self.name(name)]), 0)
         if is_plan:
             done = self.apply()
             is_said = b"not trusted" in done.stderr or b"symbolic links" in done.stderr
@@ -413,7 +416,7 @@ class Others(Check):
             os.chmod(folder, 0o2775)
             inherited = b"d:u::%s,d:u:%d:rwx,d:g::rwx,d:o::rwx" % (chance.choice([b"---", b"rwx"]), MALLORY)
             must(run([b"setfacl", b"-m", inherited, folder]), 0)
-        self.plan_by_hand(folder, what in ("names", "all") or chance.random() < 0.7)
+        self.plan_by_hand(folder, what in ("the file", "the directory", "all") or chance.random() < 0.7)
         before = self.of_root()
         scripts = ["by_hand", "by_hand_undo"]
         if chance.random() < 0.4:
@@ -501,8 +504,9 @@ def step(hand: bytes, what: str, chance: random.Random) -> None:
     what = chance.choice(STEPS[:-1]) if what == "all" else what
     if what == "the folder":
         exchange(folder[:-1], os.path.join(hand, b"mine/link"))
-    elif what == "names":
+    elif what == "the file":
         exchange_with(b"bait", [b"to_bait", b"of_root", b"other"])
+    elif what == "the directory":
         exchange_with(b"empty", [b"to_empty", b"empty_of_root", b"full", b"full_of_root", b"other"])
     elif what == "closed folders":
         for name in [it for it in os.listdir(folder) if it.startswith(b".facl.")]:
@@ -566,20 +570,6 @@ def look_at(descriptor: int, seen: Set[str]) -> None:
     look = os.stat(name)
     if stat.S_ISREG(look.st_mode) and look.st_mode & 0o6000:
         seen.add("runs as %d %d %o" % (look.st_uid, look.st_gid, look.st_mode))
-
-
-def tamper(place: bytes, how: str) -> None:
-    """Makes a file or a folder one that somebody else can write, or one of another kind."""
-    if how == "owner":
-        os.chown(place, MALLORY, -1)
-    elif how in ("all", "group"):
-        os.chown(place, -1, 70100)
-        os.chmod(place, 0o777 if how == "all" else 0o770)
-    elif how == "list":
-        must(run([b"setfacl", b"-m", b"u:70001:rwx", place]), 0)
-    else:
-        os.rename(place, place + b".old")
-        os.mkfifo(place, 0o600) if how == "fifo" else os.symlink(place + b".old", place)
 
 
 if __name__ == "__main__":
