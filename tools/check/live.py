@@ -29,7 +29,7 @@ import stat
 import sys
 import tempfile
 import time
-from typing import List, Optional, Tuple
+from typing import Iterator, List, Optional, Tuple
 
 sys.dont_write_bytecode = True
 sys.path.insert(0, os.path.join(os.path.dirname(os.path.realpath(__file__)), "..", "lib"))
@@ -53,8 +53,6 @@ Planned = Tuple[Tree, bytes]  # A tree with a plan that has an effect, and its l
 
 class Ways(Check):
     """There and back again, and what can come in between."""
-
-    # --- plans
 
     def check_kernel(self, tree: Tree) -> None:
         """The kernel grants 20 pairs what the program says of the snapshot with the planned records restored."""
@@ -163,8 +161,6 @@ class Ways(Check):
         self.back_to(tree, first)
         return tree, first
 
-    # --- ended early
-
     def recover(self, tree: Tree, first: bytes, turn: int, user: int = 0) -> None:
         """After a kill: by --undo, or by a second run and then --undo."""
         if turn % 2:
@@ -179,43 +175,37 @@ class Ways(Check):
         expect(done.status == 0, f"status {done.status} under strace: {done.said!r}")
         return [call for call, line in done.calls() if call.name != "openat" or b".new" in line]
 
-    def points_of_both(self, tree: Tree, first: bytes) -> List[Tuple[Call, List[bytes]]]:
-        """Those of facl-apply and of --undo, with the options of each."""
-        there, back = self.points(), self.points(UNDO)
-        self.back_to(tree, first)
-        return [(call, options) for calls, options in ((there, NO_OPTIONS), (back, [UNDO])) for call in calls]
-
-    def kill(self, call: Call, options: List[bytes]) -> None:
-        inject = f"{call.name}:signal=KILL:when={call.number}"
-        done = trace(self, self.words(b"facl-apply", *options, self.plan), SEEN, [inject])
-        expect(done.status == -9, f"status {done.status} of one that is killed at {call}: {done.said!r}")
+    def each_point(self, seed: int) -> Iterator[Tuple[Tree, bytes, Call, List[bytes]]]:
+        """Each such call of facl-apply and of --undo of a small plan, with the options; before --undo it is applied."""
+        made = self.small_plan(seed)
+        there, back = (self.points(), self.points(UNDO)) if made else ([], [])
+        for options, calls in ((NO_OPTIONS, there), ([UNDO], back)):
+            for call in calls:
+                assert made is not None
+                self.back_to(*made)
+                if options:
+                    must(self.apply(), 0)
+                yield (*made, call, options)
 
     def check_kills(self, seed: int) -> None:
-        made = self.small_plan(seed)
-        for turn, (call, options) in enumerate(self.points_of_both(*made) if made else []):
-            assert made is not None
-            if options:
-                must(self.apply(), 0)
-            self.kill(call, options)
-            self.recover(*made, turn)
-            self.forget()
+        for turn, (tree, first, call, options) in enumerate(self.each_point(seed)):
+            inject = f"{call.name}:signal=KILL:when={call.number}"
+            done = trace(self, self.words(b"facl-apply", *options, self.plan), SEEN, [inject])
+            expect(done.status == -9, f"status {done.status} of one that is killed at {call}: {done.said!r}")
+            self.recover(tree, first, turn)
             self.count(f"kills of {'--undo' if options else 'facl-apply'} at a call that changes or writes")
 
     def at_random(self, tree: Tree, number: int, *options: bytes, ignored: int = 0) -> Done:
-        """A run that gets a signal at a random moment: of all, or since it has written that it begins."""
-        limit = time.monotonic() + self.seconds * tree.chance.choice([0, 2])
+        """A run that gets a signal at a random moment: of all, or since it has changed the first file."""
+        limit = time.monotonic() + 2 * self.seconds
+        is_any, changed = tree.chance.random() < 0.5, os.stat(tree.top).st_ctime_ns
 
         def wait() -> None:
-            while time.monotonic() < limit and not self.has_begun():
-                time.sleep(0.0005)
-            time.sleep(tree.chance.uniform(0, 0.02 if self.has_begun() else self.seconds))
+            while not is_any and time.monotonic() < limit and os.stat(tree.top).st_ctime_ns == changed:
+                time.sleep(0.0002)
+            time.sleep(tree.chance.uniform(0, self.seconds if is_any else 0.01))
 
         return self.ended_by(self.words(b"facl-apply", *options, self.plan), number, wait, ignored=ignored)
-
-    def has_begun(self) -> bool:
-        """Whether the plan says that its files are between the two."""
-        place = self.name("before.plan/state")
-        return os.path.exists(place) and self.read(place) in (b"applying\n", b"undoing\n")
 
     def check_moments(self, seed: int) -> None:
         tree, first = self.whole_plan(seed)
@@ -223,7 +213,8 @@ class Ways(Check):
             if turn % 3 == 2:
                 must(self.apply(), 0)
             self.at_random(tree, signal.SIGKILL, *[UNDO] * (turn % 3 == 2))
-            self.count("kills at random moments" + " in the middle" * self.has_begun())
+            state = os.path.exists(self.name("before.plan/state")) and self.read("before.plan/state")
+            self.count("kills at random moments" + " in the middle" * (state in (b"applying\n", b"undoing\n")))
             self.recover(tree, first, tree.chance.randrange(2))
             self.forget()
 
@@ -254,13 +245,8 @@ class Ways(Check):
             must(self.apply(UNDO), 3)
 
     def check_faults(self, seed: int) -> None:
-        made = self.small_plan(seed)
-        for call, options in self.points_of_both(*made) if made else []:
-            assert made is not None
-            tree, first = made
+        for tree, first, call, options in self.each_point(seed):
             for often in [tree.chance.choice(["", "+"])] if options else ["", "+"]:
-                if options:
-                    must(self.apply(), 0)
                 self.fail(tree, first, call, often, options)
                 must(self.apply(UNDO), 0, 3)
                 self.back_to(tree, first)
@@ -280,8 +266,6 @@ class Ways(Check):
         if done.status == 0 and not options:
             self.check_tree(tree, self.expected(), f"as planned, where {inject}")
         self.count(f"calls that fail, status {done.status}{' of --undo' * len(options)}")
-
-    # --- disks
 
     def check_disks(self, seed: int) -> None:
         made = self.small_plan(seed)
@@ -376,8 +360,6 @@ class Ways(Check):
                     self.back_to(tree, first)
                 self.count("overlays")
 
-    # --- by hand, capabilities
-
     def check_hands(self, seed: int) -> None:
         tree = Tree(self.work, seed)
         made = os.path.join(tree.chance.choice(tree.folders), b"new it's\n\xe9")
@@ -415,8 +397,6 @@ class Ways(Check):
         must(self.apply(UNDO), 0)
         self.back_to(tree, first)
         self.count("files with capabilities")
-
-    # --- owners who are not root
 
     def check_owners(self, seed: int) -> None:
         """All files belong to MALLORY, who applies; directories get and lose x, and files below them change."""
@@ -460,8 +440,6 @@ class Ways(Check):
         self.back_to(tree, first)
         self.count("plans that their owner applied")
         self.count("kills of the owner's facl-apply and --undo", 2 * len(calls))
-
-    # --- sizes
 
     def check_chains(self, _seed: int) -> None:
         """1,900 directories, one in the other, with a file in each."""

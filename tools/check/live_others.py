@@ -15,7 +15,7 @@ tries:
 - trusted: plans and snapshots that others can write, or that are reached by a link of theirs.
 - locks: facl-apply and facl-plan at once on one plan; each of them while the other one is stopped in the middle.
 - by_hand: MALLORY owns the folder in which by_hand removes a file and a directory and makes a tree and a file. It
-  exchanges, links and renames there all the time, or once, at a random moment: the folder, the names, the closed
+  exchanges, links and renames there all the time, or once, at a random moment: the folder, what goes, the closed
   folders, what is made, with symbolic links to a folder of root, and with files and directories of root in its own
   folder. In two of three races each call of the script that looks at or changes a file is delayed, so that each step is
   hit; in two of five only by_hand_undo is raced; in half what is made inherits a list. Then the files of root are as
@@ -37,7 +37,7 @@ import subprocess
 import sys
 import tempfile
 import time
-from typing import Callable, Dict, List, NamedTuple, Optional, Set, Tuple
+from typing import Callable, Dict, List, NamedTuple, Optional, Set
 
 sys.dont_write_bytecode = True
 sys.path.insert(0, os.path.join(os.path.dirname(os.path.realpath(__file__)), "..", "lib"))
@@ -47,12 +47,12 @@ from live_tree import (  # noqa: E402
 )
 
 PARTS: Parts = {
-    "races": (520, 12), "free": (45, 9), "watched": (20, 1), "trusted": (1, 1), "locks": (20, 1), "by_hand": (320, 5),
+    "races": (520, 12), "free": (45, 9), "watched": (20, 1), "trusted": (1, 1), "locks": (20, 1), "by_hand": (320, 6),
 }
 BEN, MARA, GUEST = UIDS[1:]
 UNDO = b"--undo"
 PR_SET_DUMPABLE = 4
-STEPS = ["the folder", "names", "closed folders", "targets", "all"]
+STEPS = ["the folder", "the file", "the directory", "closed folders", "targets", "all"]
 ENTERED = 77  # The status of a process of MALLORY that could enter a closed folder.
 LOOKING = ["openat", "newfstatat", "fstat", "statx", "getxattr", "fstatfs", "flock", "rename", "fsync", "syncfs"]
 BY_HAND = ",".join(CHANGING) + ",chdir,mkdir,unlink,unlinkat,rmdir,rename,renameat2,newfstatat,statx,openat"
@@ -83,6 +83,9 @@ PLANNED = ["open/a", "open/d", "open/d/f", "open/z"]
 # What MALLORY exchanges; the last one is a change of its own files.
 EXCHANGES = [("a", "link_a"), ("d", "link_d"), ("a", "private"), ("a", "other"), ("d", "root_folder"), ("z", "private"),
              ("d/f", "private"), ("d", "empty"), ("a", "alike"), ("", "")]
+TAMPER = {"owner": b'chown 70001 "$0"', "all": b'chmod 777 "$0"', "group": b'chgrp 70100 "$0"; chmod 770 "$0"',
+          "list": b'setfacl -m u:70001:rwx "$0"', "link": b'mv "$0" "$0.old"; ln -s "$0.old" "$0"',
+          "fifo": b'mv "$0" "$0.old"; mkfifo -m 600 "$0"'}
 # What somebody else changes of a plan and of a snapshot; and folders of a plan, with the status of facl-apply.
 TAMPERED = [("before.plan" + name, how) for name, how in (
     ("", "owner"), ("", "all"), ("", "group"), ("", "list"), ("/files", "owner"), ("/files", "all"), ("/files", "list"),
@@ -236,13 +239,9 @@ class Others(Check):
             is_so = done.status != 0 or race.mode != "apply" or now[self.of("d/f")] == after[self.of("d/f")]
             expect(is_so, f"as planned, {what}")
             return
-        wrong = {
-            0: [name for name in now if now[name] != after[name]],
-            1: [name for name in now if now[name] != before[name]],
-            2: [name for name in now if now[name] != before[name]],
-            4: [name for name in now if now[name] != self.old[name] and name + b": " not in done.said],
-        }
-        expect(wrong.get(done.status) == [], what)
+        wanted = {0: after, 1: before, 2: before}.get(done.status)
+        unsaid = [name for name in now if now[name] != self.old[name] and name + b": " not in done.said]
+        expect(now == wanted if wanted else done.status == 4 and not unsaid, what)
 
     def check_free(self, seed: int) -> None:
         """MALLORY exchanges as fast as it can during a run."""
@@ -264,8 +263,6 @@ class Others(Check):
         traced = Traced(done.returncode, done.stdout + done.stderr, [])
         self.check_raced(Race(mode, one, other, Call("", 0), None), traced)
         self.count(f"runs of {mode} with exchanges all the time, status {done.returncode}")
-
-    # --- moments
 
     def check_watched(self, seed: int) -> None:
         """Ten files and three directories change; nobody gets what neither record grants."""
@@ -302,8 +299,6 @@ class Others(Check):
         self.count("moments in which somebody looked", sum(watcher.rounds for watcher in watchers))
         self.count("changes of files that were watched", len(descriptors))
 
-    # --- trust
-
     def check_trusted(self, seed: int) -> None:
         tree = Tree(self.work, seed)
         expect(self.planned(tree, tree.record(tree.top)), "no plan")
@@ -318,7 +313,7 @@ class Others(Check):
         is_plan = name.startswith("before.plan")
         folder, kept = self.plan if is_plan else self.name("before"), self.name("kept")
         copy(folder, kept)
-        tamper(self.name(name), how)
+        must(run([b"sh", b"-ec", TAMPER[how], self.name(name)]), 0)
         if is_plan:
             done = self.apply()
             is_said = b"not trusted" in done.stderr or b"symbolic links" in done.stderr
@@ -366,8 +361,6 @@ class Others(Check):
             self.count("plans whose name is wanted")
         remove(folder)
 
-    # --- locks
-
     def words_of(self, name: bytes) -> List[bytes]:
         words = [self.plan] if name == b"facl-apply" else [self.name("before"), self.name("edits")]
         return self.words(name, *words)
@@ -413,8 +406,6 @@ class Others(Check):
             self.back_to(tree, first)
             found.clear()
 
-    # --- by hand
-
     def check_by_hand(self, seed: int) -> None:
         """One race of by_hand and by_hand_undo, by one of two shells."""
         chance = random.Random(seed)
@@ -425,7 +416,7 @@ class Others(Check):
             os.chmod(folder, 0o2775)
             inherited = b"d:u::%s,d:u:%d:rwx,d:g::rwx,d:o::rwx" % (chance.choice([b"---", b"rwx"]), MALLORY)
             must(run([b"setfacl", b"-m", inherited, folder]), 0)
-        self.plan_by_hand(folder, what in ("names", "all") or chance.random() < 0.7)
+        self.plan_by_hand(folder, what in ("the file", "the directory", "all") or chance.random() < 0.7)
         before = self.of_root()
         scripts = ["by_hand", "by_hand_undo"]
         if chance.random() < 0.4:
@@ -477,11 +468,12 @@ class Others(Check):
         found: List[State] = []
         for top in (self.hand + b"/secret", self.hand + b"/mine"):
             for folder, folders, names in os.walk(top):
-                for name in [os.path.join(folder, it) for it in folders + names + [b""]]:
+                is_secret = top.endswith(b"secret")
+                for name in [os.path.join(folder, it) for it in folders + names + [b""] * is_secret]:
                     look = os.lstat(name)
                     listed = sorted(os.listdir(name)) if stat.S_ISDIR(look.st_mode) else None
-                    known = (name, look.st_ctime_ns, look.st_nlink) if top.endswith(b"secret") else ()
-                    if known or look.st_uid == 0:
+                    known = (name, look.st_ctime_ns, look.st_nlink) if is_secret else ()
+                    if is_secret or look.st_uid == 0:
                         found.append((listed, look.st_ino, *state_of(name, follow=False), *known))
         return sorted(found, key=repr)
 
@@ -512,8 +504,9 @@ def step(hand: bytes, what: str, chance: random.Random) -> None:
     what = chance.choice(STEPS[:-1]) if what == "all" else what
     if what == "the folder":
         exchange(folder[:-1], os.path.join(hand, b"mine/link"))
-    elif what == "names":
+    elif what == "the file":
         exchange_with(b"bait", [b"to_bait", b"of_root", b"other"])
+    elif what == "the directory":
         exchange_with(b"empty", [b"to_empty", b"empty_of_root", b"full", b"full_of_root", b"other"])
     elif what == "closed folders":
         for name in [it for it in os.listdir(folder) if it.startswith(b".facl.")]:
@@ -577,20 +570,6 @@ def look_at(descriptor: int, seen: Set[str]) -> None:
     look = os.stat(name)
     if stat.S_ISREG(look.st_mode) and look.st_mode & 0o6000:
         seen.add("runs as %d %d %o" % (look.st_uid, look.st_gid, look.st_mode))
-
-
-def tamper(place: bytes, how: str) -> None:
-    """Makes a file or a folder one that somebody else can write, or one of another kind."""
-    if how == "owner":
-        os.chown(place, MALLORY, -1)
-    elif how in ("all", "group"):
-        os.chown(place, -1, 70100)
-        os.chmod(place, 0o777 if how == "all" else 0o770)
-    elif how == "list":
-        must(run([b"setfacl", b"-m", b"u:70001:rwx", place]), 0)
-    else:
-        os.rename(place, place + b".old")
-        os.mkfifo(place, 0o600) if how == "fifo" else os.symlink(place + b".old", place)
 
 
 if __name__ == "__main__":

@@ -21,13 +21,13 @@ from typing import Dict, List, Sequence
 sys.dont_write_bytecode = True
 sys.path.insert(0, os.path.join(os.path.dirname(os.path.realpath(__file__)), "..", "lib"))
 from live_tree import (  # noqa: E402
-    COMMANDS, Check, Name, Parts, State, child, expect, main, make, mounted, must, records_of, remove, run,
+    COMMANDS, Check, Parts, State, child, expect, main, make, mounted, must, records_of, remove, run,
     state_of,
 )
 
-AS_ROOT = "trust private_groups exchange group unreadable without_lists bind_mount file_systems full_disk".split()
-NAMES = ["reach", *"words targets replacing programs names links itself masks rows kills environment chain".split(),
-         "streams", "packages", "large_dump", *AS_ROOT]
+AS_ROOT = "trust private_groups exchange group unreadable without_lists file_systems full_disk".split()
+NAMES = "reach words targets replacing programs names links warnings rows kills chain streams packages".split()
+NAMES += ["large_dump", *AS_ROOT]
 PARTS: Parts = {**{name: (1, 1) for name in NAMES}, "kills": (15, 2), "exchange": (5, 1)}
 SNAPSHOT = os.fsdecode(os.path.join(COMMANDS, b"facl-snapshot"))
 NOBODY = 65534
@@ -58,10 +58,9 @@ class Snapshots(Check):
         self.ahead.clear()
         self.make("closed/share/team/empty/", "closed/share/note", *["odd/" + name for name in ODD])
         self.make(*["masks/" + name for name in ("open", "shut", "cut", "plain")])
-        os.chmod(self.name("closed"), 0o700)
-        os.chmod(self.name("masks/plain"), 0o604)
-        for name, entries in (("open", "m::---,o::r"), ("shut", "m::---,o::-"), ("cut", "m::r,o::r")):
-            self.set("u:nobody:rw," + entries, "masks/" + name)
+        self.shell("""chmod 700 closed; chmod 604 masks/plain
+            setfacl -m u:nobody:rw,m::---,o::r masks/open; setfacl -m u:nobody:rw,m::---,o::- masks/shut
+            setfacl -m u:nobody:rw,m::r,o::r masks/cut""")
 
     def text(self, name: str = "") -> str:
         """A name in the work folder."""
@@ -74,8 +73,9 @@ class Snapshots(Check):
             if not name.endswith(b"/"):
                 make(name)
 
-    def set(self, entries: str, *names: Name) -> None:
-        must(run([b"setfacl", b"-m", entries.encode(), b"--", *map(self.name, names)]), 0)
+    def shell(self, text: str) -> None:
+        """Runs commands of sh in the work folder."""
+        must(run([b"sh", b"-euc", b'cd "$0"\n' + os.fsencode(text), self.work]), 0)
 
     def tool(self, name: str, text: str) -> str:
         """A program of sh; its folder comes first on the path."""
@@ -128,8 +128,6 @@ class Snapshots(Check):
     def contents(self, folder: str) -> Dict[str, State]:
         return {name: state_of(self.name(f"{folder}/{name}")) for name in sorted(os.listdir(self.text(folder)))}
 
-    # --- parts of all users
-
     def check_reach(self, _seed: int) -> None:
         """A folder below a directory of mode 700, and FOLDERs that overlap."""
         note = self.text("closed/share/note")
@@ -158,14 +156,11 @@ class Snapshots(Check):
         self.took(2, "other closed absent", "/absent: no such file")
         self.took(2, "absent/other closed")
         expect(not any(map(os.path.lexists, (self.name("other"), self.name("absent")))), "written, though it failed")
-        self.make("empty/", "full/")
-        for name in ("mine", "full/mine"):
-            make(self.name(name), text=b"mine")
+        self.shell("mkdir empty full; echo mine >mine; echo mine >full/mine; ln -s empty leads")
+        os.symlink(self.program, self.name("program"))
         self.took(2, "mine closed")
         self.took(2, "full closed", "/full: is there, and is no snapshot")
-        expect(self.read("mine") + self.read("full/mine") == b"minemine", "a file of mine is gone")
-        os.symlink(b"empty", self.name("leads"))
-        os.symlink(self.program, self.name("program"))
+        expect(self.read("mine") + self.read("full/mine") == b"mine\nmine\n", "a file of mine is gone")
         here = ["sh", "-c", 'cd "$0" && exec "$@"', self.text()]
         for words in ("empty closed", "leads closed", "--program =./program -- =-dash =closed/share",
                       "--program FACL -- a\udce9~b\n closed/share"):
@@ -184,9 +179,7 @@ class Snapshots(Check):
     def check_replacing(self, _seed: int) -> None:
         """By another folder, with the same owner and list; not where the program does not load the new one."""
         self.took(0, "before closed")
-        os.chmod(self.name("before"), 0o750)
-        self.set("u:nobody:rx", "before")
-        self.set("u:nobody:r", *["before/" + name for name in os.listdir(self.text("before"))])
+        self.shell("chmod 750 before; setfacl -m u:nobody:rx before; setfacl -m u:nobody:r before/*")
         looks = [state_of(self.name(it))[:4] for it in ("before", "before/dump")]
         old = os.stat(self.name("before")).st_ino
         self.took(0, "before closed/share/team", lacks=["closed/share/note"])
@@ -194,8 +187,7 @@ class Snapshots(Check):
         for name in ("before/dump", "before/inodes"):
             now = [state_of(self.name(it))[:4] for it in ("before", name)]
             expect(now == looks, f"another owner or list: {now} and not {looks}")
-        for name in ("links", "inodes", "meta"):
-            os.unlink(self.name("before/" + name))
+        self.shell("rm before/links before/inodes before/meta")
         self.took(0, "before closed/share/team")
         before, refuses = self.contents("before"), self.refuses()
         self.took(2, f"--program {refuses} before closed", "does not load it: facl: setup: dump: text line 1: bad row")
@@ -228,27 +220,29 @@ class Snapshots(Check):
         self.took(0, "before odd", no=["another name"])
         expect(not self.read("before/links"), "links has names, though no file has two")
         odd = self.text("odd")
-        for one, other in (("e\\f", "a\nc"), ("e\\f", "v"), ("-x", "-d/x"), ("i'j", "../outside")):
-            os.link(f"{odd}/{one}", f"{odd}/{other}")
+        self.shell("""cd odd; ln 'e\\f' 'a\nc'; ln 'e\\f' v; ln ./-x ./-d/x; ln "i'j" ../outside""")
         self.took(0, "before odd odd/-d", f"another name in the snapshot too (see links): 5, first: {odd}/-d/x",
                   f"other names are not in the snapshot: 1, first: {odd}/i'j")
         sets = ["".join(f"{odd}/{it}\n" for it in names) for names in (["a\\012c", "e\\\\f", "v"], ["-d/x", "-x"])]
         expect(os.fsdecode(self.read("before/links")) in ("\n".join(sets), "\n".join(sets[::-1])), "links")
         self.make("pointed/file")
-        for name, target in (("to_folder", self.text("pointed")), ("to_nothing", "nowhere"), ("-d/loop", "..")):
-            os.symlink(target, f"{odd}/{name}")
+        self.shell('ln -s "$PWD/pointed" odd/to_folder; ln -s nowhere odd/to_nothing; ln -s .. odd/-d/loop')
         self.took(0, "before odd odd/-d", out=["symbolic links left out: 3"], lacks=["pointed/", "odd/to_folder"])
         self.took(0, "before odd/to_folder", out=["symbolic links left out: 0"], has=["pointed/file"])
         self.took(2, "other odd/to_nothing")
-
-    def check_itself(self, _seed: int) -> None:
-        """What this command makes while it is at work is not recorded."""
         self.took(0, "odd/snapshot odd")
-        expect(b"snapshot" not in self.read("odd/snapshot/dump"), "the snapshot has itself")
+        expect(b"snapshot" not in self.read("odd/snapshot/dump"), "the snapshot has what the command makes meanwhile")
 
-    def check_masks(self, _seed: int) -> None:
+    def check_warnings(self, _seed: int) -> None:
+        """Lists with an empty mask; words of getfacl and find in the environment; names that a terminal would obey."""
         self.took(0, "before masks", "empty mask whose others have something, which Linux grants to named users and "
                   f"groups too, and facl does not: 1, first: {self.text('masks/open')}")
+        self.took(0, "--program FACL before odd", has=["odd/-x"], POSIXLY_CORRECT="1", TMPDIR="/nowhere", CDPATH="/",
+                  QUOTING_STYLE="c", BLOCK_SIZE="1", _POSIX2_VERSION="199209")
+        name = "shown/e\033[31m\nfacl-snapshot: all is well\udcc2\udc9b\u202e\u00e9"
+        self.make(name)
+        os.link(self.name(name), self.name("shown/other"))
+        self.took(0, "before shown", "/shown/e\\033[31m\\012facl-snapshot: all is well\\302\\233\\342\\200\\256\u00e9")
 
     def with_getent(self, passwd: str, group: str, script: str = 'cat "${0%/*}/$1.txt"') -> None:
         """A getent that prints these texts comes first on the path."""
@@ -261,11 +255,9 @@ class Snapshots(Check):
         self.with_getent(f"root:x:0:0::/:/bin/sh\nines:x:{os.getuid()}:0::/:/bin/sh\nmara:x:1:0::/:/bin/sh\r\n"
                          "ina:x:70001:0::/:/bin/sh\n",
                          f"root:x:0:\nown:x:{os.getgid()}:\nstaff:x:5:ines,dora,dora\nlab:x:6:emil\n")
-        self.make("masks/ids")
-        self.set("u:4711:r,g:4712:r,u:1:r,g:5:r", "masks/ids")
-        self.set("d:u:4713:r", "masks")
+        self.shell("cd masks; : >ids; setfacl -m u:4711:r,u:4714:r,g:4712:r,u:1:r,g:5:r ids; setfacl -m d:u:4713:r .")
         self.took(1, "--program FACL before masks", "most users that the dump names have no row in passwd",
-                  "ids in the dump without a row in passwd or group: 4, first: user 4711",
+                  "ids in the dump without a row in passwd or group: 5, first: user 4711",
                   "members of groups without a row in passwd: 2, first: dora", f"rows of passwd {returns}mara",
                   no=["rows of group", "passwd is empty"])
         self.with_getent("", "staff:x:0:ines\r\nlab:x:6:\n")
@@ -313,21 +305,11 @@ class Snapshots(Check):
         while not os.path.exists(self.mark):
             time.sleep(0.05)
 
-    def check_environment(self, _seed: int) -> None:
-        """Words of getfacl and find in the environment, and what a terminal would do with names."""
-        self.took(0, "--program FACL before odd", has=["odd/-x"], POSIXLY_CORRECT="1", TMPDIR="/nowhere", CDPATH="/",
-                  QUOTING_STYLE="c", BLOCK_SIZE="1", _POSIX2_VERSION="199209")
-        name = "shown/e\033[31m\nfacl-snapshot: all is well\udcc2\udc9b\u202e\u00e9"
-        self.make(name)
-        os.link(self.name(name), self.name("shown/other"))
-        self.took(0, "before shown", "/shown/e\\033[31m\\012facl-snapshot: all is well\\302\\233\\342\\200\\256\u00e9")
-
     def check_chain(self, _seed: int) -> None:
         """A long chain of directories, which sorts before a folder: that is recorded."""
         self.make(*[f"chain/z_payroll/{number}" for number in range(21)], "chain/a/", "chain/b/")
-        text = """cd "$0"; down() { for i in $(seq $1); do mkdir $name && cd -P ./$name || exit 1; done; }
-            name=$(printf %250s | tr ' ' d); (cd b && down 300) && (cd a && down 299 && mv "$0/b" ./$name)"""
-        must(run([b"sh", b"-c", text.encode(), self.name("chain")]), 0)
+        self.shell("""cd chain; down() { for i in $(seq $1); do mkdir $name && cd -P ./$name || exit 1; done; }
+            name=$(printf %250s | tr ' ' d); (cd b && down 300); (cd a && down 299 && mv "$0/chain/b" ./$name)""")
         self.took(1, "--program FACL before chain", has=[f"chain/z_payroll/{number}" for number in range(21)])
         long = len([it for it in self.lines("dump") if it.startswith(self.shown("chain/a/d"))])
         said = f"more than 4,095 bytes, which are not recorded: {600 - long}, first: {self.text('chain')}/a/ddd"
@@ -360,8 +342,7 @@ class Snapshots(Check):
     def many(self) -> None:
         """2,000 files with lists, whose dump is large, and the other files of a snapshot small."""
         self.make(*[f"many/a file with a long name {number}" for number in range(2000)])
-        entries = ",".join(f"u:{number}:r" for number in range(1, 31))
-        self.set(entries, *["many/" + it for it in os.listdir(self.text("many"))])
+        self.shell("setfacl -m $(seq -f u:%g:r -s , 30) many/*")
 
     def check_large_dump(self, _seed: int) -> None:
         """A disk that takes every file but the dump. Most of the users in the lists have no row."""
@@ -374,14 +355,11 @@ class Snapshots(Check):
         expect(large == ["dump"], f"larger than the limit: {large}")
         self.nothing_left()
 
-    # --- parts of root
-
     def check_unreadable(self, _seed: int) -> None:
         """As nobody: files that cannot be read are counted; a directory that cannot be looked into is a directory."""
         self.make("shut/none/file", "shut/names/sub/")
         make(self.name("theirs/"), 0o755, NOBODY, NOBODY)
-        os.chmod(self.name("shut/none"), 0)
-        os.chmod(self.name("shut/names"), 0o744)
+        self.shell("chmod 0 shut/none; chmod 744 shut/names")
         self.took(1, "theirs/before shut", "so that the dump lacks them or what is in them: 2, first: find: '"
                   f"{self.text('shut/n')}", user=NOBODY)
         os.symlink(self.name("theirs/before"), self.name("before"))
@@ -419,7 +397,7 @@ class Snapshots(Check):
         return [f"left out as other file systems: {len(names)}, first: {self.text('systems/' + names[0])}"]
 
     def check_file_systems(self, _seed: int) -> None:
-        """Other file systems below a FOLDER, and those that the kernel makes."""
+        """Other file systems below a FOLDER, those that the kernel makes, and two names of one directory."""
         self.make("systems/proc/", "systems/file")
         below = self.name("systems/")
         with contextlib.ExitStack() as mounts:
@@ -439,9 +417,6 @@ class Snapshots(Check):
                       lacks=["systems/kernel/", "systems/kernel/kernel/"])
             for place in ("/proc", "/proc/sys", "/sys/fs", self.text("systems/kernel/kernel")):
                 self.took(2, "other " + place, f"facl-snapshot: {place}: is never recorded")
-
-    def check_bind_mount(self, _seed: int) -> None:
-        """Two names of one directory."""
         with mounted(self.name("mount"), b"--bind", self.name("odd/-d")):
             self.took(0, "before mount odd/-d")
         expect(self.name("mount/") in self.lines("links"), "links lacks a folder that is mounted twice")
@@ -456,32 +431,23 @@ class Snapshots(Check):
         self.make("trust/empty/", "trust/theirs/mine/", "trust/sticky/")
         self.took(0, "trust/theirs/mine/snapshot masks")
         self.slow("getent", '[ "$*" != group ] ||', 0)
-        theirs, mine, sticky = (self.name("trust/" + it) for it in ("theirs", "theirs/mine", "sticky"))
-        for name in (self.name("trust/empty"), theirs):
-            os.chown(name, NOBODY, -1)
-        os.chmod(sticky, 0o1777)
-        os.symlink(self.name("trust"), sticky + b"/leads")
-        os.lchown(sticky + b"/leads", NOBODY, -1)
+        self.shell("""cd trust; chown 65534 empty theirs; chmod 1777 sticky; ln -s "$PWD" sticky/leads
+            chown -h 65534 sticky/leads""")
         self.untrusted("empty", "empty: belongs to user 65534")
         for last in ("new", "mine/new", "mine/snapshot"):
             self.untrusted("theirs/" + last, "theirs: belongs to")
         self.untrusted("sticky/leads/new", "sticky/leads: belongs to user 65534")
         self.untrusted("sticky", "sticky: everybody can write there")
-        os.chown(theirs, 0, -1)
-        os.chown(mine + b"/snapshot/links", NOBODY, -1)
+        self.shell("cd trust/theirs; chown 0 .; chown 65534 mine/snapshot/links")
         has_other = "is there, and is no snapshot of yours, or has other files too: links"
         self.untrusted("theirs/mine/snapshot", f"theirs/mine/snapshot: {has_other}")
-        os.chown(mine, 0, NOBODY)
-        os.chmod(mine, 0o770)
+        self.shell("cd trust/theirs; chown 0:65534 mine; chmod 770 mine")
         self.untrusted("theirs/mine/new", "theirs/mine: others than its owner can write there")
-        os.chmod(mine, 0o750)
-        self.set("u:nobody:rx", "trust/theirs/mine")
+        self.shell("cd trust/theirs; chmod 750 mine; setfacl -m u:nobody:rx mine")
         self.took(0, "trust/theirs/mine/new masks")
-        os.unlink(self.mark)
-        self.set("u:nobody:rwx", "trust/theirs/mine")
+        self.shell("rm at_work; setfacl -m u:nobody:rwx trust/theirs/mine")
         self.untrusted("theirs/mine/other", "theirs/mine: others than its owner can write there")
-        must(run([b"setfacl", b"-b", mine]), 0)
-        self.set("d:u:nobody:rwx,d:o::rwx", "trust/theirs/mine")
+        self.shell("cd trust/theirs; setfacl -b mine; setfacl -d -m u:nobody:rwx,o::rwx mine")
         self.took(0, "trust/theirs/mine/third masks")
         self.modes("trust/theirs/mine/third", 0o700, 0o600, 0)
 

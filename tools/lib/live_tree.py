@@ -294,10 +294,11 @@ class Tree:
         return lines[kind]() + b"\n"
 
     def listing(self) -> bytes:
-        """All of it, with the kinds and modes too."""
+        """All of it, with the kinds and modes too; nothing where it is gone."""
         names = sorted(os.path.join(place, name) for place, _, files in os.walk(self.top) for name in [b"", *files])
-        listed = must(run([b"getfacl", b"-n", b"-p", b"--", *[it for it in names if not os.path.islink(it)]]), 0)
-        return listed + b"".join(b"%o %s\n" % (os.lstat(it).st_mode, it) for it in names)
+        listed = [it for it in names if not os.path.islink(it)]
+        printed = must(run([b"getfacl", b"-n", b"-p", b"--", *listed]), 0) if listed else b""
+        return printed + b"".join(b"%o %s\n" % (os.lstat(it).st_mode, it) for it in names)
 
 
 # --- commands under strace
@@ -540,10 +541,15 @@ def main(kind: Type[Check], parts: Parts, document: Optional[str]) -> NoReturn:
     finally:
         run([b"chattr", b"-R", b"-f", b"-i", b"-a", work])
         remove(work)
-    counted = [f"{number:7,d} {name}" for name, number in sorted(check.counts.items())]
-    print("\n".join(counted + [f"{len(faults)} faults"]))
+    counts = sorted(check.counts.items())
+    print("\n".join([f"{number:7,d} {name}" for name, number in counts] + [f"{len(faults)} faults"]))
     if given.record and is_whole:
-        amount = ", ".join(f"{part} {getattr(given, part):,}" for part in tried)
+        numbers = {part: getattr(given, part) for part in tried}
+        amount = ", ".join(part if number == 1 else f"{part} {number:,}" for part, number in numbers.items())
         found = f"{len(faults)} faults, first: {faults[0]:.300}" if faults else "nothing"
-        record.record(f"{amount}: {'; '.join(map(str.strip, counted))}", found)
+        summed: Counter[str] = Counter()
+        for name, number in counts:
+            summed[re.split(", status|: ", name)[0]] += number
+        counted = "; ".join(f"{number:,} {name}" for name, number in summed.items() if number)
+        record.record(f"{amount}: {counted}", found)
     sys.exit(1 if faults else 0)
