@@ -20,8 +20,8 @@ SECONDS = 20  # that a command may take
 HOME = "/root"  # Where the examples of documents are run.
 # Commands that are not run here, by their first word.
 COMMANDS_APART: Dict[str, str] = {
-    "tools/try.sh": "compiles the program; by hand, and tools/check/demo.sh has the answers",
-    "tools/demo.sh": "proves the program; by hand, and tools/check/demo.sh has the answers",
+    "tools/try.sh": "compiles the program; by hand",
+    "tools/demo.sh": "proves the program; by hand",
     "tools/prove.py": "proves the program; by hand",
     "tools/install.sh": "installs; by hand",
     "tools/package.sh": "makes a package; by hand",

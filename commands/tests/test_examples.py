@@ -28,7 +28,7 @@ DOCUMENTS = {
 # Blocks that are not run here, by their first line: why, and what runs them.
 BLOCKS: Dict[str, str] = {
     "[d:] [u:]USER [:PERMS]      a named user, or the owner: u::PERMS": "a grammar; crates/acl_text_tests",
-    "bytes of a FILE                      268,435,456": "a table; tools/check/limits.sh",
+    "bytes of a FILE                      268,435,456": "a table; tools/check/sizes.py",
     "chown [-R] USER[:GROUP]|:GROUP FILE..": "synopses; test_owners.py",
     "PATH=/usr/local/bin:/usr/bin:/bin": "a file of cron; test_lines_of_cron_and_systemd runs its command",
     "[Service]": "files of systemd; test_lines_of_cron_and_systemd runs their commands",

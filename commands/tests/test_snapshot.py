@@ -1,5 +1,5 @@
 """facl-snapshot: what it writes, whom it trusts, and what it says, by a getfacl of its own. What needs root, or a file system
-with lists, is in tools/check/snapshot.sh."""
+with lists, is in tools/check/snapshot.py."""
 from __future__ import annotations
 
 import calendar

@@ -37,10 +37,11 @@ from typing import Callable, Dict, Iterable, List, NamedTuple, Optional, Tuple
 sys.dont_write_bytecode = True
 sys.path.insert(0, os.path.join(os.path.dirname(os.path.realpath(__file__)), "..", "lib"))
 from texts import PER_DIRECTORY, record, text_file, write_people, write_tree  # noqa: E402
-from measured import MAX_RESTORED, MeasuredSession, best_of, first_records  # noqa: E402
 from script import TOP, Failed, run, say  # noqa: E402
-from session import program_at, write_system_people  # noqa: E402
+from session import MeasuredSession, best_of, first_records, program_at, write_system_people  # noqa: E402
 
+# At most so many records of a dump are restored, since the bytes of a script are limited.
+MAX_RESTORED = 100_000
 Words = argparse.Namespace
 Figures = Dict[str, float]
 NumberOf = Callable[[int], int]  # The number of a file's label, by the file's own number.

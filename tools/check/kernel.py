@@ -33,8 +33,7 @@ from typing import Dict, Iterable, List, Set, Tuple
 
 sys.dont_write_bytecode = True
 sys.path.insert(0, os.path.join(os.path.dirname(os.path.realpath(__file__)), "..", "lib"))
-from record import record  # noqa: E402
-from script import TOP, Failed, run  # noqa: E402
+from script import Failed, TOP, record, run  # noqa: E402
 from session import program_at, words_of, write_system_people  # noqa: E402
 
 LIBRARY = ctypes.CDLL(None, use_errno=True)

@@ -24,8 +24,7 @@ from typing import Any
 sys.dont_write_bytecode = True
 sys.path.insert(0, os.path.join(os.path.dirname(os.path.realpath(__file__)), "..", "lib"))
 from texts import write_tree  # noqa: E402
-from record import record  # noqa: E402
-from script import TOP, Failed, run  # noqa: E402
+from script import Failed, TOP, record, run  # noqa: E402
 from session import program_at  # noqa: E402
 
 NAMES = ["<script>document.title=1", "<title><b>", "<img src=x onerror=document.title=1>", "&lt;", "{{1}}", "\"'`",

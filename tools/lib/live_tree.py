@@ -20,7 +20,6 @@ import traceback
 from collections import Counter
 from typing import Callable, Dict, Iterator, List, NamedTuple, NoReturn, Optional, Sequence, Tuple, Type, Union
 
-import record
 import script
 from session import program_at
 
@@ -551,5 +550,5 @@ def main(kind: Type[Check], parts: Parts, document: Optional[str]) -> NoReturn:
         for name, number in counts:
             summed[re.split(", status|: ", name)[0]] += number
         counted = "; ".join(f"{number:,} {name}" for name, number in summed.items() if number)
-        record.record(f"{amount}: {counted}", found)
+        script.record(f"{amount}: {counted}", found)
     sys.exit(1 if faults else 0)

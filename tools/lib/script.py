@@ -1,13 +1,17 @@
-"""What all scripts do: they end in order when they are interrupted, and report a fault in one line."""
+"""What all scripts do: they end in order when they are interrupted, report a fault in one line, and write what they
+found into their row of docs/CHECKS.md."""
 from __future__ import annotations
 
+import datetime
 import os
 import signal
+import subprocess
 import sys
 from types import FrameType
-from typing import Callable, NoReturn, Optional
+from typing import Callable, List, NoReturn, Optional
 
 TOP = os.path.dirname(os.path.dirname(os.path.dirname(os.path.realpath(__file__))))
+PAGE = os.path.join(TOP, "docs", "CHECKS.md")
 SIGNALS = (signal.SIGHUP, signal.SIGINT, signal.SIGTERM)
 
 
@@ -37,6 +41,36 @@ def name() -> str:
 def say(text: str) -> None:
     """Prints a line about the script's work to standard error."""
     print(f"{name()}: {text}", file=sys.stderr, flush=True)
+
+
+def commit() -> str:
+    """The commit that the clone is at, with a `+` where files differ from it; `-` outside of a clone."""
+    done = subprocess.run(["git", "-C", TOP, "describe", "--always", "--dirty=+", "--abbrev=8"],
+                          capture_output=True, text=True, check=False)
+    return done.stdout.strip() or "-"
+
+
+def with_row(lines: List[str], cells: List[str]) -> List[str]:
+    """The page's lines with this row in the place of the one of its first cell, or after the last row of the table."""
+    row = "| " + " | ".join(cell.replace("|", "\\|").replace("\n", " ") for cell in cells) + " |"
+    firsts = [line.split(" | ")[0] for line in lines]
+    if row.split(" | ")[0] in firsts:
+        at = firsts.index(row.split(" | ")[0])
+        return [*lines[:at], row, *lines[at + 1:]]
+    end = max((at for at, line in enumerate(lines) if line.startswith("|")), default=len(lines) - 1) + 1
+    return [*lines[:end], row, *lines[end:]]
+
+
+def record(amount: str, found: str, part: str = "") -> None:
+    """Writes what the script that runs looked at, and what it found, into its row of the page. `part` is the option that
+    chooses what it does, where it has a row for each."""
+    today = datetime.datetime.now(datetime.timezone.utc).date().isoformat()
+    with open(PAGE, encoding="utf-8") as page:
+        lines = page.read().splitlines()
+    with open(PAGE + ".new", "w", encoding="utf-8") as page:
+        cells = [f"{name()} {part}".rstrip(), today, commit(), amount, found]
+        page.write("\n".join(with_row(lines, cells)) + "\n")
+    os.replace(PAGE + ".new", PAGE)
 
 
 def usage(head: Optional[str]) -> NoReturn:

@@ -15,11 +15,11 @@ LIB = os.path.realpath(os.path.join(os.path.dirname(os.path.realpath(__file__)),
 sys.path.insert(0, LIB)
 
 from crates import Crates  # noqa: E402
-from measured import MeasuredSession, best_of, first_records  # noqa: E402
 from random_lines import Unit, is_of_tools, numbers_of, script_of  # noqa: E402
-from record import with_row  # noqa: E402
-from script import Failed  # noqa: E402
-from session import Expect, Session, TimedRun, has_tool, program_at, timed, words_of  # noqa: E402
+from script import Failed, with_row  # noqa: E402
+from session import (  # noqa: E402
+    Expect, MeasuredSession, Session, TimedRun, best_of, first_records, has_tool, program_at, timed, words_of,
+)
 
 # Refuses `frob` and `mark`, warns of `warn`, ends at `end`, and prints all other lines.
 PROGRAM = r"""#!/bin/sh
