@@ -152,7 +152,7 @@ def carry_out(command: Command, way: Way, carrier: Carrier, is_whole: bool) -> i
                           + b"; nothing is touched") from error
         status = give_all(command, way, carrier, is_whole)
         if status != NOT_DONE:
-            plan_folder.drop_signals()
+            plan_folder.ignore_signals()
     return status
 
 

@@ -202,10 +202,10 @@ def signals_wait() -> Iterator[None]:
         signal.pthread_sigmask(signal.SIG_SETMASK, before)
 
 
-def drop_signals() -> None:
-    """Drops the signals that wait."""
-    while signal.sigtimedwait(SIGNALS, 0) is not None:
-        pass
+def ignore_signals() -> None:
+    """No signal ends the command from now on, nor does one that waits."""
+    for number in SIGNALS:
+        signal.signal(number, signal.SIG_IGN)
 
 
 def write_plan(target: Target, files: Dict[bytes, bytes], group: Optional[int]) -> Optional[bytes]:

@@ -11,7 +11,8 @@ from typing import Any, Callable, Dict, Set
 from common import Case, Done
 from real import RealCase
 
-from facl_commands import carrying, differences, lists, live, plan_folder, way  # noqa: E402
+from facl_commands import apply, carrying, differences, lists, live, plan_folder, way  # noqa: E402
+from facl_commands.messages import SIGNALS  # noqa: E402
 
 
 class Plans(Case):
@@ -252,6 +253,17 @@ class Meanwhile(Tree):
         finally:
             signal.sigwait({signal.SIGQUIT})
             signal.pthread_sigmask(signal.SIG_SETMASK, before)
+
+    def test_no_signal_is_the_status_of_what_is_done(self) -> None:
+        carrier = self.carrier(b"chmod 604 " + self.word("a"))
+        for number in SIGNALS:
+            self.addCleanup(signal.signal, number, signal.getsignal(number))
+        command = unittest.mock.Mock()
+        self.assertEqual(apply.carry_out(command, carrier.way, carrier, True), 0)
+        command.tell.assert_called_once_with(b"1 file is as planned")
+        for number in SIGNALS:
+            os.kill(os.getpid(), number)
+        self.assertEqual(self.mode("a"), 0o604)
 
 
 class SideBySide(Meanwhile):
