@@ -546,9 +546,5 @@ def main(kind: Type[Check], parts: Parts, document: Optional[str]) -> NoReturn:
         numbers = {part: getattr(given, part) for part in tried}
         amount = ", ".join(part if number == 1 else f"{part} {number:,}" for part, number in numbers.items())
         found = f"{len(faults)} faults, first: {faults[0]:.300}" if faults else "nothing"
-        summed: Counter[str] = Counter()
-        for name, number in counts:
-            summed[re.split(", status|: ", name)[0]] += number
-        counted = "; ".join(f"{number:,} {name}" for name, number in summed.items() if number)
-        script.record(f"{amount}: {counted}", found)
+        script.record(amount, found)
     sys.exit(1 if faults else 0)
