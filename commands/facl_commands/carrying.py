@@ -212,6 +212,7 @@ class Carrier:
         with Opener() as opener:
             for device in first.keys() - self.folders.keys():
                 fault_of(self.remember_folder_of, opener, first[device])
+                self.folders.setdefault(device, system.NO_DESCRIPTOR)  # Where its first file is not there now.
 
     def remember_folder_of(self, opener: Opener, path: bytes) -> None:
         file = opener.open(path)
