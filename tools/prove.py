@@ -1,19 +1,29 @@
 #!/usr/bin/env python3
-"""Proves the program of this repository, with every crate below it, and builds it.
+"""Proves the program of this repository, with every crate below it, and builds it; or the libraries for rt check.
 
 usage: tools/prove.py [--jobs N]
+       tools/prove.py [--jobs N] --libraries [CRATE]
 
-A crate is started once those that it depends on are proved, the one with the longest way to the program first, and at
-most N crates run at a time: as many as there are processors, and as memory has room for, unless N is given. Each is one
-check from nothing, as in `rt ci`, whose copies share its functions; the crates above read what it states. What was
-proved, and has not changed since, is not proved again (out/proved). The program is crates/facl_cli/out/facl_cli.
+A crate is started once those that it depends on are proved, the one with the longest way to the top first, and at most
+N crates run at a time: as many as there are processors, and as memory has room for, unless N is given. What was proved,
+and has not changed since, is not proved again.
+
+Without --libraries each crate is one check from nothing, as in `rt ci`, whose copies share its functions; the crates
+above read what it states. What is proved is kept in out/proved. The program is crates/facl_cli/out/facl_cli.
+
+With --libraries rt proves and builds what CRATE (facl_cli) uses, and CRATE, so that rt check can begin there at once: rt
+keeps it in the folder out of each crate, for its other commands too. rt locks the folder of a crate and of every crate
+below it, so two crates that depend on one could not be proved side by side. Each is therefore proved in a lane: a folder
+below out/ with hard links to the files of the crate and of those below it. Its kept work is moved there and back. The
+crates are locked meanwhile, as by rt.
 
 It prints to standard error what it starts, and after each crate how many of all are done and the minutes so far. What
-is printed of a crate goes to out/logs/. The exit status is 0 where the program is built, 1 where a crate is not proved,
-2 where the words are others, and 128 and the signal's number where it is interrupted; then no check runs on.
+is printed of a crate goes to out/logs/. The exit status is 0 where all is built, 1 where a crate is not proved, 2 where
+the words are others, and 128 and the signal's number where it is interrupted; then no check runs on, and no lane is left.
 """
 from __future__ import annotations
 
+import argparse
 import contextlib
 import functools
 import hashlib
@@ -21,31 +31,39 @@ import os
 import shutil
 import subprocess
 import sys
+import tempfile
 from typing import Dict, List, Set
 
 sys.dont_write_bytecode = True
 sys.path.insert(0, os.path.join(os.path.dirname(os.path.realpath(__file__)), "lib"))
 import script  # noqa: E402
-from crates import Crates, How, Run, SideBySide, files_of, folder_of, lock, with_jobs  # noqa: E402
+from crates import Crates, How, Run, SideBySide, files_of, folder_of, lock  # noqa: E402
 from script import TOP  # noqa: E402
 
 PROGRAM = "facl_cli"
 BUILT = folder_of(PROGRAM, "out", PROGRAM)
 TARGET = "x86_64-unknown-linux-gnu"
-KEPT = os.path.join(TOP, "out", "proved")
-# of a crate beside the one with the longest way: a check that is shared takes more processor time
-CHECKS_OF_OTHERS = 1
+OUT = os.path.join(TOP, "out")
+KEPT = os.path.join(OUT, "proved")
+GIGABYTES_A_CRATE = 4
+
+
+def rt() -> str:
+    path = shutil.which("rt")
+    if not path:
+        raise script.Failed("rt is not installed: README names the kit")
+    return path
+
+
+# --- the program
 
 
 class Kit:
     """The kit whose rt is installed."""
 
     def __init__(self) -> None:
-        rt = shutil.which("rt")
-        if not rt:
-            raise script.Failed("rt is not installed: README names the kit")
-        self.folder = os.path.dirname(os.path.dirname(os.path.realpath(rt)))
-        self.version = subprocess.run([rt, "version"], check=True, capture_output=True).stdout
+        self.folder = os.path.dirname(os.path.dirname(os.path.realpath(rt())))
+        self.version = subprocess.run([rt(), "version"], check=True, capture_output=True).stdout
 
     def __call__(self, *inner: str) -> str:
         return os.path.join(self.folder, *inner)
@@ -60,22 +78,18 @@ class Kept:
 
     def sums_now(self) -> Dict[str, str]:
         """For each crate a sum of the kit, of its files as they are now, and of those of all crates below it."""
-        sums: Dict[str, str] = {}
 
+        @functools.cache
         def sum_of(crate: str) -> str:
-            if crate not in sums:
-                found = hashlib.sha256(self.kit.version + self.crates.rows[crate].encode())
-                for path in files_of(crate):
-                    with open(path, "rb") as file:
-                        found.update(repr((os.path.relpath(path, TOP), file.read())).encode())
-                for used in self.crates.uses[crate]:
-                    found.update(sum_of(used).encode())
-                sums[crate] = found.hexdigest()
-            return sums[crate]
+            found = hashlib.sha256(self.kit.version + self.crates.rows[crate].encode())
+            for path in files_of(crate):
+                with open(path, "rb") as file:
+                    found.update(repr((os.path.relpath(path, TOP), file.read())).encode())
+            for used in self.crates.uses[crate]:
+                found.update(sum_of(used).encode())
+            return found.hexdigest()
 
-        for crate in self.crates.needed(PROGRAM):
-            sum_of(crate)
-        return sums
+        return {crate: sum_of(crate) for crate in self.crates.needed(PROGRAM)}
 
     def library(self, crate: str) -> str:
         return os.path.join(KEPT, crate + ".rlib")
@@ -156,8 +170,7 @@ def link(kit: Kit) -> None:
         raise script.Failed(f"the program is not linked: {ran.stdout}{ran.stderr}")
 
 
-def main() -> int:
-    jobs, crates = with_jobs(__doc__).parse_args().jobs, Crates()
+def build_program(crates: Crates, jobs: int) -> int:
     for folder in (KEPT, os.path.dirname(BUILT)):
         os.makedirs(folder, exist_ok=True)
     lock([KEPT])
@@ -165,13 +178,80 @@ def main() -> int:
     if kept.has(PROGRAM):
         return 0
     wanted = crates.needed(PROGRAM)
-    proof = SideBySide(crates, wanted, jobs, CHECKS_OF_OTHERS, functools.partial(Build, kept))
+    # A check that is shared takes more processor time: one where a crate with a longer way runs.
+    proof = SideBySide(crates, wanted, jobs, 1, functools.partial(Build, kept))
     proof.done = kept.all_of(wanted)
     if not proof.all_proved():
         return 1
     link(kept.kit)
     kept.note(PROGRAM)
     return 0
+
+
+# --- the libraries
+
+
+class Lane(Run):
+    """The proof of one crate by rt, in a folder of its own."""
+
+    def __init__(self, crates: Crates, lanes: str, crate: str, how: How) -> None:
+        self.top = os.path.join(lanes, crate)
+        self.folder = os.path.join(self.top, "crates", crate)
+        self.link(crates, crate)
+        if os.path.isdir(folder_of(crate, "out")):
+            os.rename(folder_of(crate, "out"), os.path.join(self.folder, "out"))
+        command = "run" if os.path.exists(folder_of(crate, "src", "main.rt")) else "lib"
+        try:
+            super().__init__(crate, how, ["rt", command, "--jobs", str(how.checks)], self.folder)
+        except BaseException:
+            self.move_back(crate)
+            raise
+
+    def link(self, crates: Crates, crate: str) -> None:
+        """Links the files of the crates that are needed, but not the crate's own kept work, which is moved."""
+        needed = crates.needed(crate)
+        for name in needed:
+            skipped = [folder_of(name)] if name == crate else []
+            shutil.copytree(folder_of(name), os.path.join(self.top, "crates", name), copy_function=os.link,
+                            ignore=lambda at, names, skipped=skipped: {"out"} if at in skipped else set())
+        with open(os.path.join(self.top, "crates.txt"), "w", encoding="utf-8") as rows:
+            rows.writelines(row + "\n" for name, row in crates.rows.items() if name in needed)
+
+    def move_back(self, crate: str) -> None:
+        """Moves the kept work back."""
+        out = os.path.join(self.folder, "out")
+        if os.path.isdir(out):
+            os.rename(out, folder_of(crate, "out"))
+
+    def end(self) -> None:
+        """Ends the check if it runs, moves the kept work back, and removes the lane."""
+        super().end()
+        self.move_back(self.crate)
+        shutil.rmtree(self.top)
+
+
+def build_libraries(crates: Crates, jobs: int, crate: str) -> int:
+    rt()
+    wanted = crates.needed(crate)
+    lock(map(folder_of, wanted))
+    os.makedirs(OUT, exist_ok=True)
+    with tempfile.TemporaryDirectory(prefix="lanes-", dir=OUT) as lanes:
+        return 0 if SideBySide(crates, wanted, jobs, 2, functools.partial(Lane, crates, lanes)).all_proved() else 1
+
+
+def main() -> int:
+    crates = Crates()
+    options = argparse.ArgumentParser(description=__doc__, formatter_class=argparse.RawDescriptionHelpFormatter)
+    gigabytes = os.sysconf("SC_PAGE_SIZE") * os.sysconf("SC_PHYS_PAGES") >> 30
+    room = max(1, min(len(os.sched_getaffinity(0)), gigabytes // GIGABYTES_A_CRATE))
+    options.add_argument("--jobs", type=int, default=room, metavar="N")
+    options.add_argument("--libraries", nargs="?", const=PROGRAM, choices=crates.uses, metavar="CRATE")
+    given = options.parse_args()
+    if given.jobs < 1:
+        options.error("--jobs: takes a number from 1 on")
+    if given.libraries:
+        return build_libraries(crates, given.jobs, given.libraries)
+    return build_program(crates, given.jobs)
 
 
 if __name__ == "__main__":

@@ -2,14 +2,15 @@
 longest way to the top first."""
 from __future__ import annotations
 
-import argparse
 import contextlib
 import fcntl
+import functools
 import os
 import signal
 import subprocess
 import sys
 import time
+from pathlib import Path
 from types import FrameType
 from typing import Callable, Dict, Iterable, Iterator, List, NamedTuple, Optional, Set, Tuple
 
@@ -18,7 +19,6 @@ from script import TOP, say
 
 LOGS = os.path.join(TOP, "out", "logs")
 PARTS = ("src", "specs", "proofs")
-GIGABYTES_A_CRATE = 4
 
 
 class Crates:
@@ -52,22 +52,6 @@ def folder_of(crate: str, *inner: str) -> str:
     return os.path.join(TOP, "crates", crate, *inner)
 
 
-def number(text: str) -> int:
-    if not text.isdigit() or not int(text):
-        raise argparse.ArgumentTypeError("takes a number from 1 on")
-    return int(text)
-
-
-def with_jobs(head: Optional[str]) -> argparse.ArgumentParser:
-    """The options of a script that proves crates: how many side by side, as many as there are processors and as memory
-    has room for unless it is given."""
-    gigabytes = os.sysconf("SC_PAGE_SIZE") * os.sysconf("SC_PHYS_PAGES") >> 30
-    free = max(1, min(len(os.sched_getaffinity(0)), gigabytes // GIGABYTES_A_CRATE))
-    options = argparse.ArgumentParser(description=head, formatter_class=argparse.RawDescriptionHelpFormatter)
-    options.add_argument("--jobs", type=number, default=free, metavar="N")
-    return options
-
-
 def lock(folders: Iterable[str]) -> None:
     """Waits until no other run works in these folders, and keeps others out until the process ends."""
     for folder in sorted(os.path.realpath(folder) for folder in folders):
@@ -91,29 +75,15 @@ def files_of(crate: str) -> Iterator[str]:
             yield from (os.path.join(at, name) for name in sorted(names))
 
 
-def source_lines(crate: str) -> int:
-    """How many lines the check of a crate reads: a guess at its time."""
-    total = 0
-    for path in files_of(crate):
-        with open(path, "rb") as text:
-            total += text.read().count(b"\n")
-    return total
-
-
 def ways_up(uses: Dict[str, List[str]], wanted: Set[str]) -> Dict[str, int]:
-    """For each crate the most lines that one way from it to the top has."""
-    lines = {crate: source_lines(crate) for crate in wanted}
-    ways: Dict[str, int] = {}
+    """For each crate the most lines that one way from it to the top has, which its time is guessed by."""
 
+    @functools.cache
     def way_up(crate: str) -> int:
-        if crate not in ways:
-            above = [other for other in wanted if crate in uses[other]]
-            ways[crate] = lines[crate] + max(map(way_up, above), default=0)
-        return ways[crate]
+        above = (way_up(other) for other in wanted if crate in uses[other])
+        return sum(Path(path).read_bytes().count(b"\n") for path in files_of(crate)) + max(above, default=0)
 
-    for crate in wanted:
-        way_up(crate)
-    return ways
+    return {crate: way_up(crate) for crate in wanted}
 
 
 def members(session: int) -> Iterator[int]:
