@@ -2,6 +2,7 @@
 """Measures the program and the commands, and prints tables in Markdown.
 
 usage: tools/bench/bench.py MEASUREMENT PROGRAM [FOLDER] [--files N,..] [--users N] [--runs N] [--only NAME,..]
+       tools/bench/bench.py tree [--files N] [--users N]
 
   tools    each tool on the trees of tools/lib/texts.py (10000,100000,1000000 files, 1000 users, 3 runs)
   index    the index of who may do what on files of few and of different labels, --only one of these (100000 files, 1000
@@ -13,12 +14,15 @@ usage: tools/bench/bench.py MEASUREMENT PROGRAM [FOLDER] [--files N,..] [--users
   dump     the dump of a real FOLDER by `getfacl -R -p`, loaded, listed, and compared record by record (3 runs)
   live     as root, facl-snapshot, facl-plan and facl-apply beside getfacl and setfacl on a tree that is made in FOLDER,
            --only some of these steps, with those before them (100000 files, 30 users, 3 runs)
+  tree     commands at the tree and the people alone, below the index and the tools, by a program of its own
+           (tree_bench.rt.txt): it is proved and built in a temporary folder, over copies of the crates below acl_tree
+           (100000 files, 1000 users, one run; the median of four hundred `creat`, `rm` and `gpasswd`)
 
 FOLDER is that of temporary files where it may be left out; what is made in it is removed. Times are processor time, the
 best of the runs, as the most memory is the least; those of `live` are by the clock, the median of the runs. Standard
 error has how busy the machine is. What is aimed at is for 1,000,000 files and 1,000 users. FILES are from 102 on, USERS
 from 10 on. The exit status is 1 where the program refuses a line, another command fails, or a record of `dump` differs,
-2 where the words are others, a real tool is not installed, or `live` is not run as root.
+2 where the words are others, a tool is not installed, or `live` is not run as root.
 """
 from __future__ import annotations
 
@@ -27,18 +31,19 @@ import os
 import re
 import shutil
 import statistics
-import struct
 import subprocess
 import sys
 import tempfile
 import time
+from pathlib import Path
 from typing import Callable, Dict, Iterable, List, NamedTuple, Optional, Tuple
 
 sys.dont_write_bytecode = True
 sys.path.insert(0, os.path.join(os.path.dirname(os.path.realpath(__file__)), "..", "lib"))
-from texts import PER_DIRECTORY, record, text_file, write_people, write_tree  # noqa: E402
+from crates import Crates, folder_of  # noqa: E402
 from script import TOP, Failed, run, say  # noqa: E402
 from session import MeasuredSession, best_of, first_records, program_at, write_system_people  # noqa: E402
+from texts import PER_DIRECTORY, attribute, record, text_file, write_people, write_tree  # noqa: E402
 
 # At most so many records of a dump are restored, since the bytes of a script are limited.
 MAX_RESTORED = 100_000
@@ -181,10 +186,6 @@ def measure_tools(given: Words) -> int:
     names = dict.fromkeys(name for best in columns for name in best)
     print_table([f"{given.users:,} users", *(f"{files:,} files" for files in given.files)],
                 {name: [shown(name, best[name]) if name in best else "" for best in columns] for name in names})
-    files, best = given.files[-1], columns[-1]
-    share = best["`chmod -R .`, a file"] * files / best["`chmod` of one file"]
-    print(f"\nA `chmod` of one file among {files:,} takes 1/{share:,.0f} of the time of a `chmod -R` of them all.")
-    print("At most 1/2,000 is aimed at among 1,000,000.")
     return 0
 
 
@@ -390,7 +391,6 @@ def measure_dump(given: Words) -> int:
 
 FIRST_ID = 70_000  # Of the users, each of whom has a group of the same id, and of guest, who is the first.
 MODES = (0o600, 0o640, 0o644, 0o755)
-LIST_ATTRIBUTE, NO_ID = "system.posix_acl_access", 0xFFFFFFFF
 SYSTEM_TOOLS = ("getfacl -R -n", "setfacl --restore")
 
 
@@ -406,12 +406,6 @@ def write_live_people(folder: str, users: int) -> None:
     os.chmod(f"{folder}/getent", 0o755)
 
 
-def list_bytes(user: int) -> bytes:
-    """The attribute of a list with a named user: version 2, and for each entry its kind, permissions and id."""
-    rows = [(1, 6, NO_ID), (2, 4, user), (4, 4, NO_ID), (16, 4, NO_ID), (32, 0, NO_ID)]
-    return struct.pack("<I", 2) + b"".join(struct.pack("<HHI", *row) for row in rows)
-
-
 def make_live_tree(folder: str, files: int, users: int) -> None:
     """Directories of a thousand files, which are of all users but guest; every tenth file has a named user."""
     os.mkdir(f"{folder}/srv", 0o755)
@@ -425,7 +419,8 @@ def make_live_tree(folder: str, files: int, users: int) -> None:
         os.chown(name, owner, owner)
         os.chmod(name, MODES[number % len(MODES)])
         if number % 10 == 0:
-            os.setxattr(name, LIST_ATTRIBUTE, list_bytes(FIRST_ID + 1 + number // 10 % (users - 1)))
+            named = attribute(5, FIRST_ID + 1 + number // 10 % (users - 1))
+            os.setxattr(name, "system.posix_acl_access", bytes.fromhex(named))
 
 
 def live_steps(folder: str, number: int) -> Dict[str, List[str]]:
@@ -468,8 +463,52 @@ def measure_live(given: Words) -> int:
     return 0
 
 
+# The tree and the people alone.
+
+TREE_BENCH = "tree_bench"
+TREE_USES = ["acl_dump", "acl_edit", "acl_names", "acl_people", "acl_syntax", "acl_tree"]
+
+
+def build_tree_bench(room: str) -> str:
+    """Copies the crates that the program is made of, with what is proved of them, proves and builds it; its path."""
+    crates = Crates()
+    needed = set().union(*map(crates.needed, TREE_USES))
+    for crate in needed:
+        shutil.copytree(folder_of(crate), os.path.join(room, "crates", crate))
+    folder = os.path.join(room, "crates", TREE_BENCH)
+    os.makedirs(os.path.join(folder, "src"))
+    shutil.copy(os.path.join(TOP, "tools", "bench", TREE_BENCH + ".rt.txt"), os.path.join(folder, "src", "main.rt"))
+    rows = [row for crate, row in crates.rows.items() if crate in needed] + [f"{TREE_BENCH}: {' '.join(TREE_USES)}"]
+    Path(room, "crates.txt").write_text("\n".join(rows) + "\n", encoding="utf-8")
+    done = subprocess.run(["rt", "run"], cwd=folder, stdin=subprocess.DEVNULL, capture_output=True, check=False)
+    program = os.path.join(folder, "out", TREE_BENCH)
+    if not os.path.exists(program):
+        raise Failed("the program is not built: " + (done.stdout + done.stderr).decode(errors="replace")[-2000:])
+    return program
+
+
+def measure_tree(given: Words) -> int:
+    """Restores the dump that was loaded, and one with another permission in each list; then edits."""
+    files = given.files[-1]
+    with tempfile.TemporaryDirectory(prefix="facl-bench.") as room:
+        program = build_tree_bench(room)
+        write_tree(room, files, given.users)
+        text = Path(room, "dump").read_text(encoding="utf-8")
+        Path(room, "changed").write_text(re.sub(r"^(user:u\d+:)rw-$", r"\1--x", text, flags=re.M), encoding="utf-8")
+        spent([program, "passwd", "group", "dump", "dump", "changed"], room, f"{room}/times")
+        printed = re.findall(r"^(.+): (\d+) ns", Path(room, "times").read_text(encoding="utf-8"), re.M)
+    times = {name: [int(time) / 1e9 for its, time in printed if its == name] for name in dict(printed)}
+    rows = {"load, a file": times["load"][0] / files, "`setfacl -R -m`, a file": times["edit"][0] / files}
+    for at, what in enumerate(("that changes nothing", "of changed lists")):
+        rows[f"restore {what}, a record"] = times["restore"][at] / files
+        rows[f"the text of a restore {what}, a record"] = times["read"][at] / files
+    rows.update({f"`{name}`": statistics.median(times[name]) for name in ("creat", "rm", "gpasswd -a", "gpasswd -d")})
+    print_table([f"{files:,} files, {given.users:,} users", ""], {name: [shown("", it)] for name, it in rows.items()})
+    return 0
+
+
 class Measurement(NamedTuple):
-    """The sizes of a tree and the runs where none are given, and the real tools that are needed."""
+    """The sizes of a tree and the runs where none are given, the tools that are needed, and the names of --only."""
 
     measure: Callable[[Words], int]
     files: List[int]
@@ -486,6 +525,7 @@ MEASUREMENTS = {
     "real": Measurement(measure_real, [100_000], 100, 3, ("getfacl", "setfacl")),
     "dump": Measurement(measure_dump, [102], 10, 3, ("getfacl",)),
     "live": Measurement(measure_live, [100_000], 30, 3, ("getfacl", "setfacl"), live_steps("", 0)),
+    "tree": Measurement(measure_tree, [100_000], 1_000, 1, ("rt",)),
 }
 
 
@@ -493,35 +533,33 @@ def words() -> Words:
     """The words of the call."""
     options = argparse.ArgumentParser(description=__doc__, formatter_class=argparse.RawDescriptionHelpFormatter)
     options.add_argument("measurement", choices=MEASUREMENTS)
-    options.add_argument("program", type=program_at)
+    options.add_argument("program", type=program_at, nargs="?")
     options.add_argument("folder", nargs="?")
     options.add_argument("--files", type=lambda text: [int(number) for number in text.split(",")])
     options.add_argument("--users", type=int)
     options.add_argument("--runs", type=int)
     options.add_argument("--only", type=lambda text: text.split(","), default=[])
     given = options.parse_args()
-    chosen = MEASUREMENTS[given.measurement]
+    kind, chosen = given.measurement, MEASUREMENTS[given.measurement]
     given.files = given.files or chosen.files
     given.users, given.runs = given.users or chosen.users, given.runs or chosen.runs
-    if min(given.files) < PER_DIRECTORY + 2 or given.users < 10 or given.runs < 1:
-        options.error("FILES from 102 on, USERS from 10 on, RUNS from 1 on")
-    if len(given.files) > 1 and given.measurement != "tools":
-        options.error("several FILES are of `tools` alone")
-    if set(given.only) - set(chosen.only):
-        options.error(f"--only: {given.measurement} has {', '.join(chosen.only) or 'no names'}")
-    if given.measurement == "dump" and not given.folder:
-        options.error("dump: a FOLDER is missing")
-    if given.measurement == "live" and os.geteuid() != 0:
-        options.error("live: run it as root")
+    missing = [tool for tool in chosen.needs if not shutil.which(tool)]
+    for is_so, text in (
+            (missing, f"not installed: {', '.join(missing)}"),
+            ((kind == "tree") == bool(given.program), "a PROGRAM, but for tree"),
+            (kind == "dump" and not given.folder, "a FOLDER is missing"),
+            (kind == "live" and os.geteuid() != 0, "run it as root"),
+            (min(given.files) < PER_DIRECTORY + 2 or given.users < 10 or given.runs < 1,
+             "FILES from 102 on, USERS from 10 on, RUNS from 1 on"),
+            (len(given.files) > 1 and kind != "tools", "several FILES are of `tools` alone"),
+            (set(given.only) - set(chosen.only), f"--only: one of {', '.join(chosen.only) or 'no names'}")):
+        if is_so:
+            options.error(f"{kind}: {text}")
     return given
 
 
 def main() -> int:
     given = words()
-    missing = [tool for tool in MEASUREMENTS[given.measurement].needs if not shutil.which(tool)]
-    if missing:
-        say(f"{' and '.join(missing)} of the Debian package acl: not installed")
-        return 2
     say("load of the machine: %.1f, %.1f and %.1f in the last 1, 5 and 15 minutes" % os.getloadavg())
     return MEASUREMENTS[given.measurement].measure(given)
 
