@@ -37,8 +37,8 @@ while [ $# -gt 0 ]; do
         action=uninstall
         shift
         ;;
-    --help) show_head ;;
-    -*) usage ;;
+    --help) show_head 0 ;;
+    -*) show_head 2 >&2 ;;
     *) break ;;
     esac
 done
@@ -57,9 +57,9 @@ uninstall() {
 
 # check_parts: what has to be there before anything is written
 check_parts() {
-    { [ -f "$program" ] && [ -x "$program" ]; } || fail "$program: no such program: tools/prove.py proves and builds it"
+    check_program "$program"
     if [ -e "$to/lib/facl" ] && [ ! -d "$to/lib/facl/facl_commands" ]; then fail "$to/lib/facl: is there, and is not ours"; fi
-    mkdir -p -- "$to/bin" "$to/lib" "$to/share/man/man1" || fail "$prefix: cannot be written: run it as root, or give a PREFIX"
+    mkdir -p -- "$to/bin" "$to/lib" "$to/share/man/man1" || true
     { [ -w "$to/bin" ] && [ -w "$to/lib" ] && [ -w "$to/share/man/man1" ]; } ||
         fail "$prefix: cannot be written: run it as root, or give a PREFIX"
 }

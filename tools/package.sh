@@ -20,8 +20,8 @@ while [ $# -gt 0 ]; do
         program=$(realpath -- "$2")
         shift 2
         ;;
-    --help) show_head ;;
-    -*) usage ;;
+    --help) show_head 0 ;;
+    -*) show_head 2 >&2 ;;
     *) break ;;
     esac
 done
@@ -46,7 +46,7 @@ else
     origin="The program was proved and built at commit $commit."
 fi
 
-make_work "${TMPDIR:-/tmp}"
+make_work
 root=$work/root
 mkdir "$root"
 chmod 755 "$root"

@@ -11,12 +11,11 @@ set -eu
 top=$(cd "$(dirname "$0")/.." && pwd)
 # shellcheck source=tools/lib/program.sh
 . "$top/tools/lib/program.sh"
-note="$script_name: unproved, at most 60 s and 1 MiB of output;"
 
 # add_text OPTION FILE: one of the texts that the program loads
 add_text() {
-    case $1 in --passwd | --group | --dump) ;; *) usage ;; esac
-    [ -n "$2" ] || usage
+    case $1 in --passwd | --group | --dump) ;; *) show_head 2 >&2 ;; esac
+    [ -n "$2" ] || show_head 2 >&2
     { [ -f "$2" ] && [ -r "$2" ]; } || fail "$2: cannot read"
     ln -s "$(realpath -- "$2")" "$work/${1#--}" 2>/dev/null || fail "$1 twice"
 }
@@ -34,41 +33,25 @@ read_session() {
     [ ! -t 0 ] || echo "$script_name: the script is read from standard input" >&2
     exec 3<&0
     cat <&3 >"$work/script" &
-    child=$!
-    wait "$child"
-    child=
+    wait_for_child
 }
 
-# start_rt: starts the program; its output goes to out, and its messages to err with what rt prints
-start_rt() {
+# run_rt: runs the program; its output goes to out, and its messages to err with what rt prints
+run_rt() {
     set -- --
     for text in passwd group dump; do
         [ ! -e "$work/$text" ] || set -- --data "$text=$work/$text" "$@" "--$text" "$text"
     done
+    echo "$script_name: unproved, at most 60 s and 1 MiB of output; some 100 s" >&2
     # In a session of its own: Ctrl-C at a terminal ends this script alone, which then ends rt with all that it started.
     (cd "$top/crates/facl_cli" && exec setsid rt try --seconds 60 "$@") <"$work/script" >"$work/out" 2>"$work/err" &
-    child=$!
-}
-
-# wait_for_rt: until rt has ended, with the seconds so far where standard error is a terminal
-wait_for_rt() {
-    seconds=0
-    [ -t 2 ] || echo "$note some 100 s" >&2
-    while kill -0 "$child" 2>/dev/null; do
-        [ ! -t 2 ] || printf '\r%s %d of some 100 s' "$note" $seconds >&2
-        sleep 1
-        seconds=$((seconds + 1))
-    done
-    [ ! -t 2 ] || echo >&2
-    wait "$child" || true
-    child=
+    wait_for_child || true
 }
 
 command -v rt >/dev/null || fail "rt is not installed: README names the kit"
-make_work "${TMPDIR:-/tmp}"
+make_work
 read_session "$@"
-start_rt
-wait_for_rt
+run_rt
 
 # rt's own lines come after the program's, which start with a line's number or the program's name.
 status=$(sed -n 's/^run=ended status=\([0-9]*\) .*/\1/p' "$work/err")

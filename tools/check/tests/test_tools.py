@@ -291,7 +291,7 @@ def main():
         time.sleep(60)
 script.run(main)
 """
-SHELL = f"""top={LIB}/../..; . "$top/tools/lib/program.sh"; make_work "${{TMPDIR:-/tmp}}"
+SHELL = f"""top={LIB}/../..; . "$top/tools/lib/program.sh"; make_work
 sleep 60 & child=$!; echo "$work $child"; wait "$child"
 """
 
