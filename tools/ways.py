@@ -14,6 +14,7 @@ status is 1 where a crate has more ways than that, or a longer chain than MAX_CH
 """
 from __future__ import annotations
 
+import argparse
 import functools
 import os
 import sys
@@ -22,7 +23,7 @@ from typing import Dict, Tuple
 sys.dont_write_bytecode = True
 sys.path.insert(0, os.path.join(os.path.dirname(os.path.realpath(__file__)), "lib"))
 import script  # noqa: E402
-from crates import Crates  # noqa: E402
+from crates import ROWS, Crates  # noqa: E402
 
 PROGRAM = "facl_cli"
 MAX_WAYS = 100
@@ -44,9 +45,9 @@ def counts(crates: Crates) -> Dict[str, Tuple[int, int]]:
 
 
 def main() -> int:
-    if any(word.startswith("-") for word in sys.argv[1:]) or len(sys.argv) > 2:
-        script.usage(__doc__)
-    crates = Crates(*sys.argv[1:])
+    options = argparse.ArgumentParser(description=__doc__, formatter_class=argparse.RawDescriptionHelpFormatter)
+    options.add_argument("rows", nargs="?", default=ROWS, metavar="CRATES.TXT")
+    crates = Crates(options.parse_args().rows)
     program = crates.needed(PROGRAM)
     too_many = []
     print(f"{'crate':20} lists below chain  ways")

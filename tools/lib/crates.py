@@ -17,6 +17,7 @@ from typing import Callable, Dict, Iterable, Iterator, List, NamedTuple, Optiona
 import script
 from script import TOP, say
 
+ROWS = os.path.join(TOP, "crates.txt")
 LOGS = os.path.join(TOP, "out", "logs")
 PARTS = ("src", "specs", "proofs")
 
@@ -24,7 +25,7 @@ PARTS = ("src", "specs", "proofs")
 class Crates:
     """The rows of crates.txt. `listed` has for each crate all that its row lists, `uses` those of this repository."""
 
-    def __init__(self, path: str = os.path.join(TOP, "crates.txt")) -> None:
+    def __init__(self, path: str = ROWS) -> None:
         self.rows: Dict[str, str] = {}
         self.listed: Dict[str, Set[str]] = {}
         with open(path, encoding="utf-8") as lines:
@@ -107,12 +108,6 @@ def end_session(session: int) -> None:
         time.sleep(0.05)
 
 
-def lower_priority(session: int, nice: int) -> None:
-    """Lowers the priority of a session: a kernel that shares processors between sessions counts nice within each."""
-    with contextlib.suppress(OSError), open(f"/proc/{session}/autogroup", "w", encoding="ascii") as group:
-        group.write(str(nice))
-
-
 class How(NamedTuple):
     """How many checks of a crate run side by side, and with what priority (nice)."""
 
@@ -127,14 +122,12 @@ class Run:
         self.crate = crate
         with open(log_of(crate), "wb") as out:
             self.program = subprocess.Popen(
-                ["nice", "-n", str(how.nice), *words],
-                cwd=folder,
-                stdin=subprocess.DEVNULL,
-                stdout=out,
-                stderr=subprocess.STDOUT,
-                start_new_session=True,
-            )
-        lower_priority(self.program.pid, how.nice)
+                ["nice", "-n", str(how.nice), *words], cwd=folder, stdin=subprocess.DEVNULL, stdout=out,
+                stderr=subprocess.STDOUT, start_new_session=True)
+        # A kernel that shares processors between sessions counts nice within each.
+        group = Path(f"/proc/{self.program.pid}/autogroup")
+        with contextlib.suppress(OSError):
+            group.write_text(str(how.nice), encoding="ascii")
 
     def end(self) -> None:
         """Ends the program if it runs, with all that it started."""
@@ -145,50 +138,43 @@ class Run:
 class SideBySide:
     """The crates that are to be proved, and how far they are."""
 
-    def __init__(
-        self, crates: Crates, wanted: Set[str], jobs: int, checks_of_others: int, start: Callable[[str, How], Run]
-    ) -> None:
+    def __init__(self, crates: Crates, wanted: Set[str], jobs: int, checks_of_others: int,
+                 start: Callable[[str, How], Run]) -> None:
         self.crates, self.wanted, self.start = crates, wanted, start
         self.jobs, self.checks_of_others = jobs, checks_of_others
         self.ways = ways_up(crates.uses, wanted)
         self.began = time.monotonic()
         self.done: Set[str] = set()
         self.running: List[Run] = []
-        self.signal = 0
+        self.signal, self.said = 0, ""
         say(f"{len(wanted)} crates, at most {jobs} at a time")
 
     def note(self, number: int, _: Optional[FrameType]) -> None:
         """Notes an interruption, so that it never comes between two steps that belong together."""
         self.signal = number
 
-    def ready(self) -> List[str]:
-        """The crates that wait for no other, the one with the longest way first."""
-        busy = {run.crate for run in self.running} | self.done
-        found = [crate for crate in self.wanted - busy if self.done.issuperset(self.crates.uses[crate])]
-        return sorted(found, key=lambda crate: self.ways[crate], reverse=True)
-
     def how(self, crate: str) -> How:
         """All checks where no crate that runs has a longer way, else those of others, and a lower priority for each."""
         longer = sum(self.ways[run.crate] > self.ways[crate] for run in self.running)
         return How(min(self.jobs, self.checks_of_others) if longer else self.jobs, 5 * longer)
 
-    def start_ready(self) -> int:
-        """Starts as many crates as there is room for. Returns how many."""
-        started = self.ready()[: self.jobs - len(self.running)]
-        for crate in started:
+    def start_ready(self) -> None:
+        """Starts as many of the crates that wait for no other as there is room for, the longest way first."""
+        busy = {run.crate for run in self.running} | self.done
+        ready = [crate for crate in self.wanted - busy if self.done.issuperset(self.crates.uses[crate])]
+        ready.sort(key=lambda crate: self.ways[crate], reverse=True)
+        for crate in ready[:self.jobs - len(self.running)]:
             self.running.append(self.start(crate, self.how(crate)))
-        return len(started)
 
-    def take_finished(self) -> Tuple[int, Optional[str]]:
-        """Takes the crates whose checks ended. Returns how many, and the first that is not proved, if there is one."""
-        ended = [run for run in self.running if run.program.poll() is not None]
-        for run in ended:
+    def take_finished(self) -> Optional[str]:
+        """Takes the crates whose checks ended. Returns the first that is not proved, if there is one."""
+        for run in [run for run in self.running if run.program.poll() is not None]:
             self.running.remove(run)
             run.end()
             if run.program.returncode != 0:
-                return len(ended), run.crate
+                return run.crate
             self.done.add(run.crate)
-        return len(ended), None
+        return None
 
     def end_all(self) -> None:
         """Ends the checks that run; a fault of one does not leave the others."""
@@ -197,21 +183,23 @@ class SideBySide:
                 stack.callback(run.end)
 
     def report(self) -> None:
-        minutes = (time.monotonic() - self.began) / 60
+        """Says how far the crates are, where that is another than it was."""
         at = ", ".join(run.crate for run in self.running) or "end"
-        say(f"{len(self.done)} of {len(self.wanted)} crates proved, {minutes:.1f} min; at {at}")
+        if at != self.said:
+            minutes = (time.monotonic() - self.began) / 60
+            say(f"{len(self.done)} of {len(self.wanted)} crates proved, {minutes:.1f} min; at {at}")
+        self.said = at
 
     def all_proved(self) -> bool:
         """Proves all crates. Returns whether they are; else the end of what was printed of one that is not is shown."""
         os.makedirs(LOGS, exist_ok=True)
         script.at_signals(self.note)
-        ended = 0
         try:
             while len(self.done) < len(self.wanted):
-                if self.start_ready() or ended:
-                    self.report()
+                self.start_ready()
+                self.report()
                 time.sleep(0.2)
-                ended, faulty = self.take_finished()
+                faulty = self.take_finished()
                 if faulty:
                     self.show_end(faulty)
                     return False

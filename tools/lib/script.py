@@ -73,12 +73,6 @@ def record(amount: str, found: str, part: str = "") -> None:
     os.replace(PAGE + ".new", PAGE)
 
 
-def usage(head: Optional[str]) -> NoReturn:
-    """Ends a script that was called with other words than its head has."""
-    print(head, file=sys.stderr)
-    sys.exit(2)
-
-
 def run(main: Callable[[], int]) -> NoReturn:
     """Runs a script, which ends with the status that `main` returns, or with 1 and a line where it fails. A signal raises
     SystemExit in it, so that folders are removed and programs are ended."""
