@@ -1,19 +1,18 @@
 #!/usr/bin/env python3
 """Measures the program and the commands, and prints tables in Markdown.
 
-usage: tools/bench/bench.py MEASUREMENT PROGRAM [FOLDER] [--files N,..] [--users N] [--runs N] [--only NAME,..]
+usage: tools/bench/bench.py MEASUREMENT PROGRAM [FOLDER] [--files N,..] [--users N] [--runs N]
        tools/bench/bench.py tree [--files N] [--users N]
 
   tools    each tool on the trees of tools/lib/texts.py (10000,100000,1000000 files, 1000 users, 3 runs)
-  index    the index of who may do what on files of few and of different labels, --only one of these (100000 files, 1000
-           users, 2 runs)
+  index    the index of who may do what on files of few and of different labels (100000 files, 1000 users, 2 runs)
   limits   a line of each kind on as many files and users as can be, 1048576 and 65536, of 1000 labels (1 run); it takes
            14 GB of memory, most for the last line, after which what is reached at all files is made again
   real     the program beside getfacl(1), setfacl(1), chmod(1), touch(1) and rm(1) on one tree, whose real files are
            made in FOLDER, which has to take lists (100000 files, 100 users, 3 runs)
   dump     the dump of a real FOLDER by `getfacl -R -p`, loaded, listed, and compared record by record (3 runs)
-  live     as root, facl-snapshot, facl-plan and facl-apply beside getfacl and setfacl on a tree that is made in FOLDER,
-           --only some of these steps, with those before them (100000 files, 30 users, 3 runs)
+  live     as root, facl-snapshot, facl-plan and facl-apply beside getfacl and setfacl on a tree that is made in FOLDER
+           (100000 files, 30 users, 3 runs)
   tree     commands at the tree and the people alone, below the index and the tools, by a program of its own
            (tree_bench.rt.txt): it is proved and built in a temporary folder, over copies of the crates below acl_tree
            (100000 files, 1000 users, one run; the median of four hundred `creat`, `rm` and `gpasswd`)
@@ -36,7 +35,7 @@ import sys
 import tempfile
 import time
 from pathlib import Path
-from typing import Callable, Dict, Iterable, List, NamedTuple, Optional, Tuple
+from typing import Callable, Dict, Iterable, List, Mapping, NamedTuple, Optional, Tuple, Union
 
 sys.dont_write_bytecode = True
 sys.path.insert(0, os.path.join(os.path.dirname(os.path.realpath(__file__)), "..", "lib"))
@@ -51,8 +50,6 @@ Words = argparse.Namespace
 Figures = Dict[str, float]
 NumberOf = Callable[[int], int]  # The number of a file's label, by the file's own number.
 LOAD, LOAD_BYTES = "load, a file", "most bytes a file of the load"
-# The whole index is printed where it has at most so many lines: they are composed in memory.
-MAX_PAIRS = 20_000_000
 
 
 # What is printed.
@@ -69,10 +66,13 @@ def shown(name: str, value: float) -> str:
     return f"{value / 1e-9:.1f} ns"
 
 
-def print_table(heads: List[str], rows: Dict[str, List[str]]) -> None:
-    print("| " + " | ".join(heads) + " |\n|" + "---|" * len(heads))
-    for name, cells in rows.items():
-        print("| " + " | ".join([name, *cells]) + " |", flush=True)
+def print_table(head: str, columns: Mapping[str, Mapping[str, Union[str, float]]]) -> None:
+    """Columns of figures and texts by the names of their rows."""
+    print("| " + " | ".join([head, *columns]) + " |\n|---" + "|---" * len(columns) + "|")
+    for name in dict.fromkeys(name for column in columns.values() for name in column):
+        cells = (column.get(name, "") for column in columns.values())
+        texts = (cell if isinstance(cell, str) else shown(name, cell) for cell in cells)
+        print("| " + " | ".join([name, *texts]) + " |", flush=True)
 
 
 # The program on trees that are made.
@@ -163,8 +163,6 @@ def session_times(program: str, tree: Tree, steps: Iterable[Step]) -> Figures:
             found[step.name] = session.answer(step.lines(tree)) / step.parts(tree)
         found["most bytes a file of the session"] = session.most_memory() / tree.files
         found["bytes a file at its end"] = session.present_memory() / tree.files
-        if tree.files * tree.users <= MAX_PAIRS:
-            found["`index`, a file and user"] = session.answer(["index"]) / tree.files / tree.users
         session.end()
     return found
 
@@ -182,10 +180,9 @@ def best_times(given: Words, tree: Tree, steps: Iterable[Step], number_of: Optio
 
 
 def measure_tools(given: Words) -> int:
-    columns = [best_times(given, Tree("", files, given.users, 1_000, 10), OF_TOOLS) for files in given.files]
-    names = dict.fromkeys(name for best in columns for name in best)
-    print_table([f"{given.users:,} users", *(f"{files:,} files" for files in given.files)],
-                {name: [shown(name, best[name]) if name in best else "" for best in columns] for name in names})
+    print_table(f"{given.users:,} users", {
+        f"{files:,} files": best_times(given, Tree("", files, given.users, 1_000, 10), OF_TOOLS)
+        for files in given.files})
     return 0
 
 
@@ -221,24 +218,22 @@ def write_labels(folder: str, files: int, users: int, number_of: NumberOf) -> No
 
 
 def measure_index(given: Words) -> int:
-    tree, kinds = Tree("", given.files[-1], given.users, 200, 4), given.only or list(NUMBER_OF)
-    columns = {kind: best_times(given, tree, OF_INDEX, NUMBER_OF[kind]) for kind in kinds}
-    aims = {kind: {step.name: getattr(step, kind) for step in (*OF_LOAD, *OF_INDEX)} for kind in kinds}
-    heads = [head for kind in kinds for head in (f"{kind} labels", "aimed at")]
-    print_table([f"{tree.files:,} files, {tree.users:,} users", *heads],
-                {name: [cell for kind in kinds for cell in (shown(name, columns[kind][name]), aims[kind].get(name, ""))]
-                 for name in columns[kinds[0]]})
+    tree, columns = Tree("", given.files[-1], given.users, 200, 4), {}
+    for kind, number_of in NUMBER_OF.items():
+        columns[f"{kind} labels"] = best_times(given, tree, OF_INDEX, number_of)
+        columns[f"aimed at: {kind}"] = {step.name: getattr(step, kind) for step in (*OF_LOAD, *OF_INDEX)}
+    print_table(f"{tree.files:,} files, {tree.users:,} users", columns)
     return 0
 
 
 def measure_limits(given: Words) -> int:
     files, users = given.files[-1], given.users
     best = best_times(given, Tree("", files, users, 1, 1), OF_LIMITS, lambda n: n % LABELS)
-    rows = {"load, and one `who`": [shown("", best[LOAD] * files + best["`who`"]), "10 s"],
-            "most memory of the load": [shown("memory", best[LOAD_BYTES] * files), "1.5 GB"]}
-    rows.update({step.name: [shown(step.name, best[step.name]), ""] for step in OF_LIMITS})
-    rows["most memory of the session"] = [shown("memory", best["most bytes a file of the session"] * files), ""]
-    print_table([f"{files:,} files of {LABELS:,} labels, {users:,} users", "", "aimed at"], rows)
+    found = {"load, and one `who`": best[LOAD] * files + best[WHO.name], "memory of the load": best[LOAD_BYTES] * files,
+             **{step.name: best[step.name] for step in OF_LIMITS},
+             "memory of the session": best["most bytes a file of the session"] * files}
+    aims = {"load, and one `who`": "10 s", "memory of the load": "1.5 GB"}
+    print_table(f"{files:,} files of {LABELS:,} labels, {users:,} users", {"most": found, "aimed at": aims})
     return 0
 
 
@@ -274,9 +269,10 @@ def spent(words: List[str], folder: str, output: str = os.devnull, **variables: 
 
 # The program beside the real tools, by the same lines but one: a call over all files, or a call a file.
 OVER_ALL = ("getfacl -R -n", "chmod -R 750", "setfacl -R -m u:1001:rX")
+# `touch` is beside `creat`.
 EACH = {"setfacl -m u:1001:rwx": "", "chmod 640": "", "touch": "creat --user=u1 --mode=640", "rm": ""}
 RESTORE = "setfacl --restore"
-TIMES_QUICKER = {"setfacl -R -m u:1001:rX": "6", RESTORE: "8"}  # That is aimed at.
+AIMS_OF_REAL = {"setfacl -R -m u:1001:rX": "6 times", RESTORE: "8 times", "load": "2.5 us"}
 
 
 def make_files(folder: str) -> None:
@@ -329,13 +325,9 @@ def measure_real(given: Words) -> int:
         make_files(folder)
         ours = best_of([our_times(given.program, tree) for _ in range(given.runs)])
         real = best_of([real_times(tree) for _ in range(given.runs)])
-    rows = {"load": ["", shown("", ours["load"]), "", "2.5 us"]}
-    for line, seconds in real.items():
-        quicker, aim = f"{seconds / ours[line]:.1f}", TIMES_QUICKER.get(line, "")
-        name = f"`{line}`, beside `{EACH[line]}`" if EACH.get(line) else f"`{line}`"
-        rows[name] = [shown("", seconds), shown("", ours[line]), quicker, aim]
-    heads = ["real tool", "the program", "times quicker", "aimed at"]
-    print_table([f"{tree.files:,} files, {tree.users:,} users, a file", *heads], rows)
+    quicker = {line: f"{seconds / ours[line]:.1f}" for line, seconds in real.items()}
+    print_table(f"{tree.files:,} files, {tree.users:,} users, a file", {
+        "real tool": real, "the program": ours, "times quicker": quicker, "aimed at": AIMS_OF_REAL})
     return 0
 
 
@@ -378,8 +370,8 @@ def measure_dump(given: Words) -> int:
         best = best_of([listed_times(given.program, folder, tree.strip("/") or ".") for _ in range(given.runs)])
         size = os.path.getsize(f"{folder}/dump")
         wanted, found = records_of(f"{folder}/dump"), records_of(f"{folder}/listing")
-    print_table([f"a dump of {len(wanted):,} files and {size:,} bytes", "a file"],
-                {name: [shown(name, value / max(1, len(wanted)))] for name, value in best.items()})
+    print_table(f"a dump of {len(wanted):,} files and {size:,} bytes",
+                {"a file": {name: value / max(1, len(wanted)) for name, value in best.items()}})
     differing = sorted(path for path in {*wanted, *found} if wanted.get(path) != found.get(path))
     for path in differing[:10]:
         say(f"differs: {path.decode(errors='replace')}")
@@ -441,10 +433,9 @@ def run_steps(given: Words, folder: str, number: int) -> Dict[str, Spent]:
     path = f"{folder}:{os.path.join(TOP, 'commands')}:{os.environ['PATH']}"
     found = {}
     for name, words in live_steps(folder, number).items():
-        if not given.only or name in given.only or name in SYSTEM_TOOLS:
-            output = f"{folder}/records" if name == SYSTEM_TOOLS[0] else os.devnull
-            found[name] = spent(words, folder, output, PATH=path, FACL=given.program)
-            say(f"run {number}: {name}: {found[name].seconds:.2f} s")
+        output = f"{folder}/records" if name == SYSTEM_TOOLS[0] else os.devnull
+        found[name] = spent(words, folder, output, PATH=path, FACL=given.program)
+        say(f"run {number}: {name}: {found[name].seconds:.2f} s")
     return found
 
 
@@ -457,9 +448,10 @@ def measure_live(given: Words) -> int:
         runs = [run_steps(given, folder, number) for number in range(given.runs)]
     seconds = {name: statistics.median(found[name].seconds for found in runs) for name in runs[0]}
     both = sum(seconds[name] for name in SYSTEM_TOOLS)
-    most = {name: max(found[name].memory for found in runs) / (1 << 20) for name in runs[0]}
-    print_table([f"{given.files[-1]:,} files, {given.users} users", "seconds", "times the system's tools", "MiB"],
-                {name: [f"{it:.2f}", f"{it / both:.1f}", f"{most[name]:,.0f}"] for name, it in seconds.items()})
+    most = {name: f"{max(found[name].memory for found in runs) / (1 << 20):,.0f}" for name in runs[0]}
+    print_table(f"{given.files[-1]:,} files, {given.users} users", {
+        "seconds": {name: f"{it:.2f}" for name, it in seconds.items()},
+        "times the system's tools": {name: f"{it / both:.1f}" for name, it in seconds.items()}, "MiB": most})
     return 0
 
 
@@ -503,28 +495,27 @@ def measure_tree(given: Words) -> int:
         rows[f"restore {what}, a record"] = times["restore"][at] / files
         rows[f"the text of a restore {what}, a record"] = times["read"][at] / files
     rows.update({f"`{name}`": statistics.median(times[name]) for name in ("creat", "rm", "gpasswd -a", "gpasswd -d")})
-    print_table([f"{files:,} files, {given.users:,} users", ""], {name: [shown("", it)] for name, it in rows.items()})
+    print_table(f"{files:,} files, {given.users:,} users", {"": rows})
     return 0
 
 
 class Measurement(NamedTuple):
-    """The sizes of a tree and the runs where none are given, the tools that are needed, and the names of --only."""
+    """The sizes of a tree and the runs where none are given, and the tools that are needed."""
 
     measure: Callable[[Words], int]
     files: List[int]
     users: int
     runs: int
     needs: Tuple[str, ...] = ()
-    only: Iterable[str] = ()
 
 
 MEASUREMENTS = {
     "tools": Measurement(measure_tools, [10_000, 100_000, 1_000_000], 1_000, 3),
-    "index": Measurement(measure_index, [100_000], 1_000, 2, only=NUMBER_OF),
+    "index": Measurement(measure_index, [100_000], 1_000, 2),
     "limits": Measurement(measure_limits, [1_048_576], 65_536, 1),
     "real": Measurement(measure_real, [100_000], 100, 3, ("getfacl", "setfacl")),
     "dump": Measurement(measure_dump, [102], 10, 3, ("getfacl",)),
-    "live": Measurement(measure_live, [100_000], 30, 3, ("getfacl", "setfacl"), live_steps("", 0)),
+    "live": Measurement(measure_live, [100_000], 30, 3, ("getfacl", "setfacl")),
     "tree": Measurement(measure_tree, [100_000], 1_000, 1, ("rt",)),
 }
 
@@ -538,7 +529,6 @@ def words() -> Words:
     options.add_argument("--files", type=lambda text: [int(number) for number in text.split(",")])
     options.add_argument("--users", type=int)
     options.add_argument("--runs", type=int)
-    options.add_argument("--only", type=lambda text: text.split(","), default=[])
     given = options.parse_args()
     kind, chosen = given.measurement, MEASUREMENTS[given.measurement]
     given.files = given.files or chosen.files
@@ -551,8 +541,7 @@ def words() -> Words:
             (kind == "live" and os.geteuid() != 0, "run it as root"),
             (min(given.files) < PER_DIRECTORY + 2 or given.users < 10 or given.runs < 1,
              "FILES from 102 on, USERS from 10 on, RUNS from 1 on"),
-            (len(given.files) > 1 and kind != "tools", "several FILES are of `tools` alone"),
-            (set(given.only) - set(chosen.only), f"--only: one of {', '.join(chosen.only) or 'no names'}")):
+            (len(given.files) > 1 and kind != "tools", "several FILES are of `tools` alone")):
         if is_so:
             options.error(f"{kind}: {text}")
     return given
