@@ -38,11 +38,12 @@ from pathlib import Path
 from typing import Callable, Dict, Iterable, List, Mapping, NamedTuple, Optional, Tuple, Union
 
 sys.dont_write_bytecode = True
-sys.path.insert(0, os.path.join(os.path.dirname(os.path.realpath(__file__)), "..", "lib"))
-from crates import Crates, folder_of  # noqa: E402
+TOOLS = os.path.dirname(os.path.dirname(os.path.realpath(__file__)))
+sys.path[:0] = [TOOLS, os.path.join(TOOLS, "lib")]
 from script import TOP, Failed, run, say  # noqa: E402
 from session import MeasuredSession, best_of, first_records, program_at, write_system_people  # noqa: E402
 from texts import PER_DIRECTORY, attribute, record, text_file, write_people, write_tree  # noqa: E402
+from ways import Crates  # noqa: E402
 
 # At most so many records of a dump are restored, since the bytes of a script are limited.
 MAX_RESTORED = 100_000
@@ -233,7 +234,7 @@ def measure_limits(given: Words) -> int:
              **{step.name: best[step.name] for step in OF_LIMITS},
              "memory of the session": best["most bytes a file of the session"] * files}
     aims = {"load, and one `who`": "10 s", "memory of the load": "1.5 GB"}
-    print_table(f"{files:,} files of {LABELS:,} labels, {users:,} users", {"most": found, "aimed at": aims})
+    print_table(f"{files:,} files of {LABELS:,} labels, {users:,} users", {"": found, "aimed at": aims})
     return 0
 
 
@@ -466,10 +467,10 @@ def build_tree_bench(room: str) -> str:
     crates = Crates()
     needed = set().union(*map(crates.needed, TREE_USES))
     for crate in needed:
-        shutil.copytree(folder_of(crate), os.path.join(room, "crates", crate))
+        shutil.copytree(os.path.join(TOP, "crates", crate), os.path.join(room, "crates", crate))
     folder = os.path.join(room, "crates", TREE_BENCH)
     os.makedirs(os.path.join(folder, "src"))
-    shutil.copy(os.path.join(TOP, "tools", "bench", TREE_BENCH + ".rt.txt"), os.path.join(folder, "src", "main.rt"))
+    shutil.copy(os.path.join(TOOLS, "bench", TREE_BENCH + ".rt.txt"), os.path.join(folder, "src", "main.rt"))
     rows = [row for crate, row in crates.rows.items() if crate in needed] + [f"{TREE_BENCH}: {' '.join(TREE_USES)}"]
     Path(room, "crates.txt").write_text("\n".join(rows) + "\n", encoding="utf-8")
     done = subprocess.run(["rt", "run"], cwd=folder, stdin=subprocess.DEVNULL, capture_output=True, check=False)

@@ -30,10 +30,10 @@ from pathlib import Path
 from typing import Dict, Iterable, Iterator, List, NamedTuple, Set, Tuple
 
 sys.dont_write_bytecode = True
-sys.path.insert(0, os.path.join(os.path.dirname(os.path.realpath(__file__)), "..", "lib"))
+sys.path.insert(0, os.path.join(os.path.dirname(os.path.realpath(__file__)), ".."))
 
-from crates import Crates  # noqa: E402
 from memory_faults import TOP, Function, Library, found_in, is_of_tests, text_of  # noqa: E402
+from ways import Crates  # noqa: E402
 
 PROOFS, ARCHITECTURE, READING, PAGE = "docs/PROOFS.md", "docs/ARCHITECTURE.md", "docs/READING.md", "docs/facl.1"
 CONTRIBUTING, TOOLS, SPECIFICATION = "CONTRIBUTING.md", "tools/README.md", "docs/SPECIFICATION.md"

@@ -14,9 +14,8 @@ from typing import Dict, List, Tuple
 
 HERE = os.path.dirname(os.path.realpath(__file__))
 LIB = os.path.realpath(os.path.join(HERE, "..", "..", "lib"))
-sys.path[:0] = [os.path.join(HERE, ".."), LIB]
+sys.path[:0] = [os.path.join(HERE, ".."), os.path.join(HERE, "..", ".."), LIB]
 
-from crates import Crates  # noqa: E402
 from documents import Checks  # noqa: E402
 from memory_faults import Source, faults_of  # noqa: E402
 from random_lines import Unit, is_of_tools, numbers_of, script_of  # noqa: E402
@@ -24,6 +23,7 @@ from script import Failed, with_row  # noqa: E402
 from session import (  # noqa: E402
     Expect, MeasuredSession, Session, TimedRun, best_of, first_records, has_tool, program_at, timed, words_of,
 )
+from ways import Crates  # noqa: E402
 
 
 class Case(unittest.TestCase):
