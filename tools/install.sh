@@ -13,35 +13,25 @@ top=$(cd "$(dirname "$0")/.." && pwd)
 # shellcheck source=tools/lib/program.sh
 . "$top/tools/lib/program.sh"
 
-warn() {
-    echo "$script_name: warning: $1" >&2
-}
-
 program=$built
 version=0
 action=install
+if [ "${1:-}" = --uninstall ]; then
+    action=uninstall
+    shift
+fi
 while [ $# -gt 0 ]; do
     case $1 in
-    --program)
-        [ $# -gt 1 ] || fail "--program: a FILE is missing"
-        program=$2
-        shift 2
-        ;;
-    --version)
-        [ $# -gt 1 ] || fail "--version: a VERSION is missing"
-        version=$2
-        case $version in *[!0-9a-z.]*) fail "$version: is no version" ;; esac
-        shift 2
-        ;;
-    --uninstall)
-        action=uninstall
-        shift
-        ;;
+    --program) program=${2:-} ;;
+    --version) version=${2:-} ;;
     --help) show_head 0 ;;
     -*) show_head 2 >&2 ;;
     *) break ;;
     esac
+    [ $# -gt 1 ] || fail "$1: takes a word"
+    shift 2
 done
+case $version in *[!0-9a-z.]*) fail "$version: is no version" ;; esac
 [ $# -le 1 ] || fail "one PREFIX at most"
 prefix=${1:-/usr/local}
 case $prefix in /*) ;; *) fail "$prefix: PREFIX has to begin with a slash" ;; esac
@@ -84,6 +74,10 @@ install_files() {
         echo ".so man1/facl-commands.1" >"$to/share/man/man1/$name.1"
         chmod 644 "$to/share/man/man1/$name.1"
     done
+}
+
+warn() {
+    echo "$script_name: warning: $1" >&2
 }
 
 # say_what_is_missing: what the commands call, and where they are looked for

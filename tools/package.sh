@@ -13,18 +13,15 @@ top=$(cd "$(dirname "$0")/.." && pwd)
 . "$top/tools/lib/program.sh"
 
 program=
-while [ $# -gt 0 ]; do
-    case $1 in
-    --program)
-        [ $# -gt 1 ] || fail "--program: a FILE is missing"
-        program=$(realpath -- "$2")
-        shift 2
-        ;;
-    --help) show_head 0 ;;
-    -*) show_head 2 >&2 ;;
-    *) break ;;
-    esac
-done
+case ${1:-} in
+--program)
+    [ $# -gt 1 ] || fail "--program: a FILE is missing"
+    program=$(realpath -- "$2")
+    shift 2
+    ;;
+--help) show_head 0 ;;
+-*) show_head 2 >&2 ;;
+esac
 [ $# -le 1 ] || fail "one DIR at most"
 target=$(realpath -- "${1:-.}")
 [ -d "$target" ] || fail "$target: no such folder"
