@@ -10,7 +10,6 @@ usage: tools/bench/bench.py MEASUREMENT PROGRAM [FOLDER] [--files N,..] [--users
            14 GB of memory, most for the last line, after which what is reached at all files is made again
   real     the program beside getfacl(1), setfacl(1), chmod(1), touch(1) and rm(1) on one tree, whose real files are
            made in FOLDER, which has to take lists (100000 files, 100 users, 3 runs)
-  dump     the dump of a real FOLDER by `getfacl -R -p`, loaded, listed, and compared record by record (3 runs)
   live     as root, facl-snapshot, facl-plan and facl-apply beside getfacl and setfacl on a tree that is made in FOLDER
            (100000 files, 30 users, 3 runs)
   tree     commands at the tree and the people alone, below the index and the tools, by a program of its own
@@ -20,8 +19,8 @@ usage: tools/bench/bench.py MEASUREMENT PROGRAM [FOLDER] [--files N,..] [--users
 FOLDER is that of temporary files where it may be left out; what is made in it is removed. Times are processor time, the
 best of the runs, as the most memory is the least; those of `live` are by the clock, the median of the runs. Standard
 error has how busy the machine is. What is aimed at is for 1,000,000 files and 1,000 users. FILES are from 102 on, USERS
-from 10 on. The exit status is 1 where the program refuses a line, another command fails, or a record of `dump` differs,
-2 where the words are others, a tool is not installed, or `live` is not run as root.
+from 10 on. The exit status is 1 where the program refuses a line or another command fails, 2 where the
+words are others, a tool is not installed, or `live` is not run as root.
 """
 from __future__ import annotations
 
@@ -41,7 +40,7 @@ sys.dont_write_bytecode = True
 TOOLS = os.path.dirname(os.path.dirname(os.path.realpath(__file__)))
 sys.path[:0] = [TOOLS, os.path.join(TOOLS, "lib")]
 from script import TOP, Failed, run, say  # noqa: E402
-from session import MeasuredSession, best_of, first_records, program_at, write_system_people  # noqa: E402
+from session import MeasuredSession, best_of, first_records, program_at  # noqa: E402
 from texts import PER_DIRECTORY, attribute, record, text_file, write_people, write_tree  # noqa: E402
 from ways import Crates  # noqa: E402
 
@@ -332,54 +331,6 @@ def measure_real(given: Words) -> int:
     return 0
 
 
-# A dump of a real folder.
-
-Records = Dict[bytes, List[bytes]]
-
-
-def records_of(listing: str) -> Records:
-    """The records of a listing by their paths as they are written, without slashes at the ends: owner, group, flags and
-    entries, sorted, without comments."""
-    found: Records = {}
-    path: Optional[bytes] = None
-    with open(listing, "rb") as lines:
-        for line in lines:
-            line = line.rstrip(b"\n")
-            if line.startswith(b"# file: "):
-                # A backslash is written as two, or by its number.
-                path = line[len(b"# file: ") :].strip(b"/").replace(rb"\134", rb"\\") or b"."
-                found[path] = []
-            elif line and path is not None:
-                found[path].append(line if line.startswith(b"# ") else line.split(b"#")[0].rstrip())
-    return {path: sorted(record) for path, record in found.items()}
-
-
-def listed_times(program: str, folder: str, top: str) -> Figures:
-    """What the load of the texts takes, and a listing of all of it, which is written."""
-    with open(f"{folder}/listing", "wb") as out, MeasuredSession(program, folder, out) as session:
-        listed = session.answer([f"getfacl -R '{top}'"])
-        session.end()
-    return {"load": session.load, "`getfacl -R`": listed, "most bytes of the load": session.memory}
-
-
-def measure_dump(given: Words) -> int:
-    tree = os.path.abspath(given.folder)
-    with tempfile.TemporaryDirectory(prefix="facl-bench.") as folder:
-        with open(f"{folder}/dump", "wb") as out:
-            subprocess.run(["getfacl", "-R", "-p", tree], stdout=out, stderr=subprocess.DEVNULL, check=False)
-        write_system_people(folder)
-        best = best_of([listed_times(given.program, folder, tree.strip("/") or ".") for _ in range(given.runs)])
-        size = os.path.getsize(f"{folder}/dump")
-        wanted, found = records_of(f"{folder}/dump"), records_of(f"{folder}/listing")
-    print_table(f"a dump of {len(wanted):,} files and {size:,} bytes",
-                {"a file": {name: value / max(1, len(wanted)) for name, value in best.items()}})
-    differing = sorted(path for path in {*wanted, *found} if wanted.get(path) != found.get(path))
-    for path in differing[:10]:
-        say(f"differs: {path.decode(errors='replace')}")
-    print(f"\n{len(differing)} of {len(wanted)} records are not listed as the dump has them.")
-    return 1 if differing or not wanted else 0
-
-
 # The commands for live systems.
 
 FIRST_ID = 70_000  # Of the users, each of whom has a group of the same id, and of guest, who is the first.
@@ -515,7 +466,6 @@ MEASUREMENTS = {
     "index": Measurement(measure_index, [100_000], 1_000, 2),
     "limits": Measurement(measure_limits, [1_048_576], 65_536, 1),
     "real": Measurement(measure_real, [100_000], 100, 3, ("getfacl", "setfacl")),
-    "dump": Measurement(measure_dump, [102], 10, 3, ("getfacl",)),
     "live": Measurement(measure_live, [100_000], 30, 3, ("getfacl", "setfacl")),
     "tree": Measurement(measure_tree, [100_000], 1_000, 1, ("rt",)),
 }
@@ -538,7 +488,6 @@ def words() -> Words:
     for is_so, text in (
             (missing, f"not installed: {', '.join(missing)}"),
             ((kind == "tree") == bool(given.program), "a PROGRAM, but for tree"),
-            (kind == "dump" and not given.folder, "a FOLDER is missing"),
             (kind == "live" and os.geteuid() != 0, "run it as root"),
             (min(given.files) < PER_DIRECTORY + 2 or given.users < 10 or given.runs < 1,
              "FILES from 102 on, USERS from 10 on, RUNS from 1 on"),
