@@ -20,9 +20,7 @@ from documents import Checks  # noqa: E402
 from memory_faults import Source, faults_of  # noqa: E402
 from random_lines import Unit, is_of_tools, numbers_of, script_of  # noqa: E402
 from script import Failed, with_row  # noqa: E402
-from session import (  # noqa: E402
-    Expect, MeasuredSession, Session, TimedRun, best_of, first_records, has_tool, program_at, timed, words_of,
-)
+from session import Expect, MeasuredSession, Session, TimedRun, has_tool, program_at, timed  # noqa: E402
 from ways import Crates  # noqa: E402
 
 
@@ -292,7 +290,7 @@ def main():
 script.run(main)
 """
 SHELL = f"""top={LIB}/../..; . "$top/tools/lib/program.sh"; make_work
-sleep 60 & child=$!; echo "$work $child"; wait "$child"
+sleep 60 & echo "$work $!"; wait_for_child
 """
 
 
@@ -315,13 +313,8 @@ class Lib(Case):
             raise KeyError
         self.assertEqual(session.run.poll(), -signal.SIGKILL)
 
-    def test_words_and_tools(self) -> None:
-        self.assertEqual(words_of(self.program, self.top), [self.program])
-        dump = self.write("dump", "# file: a\nu::7\n\n# file: b\nu::6\n")
-        self.assertEqual(words_of("facl", self.top), ["facl", "--dump", dump])
-        self.assertEqual(first_records(self.top, 1), ["# file: a", "u::7", ""])
         self.assertEqual(program_at(self.program), os.path.realpath(self.program))
-        for word in (self.top, dump, self.top + "/absent"):
+        for word in (self.top, self.write("dump", ""), self.top + "/absent"):
             self.assertRaises(argparse.ArgumentTypeError, program_at, word)
         self.assertEqual([has_tool(self.program, tool) for tool in ("chmod", "frob")], [True, False])
 
@@ -337,7 +330,6 @@ class Lib(Case):
         with MeasuredSession(self.program, self.top) as session:
             self.assertGreaterEqual(min(session.load, session.answer(["a", "b"])), 0)
             self.assertRaisesRegex(Failed, "^line 5: facl: unknown tool$", session.answer, ["frob"])
-        self.assertEqual(best_of([{"a": 2, "b": 1}, {"a": 1, "b": 3}]), {"a": 1, "b": 1})
 
     def test_units_crates_and_rows(self) -> None:
         units = [Unit(b"load dump", [b"x", b"y"]), Unit(b"", None), Unit(b" chmod 7 f", []), Unit(b"rm f", None)]
