@@ -11,10 +11,11 @@ and has not changed since, is not proved again.
 Without --libraries each crate is one check from nothing, as in `rt ci`, whose copies share its functions; the crates
 above read what it states. What is proved is kept in out/proved. The program is crates/facl_cli/out/facl_cli.
 
-With --libraries rt proves and builds CRATE (facl_cli) and all that it uses, so that rt check can begin there at once; rt
-keeps it in the folder out of each crate. rt locks the folder of a crate and of every crate below it, so two crates that
-depend on one could not be proved side by side. Each is therefore proved in a lane: a folder below out/ with hard links to
-the files of the crate and of those below it. Its kept work is moved there and back. The crates are locked meanwhile.
+With --libraries rt proves and builds CRATE (facl_cli) and all that it uses, so that rt check can begin there at once;
+rt keeps it in the folder out of each crate. rt locks the folder of a crate and of every crate below it, so two crates
+that depend on one could not be proved side by side. Each is therefore proved in a lane: a folder below out/ with hard
+links to the files of the crate and of those below it. Its kept work is moved there and back. The crates are locked
+meanwhile.
 
 It prints to standard error how many crates are done, the minutes so far, and what it starts. What is printed of a crate
 goes to out/logs/. The exit status is 0 where all is built, 1 where a crate is not proved, 2 where the words are others,

@@ -4,9 +4,9 @@
 # usage: tools/try.sh                                                       the worked session of demo/
 #        tools/try.sh [--passwd FILE] [--group FILE] [--dump FILE] <SCRIPT  a script and texts of your own
 #
-# What the program prints comes on both streams when it has ended, and the exit status is the program's. One line before
-# it, on standard error, says that nothing is proved of it, and what it is allowed: 60 seconds, and 1 MiB on each stream.
-# Where it gives no answer, the status is 3, and what rt printed is on standard error; it is 2 where the words are others.
+# What the program prints comes on both streams when it has ended, and the exit status is the program's. A line before
+# it says on standard error that nothing is proved of it, and what it is allowed. Where it gives no answer, the status
+# is 3, and what rt printed is on standard error; it is 2 where the words are others.
 set -eu
 top=$(cd "$(dirname "$0")/.." && pwd)
 # shellcheck source=tools/lib/program.sh

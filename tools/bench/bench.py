@@ -16,11 +16,11 @@ usage: tools/bench/bench.py MEASUREMENT PROGRAM [FOLDER] [--files N,..] [--users
            (tree_bench.rt.txt): it is proved and built in a temporary folder, over copies of the crates below acl_tree
            (100000 files, 1000 users, one run; the median of four hundred `creat`, `rm` and `gpasswd`)
 
-FOLDER is that of temporary files if it is left out; what is made in it is removed. Times are processor time, the best of
-the runs, as the most memory is the least; those of `live` are by the clock, the median of the runs. Standard error has
-how busy the machine is. What is aimed at is for 1,000,000 files and 1,000 users. FILES are from 102 on, USERS from 10
-on. The exit status is 1 where the program refuses a line or another command fails, 2 where the words are others, a tool
-is not installed, or `live` is not run as root.
+FOLDER is that of temporary files if it is left out; what is made in it is removed. Times are processor time, the best
+of the runs, as the most memory is the least; those of `live` are by the clock, the median of the runs. Standard error
+has how busy the machine is. What is aimed at is for 1,000,000 files and 1,000 users. FILES are from 102 on, USERS from
+10 on. The exit status is 1 where the program refuses a line or another command fails, 2 where the words are others, a
+tool is not installed, or `live` is not run as root.
 """
 from __future__ import annotations
 

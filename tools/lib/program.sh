@@ -1,7 +1,7 @@
-# What the scripts of the program have in common, which read this file by `.` once `top` is the folder of the repository.
+# What the scripts of the program have in common, which read this file by `.` once `top` is the repository's folder.
 #
-# It sets script_name, the path of the script in the repository. A script that is interrupted ends what it waits for (child)
-# first, and then with 128 and the signal's number; the folder work is removed at its end.
+# It sets script_name, the path of the script in the repository. A script that is interrupted ends what it waits for
+# (child) first, and then with 128 and the signal's number; the folder work is removed at its end.
 # shellcheck shell=sh disable=SC2034,SC2154  # those who read it set top, and use what it sets
 script_name=$(realpath --relative-to="$top" -- "$0")
 built=$top/crates/facl_cli/out/facl_cli

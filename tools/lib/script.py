@@ -62,8 +62,8 @@ def with_row(lines: List[str], cells: List[str]) -> List[str]:
 
 
 def record(amount: str, found: str, part: str = "") -> None:
-    """Writes what the script that runs looked at, and what it found, into its row of the page. `part` is the option that
-    chooses what it does, where it has a row for each."""
+    """Writes what the script that runs looked at, and what it found, into its row of the page. `part` is the option
+    that chooses what it does, where it has a row for each."""
     today = datetime.datetime.now(datetime.timezone.utc).date().isoformat()
     with open(PAGE, encoding="utf-8") as page:
         lines = page.read().splitlines()
@@ -74,8 +74,8 @@ def record(amount: str, found: str, part: str = "") -> None:
 
 
 def run(main: Callable[[], int]) -> NoReturn:
-    """Runs a script, which ends with the status that `main` returns, or with 1 and a line where it fails. A signal raises
-    SystemExit in it, so that folders are removed and programs are ended."""
+    """Runs a script, which ends with the status that `main` returns, or with 1 and a line where it fails. A signal
+    raises SystemExit in it, so that folders are removed and programs are ended."""
     at_signals(end)
     try:
         status = main()
