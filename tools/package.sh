@@ -5,8 +5,8 @@
 # usage: tools/package.sh [--program FILE] [DIR]      the package comes into DIR, or the current folder
 #
 # Without FILE the program is proved and built by tools/prove.py, and the package says that it was proved at its commit;
-# the files have to be as they were committed. FILE is a program that is built: the package says so. The exit status is 2
-# where the words are others, a tool is not installed, or the program is not built.
+# the files have to be as they were committed. FILE is a program that is built: the package says so. The exit status
+# is 2 where the words are others, a tool is not installed, or the program is not built.
 set -eu
 top=$(cd "$(dirname "$0")/.." && pwd)
 # shellcheck source=tools/lib/program.sh

@@ -37,7 +37,7 @@ import tempfile
 import time
 from pathlib import Path
 from types import FrameType
-from typing import Callable, Dict, Iterable, Iterator, List, NamedTuple, Optional, Set
+from typing import Callable, Dict, Iterable, Iterator, List, Optional, Set
 
 sys.dont_write_bytecode = True
 sys.path.insert(0, os.path.join(os.path.dirname(os.path.realpath(__file__)), "lib"))
@@ -122,26 +122,19 @@ def end_session(session: int) -> None:
         time.sleep(0.05)
 
 
-class How(NamedTuple):
-    """How many checks of a crate run side by side, and with what priority (nice)."""
-
-    checks: int
-    nice: int
-
-
 class Run:
     """The proof of one crate: a program in a session of its own, whose output goes to the crate's log."""
 
-    def __init__(self, crate: str, how: How, words: List[str], folder: str) -> None:
+    def __init__(self, crate: str, nice: int, words: List[str], folder: str) -> None:
         self.crate = crate
         with open(log_of(crate), "wb") as out:
             self.program = subprocess.Popen(
-                ["nice", "-n", str(how.nice), *words], cwd=folder, stdin=subprocess.DEVNULL, stdout=out,
+                ["nice", "-n", str(nice), *words], cwd=folder, stdin=subprocess.DEVNULL, stdout=out,
                 stderr=subprocess.STDOUT, start_new_session=True)
         # A kernel that shares processors between sessions counts nice within each.
         group = Path(f"/proc/{self.program.pid}/autogroup")
         with contextlib.suppress(OSError):
-            group.write_text(str(how.nice), encoding="ascii")
+            group.write_text(str(nice), encoding="ascii")
 
     def end(self) -> None:
         """Ends the program if it runs, with all that it started."""
@@ -153,7 +146,7 @@ class SideBySide:
     """The crates that are to be proved, and how far they are."""
 
     def __init__(self, crates: Crates, wanted: Set[str], jobs: int, checks_of_others: int,
-                 start: Callable[[str, How], Run]) -> None:
+                 start: Callable[[str, int, int], Run]) -> None:
         self.crates, self.wanted, self.start = crates, wanted, start
         self.jobs, self.checks_of_others = jobs, checks_of_others
         self.ways = ways_up(crates.uses, wanted)
@@ -167,18 +160,16 @@ class SideBySide:
         """Notes an interruption, so that it never comes between two steps that belong together."""
         self.signal = number
 
-    def how(self, crate: str) -> How:
-        """All checks where no crate that runs has a longer way, else those of others, and a lower priority for each."""
-        longer = sum(self.ways[run.crate] > self.ways[crate] for run in self.running)
-        return How(min(self.jobs, self.checks_of_others) if longer else self.jobs, 5 * longer)
-
     def start_ready(self) -> None:
-        """Starts as many of the crates that wait for no other as there is room for, the longest way first."""
+        """Starts as many of the crates that wait for no other as there is room for, the longest way first: with all
+        checks where no crate that runs has a longer one, else those of others, and a lower priority for each."""
         busy = {run.crate for run in self.running} | self.done
         ready = [crate for crate in self.wanted - busy if self.done.issuperset(self.crates.uses[crate])]
         ready.sort(key=lambda crate: self.ways[crate], reverse=True)
         for crate in ready[:self.jobs - len(self.running)]:
-            self.running.append(self.start(crate, self.how(crate)))
+            longer = sum(self.ways[run.crate] > self.ways[crate] for run in self.running)
+            checks = min(self.jobs, self.checks_of_others) if longer else self.jobs
+            self.running.append(self.start(crate, checks, 5 * longer))
 
     def take_finished(self) -> Optional[str]:
         """Takes the crates whose checks ended. Returns the first that is not proved, if there is one."""
@@ -307,10 +298,10 @@ class Kept:
 class Build(Run):
     """The proof of one crate by the kit's prover, which then writes a library of what it states, or compiles."""
 
-    def __init__(self, kept: Kept, crate: str, how: How) -> None:
+    def __init__(self, kept: Kept, crate: str, checks: int, nice: int) -> None:
         self.kept = kept
         kept.forget(crate)
-        super().__init__(crate, how, self.words(crate, how.checks), folder_of(crate))
+        super().__init__(crate, nice, self.words(crate, checks), folder_of(crate))
 
     def words(self, crate: str, checks: int) -> List[str]:
         kit, is_program = self.kept.kit, crate == PROGRAM
@@ -370,7 +361,7 @@ def build_program(crates: Crates, jobs: int) -> int:
 class Lane(Run):
     """The proof of one crate by rt, in a folder of its own."""
 
-    def __init__(self, crates: Crates, lanes: str, crate: str, how: How) -> None:
+    def __init__(self, crates: Crates, lanes: str, crate: str, checks: int, nice: int) -> None:
         self.top = os.path.join(lanes, crate)
         self.folder = os.path.join(self.top, "crates", crate)
         self.link(crates, crate)
@@ -378,7 +369,7 @@ class Lane(Run):
             os.rename(folder_of(crate, "out"), os.path.join(self.folder, "out"))
         command = "run" if os.path.exists(folder_of(crate, "src", "main.rt")) else "lib"
         try:
-            super().__init__(crate, how, ["rt", command, "--jobs", str(how.checks)], self.folder)
+            super().__init__(crate, nice, ["rt", command, "--jobs", str(checks)], self.folder)
         except BaseException:
             self.move_back(crate)
             raise
