@@ -12,14 +12,6 @@ top=$(cd "$(dirname "$0")/.." && pwd)
 # shellcheck source=tools/lib/program.sh
 . "$top/tools/lib/program.sh"
 
-# add_text OPTION FILE: one of the texts that the program loads
-add_text() {
-    case $1 in --passwd | --group | --dump) ;; *) show_head 2 >&2 ;; esac
-    [ -n "$2" ] || show_head 2 >&2
-    { [ -f "$2" ] && [ -r "$2" ]; } || fail "$2: cannot read"
-    ln -s "$(realpath -- "$2")" "$work/${1#--}" 2>/dev/null || fail "$1 twice"
-}
-
 # read_session WORD..: the script and the texts, in work
 read_session() {
     if [ $# -eq 0 ]; then
@@ -27,7 +19,9 @@ read_session() {
         exec <"$top/demo/script"
     fi
     while [ $# -gt 0 ]; do
-        add_text "$1" "${2:-}"
+        case $1 in --passwd | --group | --dump) ;; *) show_head 2 >&2 ;; esac
+        { [ -f "${2:-}" ] && [ -r "$2" ]; } || fail "$1: cannot read '${2:-}'"
+        ln -s "$(realpath -- "$2")" "$work/${1#--}" 2>/dev/null || fail "$1 twice"
         shift 2
     done
     [ ! -t 0 ] || echo "$script_name: the script is read from standard input" >&2

@@ -157,7 +157,6 @@ FAULTS: Dict[str, List[Tuple[str, ...]]] = {
         ("(`look_up`)", "(`look`)", "3: no `look` in low"),
         ("(`Map::put`, clauses `ok`, `err`", "(`Map::get`, clause `ok`", "3: no function here has a clause `ok`",
          "3: Map::get has none of the clauses named; it has none"),
-        ("`err`).", "`full`).", "3: no function here has a clause `full`"),
         ("`low::Map::get`", "`facl::Map::get`", "10: no `facl::Map::get` in facl"),
         ("Carried by", "Where", "1: there is no table, list or point of: Carried by"),
         ("`ok`; `row`", "`ok`", "15: Map::ask has none of the clauses named; it has asked, row"),
