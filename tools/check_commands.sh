@@ -1,14 +1,13 @@
 #!/bin/sh
-# Tests of the commands in commands/: what needs only the program, over stored snapshots. It makes its files in a folder of
-# its own, takes one to three minutes, and ends with the line `N passed, M failed`; the exit status is 0 where none failed.
+# Tests of the commands: what needs only the program, over stored snapshots, in a folder of its own. It takes one to
+# three minutes, and ends with the line `N passed, M failed`; the exit status is 0 where none failed.
 #
-# usage: tools/check_commands.sh [--all] [PROGRAM]      PROGRAM: one that is built; without it crates/facl_cli/out/facl_cli
+# usage: tools/check_commands.sh [--all] [PROGRAM]      PROGRAM: one that is built (crates/facl_cli/out/facl_cli)
 #
 # With --all it also tests facl-ask at a terminal, and several snapshots by GNU parallel, which takes a minute more.
-# The linters shellcheck and mypy (pyproject.toml) are asked too where they are installed. The documents are checked against
-# the sources (tools/check/documents.py), and the sources for where they say that memory ran out
-# (tools/check/memory_faults.py); each of these four counts as a failed test where it finds something. What needs a real
-# file system and root is in tools/check/live.py and tools/check/snapshot.py.
+# Each of these counts as a failed test where it finds something: shellcheck and mypy where they are installed,
+# tools/check/documents.py and tools/check/memory_faults.py. What needs a real file system and root is in
+# tools/check/live.py and tools/check/snapshot.py.
 set -eu
 top=$(cd "$(dirname "$0")/.." && pwd)
 if [ "${1:-}" = --all ]; then

@@ -9,6 +9,8 @@ set -eu
 top=$(cd "$(dirname "$0")/.." && pwd)
 # shellcheck source=tools/lib/program.sh
 . "$top/tools/lib/program.sh"
-choose_program "$@"
+[ $# -gt 0 ] || prove
+program=$(realpath -- "${1:-$built}")
+check_program "$program"
 demo=$top/demo
 exec "$program" --passwd "$demo/passwd" --group "$demo/group" --dump "$demo/dump" <"$demo/script"

@@ -6,42 +6,32 @@
 #        tools/install.sh --uninstall [PREFIX]                              removes what it installs
 #
 # PREFIX is /usr/local. FILE is a program that is built; without it crates/facl_cli/out/facl_cli, which tools/prove.py
-# proves and builds. With DESTDIR in the environment all goes below that folder. The exit status is 2 where the words are
-# others, there is no program, or PREFIX cannot be written.
+# proves and builds. With DESTDIR in the environment all goes below that folder. The exit status is 2 where the words
+# are others, there is no program, or PREFIX cannot be written.
 set -eu
 top=$(cd "$(dirname "$0")/.." && pwd)
 # shellcheck source=tools/lib/program.sh
 . "$top/tools/lib/program.sh"
 
-warn() {
-    echo "$script_name: warning: $1" >&2
-}
-
 program=$built
 version=0
 action=install
+if [ "${1:-}" = --uninstall ]; then
+    action=uninstall
+    shift
+fi
 while [ $# -gt 0 ]; do
     case $1 in
-    --program)
-        [ $# -gt 1 ] || fail "--program: a FILE is missing"
-        program=$2
-        shift 2
-        ;;
-    --version)
-        [ $# -gt 1 ] || fail "--version: a VERSION is missing"
-        version=$2
-        case $version in *[!0-9a-z.]*) fail "$version: is no version" ;; esac
-        shift 2
-        ;;
-    --uninstall)
-        action=uninstall
-        shift
-        ;;
-    --help) show_head ;;
-    -*) usage ;;
+    --program) program=${2:-} ;;
+    --version) version=${2:-} ;;
+    --help) show_head 0 ;;
+    -*) show_head 2 >&2 ;;
     *) break ;;
     esac
+    [ $# -gt 1 ] || fail "$1: takes a word"
+    shift 2
 done
+case $version in *[!0-9a-z.]*) fail "$version: is no version" ;; esac
 [ $# -le 1 ] || fail "one PREFIX at most"
 prefix=${1:-/usr/local}
 case $prefix in /*) ;; *) fail "$prefix: PREFIX has to begin with a slash" ;; esac
@@ -57,9 +47,9 @@ uninstall() {
 
 # check_parts: what has to be there before anything is written
 check_parts() {
-    { [ -f "$program" ] && [ -x "$program" ]; } || fail "$program: no such program: tools/prove.py proves and builds it"
-    if [ -e "$to/lib/facl" ] && [ ! -d "$to/lib/facl/facl_commands" ]; then fail "$to/lib/facl: is there, and is not ours"; fi
-    mkdir -p -- "$to/bin" "$to/lib" "$to/share/man/man1" || fail "$prefix: cannot be written: run it as root, or give a PREFIX"
+    check_program "$program"
+    [ ! -e "$to/lib/facl" ] || [ -d "$to/lib/facl/facl_commands" ] || fail "$to/lib/facl: is there, and is not ours"
+    mkdir -p -- "$to/bin" "$to/lib" "$to/share/man/man1" || true
     { [ -w "$to/bin" ] && [ -w "$to/lib" ] && [ -w "$to/share/man/man1" ]; } ||
         fail "$prefix: cannot be written: run it as root, or give a PREFIX"
 }
@@ -78,7 +68,7 @@ install_files() {
         ln -sf -- "../lib/facl/$name" "$to/bin/$name"
     done
     # A start reads what is compiled; a package compiles it where it is installed.
-    if [ -z "${DESTDIR:-}" ] && command -v python3 >/dev/null; then python3 -m compileall -q "$to/lib/facl/facl_commands"; fi
+    [ -n "${DESTDIR:-}" ] || ! command -v python3 >/dev/null || python3 -m compileall -q "$to/lib/facl/facl_commands"
     for page in facl facl-commands; do install -m 644 -- "$top/docs/$page.1" "$to/share/man/man1"; done
     for name in facl-snapshot $python_commands; do
         echo ".so man1/facl-commands.1" >"$to/share/man/man1/$name.1"
@@ -86,10 +76,14 @@ install_files() {
     done
 }
 
+warn() {
+    echo "$script_name: warning: $1" >&2
+}
+
 # say_what_is_missing: what the commands call, and where they are looked for
 say_what_is_missing() {
     for needed in 'getfacl acl' 'setfacl acl' 'getent libc-bin' 'find findutils' 'xargs findutils' 'python3 python3'; do
-        command -v "${needed% *}" >/dev/null || warn "${needed% *} is missing (package ${needed#* }), which the commands call"
+        command -v "${needed% *}" >/dev/null || warn "without ${needed% *} (package ${needed#* }) the commands fail"
     done
     ! command -v python3 >/dev/null || python3 -c 'import sys; sys.exit(sys.version_info < (3, 9))' ||
         warn "python3 is older than 3.9, which the commands need"
@@ -105,5 +99,5 @@ else
     check_parts
     install_files
     [ -n "${DESTDIR:-}" ] || say_what_is_missing
-    echo "$script_name: facl, facl-snapshot, facl-ask, facl-plan, facl-apply and facl-report are in $prefix/bin; man facl"
+    echo "$script_name: facl, facl-snapshot, $(echo "$python_commands" | sed 's/ /, /g') are in $prefix/bin; man facl"
 fi

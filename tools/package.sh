@@ -5,26 +5,23 @@
 # usage: tools/package.sh [--program FILE] [DIR]      the package comes into DIR, or the current folder
 #
 # Without FILE the program is proved and built by tools/prove.py, and the package says that it was proved at its commit;
-# the files of that commit have to be as they were committed. FILE is a program that is built: the package says so. The exit
-# status is 2 where the words are others, a tool is not installed, or the program is not built.
+# the files have to be as they were committed. FILE is a program that is built: the package says so. The exit status
+# is 2 where the words are others, a tool is not installed, or the program is not built.
 set -eu
 top=$(cd "$(dirname "$0")/.." && pwd)
 # shellcheck source=tools/lib/program.sh
 . "$top/tools/lib/program.sh"
 
 program=
-while [ $# -gt 0 ]; do
-    case $1 in
-    --program)
-        [ $# -gt 1 ] || fail "--program: a FILE is missing"
-        program=$(realpath -- "$2")
-        shift 2
-        ;;
-    --help) show_head ;;
-    -*) usage ;;
-    *) break ;;
-    esac
-done
+case ${1:-} in
+--program)
+    [ $# -gt 1 ] || fail "--program: a FILE is missing"
+    program=$(realpath -- "$2")
+    shift 2
+    ;;
+--help) show_head 0 ;;
+-*) show_head 2 >&2 ;;
+esac
 [ $# -le 1 ] || fail "one DIR at most"
 target=$(realpath -- "${1:-.}")
 [ -d "$target" ] || fail "$target: no such folder"
@@ -46,7 +43,7 @@ else
     origin="The program was proved and built at commit $commit."
 fi
 
-make_work "${TMPDIR:-/tmp}"
+make_work
 root=$work/root
 mkdir "$root"
 chmod 755 "$root"

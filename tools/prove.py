@@ -1,51 +1,236 @@
 #!/usr/bin/env python3
-"""Proves the program of this repository, with every crate below it, and builds it.
+"""Proves the program of this repository, with every crate below it, and builds it; or the libraries for rt check.
 
 usage: tools/prove.py [--jobs N]
+       tools/prove.py [--jobs N] --libraries [CRATE]
 
-A crate is started once those that it depends on are proved, the one with the longest way to the program first, and at
-most N crates run at a time: as many as there are processors, and as memory has room for, unless N is given. Each is one
-check from nothing, as in `rt ci`, whose copies share its functions; the crates above read what it states. What was
-proved, and has not changed since, is not proved again (out/proved). The program is crates/facl_cli/out/facl_cli.
+A crate is started once those that it depends on are proved, the one with the longest way to the top first, and at most
+N crates run at a time: as many as there are processors, and as memory has room for, unless N is given. What was proved,
+and has not changed since, is not proved again.
 
-It prints to standard error what it starts, and after each crate how many of all are done and the minutes so far. What
-is printed of a crate goes to out/logs/. The exit status is 0 where the program is built, 1 where a crate is not proved,
-2 where the words are others, and 128 and the signal's number where it is interrupted; then no check runs on.
+Without --libraries each crate is one check from nothing, as in `rt ci`, whose copies share its functions; the crates
+above read what it states. What is proved is kept in out/proved. The program is crates/facl_cli/out/facl_cli.
+
+With --libraries rt proves and builds CRATE (facl_cli) and all that it uses, so that rt check can begin there at once;
+rt keeps it in the folder out of each crate. rt locks the folder of a crate and of every crate below it, so two crates
+that depend on one could not be proved side by side. Each is therefore proved in a lane: a folder below out/ with hard
+links to the files of the crate and of those below it. Its kept work is moved there and back. The crates are locked
+meanwhile.
+
+It prints to standard error how many crates are done, the minutes so far, and what it starts. What is printed of a crate
+goes to out/logs/. The exit status is 0 where all is built, 1 where a crate is not proved, 2 where the words are others,
+and 128 and the signal's number where it is interrupted; then no check runs on, and no lane is left.
 """
 from __future__ import annotations
 
+import argparse
 import contextlib
+import fcntl
 import functools
 import hashlib
 import os
 import shutil
+import signal
 import subprocess
 import sys
-from typing import Dict, List, Set
+import tempfile
+import time
+from pathlib import Path
+from types import FrameType
+from typing import Callable, Dict, Iterable, Iterator, List, Optional, Set
 
 sys.dont_write_bytecode = True
 sys.path.insert(0, os.path.join(os.path.dirname(os.path.realpath(__file__)), "lib"))
 import script  # noqa: E402
-from crates import Crates, How, Run, SideBySide, files_of, folder_of, lock, with_jobs  # noqa: E402
-from script import TOP  # noqa: E402
+from script import TOP, say  # noqa: E402
+from ways import PROGRAM, Crates  # noqa: E402
 
-PROGRAM = "facl_cli"
-BUILT = folder_of(PROGRAM, "out", PROGRAM)
+BUILT = os.path.join(TOP, "crates", PROGRAM, "out", PROGRAM)
 TARGET = "x86_64-unknown-linux-gnu"
-KEPT = os.path.join(TOP, "out", "proved")
-# of a crate beside the one with the longest way: a check that is shared takes more processor time
-CHECKS_OF_OTHERS = 1
+OUT = os.path.join(TOP, "out")
+KEPT, LOGS = os.path.join(OUT, "proved"), os.path.join(OUT, "logs")
+PARTS = ("src", "specs", "proofs")
+GIGABYTES_A_CRATE = 4
+
+
+def rt() -> str:
+    path = shutil.which("rt")
+    if not path:
+        raise script.Failed("rt is not installed: README names the kit")
+    return path
+
+
+def folder_of(crate: str, *inner: str) -> str:
+    return os.path.join(TOP, "crates", crate, *inner)
+
+
+# --- crates side by side
+
+
+def lock(folders: Iterable[str]) -> None:
+    """Waits until no other run works in these folders, and keeps others out until the process ends."""
+    for folder in sorted(os.path.realpath(folder) for folder in folders):
+        opened = os.open(folder, os.O_RDONLY)
+        try:
+            fcntl.flock(opened, fcntl.LOCK_EX | fcntl.LOCK_NB)
+        except BlockingIOError:
+            say(f"waiting for another run to end in {folder}")
+            fcntl.flock(opened, fcntl.LOCK_EX)
+
+
+def log_of(crate: str) -> str:
+    return os.path.join(LOGS, crate + ".log")
+
+
+def files_of(crate: str) -> Iterator[str]:
+    """The files of a crate that its check reads, in order."""
+    for part in PARTS:
+        for at, folders, names in os.walk(folder_of(crate, part)):
+            folders.sort()
+            yield from (os.path.join(at, name) for name in sorted(names))
+
+
+def ways_up(uses: Dict[str, List[str]], wanted: Set[str]) -> Dict[str, int]:
+    """For each crate the most lines that one way from it to the top has, which its time is guessed by."""
+
+    @functools.cache
+    def way_up(crate: str) -> int:
+        above = (way_up(other) for other in wanted if crate in uses[other])
+        return sum(Path(path).read_bytes().count(b"\n") for path in files_of(crate)) + max(above, default=0)
+
+    return {crate: way_up(crate) for crate in wanted}
+
+
+def members(session: int) -> Iterator[int]:
+    """The processes of this session that are left."""
+    for process in filter(str.isdigit, os.listdir("/proc")):
+        try:
+            with open(f"/proc/{process}/stat", encoding="utf-8", errors="replace") as stat:
+                state, _, _, its = stat.read().rpartition(")")[2].split()[:4]
+        except (FileNotFoundError, ProcessLookupError):
+            continue
+        if its == str(session) and state != "Z":
+            yield int(process)
+
+
+def end_session(session: int) -> None:
+    """Ends all processes of this session, and waits until they are gone."""
+    while left := list(members(session)):
+        for process in left:
+            with contextlib.suppress(ProcessLookupError):
+                os.kill(process, signal.SIGKILL)
+        time.sleep(0.05)
+
+
+class Run:
+    """The proof of one crate: a program in a session of its own, whose output goes to the crate's log."""
+
+    def __init__(self, crate: str, nice: int, words: List[str], folder: str) -> None:
+        self.crate = crate
+        with open(log_of(crate), "wb") as out:
+            self.program = subprocess.Popen(
+                ["nice", "-n", str(nice), *words], cwd=folder, stdin=subprocess.DEVNULL, stdout=out,
+                stderr=subprocess.STDOUT, start_new_session=True)
+        # A kernel that shares processors between sessions counts nice within each.
+        group = Path(f"/proc/{self.program.pid}/autogroup")
+        with contextlib.suppress(OSError):
+            group.write_text(str(nice), encoding="ascii")
+
+    def end(self) -> None:
+        """Ends the program if it runs, with all that it started."""
+        end_session(self.program.pid)
+        self.program.wait()
+
+
+class SideBySide:
+    """The crates that are to be proved, and how far they are."""
+
+    def __init__(self, crates: Crates, wanted: Set[str], jobs: int, checks_of_others: int,
+                 start: Callable[[str, int, int], Run]) -> None:
+        self.crates, self.wanted, self.start = crates, wanted, start
+        self.jobs, self.checks_of_others = jobs, checks_of_others
+        self.ways = ways_up(crates.uses, wanted)
+        self.began = time.monotonic()
+        self.done: Set[str] = set()
+        self.running: List[Run] = []
+        self.signal, self.said = 0, ""
+        say(f"{len(wanted)} crates, at most {jobs} at a time")
+
+    def note(self, number: int, _: Optional[FrameType]) -> None:
+        """Notes an interruption, so that it never comes between two steps that belong together."""
+        self.signal = number
+
+    def start_ready(self) -> None:
+        """Starts as many of the crates that wait for no other as there is room for, the longest way first: with all
+        checks where no crate that runs has a longer one, else those of others, and a lower priority for each."""
+        busy = {run.crate for run in self.running} | self.done
+        ready = [crate for crate in self.wanted - busy if self.done.issuperset(self.crates.uses[crate])]
+        ready.sort(key=lambda crate: self.ways[crate], reverse=True)
+        for crate in ready[:self.jobs - len(self.running)]:
+            longer = sum(self.ways[run.crate] > self.ways[crate] for run in self.running)
+            checks = min(self.jobs, self.checks_of_others) if longer else self.jobs
+            self.running.append(self.start(crate, checks, 5 * longer))
+
+    def take_finished(self) -> Optional[str]:
+        """Takes the crates whose checks ended. Returns the first that is not proved, if there is one."""
+        for run in [run for run in self.running if run.program.poll() is not None]:
+            self.running.remove(run)
+            run.end()
+            if run.program.returncode != 0:
+                return run.crate
+            self.done.add(run.crate)
+        return None
+
+    def end_all(self) -> None:
+        """Ends the checks that run; a fault of one does not leave the others."""
+        with contextlib.ExitStack() as stack:
+            for run in self.running:
+                stack.callback(run.end)
+
+    def report(self) -> None:
+        """Says how far the crates are, where that is another than it was."""
+        at = ", ".join(run.crate for run in self.running) or "end"
+        if at != self.said:
+            minutes = (time.monotonic() - self.began) / 60
+            say(f"{len(self.done)} of {len(self.wanted)} crates proved, {minutes:.1f} min; at {at}")
+        self.said = at
+
+    def all_proved(self) -> bool:
+        """Proves all crates. Returns whether they are; else the end of what was printed of one that is not is shown."""
+        os.makedirs(LOGS, exist_ok=True)
+        script.at_signals(self.note)
+        try:
+            while len(self.done) < len(self.wanted):
+                self.start_ready()
+                self.report()
+                time.sleep(0.2)
+                faulty = self.take_finished()
+                if faulty:
+                    self.show_end(faulty)
+                    return False
+                if self.signal:
+                    sys.exit(128 + self.signal)
+            self.report()
+            return True
+        finally:
+            self.end_all()
+            script.at_signals(script.end)
+
+    def show_end(self, crate: str) -> None:
+        say(f"{crate} is not proved; the end of {log_of(crate)}:")
+        with open(log_of(crate), encoding="utf-8", errors="replace") as text:
+            sys.stderr.writelines(text.readlines()[-20:])
+
+
+# --- the program
 
 
 class Kit:
     """The kit whose rt is installed."""
 
     def __init__(self) -> None:
-        rt = shutil.which("rt")
-        if not rt:
-            raise script.Failed("rt is not installed: README names the kit")
-        self.folder = os.path.dirname(os.path.dirname(os.path.realpath(rt)))
-        self.version = subprocess.run([rt, "version"], check=True, capture_output=True).stdout
+        self.folder = os.path.dirname(os.path.dirname(os.path.realpath(rt())))
+        self.version = subprocess.run([rt(), "version"], check=True, capture_output=True).stdout
 
     def __call__(self, *inner: str) -> str:
         return os.path.join(self.folder, *inner)
@@ -60,22 +245,18 @@ class Kept:
 
     def sums_now(self) -> Dict[str, str]:
         """For each crate a sum of the kit, of its files as they are now, and of those of all crates below it."""
-        sums: Dict[str, str] = {}
 
+        @functools.cache
         def sum_of(crate: str) -> str:
-            if crate not in sums:
-                found = hashlib.sha256(self.kit.version + self.crates.rows[crate].encode())
-                for path in files_of(crate):
-                    with open(path, "rb") as file:
-                        found.update(repr((os.path.relpath(path, TOP), file.read())).encode())
-                for used in self.crates.uses[crate]:
-                    found.update(sum_of(used).encode())
-                sums[crate] = found.hexdigest()
-            return sums[crate]
+            found = hashlib.sha256(self.kit.version + self.crates.rows[crate].encode())
+            for path in files_of(crate):
+                with open(path, "rb") as file:
+                    found.update(repr((os.path.relpath(path, TOP), file.read())).encode())
+            for used in self.crates.uses[crate]:
+                found.update(sum_of(used).encode())
+            return found.hexdigest()
 
-        for crate in self.crates.needed(PROGRAM):
-            sum_of(crate)
-        return sums
+        return {crate: sum_of(crate) for crate in self.crates.needed(PROGRAM)}
 
     def library(self, crate: str) -> str:
         return os.path.join(KEPT, crate + ".rlib")
@@ -117,10 +298,10 @@ class Kept:
 class Build(Run):
     """The proof of one crate by the kit's prover, which then writes a library of what it states, or compiles."""
 
-    def __init__(self, kept: Kept, crate: str, how: How) -> None:
+    def __init__(self, kept: Kept, crate: str, checks: int, nice: int) -> None:
         self.kept = kept
         kept.forget(crate)
-        super().__init__(crate, how, self.words(crate, how.checks), folder_of(crate))
+        super().__init__(crate, nice, self.words(crate, checks), folder_of(crate))
 
     def words(self, crate: str, checks: int) -> List[str]:
         kit, is_program = self.kept.kit, crate == PROGRAM
@@ -156,8 +337,7 @@ def link(kit: Kit) -> None:
         raise script.Failed(f"the program is not linked: {ran.stdout}{ran.stderr}")
 
 
-def main() -> int:
-    jobs, crates = with_jobs(__doc__).parse_args().jobs, Crates()
+def build_program(crates: Crates, jobs: int) -> int:
     for folder in (KEPT, os.path.dirname(BUILT)):
         os.makedirs(folder, exist_ok=True)
     lock([KEPT])
@@ -165,13 +345,80 @@ def main() -> int:
     if kept.has(PROGRAM):
         return 0
     wanted = crates.needed(PROGRAM)
-    proof = SideBySide(crates, wanted, jobs, CHECKS_OF_OTHERS, functools.partial(Build, kept))
+    # A check that is shared takes more processor time: one where a crate with a longer way runs.
+    proof = SideBySide(crates, wanted, jobs, 1, functools.partial(Build, kept))
     proof.done = kept.all_of(wanted)
     if not proof.all_proved():
         return 1
     link(kept.kit)
     kept.note(PROGRAM)
     return 0
+
+
+# --- the libraries
+
+
+class Lane(Run):
+    """The proof of one crate by rt, in a folder of its own."""
+
+    def __init__(self, crates: Crates, lanes: str, crate: str, checks: int, nice: int) -> None:
+        self.top = os.path.join(lanes, crate)
+        self.folder = os.path.join(self.top, "crates", crate)
+        self.link(crates, crate)
+        if os.path.isdir(folder_of(crate, "out")):
+            os.rename(folder_of(crate, "out"), os.path.join(self.folder, "out"))
+        command = "run" if os.path.exists(folder_of(crate, "src", "main.rt")) else "lib"
+        try:
+            super().__init__(crate, nice, ["rt", command, "--jobs", str(checks)], self.folder)
+        except BaseException:
+            self.move_back(crate)
+            raise
+
+    def link(self, crates: Crates, crate: str) -> None:
+        """Links the files of the crates that are needed, but not the crate's own kept work, which is moved."""
+        needed = crates.needed(crate)
+        for name in needed:
+            skipped = [folder_of(name)] if name == crate else []
+            shutil.copytree(folder_of(name), os.path.join(self.top, "crates", name), copy_function=os.link,
+                            ignore=lambda at, names, skipped=skipped: {"out"} if at in skipped else set())
+        with open(os.path.join(self.top, "crates.txt"), "w", encoding="utf-8") as rows:
+            rows.writelines(row + "\n" for name, row in crates.rows.items() if name in needed)
+
+    def move_back(self, crate: str) -> None:
+        """Moves the kept work back."""
+        out = os.path.join(self.folder, "out")
+        if os.path.isdir(out):
+            os.rename(out, folder_of(crate, "out"))
+
+    def end(self) -> None:
+        """Ends the check if it runs, moves the kept work back, and removes the lane."""
+        super().end()
+        self.move_back(self.crate)
+        shutil.rmtree(self.top)
+
+
+def build_libraries(crates: Crates, jobs: int, crate: str) -> int:
+    rt()
+    wanted = crates.needed(crate)
+    lock(map(folder_of, wanted))
+    os.makedirs(OUT, exist_ok=True)
+    with tempfile.TemporaryDirectory(prefix="lanes-", dir=OUT) as lanes:
+        return 0 if SideBySide(crates, wanted, jobs, 2, functools.partial(Lane, crates, lanes)).all_proved() else 1
+
+
+def main() -> int:
+    crates = Crates()
+    options = argparse.ArgumentParser(description=__doc__, formatter_class=argparse.RawDescriptionHelpFormatter)
+    gigabytes = os.sysconf("SC_PAGE_SIZE") * os.sysconf("SC_PHYS_PAGES") >> 30
+    room = max(1, min(len(os.sched_getaffinity(0)), gigabytes // GIGABYTES_A_CRATE))
+    options.add_argument("--jobs", type=int, default=room, metavar="N")
+    options.add_argument("--libraries", nargs="?", const=PROGRAM, choices=crates.uses, metavar="CRATE")
+    given = options.parse_args()
+    if given.jobs < 1:
+        options.error("--jobs: takes a number from 1 on")
+    if given.libraries:
+        return build_libraries(crates, given.jobs, given.libraries)
+    return build_program(crates, given.jobs)
 
 
 if __name__ == "__main__":

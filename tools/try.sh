@@ -4,22 +4,13 @@
 # usage: tools/try.sh                                                       the worked session of demo/
 #        tools/try.sh [--passwd FILE] [--group FILE] [--dump FILE] <SCRIPT  a script and texts of your own
 #
-# What the program prints comes on both streams when it has ended, and the exit status is the program's. One line before
-# it, on standard error, says that nothing is proved of it, and what it is allowed: 60 seconds, and 1 MiB on each stream.
-# Where it gives no answer, the status is 3, and what rt printed is on standard error; it is 2 where the words are others.
+# What the program prints comes on both streams when it has ended, and the exit status is the program's. A line before
+# it says on standard error that nothing is proved of it, and what it is allowed. Where it gives no answer, the status
+# is 3, and what rt printed is on standard error; it is 2 where the words are others.
 set -eu
 top=$(cd "$(dirname "$0")/.." && pwd)
 # shellcheck source=tools/lib/program.sh
 . "$top/tools/lib/program.sh"
-note="$script_name: unproved, at most 60 s and 1 MiB of output;"
-
-# add_text OPTION FILE: one of the texts that the program loads
-add_text() {
-    case $1 in --passwd | --group | --dump) ;; *) usage ;; esac
-    [ -n "$2" ] || usage
-    { [ -f "$2" ] && [ -r "$2" ]; } || fail "$2: cannot read"
-    ln -s "$(realpath -- "$2")" "$work/${1#--}" 2>/dev/null || fail "$1 twice"
-}
 
 # read_session WORD..: the script and the texts, in work
 read_session() {
@@ -28,47 +19,33 @@ read_session() {
         exec <"$top/demo/script"
     fi
     while [ $# -gt 0 ]; do
-        add_text "$1" "${2:-}"
+        case $1 in --passwd | --group | --dump) ;; *) show_head 2 >&2 ;; esac
+        { [ -f "${2:-}" ] && [ -r "$2" ]; } || fail "$1: cannot read '${2:-}'"
+        ln -s "$(realpath -- "$2")" "$work/${1#--}" 2>/dev/null || fail "$1 twice"
         shift 2
     done
     [ ! -t 0 ] || echo "$script_name: the script is read from standard input" >&2
     exec 3<&0
     cat <&3 >"$work/script" &
-    child=$!
-    wait "$child"
-    child=
+    wait_for_child
 }
 
-# start_rt: starts the program; its output goes to out, and its messages to err with what rt prints
-start_rt() {
+# run_rt: runs the program; its output goes to out, and its messages to err with what rt prints
+run_rt() {
     set -- --
     for text in passwd group dump; do
         [ ! -e "$work/$text" ] || set -- --data "$text=$work/$text" "$@" "--$text" "$text"
     done
+    echo "$script_name: unproved, at most 60 s and 1 MiB of output; some 100 s" >&2
     # In a session of its own: Ctrl-C at a terminal ends this script alone, which then ends rt with all that it started.
     (cd "$top/crates/facl_cli" && exec setsid rt try --seconds 60 "$@") <"$work/script" >"$work/out" 2>"$work/err" &
-    child=$!
-}
-
-# wait_for_rt: until rt has ended, with the seconds so far where standard error is a terminal
-wait_for_rt() {
-    seconds=0
-    [ -t 2 ] || echo "$note some 100 s" >&2
-    while kill -0 "$child" 2>/dev/null; do
-        [ ! -t 2 ] || printf '\r%s %d of some 100 s' "$note" $seconds >&2
-        sleep 1
-        seconds=$((seconds + 1))
-    done
-    [ ! -t 2 ] || echo >&2
-    wait "$child" || true
-    child=
+    wait_for_child || true
 }
 
 command -v rt >/dev/null || fail "rt is not installed: README names the kit"
-make_work "${TMPDIR:-/tmp}"
+make_work
 read_session "$@"
-start_rt
-wait_for_rt
+run_rt
 
 # rt's own lines come after the program's, which start with a line's number or the program's name.
 status=$(sed -n 's/^run=ended status=\([0-9]*\) .*/\1/p' "$work/err")

@@ -11,22 +11,51 @@ the most crates that one way has, which are proved one after another.
 
 Prints for each crate how many crates it lists, how many are below it, its longest chain, and the ways from it. The exit
 status is 1 where a crate has more ways than that, or a longer chain than MAX_CHAIN, and 2 where the words are others.
+Other scripts read crates.txt by the class Crates.
 """
 from __future__ import annotations
 
+import argparse
 import functools
 import os
 import sys
-from typing import Dict, Tuple
+from typing import Dict, Set, Tuple
 
 sys.dont_write_bytecode = True
 sys.path.insert(0, os.path.join(os.path.dirname(os.path.realpath(__file__)), "lib"))
 import script  # noqa: E402
-from crates import Crates  # noqa: E402
 
 PROGRAM = "facl_cli"
+ROWS = os.path.join(script.TOP, "crates.txt")
 MAX_WAYS = 100
 MAX_CHAIN = 10
+
+
+class Crates:
+    """The rows of crates.txt. `listed` has for each crate all that its row lists, `uses` those of this repository."""
+
+    def __init__(self, path: str = ROWS) -> None:
+        self.rows: Dict[str, str] = {}
+        self.listed: Dict[str, Set[str]] = {}
+        with open(path, encoding="utf-8") as lines:
+            for line in lines:
+                row = line.split("#")[0].strip()
+                if row:
+                    head, _, tail = row.partition(":")
+                    name = head.split()[0]
+                    self.rows[name], self.listed[name] = row, set(tail.split())
+        self.uses = {crate: sorted(used & set(self.listed)) for crate, used in self.listed.items()}
+
+    def needed(self, crate: str) -> Set[str]:
+        """The crate and all that it depends on."""
+        found: Set[str] = set()
+        left = [crate]
+        while left:
+            crate = left.pop()
+            if crate not in found:
+                found.add(crate)
+                left += self.uses[crate]
+        return found
 
 
 def counts(crates: Crates) -> Dict[str, Tuple[int, int]]:
@@ -44,9 +73,9 @@ def counts(crates: Crates) -> Dict[str, Tuple[int, int]]:
 
 
 def main() -> int:
-    if any(word.startswith("-") for word in sys.argv[1:]) or len(sys.argv) > 2:
-        script.usage(__doc__)
-    crates = Crates(*sys.argv[1:])
+    options = argparse.ArgumentParser(description=__doc__, formatter_class=argparse.RawDescriptionHelpFormatter)
+    options.add_argument("rows", nargs="?", default=ROWS, metavar="CRATES.TXT")
+    crates = Crates(options.parse_args().rows)
     program = crates.needed(PROGRAM)
     too_many = []
     print(f"{'crate':20} lists below chain  ways")

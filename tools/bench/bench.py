@@ -1,24 +1,26 @@
 #!/usr/bin/env python3
 """Measures the program and the commands, and prints tables in Markdown.
 
-usage: tools/bench/bench.py MEASUREMENT PROGRAM [FOLDER] [--files N,..] [--users N] [--runs N] [--only NAME,..]
+usage: tools/bench/bench.py MEASUREMENT PROGRAM [FOLDER] [--files N,..] [--users N] [--runs N]
+       tools/bench/bench.py tree [--files N] [--users N]
 
   tools    each tool on the trees of tools/lib/texts.py (10000,100000,1000000 files, 1000 users, 3 runs)
-  index    the index of who may do what on files of few and of different labels, --only one of these (100000 files, 1000
-           users, 2 runs)
+  index    the index of who may do what on files of few and of different labels (100000 files, 1000 users, 2 runs)
   limits   a line of each kind on as many files and users as can be, 1048576 and 65536, of 1000 labels (1 run); it takes
            14 GB of memory, most for the last line, after which what is reached at all files is made again
   real     the program beside getfacl(1), setfacl(1), chmod(1), touch(1) and rm(1) on one tree, whose real files are
            made in FOLDER, which has to take lists (100000 files, 100 users, 3 runs)
-  dump     the dump of a real FOLDER by `getfacl -R -p`, loaded, listed, and compared record by record (3 runs)
-  live     as root, facl-snapshot, facl-plan and facl-apply beside getfacl and setfacl on a tree that is made in FOLDER,
-           --only some of these steps, with those before them (100000 files, 30 users, 3 runs)
+  live     as root, facl-snapshot, facl-plan and facl-apply beside getfacl and setfacl on a tree that is made in FOLDER
+           (100000 files, 30 users, 3 runs)
+  tree     commands at the tree and the people alone, below the index and the tools, by a program of its own
+           (tree_bench.rt.txt): it is proved and built in a temporary folder, over copies of the crates below acl_tree
+           (100000 files, 1000 users, one run; the median of four hundred `creat`, `rm` and `gpasswd`)
 
-FOLDER is that of temporary files where it may be left out; what is made in it is removed. Times are processor time, the
-best of the runs, as the most memory is the least; those of `live` are by the clock, the median of the runs. Standard
-error has how busy the machine is. What is aimed at is for 1,000,000 files and 1,000 users. FILES are from 102 on, USERS
-from 10 on. The exit status is 1 where the program refuses a line, another command fails, or a record of `dump` differs,
-2 where the words are others, a real tool is not installed, or `live` is not run as root.
+FOLDER is that of temporary files if it is left out; what is made in it is removed. Times are processor time, the best
+of the runs, as the most memory is the least; those of `live` are by the clock, the median of the runs. Standard error
+has how busy the machine is. What is aimed at is for 1,000,000 files and 1,000 users. FILES are from 102 on, USERS from
+10 on. The exit status is 1 where the program refuses a line or another command fails, 2 where the words are others, a
+tool is not installed, or `live` is not run as root.
 """
 from __future__ import annotations
 
@@ -27,18 +29,20 @@ import os
 import re
 import shutil
 import statistics
-import struct
 import subprocess
 import sys
 import tempfile
 import time
-from typing import Callable, Dict, Iterable, List, NamedTuple, Optional, Tuple
+from pathlib import Path
+from typing import Callable, Dict, Iterable, List, Mapping, NamedTuple, Optional, Tuple, Union
 
 sys.dont_write_bytecode = True
-sys.path.insert(0, os.path.join(os.path.dirname(os.path.realpath(__file__)), "..", "lib"))
-from texts import PER_DIRECTORY, record, text_file, write_people, write_tree  # noqa: E402
+TOOLS = os.path.dirname(os.path.dirname(os.path.realpath(__file__)))
+sys.path[:0] = [TOOLS, os.path.join(TOOLS, "lib")]
 from script import TOP, Failed, run, say  # noqa: E402
-from session import MeasuredSession, best_of, first_records, program_at, write_system_people  # noqa: E402
+from session import MeasuredSession, best_of, first_records, program_at  # noqa: E402
+from texts import PER_DIRECTORY, attribute, record, text_file, write_people, write_tree  # noqa: E402
+from ways import Crates  # noqa: E402
 
 # At most so many records of a dump are restored, since the bytes of a script are limited.
 MAX_RESTORED = 100_000
@@ -46,8 +50,6 @@ Words = argparse.Namespace
 Figures = Dict[str, float]
 NumberOf = Callable[[int], int]  # The number of a file's label, by the file's own number.
 LOAD, LOAD_BYTES = "load, a file", "most bytes a file of the load"
-# The whole index is printed where it has at most so many lines: they are composed in memory.
-MAX_PAIRS = 20_000_000
 
 
 # What is printed.
@@ -64,10 +66,13 @@ def shown(name: str, value: float) -> str:
     return f"{value / 1e-9:.1f} ns"
 
 
-def print_table(heads: List[str], rows: Dict[str, List[str]]) -> None:
-    print("| " + " | ".join(heads) + " |\n|" + "---|" * len(heads))
-    for name, cells in rows.items():
-        print("| " + " | ".join([name, *cells]) + " |", flush=True)
+def print_table(head: str, columns: Mapping[str, Mapping[str, Union[str, float]]]) -> None:
+    """Columns of figures and texts by the names of their rows."""
+    print("| " + " | ".join([head, *columns]) + " |\n|---" + "|---" * len(columns) + "|")
+    for name in dict.fromkeys(name for column in columns.values() for name in column):
+        cells = (column.get(name, "") for column in columns.values())
+        texts = (cell if isinstance(cell, str) else shown(name, cell) for cell in cells)
+        print("| " + " | ".join([name, *texts]) + " |", flush=True)
 
 
 # The program on trees that are made.
@@ -158,8 +163,6 @@ def session_times(program: str, tree: Tree, steps: Iterable[Step]) -> Figures:
             found[step.name] = session.answer(step.lines(tree)) / step.parts(tree)
         found["most bytes a file of the session"] = session.most_memory() / tree.files
         found["bytes a file at its end"] = session.present_memory() / tree.files
-        if tree.files * tree.users <= MAX_PAIRS:
-            found["`index`, a file and user"] = session.answer(["index"]) / tree.files / tree.users
         session.end()
     return found
 
@@ -177,14 +180,9 @@ def best_times(given: Words, tree: Tree, steps: Iterable[Step], number_of: Optio
 
 
 def measure_tools(given: Words) -> int:
-    columns = [best_times(given, Tree("", files, given.users, 1_000, 10), OF_TOOLS) for files in given.files]
-    names = dict.fromkeys(name for best in columns for name in best)
-    print_table([f"{given.users:,} users", *(f"{files:,} files" for files in given.files)],
-                {name: [shown(name, best[name]) if name in best else "" for best in columns] for name in names})
-    files, best = given.files[-1], columns[-1]
-    share = best["`chmod -R .`, a file"] * files / best["`chmod` of one file"]
-    print(f"\nA `chmod` of one file among {files:,} takes 1/{share:,.0f} of the time of a `chmod -R` of them all.")
-    print("At most 1/2,000 is aimed at among 1,000,000.")
+    print_table(f"{given.users:,} users", {
+        f"{files:,} files": best_times(given, Tree("", files, given.users, 1_000, 10), OF_TOOLS)
+        for files in given.files})
     return 0
 
 
@@ -220,24 +218,22 @@ def write_labels(folder: str, files: int, users: int, number_of: NumberOf) -> No
 
 
 def measure_index(given: Words) -> int:
-    tree, kinds = Tree("", given.files[-1], given.users, 200, 4), given.only or list(NUMBER_OF)
-    columns = {kind: best_times(given, tree, OF_INDEX, NUMBER_OF[kind]) for kind in kinds}
-    aims = {kind: {step.name: getattr(step, kind) for step in (*OF_LOAD, *OF_INDEX)} for kind in kinds}
-    heads = [head for kind in kinds for head in (f"{kind} labels", "aimed at")]
-    print_table([f"{tree.files:,} files, {tree.users:,} users", *heads],
-                {name: [cell for kind in kinds for cell in (shown(name, columns[kind][name]), aims[kind].get(name, ""))]
-                 for name in columns[kinds[0]]})
+    tree, columns = Tree("", given.files[-1], given.users, 200, 4), {}
+    for kind, number_of in NUMBER_OF.items():
+        columns[f"{kind} labels"] = best_times(given, tree, OF_INDEX, number_of)
+        columns[f"aimed at: {kind}"] = {step.name: getattr(step, kind) for step in (*OF_LOAD, *OF_INDEX)}
+    print_table(f"{tree.files:,} files, {tree.users:,} users", columns)
     return 0
 
 
 def measure_limits(given: Words) -> int:
     files, users = given.files[-1], given.users
     best = best_times(given, Tree("", files, users, 1, 1), OF_LIMITS, lambda n: n % LABELS)
-    rows = {"load, and one `who`": [shown("", best[LOAD] * files + best["`who`"]), "10 s"],
-            "most memory of the load": [shown("memory", best[LOAD_BYTES] * files), "1.5 GB"]}
-    rows.update({step.name: [shown(step.name, best[step.name]), ""] for step in OF_LIMITS})
-    rows["most memory of the session"] = [shown("memory", best["most bytes a file of the session"] * files), ""]
-    print_table([f"{files:,} files of {LABELS:,} labels, {users:,} users", "", "aimed at"], rows)
+    found = {"load, and one `who`": best[LOAD] * files + best[WHO.name], "memory of the load": best[LOAD_BYTES] * files,
+             **{step.name: best[step.name] for step in OF_LIMITS},
+             "memory of the session": best["most bytes a file of the session"] * files}
+    aims = {"load, and one `who`": "10 s", "memory of the load": "1.5 GB"}
+    print_table(f"{files:,} files of {LABELS:,} labels, {users:,} users", {"": found, "aimed at": aims})
     return 0
 
 
@@ -273,9 +269,10 @@ def spent(words: List[str], folder: str, output: str = os.devnull, **variables: 
 
 # The program beside the real tools, by the same lines but one: a call over all files, or a call a file.
 OVER_ALL = ("getfacl -R -n", "chmod -R 750", "setfacl -R -m u:1001:rX")
+# `touch` is beside `creat`.
 EACH = {"setfacl -m u:1001:rwx": "", "chmod 640": "", "touch": "creat --user=u1 --mode=640", "rm": ""}
 RESTORE = "setfacl --restore"
-TIMES_QUICKER = {"setfacl -R -m u:1001:rX": "6", RESTORE: "8"}  # That is aimed at.
+AIMS_OF_REAL = {"setfacl -R -m u:1001:rX": "6 times", RESTORE: "8 times", "load": "2.5 us"}
 
 
 def make_files(folder: str) -> None:
@@ -328,69 +325,16 @@ def measure_real(given: Words) -> int:
         make_files(folder)
         ours = best_of([our_times(given.program, tree) for _ in range(given.runs)])
         real = best_of([real_times(tree) for _ in range(given.runs)])
-    rows = {"load": ["", shown("", ours["load"]), "", "2.5 us"]}
-    for line, seconds in real.items():
-        quicker, aim = f"{seconds / ours[line]:.1f}", TIMES_QUICKER.get(line, "")
-        name = f"`{line}`, beside `{EACH[line]}`" if EACH.get(line) else f"`{line}`"
-        rows[name] = [shown("", seconds), shown("", ours[line]), quicker, aim]
-    heads = ["real tool", "the program", "times quicker", "aimed at"]
-    print_table([f"{tree.files:,} files, {tree.users:,} users, a file", *heads], rows)
+    quicker = {line: f"{seconds / ours[line]:.1f}" for line, seconds in real.items()}
+    print_table(f"{tree.files:,} files, {tree.users:,} users, a file", {
+        "real tool": real, "the program": ours, "times quicker": quicker, "aimed at": AIMS_OF_REAL})
     return 0
-
-
-# A dump of a real folder.
-
-Records = Dict[bytes, List[bytes]]
-
-
-def records_of(listing: str) -> Records:
-    """The records of a listing by their paths as they are written, without slashes at the ends: owner, group, flags and
-    entries, sorted, without comments."""
-    found: Records = {}
-    path: Optional[bytes] = None
-    with open(listing, "rb") as lines:
-        for line in lines:
-            line = line.rstrip(b"\n")
-            if line.startswith(b"# file: "):
-                # A backslash is written as two, or by its number.
-                path = line[len(b"# file: ") :].strip(b"/").replace(rb"\134", rb"\\") or b"."
-                found[path] = []
-            elif line and path is not None:
-                found[path].append(line if line.startswith(b"# ") else line.split(b"#")[0].rstrip())
-    return {path: sorted(record) for path, record in found.items()}
-
-
-def listed_times(program: str, folder: str, top: str) -> Figures:
-    """What the load of the texts takes, and a listing of all of it, which is written."""
-    with open(f"{folder}/listing", "wb") as out, MeasuredSession(program, folder, out) as session:
-        listed = session.answer([f"getfacl -R '{top}'"])
-        session.end()
-    return {"load": session.load, "`getfacl -R`": listed, "most bytes of the load": session.memory}
-
-
-def measure_dump(given: Words) -> int:
-    tree = os.path.abspath(given.folder)
-    with tempfile.TemporaryDirectory(prefix="facl-bench.") as folder:
-        with open(f"{folder}/dump", "wb") as out:
-            subprocess.run(["getfacl", "-R", "-p", tree], stdout=out, stderr=subprocess.DEVNULL, check=False)
-        write_system_people(folder)
-        best = best_of([listed_times(given.program, folder, tree.strip("/") or ".") for _ in range(given.runs)])
-        size = os.path.getsize(f"{folder}/dump")
-        wanted, found = records_of(f"{folder}/dump"), records_of(f"{folder}/listing")
-    print_table([f"a dump of {len(wanted):,} files and {size:,} bytes", "a file"],
-                {name: [shown(name, value / max(1, len(wanted)))] for name, value in best.items()})
-    differing = sorted(path for path in {*wanted, *found} if wanted.get(path) != found.get(path))
-    for path in differing[:10]:
-        say(f"differs: {path.decode(errors='replace')}")
-    print(f"\n{len(differing)} of {len(wanted)} records are not listed as the dump has them.")
-    return 1 if differing or not wanted else 0
 
 
 # The commands for live systems.
 
 FIRST_ID = 70_000  # Of the users, each of whom has a group of the same id, and of guest, who is the first.
 MODES = (0o600, 0o640, 0o644, 0o755)
-LIST_ATTRIBUTE, NO_ID = "system.posix_acl_access", 0xFFFFFFFF
 SYSTEM_TOOLS = ("getfacl -R -n", "setfacl --restore")
 
 
@@ -406,12 +350,6 @@ def write_live_people(folder: str, users: int) -> None:
     os.chmod(f"{folder}/getent", 0o755)
 
 
-def list_bytes(user: int) -> bytes:
-    """The attribute of a list with a named user: version 2, and for each entry its kind, permissions and id."""
-    rows = [(1, 6, NO_ID), (2, 4, user), (4, 4, NO_ID), (16, 4, NO_ID), (32, 0, NO_ID)]
-    return struct.pack("<I", 2) + b"".join(struct.pack("<HHI", *row) for row in rows)
-
-
 def make_live_tree(folder: str, files: int, users: int) -> None:
     """Directories of a thousand files, which are of all users but guest; every tenth file has a named user."""
     os.mkdir(f"{folder}/srv", 0o755)
@@ -425,7 +363,8 @@ def make_live_tree(folder: str, files: int, users: int) -> None:
         os.chown(name, owner, owner)
         os.chmod(name, MODES[number % len(MODES)])
         if number % 10 == 0:
-            os.setxattr(name, LIST_ATTRIBUTE, list_bytes(FIRST_ID + 1 + number // 10 % (users - 1)))
+            named = attribute(5, FIRST_ID + 1 + number // 10 % (users - 1))
+            os.setxattr(name, "system.posix_acl_access", bytes.fromhex(named))
 
 
 def live_steps(folder: str, number: int) -> Dict[str, List[str]]:
@@ -446,10 +385,9 @@ def run_steps(given: Words, folder: str, number: int) -> Dict[str, Spent]:
     path = f"{folder}:{os.path.join(TOP, 'commands')}:{os.environ['PATH']}"
     found = {}
     for name, words in live_steps(folder, number).items():
-        if not given.only or name in given.only or name in SYSTEM_TOOLS:
-            output = f"{folder}/records" if name == SYSTEM_TOOLS[0] else os.devnull
-            found[name] = spent(words, folder, output, PATH=path, FACL=given.program)
-            say(f"run {number}: {name}: {found[name].seconds:.2f} s")
+        output = f"{folder}/records" if name == SYSTEM_TOOLS[0] else os.devnull
+        found[name] = spent(words, folder, output, PATH=path, FACL=given.program)
+        say(f"run {number}: {name}: {found[name].seconds:.2f} s")
     return found
 
 
@@ -462,30 +400,74 @@ def measure_live(given: Words) -> int:
         runs = [run_steps(given, folder, number) for number in range(given.runs)]
     seconds = {name: statistics.median(found[name].seconds for found in runs) for name in runs[0]}
     both = sum(seconds[name] for name in SYSTEM_TOOLS)
-    most = {name: max(found[name].memory for found in runs) / (1 << 20) for name in runs[0]}
-    print_table([f"{given.files[-1]:,} files, {given.users} users", "seconds", "times the system's tools", "MiB"],
-                {name: [f"{it:.2f}", f"{it / both:.1f}", f"{most[name]:,.0f}"] for name, it in seconds.items()})
+    most = {name: f"{max(found[name].memory for found in runs) / (1 << 20):,.0f}" for name in runs[0]}
+    print_table(f"{given.files[-1]:,} files, {given.users} users", {
+        "seconds": {name: f"{it:.2f}" for name, it in seconds.items()},
+        "times the system's tools": {name: f"{it / both:.1f}" for name, it in seconds.items()}, "MiB": most})
+    return 0
+
+
+# The tree and the people alone.
+
+TREE_BENCH = "tree_bench"
+TREE_USES = ["acl_dump", "acl_edit", "acl_names", "acl_people", "acl_syntax", "acl_tree"]
+
+
+def build_tree_bench(room: str) -> str:
+    """Copies the crates that the program is made of, with what is proved of them, proves and builds it; its path."""
+    crates = Crates()
+    needed = set().union(*map(crates.needed, TREE_USES))
+    for crate in needed:
+        shutil.copytree(os.path.join(TOP, "crates", crate), os.path.join(room, "crates", crate))
+    folder = os.path.join(room, "crates", TREE_BENCH)
+    os.makedirs(os.path.join(folder, "src"))
+    shutil.copy(os.path.join(TOOLS, "bench", TREE_BENCH + ".rt.txt"), os.path.join(folder, "src", "main.rt"))
+    rows = [row for crate, row in crates.rows.items() if crate in needed] + [f"{TREE_BENCH}: {' '.join(TREE_USES)}"]
+    Path(room, "crates.txt").write_text("\n".join(rows) + "\n", encoding="utf-8")
+    done = subprocess.run(["rt", "run"], cwd=folder, stdin=subprocess.DEVNULL, capture_output=True, check=False)
+    program = os.path.join(folder, "out", TREE_BENCH)
+    if not os.path.exists(program):
+        raise Failed("the program is not built: " + (done.stdout + done.stderr).decode(errors="replace")[-2000:])
+    return program
+
+
+def measure_tree(given: Words) -> int:
+    """Restores the dump that was loaded, and one with another permission in each list; then edits."""
+    files = given.files[-1]
+    with tempfile.TemporaryDirectory(prefix="facl-bench.") as room:
+        program = build_tree_bench(room)
+        write_tree(room, files, given.users)
+        text = Path(room, "dump").read_text(encoding="utf-8")
+        Path(room, "changed").write_text(re.sub(r"^(user:u\d+:)rw-$", r"\1--x", text, flags=re.M), encoding="utf-8")
+        spent([program, "passwd", "group", "dump", "dump", "changed"], room, f"{room}/times")
+        printed = re.findall(r"^(.+): (\d+) ns", Path(room, "times").read_text(encoding="utf-8"), re.M)
+    times = {name: [int(time) / 1e9 for its, time in printed if its == name] for name in dict(printed)}
+    rows = {"load, a file": times["load"][0] / files, "`setfacl -R -m`, a file": times["edit"][0] / files}
+    for at, what in enumerate(("that changes nothing", "of changed lists")):
+        rows[f"restore {what}, a record"] = times["restore"][at] / files
+        rows[f"the text of a restore {what}, a record"] = times["read"][at] / files
+    rows.update({f"`{name}`": statistics.median(times[name]) for name in ("creat", "rm", "gpasswd -a", "gpasswd -d")})
+    print_table(f"{files:,} files, {given.users:,} users", {"": rows})
     return 0
 
 
 class Measurement(NamedTuple):
-    """The sizes of a tree and the runs where none are given, and the real tools that are needed."""
+    """The sizes of a tree and the runs where none are given, and the tools that are needed."""
 
     measure: Callable[[Words], int]
     files: List[int]
     users: int
     runs: int
     needs: Tuple[str, ...] = ()
-    only: Iterable[str] = ()
 
 
 MEASUREMENTS = {
     "tools": Measurement(measure_tools, [10_000, 100_000, 1_000_000], 1_000, 3),
-    "index": Measurement(measure_index, [100_000], 1_000, 2, only=NUMBER_OF),
+    "index": Measurement(measure_index, [100_000], 1_000, 2),
     "limits": Measurement(measure_limits, [1_048_576], 65_536, 1),
     "real": Measurement(measure_real, [100_000], 100, 3, ("getfacl", "setfacl")),
-    "dump": Measurement(measure_dump, [102], 10, 3, ("getfacl",)),
-    "live": Measurement(measure_live, [100_000], 30, 3, ("getfacl", "setfacl"), live_steps("", 0)),
+    "live": Measurement(measure_live, [100_000], 30, 3, ("getfacl", "setfacl")),
+    "tree": Measurement(measure_tree, [100_000], 1_000, 1, ("rt",)),
 }
 
 
@@ -493,35 +475,30 @@ def words() -> Words:
     """The words of the call."""
     options = argparse.ArgumentParser(description=__doc__, formatter_class=argparse.RawDescriptionHelpFormatter)
     options.add_argument("measurement", choices=MEASUREMENTS)
-    options.add_argument("program", type=program_at)
+    options.add_argument("program", type=program_at, nargs="?")
     options.add_argument("folder", nargs="?")
     options.add_argument("--files", type=lambda text: [int(number) for number in text.split(",")])
     options.add_argument("--users", type=int)
     options.add_argument("--runs", type=int)
-    options.add_argument("--only", type=lambda text: text.split(","), default=[])
     given = options.parse_args()
-    chosen = MEASUREMENTS[given.measurement]
+    kind, chosen = given.measurement, MEASUREMENTS[given.measurement]
     given.files = given.files or chosen.files
     given.users, given.runs = given.users or chosen.users, given.runs or chosen.runs
-    if min(given.files) < PER_DIRECTORY + 2 or given.users < 10 or given.runs < 1:
-        options.error("FILES from 102 on, USERS from 10 on, RUNS from 1 on")
-    if len(given.files) > 1 and given.measurement != "tools":
-        options.error("several FILES are of `tools` alone")
-    if set(given.only) - set(chosen.only):
-        options.error(f"--only: {given.measurement} has {', '.join(chosen.only) or 'no names'}")
-    if given.measurement == "dump" and not given.folder:
-        options.error("dump: a FOLDER is missing")
-    if given.measurement == "live" and os.geteuid() != 0:
-        options.error("live: run it as root")
+    missing = [tool for tool in chosen.needs if not shutil.which(tool)]
+    for is_so, text in (
+            (missing, f"not installed: {', '.join(missing)}"),
+            ((kind == "tree") == bool(given.program), "a PROGRAM, but for tree"),
+            (kind == "live" and os.geteuid() != 0, "run it as root"),
+            (min(given.files) < PER_DIRECTORY + 2 or given.users < 10 or given.runs < 1,
+             "FILES from 102 on, USERS from 10 on, RUNS from 1 on"),
+            (len(given.files) > 1 and kind != "tools", "several FILES are of `tools` alone")):
+        if is_so:
+            options.error(f"{kind}: {text}")
     return given
 
 
 def main() -> int:
     given = words()
-    missing = [tool for tool in MEASUREMENTS[given.measurement].needs if not shutil.which(tool)]
-    if missing:
-        say(f"{' and '.join(missing)} of the Debian package acl: not installed")
-        return 2
     say("load of the machine: %.1f, %.1f and %.1f in the last 1, 5 and 15 minutes" % os.getloadavg())
     return MEASUREMENTS[given.measurement].measure(given)
 

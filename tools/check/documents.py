@@ -26,13 +26,14 @@ from __future__ import annotations
 import os
 import re
 import sys
+from pathlib import Path
 from typing import Dict, Iterable, Iterator, List, NamedTuple, Set, Tuple
 
 sys.dont_write_bytecode = True
-sys.path.insert(0, os.path.join(os.path.dirname(os.path.realpath(__file__)), "..", "lib"))
+sys.path.insert(0, os.path.join(os.path.dirname(os.path.realpath(__file__)), ".."))
 
-from crates import Crates  # noqa: E402
-from sources import TOP, Function, Library, found_in, is_of_tests, text_of  # noqa: E402
+from memory_faults import TOP, Function, Library, found_in, is_of_tests, text_of  # noqa: E402
+from ways import Crates  # noqa: E402
 
 PROOFS, ARCHITECTURE, READING, PAGE = "docs/PROOFS.md", "docs/ARCHITECTURE.md", "docs/READING.md", "docs/facl.1"
 CONTRIBUTING, TOOLS, SPECIFICATION = "CONTRIBUTING.md", "tools/README.md", "docs/SPECIFICATION.md"
@@ -114,7 +115,8 @@ class Checks:
 
     def __init__(self, top: str) -> None:
         self.top, self.library = top, Library(top)
-        self.listed = Crates(os.path.join(top, "crates.txt")).listed
+        self.crates = Crates(os.path.join(top, "crates.txt"))
+        self.listed = self.crates.listed
         self.program = [crate for crate in self.listed if not is_of_tests(crate)]
         paths = found_in(top, "*.md", "docs/*.md", "docs/*.1", "demo/*.md", "tools/*.md")
         self.texts = {path: text_of(top, path) for path in paths}
@@ -213,7 +215,7 @@ class Checks:
             crates, tests = (set(re.findall(r"\w+", cell)) & set(self.listed) for cell in row.cells[:2])
             left -= crates | tests
             for test in tests:
-                others = crates - self.below(test) - {test}
+                others = crates - self.crates.needed(test)
                 yield from ((CONTRIBUTING, row.number, f"{test} does not use {other}: crates.txt") for other in others)
         yield from ((CONTRIBUTING, 1, f"{crate} is not in the table of tests") for crate in left)
         kit = {name for names in self.listed.values() for name in names} - set(self.listed)
@@ -276,16 +278,12 @@ class Checks:
 
         return BLOCK.sub(block, text)
 
-    def below(self, crate: str) -> Set[str]:
-        """All crates below a crate."""
-        return {other for used in self.listed.get(crate, ()) for other in {used} | self.below(used)}
-
     def graph(self) -> Iterator[str]:
         """The crates of the program, each with an arrow to those that it lists and that no other one on the way has."""
         yield from ("```mermaid", "graph TD")
         for crate in self.program:
             uses = self.listed[crate] & set(self.program)
-            implied = {other for used in uses for other in self.below(used)}
+            implied = {other for used in uses for other in self.crates.needed(used) - {used}}
             yield from (f"    {crate} --> {used}" for used in sorted(uses - implied))
         yield "```"
 
@@ -372,10 +370,8 @@ def main() -> int:
     if sys.argv[1:2] == ["--files"] and set(sys.argv[2:]) <= set(checks.listed):
         print("".join(f"{path}: {head}\n" for path, head in checks.heads(sys.argv[2:])), end="")
     elif sys.argv[1:] == ["--write"]:
-        for path, text in checks.texts.items():
-            if checks.written(text) != text:
-                with open(os.path.join(TOP, path), "w", encoding="utf-8") as file:
-                    file.write(checks.written(text))
+        for path in (ARCHITECTURE, PROOFS):
+            Path(TOP, path).write_text(checks.written(checks.texts[path]), encoding="utf-8")
     elif sys.argv[1:]:
         sys.exit(__doc__)
     else:

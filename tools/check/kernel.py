@@ -2,17 +2,12 @@
 """Compares the answers of the commands with the kernel's: all users, all files, seven requests, alone and along paths.
 
 usage: tools/check/kernel.py PROGRAM [--users N] [--files N] [--seed N] [--record]
-       tools/check/kernel.py PROGRAM --ask FILE [--users N]
 
 As root: it makes a tree of N files (500) in a folder of its own, with lists, masks and closed directories, of N users
 (20) who need no account. facl-snapshot records it; facl-ask answers `may` and `may --reach`; facl-plan, as it judges by
 default, says who gains what by a script that grants at random. The kernel is asked by faccessat(2) as each user: of a
 file alone by its descriptor, along a path by its name; after facl-apply again. Files with an empty mask whose others
 have something are left out, and what is below them. --record writes what was found into docs/CHECKS.md.
-
---ask asks who may read a FILE that users can get to: the kernel by `setpriv --reuid U --regid G --init-groups test -r
-FILE` as each user of the system (100 at most) but the superuser, who may do everything; the program by `who --reach`,
-over a dump of FILE and each directory above it. It compares the answers, and prints what one takes.
 
 The exit status is 1 where an answer differs, 2 where the words are others.
 """
@@ -21,20 +16,17 @@ from __future__ import annotations
 import argparse
 import ctypes
 import os
-import pwd
 import random
 import shutil
 import subprocess
 import sys
 import tempfile
-import time
-from pathlib import PurePath
 from typing import Dict, Iterable, List, Set, Tuple
 
 sys.dont_write_bytecode = True
 sys.path.insert(0, os.path.join(os.path.dirname(os.path.realpath(__file__)), "..", "lib"))
-from script import Failed, TOP, record, run  # noqa: E402
-from session import program_at, words_of, write_system_people  # noqa: E402
+from script import Failed, TOP, run  # noqa: E402
+from session import conclude, options_of  # noqa: E402
 
 LIBRARY = ctypes.CDLL(None, use_errno=True)
 AT_FDCWD, AT_EMPTY_PATH, AT_EACCESS = -100, 0x1000, 0x200
@@ -42,7 +34,6 @@ LETTERS = {1: "x", 2: "w", 4: "r"}
 FIRST_UID, FIRST_GID = 71000, 72000
 ALL = FIRST_GID + 6  # The group of all users, after six others.
 VIEWS = ("alone", "along")
-MANY = 10_000  # Lines whose time is measured.
 Answer = Tuple[int, str, int]  # The number of a user, a file, and a request that is granted.
 Granted = Set[Answer]
 
@@ -188,61 +179,17 @@ def compare_plan(world: World) -> Tuple[int, int]:
     return len(changed), len(odd)
 
 
-def check_tree(given: argparse.Namespace) -> int:
+def main() -> int:
+    given = options_of(__doc__, files=500, users=20, seed=1).parse_args()
+    if os.geteuid() != 0:
+        raise Failed("run it as root")
     with tempfile.TemporaryDirectory(prefix="facl-kernel.") as work:
         os.chmod(work, 0o755)
         world = World(work, given)
         before, rows, after = compare(world, "before"), compare_plan(world), compare(world, "after facl-apply")
     differ = before[1] + rows[1] + after[1]
-    if given.record:
-        amount = f"{before[0] + after[0]:,} answers, {given.users} users, {given.files} files, {rows[0]} changed pairs"
-        record(amount, f"{differ} differ" if differ else "nothing")
-    return 1 if differ else 0
-
-
-def write_texts(folder: str, users: List[pwd.struct_passwd], file: str) -> None:
-    """Writes the users, the groups, and a dump of the file and the directories above it."""
-    above = [printed(["getfacl", "-n", "-p", str(path)]) for path in [*PurePath(file).parents][:-1]]
-    write_system_people(folder)
-    with open(os.path.join(folder, "dump"), "w", encoding="utf-8") as out:
-        out.writelines(text.replace("\n# owner:", "/\n# owner:", 1) for text in above)
-        out.write(printed(["getfacl", "-n", "-p", file]))
-    with open(os.path.join(folder, "passwd"), "w", encoding="utf-8") as out:
-        out.writelines(f"{user.pw_name}:x:{user.pw_uid}:{user.pw_gid}::/:/bin/sh\n" for user in users)
-
-
-def ask(given: argparse.Namespace) -> int:
-    """Who may read a file, by the kernel and by the program, and what an answer takes."""
-    file = os.path.realpath(given.ask)
-    users = [user for user in pwd.getpwall() if user.pw_uid != 0][:given.users]
-    granted, start = [], time.perf_counter()
-    for user in users:
-        words = ["setpriv", f"--reuid={user.pw_uid}", f"--regid={user.pw_gid}", "--init-groups", "test", "-r", file]
-        granted += [user.pw_name] if subprocess.run(words, check=False).returncode == 0 else []
-    each = (time.perf_counter() - start) / max(1, len(users))
-    with tempfile.TemporaryDirectory(prefix="facl-ask.") as folder:
-        write_texts(folder, users, file)
-        start = time.perf_counter()
-        answers = printed(words_of(given.program, folder), f"who --reach r {file}\n" * MANY).splitlines()
-        line = (time.perf_counter() - start) / MANY
-    found = answers[:len(answers) // MANY]
-    print(f"{len(users)} users: the kernel {each * 1e6:.0f} us a user, facl {line * 1e6:.1f} us a line for all of them")
-    print("the answers are the same" if granted == found else f"they differ: kernel {granted}, facl {found}")
-    return 0 if granted == found else 1
-
-
-def main() -> int:
-    options = argparse.ArgumentParser(description=__doc__, formatter_class=argparse.RawDescriptionHelpFormatter)
-    options.add_argument("program", type=program_at)
-    for name, number in (("--files", 500), ("--users", 0), ("--seed", 1)):
-        options.add_argument(name, type=int, default=number)
-    options.add_argument("--ask", metavar="FILE")
-    options.add_argument("--record", action="store_true")
-    given = options.parse_args()
-    if os.geteuid() != 0:
-        raise Failed("run it as root")
-    given.users = given.users or (100 if given.ask else 20)
-    return ask(given) if given.ask else check_tree(given)
+    amount = f"{before[0] + after[0]:,} answers, {given.users} users, {given.files} files, {rows[0]} changed pairs"
+    return conclude(given, amount, [f"{differ} differ"] if differ else [])
 
 
 if __name__ == "__main__":

@@ -62,8 +62,8 @@ def with_row(lines: List[str], cells: List[str]) -> List[str]:
 
 
 def record(amount: str, found: str, part: str = "") -> None:
-    """Writes what the script that runs looked at, and what it found, into its row of the page. `part` is the option that
-    chooses what it does, where it has a row for each."""
+    """Writes what the script that runs looked at, and what it found, into its row of the page. `part` is the option
+    that chooses what it does, where it has a row for each."""
     today = datetime.datetime.now(datetime.timezone.utc).date().isoformat()
     with open(PAGE, encoding="utf-8") as page:
         lines = page.read().splitlines()
@@ -73,15 +73,9 @@ def record(amount: str, found: str, part: str = "") -> None:
     os.replace(PAGE + ".new", PAGE)
 
 
-def usage(head: Optional[str]) -> NoReturn:
-    """Ends a script that was called with other words than its head has."""
-    print(head, file=sys.stderr)
-    sys.exit(2)
-
-
 def run(main: Callable[[], int]) -> NoReturn:
-    """Runs a script, which ends with the status that `main` returns, or with 1 and a line where it fails. A signal raises
-    SystemExit in it, so that folders are removed and programs are ended."""
+    """Runs a script, which ends with the status that `main` returns, or with 1 and a line where it fails. A signal
+    raises SystemExit in it, so that folders are removed and programs are ended."""
     at_signals(end)
     try:
         status = main()

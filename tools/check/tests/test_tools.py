@@ -1,18 +1,46 @@
-"""Tests of tools/check/: documents.py over a small repository, what sources.py reads, what memory_faults.py finds."""
+"""Tests of tools/: documents.py over a small repository, what memory_faults.py reads and finds, and lib/ with a program
+of its own in the place of the real one."""
 from __future__ import annotations
 
+import argparse
 import os
-import shutil
+import signal
+import subprocess
 import sys
 import tempfile
+import time
 import unittest
 from typing import Dict, List, Tuple
 
-sys.path.insert(0, os.path.join(os.path.dirname(os.path.realpath(__file__)), ".."))
+HERE = os.path.dirname(os.path.realpath(__file__))
+LIB = os.path.realpath(os.path.join(HERE, "..", "..", "lib"))
+sys.path[:0] = [os.path.join(HERE, ".."), os.path.join(HERE, "..", ".."), LIB]
 
 from documents import Checks  # noqa: E402
-from memory_faults import faults_of  # noqa: E402
-from sources import Source  # noqa: E402
+from memory_faults import Source, faults_of  # noqa: E402
+from random_lines import Unit, is_of_tools, numbers_of, script_of  # noqa: E402
+from script import Failed, with_row  # noqa: E402
+from session import Expect, MeasuredSession, Session, TimedRun, has_tool, program_at, timed  # noqa: E402
+from ways import Crates  # noqa: E402
+
+
+class Case(unittest.TestCase):
+    """A test with a folder of its own."""
+
+    def setUp(self) -> None:
+        folder = tempfile.TemporaryDirectory(prefix="facl-tools-test.")
+        self.addCleanup(folder.cleanup)
+        self.top = folder.name
+
+    def write(self, name: str, text: str) -> str:
+        path = os.path.join(self.top, name)
+        os.makedirs(os.path.dirname(path), exist_ok=True)
+        with open(path, "w", encoding="utf-8") as file:
+            file.write(text)
+        return path
+
+
+# --- check/documents.py
 
 A = r"""//! Maps, by
 //! `a|b`.
@@ -129,7 +157,6 @@ FAULTS: Dict[str, List[Tuple[str, ...]]] = {
         ("(`look_up`)", "(`look`)", "3: no `look` in low"),
         ("(`Map::put`, clauses `ok`, `err`", "(`Map::get`, clause `ok`", "3: no function here has a clause `ok`",
          "3: Map::get has none of the clauses named; it has none"),
-        ("`err`).", "`full`).", "3: no function here has a clause `full`"),
         ("`low::Map::get`", "`facl::Map::get`", "10: no `facl::Map::get` in facl"),
         ("Carried by", "Where", "1: there is no table, list or point of: Carried by"),
         ("`ok`; `row`", "`ok`", "15: Map::ask has none of the clauses named; it has asked, row"),
@@ -163,17 +190,11 @@ FAULTS: Dict[str, List[Tuple[str, ...]]] = {
 }
 
 
-class Documents(unittest.TestCase):
+class Documents(Case):
     def setUp(self) -> None:
-        self.top = tempfile.mkdtemp(prefix="facl-documents-test.")
-        self.addCleanup(shutil.rmtree, self.top)
+        super().setUp()
         for name, text in FILES.items():
             self.write(name, text)
-
-    def write(self, name: str, text: str) -> None:
-        os.makedirs(os.path.dirname(os.path.join(self.top, name)), exist_ok=True)
-        with open(os.path.join(self.top, name), "w", encoding="utf-8") as file:
-            file.write(text)
 
     def test_what_is_there(self) -> None:
         self.assertEqual(Checks(self.top).all_faults(), [])
@@ -190,6 +211,9 @@ class Documents(unittest.TestCase):
         heads = [head for _, head in checks.heads(["low"])]
         self.assertEqual(heads, ["What a map is.", "Maps, by `a|b`.", "Closed.", "Cut."])
         self.assertEqual(dict(checks.heads([]))["tools/lib/a.py"], "Checks all.")
+
+
+# --- check/memory_faults.py
 
 
 def memory_faults_of(text: str) -> List[str]:
@@ -236,6 +260,96 @@ class MemoryFaults(unittest.TestCase):
             self.assertEqual(memory_faults_of(f"{head}{{{body}\n}}"), [f"{name} is made in f"] if name else [], body)
         for text, found in ITEMS.items():
             self.assertEqual(memory_faults_of(text), found)
+
+
+# --- lib/
+
+# Refuses `frob` and `mark`, warns of `warn`, ends at `end`, and prints all other lines.
+PROGRAM = r"""#!/bin/sh
+number=0
+while read -r line; do
+    number=$((number + 1))
+    case $line in
+    frob | mark) echo "line $number: facl: unknown tool" >&2 ;;
+    warn) echo "line $number: chmod: warning: odd" >&2 ;;
+    end) exit 3 ;;
+    *) echo "$line" ;;
+    esac
+done
+exit 1
+"""
+# Scripts that make a folder, print its path and a process, and wait.
+PYTHON = f"""import os, sys, tempfile, time
+sys.path.insert(0, {LIB!r})
+import script
+def main():
+    with tempfile.TemporaryDirectory(prefix="facl-test.") as folder:
+        print(folder, os.getpid(), flush=True)
+        time.sleep(60)
+script.run(main)
+"""
+SHELL = f"""top={LIB}/../..; . "$top/tools/lib/program.sh"; make_work
+sleep 60 & echo "$work $!"; wait_for_child
+"""
+
+
+class Lib(Case):
+    def setUp(self) -> None:
+        super().setUp()
+        self.program = self.write("program", PROGRAM)
+        os.chmod(self.program, 0o755)
+
+    def test_sessions(self) -> None:
+        with Session(self.program, self.top) as session:
+            self.assertEqual(list(session.messages([b"a\n", b"frob\nb\n", b"warn\n"])), [
+                b"line 2: facl: unknown tool\n", b"line 4: chmod: warning: odd\n"])
+            self.assertEqual(list(session.messages([b"frob\n"])), [b"line 6: facl: unknown tool\n"])
+            self.assertGreater(session.most_memory(), 0)
+            self.assertEqual(session.end(), 1)
+        with Session(self.program, self.top) as session, self.assertRaisesRegex(Failed, "ended with status 3"):
+            list(session.messages([b"end\n"]))
+        with self.assertRaises(KeyError), Session(self.program, self.top) as session:
+            raise KeyError
+        self.assertEqual(session.run.poll(), -signal.SIGKILL)
+
+        self.assertEqual(program_at(self.program), os.path.realpath(self.program))
+        for word in (self.top, self.write("dump", ""), self.top + "/absent"):
+            self.assertRaises(argparse.ArgumentTypeError, program_at, word)
+        self.assertEqual([has_tool(self.program, tool) for tool in ("chmod", "frob")], [True, False])
+
+    def test_measures(self) -> None:
+        steps = [Expect("one", [b"a\nfrob\n"], [(2, b"facl: unknown tool")]), Expect("two", [b"a\n"])]
+        times, memory = timed(self.program, self.top, steps)
+        self.assertEqual(([name for name, _, _ in times], memory > 0), (["load", "one", "two"], True))
+        for step, fault in ((Expect("x", [b"frob\n"]), "x: it printed b'line 1: facl: unknown tool"),
+                            (Expect("x", [b"a\n"], [(1, b"text")]), "x: it did not print b'text'"),
+                            (Expect("x", [b"frob\n"], [(1, b"text")]), "in place of b'text'")):
+            with self.assertRaisesRegex(Failed, fault), TimedRun(self.program, self.top) as run:
+                run.answer(step)
+        with MeasuredSession(self.program, self.top) as session:
+            self.assertGreaterEqual(min(session.load, session.answer(["a", "b"])), 0)
+            self.assertRaisesRegex(Failed, "^line 5: facl: unknown tool$", session.answer, ["frob"])
+
+    def test_units_crates_and_rows(self) -> None:
+        units = [Unit(b"load dump", [b"x", b"y"]), Unit(b"", None), Unit(b" chmod 7 f", []), Unit(b"rm f", None)]
+        self.assertEqual(script_of(units), b"load dump\nx\ny\n.\n\n chmod 7 f\n.\nrm f\n")
+        self.assertEqual(numbers_of(units), [1, 5, 6, 8])
+        self.assertEqual([is_of_tools(unit, (b"chmod", b"rm")) for unit in units], [False, False, True, True])
+        self.assertEqual(Crates(self.write("rows", "# a\na: x\nb: a  # c\nc: b y\n")).needed("b"), {"a", "b"})
+        page = ["| A | B |", "|---|---|", "| a | 1 |", "", "end"]
+        self.assertEqual(with_row(page, ["a", "2|3"]), [*page[:2], "| a | 2\\|3 |", *page[3:]])
+        self.assertEqual(with_row(page, ["a --b", "2"]), [*page[:3], "| a --b | 2 |", *page[3:]])
+
+    def test_interrupted_scripts(self) -> None:
+        for words in ([sys.executable, "-B", "-c", PYTHON], ["sh", "-c", SHELL]):
+            with subprocess.Popen(words, stdout=subprocess.PIPE, stderr=subprocess.DEVNULL, text=True) as run:
+                folder, process = next(iter(run.stdout or ())).split()
+                self.assertTrue(os.path.isdir(folder))
+                time.sleep(0.1)  # until it waits
+                run.terminate()
+                self.assertEqual(run.wait(), 128 + signal.SIGTERM)
+            self.assertFalse(os.path.exists(folder))
+            self.assertRaises(ProcessLookupError, os.kill, int(process), 0)
 
 
 if __name__ == "__main__":
