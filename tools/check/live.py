@@ -2,23 +2,10 @@
 """The way to the live system and back on a real file system, as root: facl-snapshot, facl-plan, facl-apply.
 
 It makes a folder of its own, and removes it; users and groups are those of a getent of its own, so that no account is
-made. It needs the packages acl, strace, e2fsprogs and libcap2-bin. Its parts, each with a number of tries:
+made. It needs the packages acl, strace, e2fsprogs and libcap2-bin. --help prints its parts.
 
-- plans: a tree with default lists, masks, flags, hard links and odd names; a snapshot; a plan of one to ten lines;
-  facl-apply. The tree is then as it was with the planned records in it, and the kernel grants 20 pairs of a user and a
-  file what the program says. In every other plan somebody changes, removes, replaces or adds a file between plan and
-  apply. Then --undo, and the tree is the first one to the byte.
-- kills: facl-apply and --undo are killed at each call that changes a file or writes the plan; then --undo, or a second
-  run, has to reach the tree before or the planned one, at once. moments: ten kills each at random moments.
-- signals: HUP, INT, QUIT and TERM at random moments, and HUP where that is ignored.
-- faults: each of these calls fails once, and from then on, by random errors.
-- disks: full, read-only and small ones, files that nobody may change, overlays.
-- hands: plans that make and remove files; by_hand is run after facl-apply, and the tree is the planned one.
-- capabilities: files with them. owners: the owner of the files, who is not root, does all, and is killed at each call.
-- chains: 1,900 directories, one in the other. large: 100,000 files. Both with few descriptors, in some seconds.
-
-A signal ends it early; what was counted by then is printed. The exit status is 1 where something is not as it has to
-be, 2 where the words are others, a tool is not installed or it is not run as root.
+The exit status is 1 where something is not as it has to be, 2 where the words are others, a tool is not installed or it
+is not run as root.
 """
 from __future__ import annotations
 
@@ -33,15 +20,12 @@ from typing import Iterator, List, Optional, Tuple
 
 sys.dont_write_bytecode = True
 sys.path.insert(0, os.path.join(os.path.dirname(os.path.realpath(__file__)), "..", "lib"))
+import script  # noqa: E402
 from live_tree import (  # noqa: E402
-    CHANGING, MALLORY, USERS, Call, Check, Done, Parts, Tree, child, copy, expect, main, make, mounted, must,
-    records_of, remove, run, trace, word,
+    CHANGING, MALLORY, USERS, Call, Check, Done, Tree, child, copy, expect, main, make, mounted, must, records_of, remove,
+    run, trace, word,
 )
 
-PARTS: Parts = {
-    "plans": (200, 4), "kills": (3, 1), "moments": (50, 1), "signals": (20, 1), "faults": (3, 1), "disks": (2, 1),
-    "hands": (30, 2), "capabilities": (1, 1), "owners": (10, 1), "chains": (1, 1), "large": (1, 0),
-}
 TEXTS = [b"---", b"--x", b"-w-", b"-wx", b"r--", b"r-x", b"rw-", b"rwx"]
 SEEN = CHANGING + ["fsync", "syncfs", "rename", "unlink", "unlinkat", "openat"]
 KNOWN = {b"plan", b"lock", b"meta", b"edits", b"old", b"new", b"files", b"by_hand", b"by_hand_undo", b"by_hand_done",
@@ -53,6 +37,10 @@ Planned = Tuple[Tree, bytes]  # A tree with a plan that has an effect, and its l
 
 class Ways(Check):
     """There and back again, and what can come in between."""
+
+    tools = [*Check.tools, "setcap", "chattr", "mkfs.ext4", "prlimit", "mount"]
+    parts = {"plans": 200, "kills": 3, "moments": 50, "signals": 20, "faults": 3, "disks": 2, "hands": 30, "capabilities": 1,
+             "owners": 10, "chains": 1, "large": 1}
 
     def check_kernel(self, tree: Tree) -> None:
         """The kernel grants 20 pairs what the program says of the snapshot with the planned records restored."""
@@ -124,6 +112,8 @@ class Ways(Check):
         expect(tree.listing() == before, "undo after somebody's change of another file")
 
     def check_plans(self, seed: int) -> None:
+        """A random tree, with default lists, masks, flags, hard links and odd names; a plan of one to ten lines, applied and
+        undone, beside the kernel; in every other one somebody changes, removes, replaces or adds a file before."""
         tree = Tree(self.work, seed)
         first = tree.listing()
         if not self.planned(tree, b"".join(tree.line() for _ in range(tree.chance.randrange(1, 11)))):
@@ -188,6 +178,8 @@ class Ways(Check):
                 yield (*made, call, options)
 
     def check_kills(self, seed: int) -> None:
+        """facl-apply and --undo are killed at each call that changes a file or writes the plan; then --undo, or a second
+        run, reaches the tree before or the planned one."""
         for turn, (tree, first, call, options) in enumerate(self.each_point(seed)):
             inject = f"{call.name}:signal=KILL:when={call.number}"
             done = trace(self, self.words(b"facl-apply", *options, self.plan), SEEN, [inject])
@@ -208,6 +200,7 @@ class Ways(Check):
         return self.ended_by(self.words(b"facl-apply", *options, self.plan), number, wait, ignored=ignored)
 
     def check_moments(self, seed: int) -> None:
+        """Ten kills at random moments."""
         tree, first = self.whole_plan(seed)
         for turn in range(10):
             if turn % 3 == 2:
@@ -219,6 +212,7 @@ class Ways(Check):
             self.forget()
 
     def check_signals(self, seed: int) -> None:
+        """HUP, INT, QUIT and TERM at random moments, and HUP where that is ignored."""
         tree, first = self.whole_plan(seed)
         for number in (signal.SIGHUP, signal.SIGINT, signal.SIGQUIT, signal.SIGTERM):
             self.check_signalled(tree, number, self.at_random(tree, number))
@@ -245,6 +239,7 @@ class Ways(Check):
             must(self.apply(UNDO), 3)
 
     def check_faults(self, seed: int) -> None:
+        """Each call that changes a file or writes the plan fails once, and from then on, by random errors."""
         for tree, first, call, options in self.each_point(seed):
             for often in [tree.chance.choice(["", "+"])] if options else ["", "+"]:
                 self.fail(tree, first, call, often, options)
@@ -268,6 +263,7 @@ class Ways(Check):
         self.count(f"calls that fail, status {done.status}{' of --undo' * len(options)}")
 
     def check_disks(self, seed: int) -> None:
+        """Full, read-only and small disks, files that nobody may change, overlays."""
         made = self.small_plan(seed)
         if made is None:
             return
@@ -361,6 +357,7 @@ class Ways(Check):
                 self.count("overlays")
 
     def check_hands(self, seed: int) -> None:
+        """A plan that makes and removes files: by_hand is run after facl-apply, and the tree is the planned one."""
         tree = Tree(self.work, seed)
         made = os.path.join(tree.chance.choice(tree.folders), b"new it's\n\xe9")
         gone = tree.chance.choice(tree.files or tree.folders[1:] or [made])
@@ -381,6 +378,7 @@ class Ways(Check):
         self.count("plans with files made and removed by hand")
 
     def check_capabilities(self, seed: int) -> None:
+        """A file with capabilities, which are dropped only where that is asked for."""
         tree = Tree(self.work, seed)
         program = os.path.join(tree.top, b"capable")
         shutil.copy(b"/bin/true", program)
@@ -399,7 +397,8 @@ class Ways(Check):
         self.count("files with capabilities")
 
     def check_owners(self, seed: int) -> None:
-        """All files belong to MALLORY, who applies; directories get and lose x, and files below them change."""
+        """The owner of the files, who is not root, applies and undoes, and is killed at each change; directories get and
+        lose x, and files below them change."""
         tree = Tree(self.work, seed)
         for place in tree.all():
             os.chown(place, MALLORY, 70100)
@@ -442,12 +441,13 @@ class Ways(Check):
         self.count("kills of the owner's facl-apply and --undo", 2 * len(calls))
 
     def check_chains(self, _seed: int) -> None:
-        """1,900 directories, one in the other, with a file in each."""
+        """1,900 directories, one in the other, with a file in each; with few descriptors, in some seconds."""
         top = make(self.name("tree chain/"), 0o755)
         must(run([b"sh", b"-c", b'cd "$0"; for i in $(seq 1900); do : >z; mkdir d; cd -P d || exit 1; done', top]), 0)
         self.timed(top, "a chain of 1,900 directories", 10)
 
     def check_large(self, _seed: int) -> None:
+        """100,000 files; with few descriptors, in a minute."""
         top = self.name("tree large")
         for folder in range(100):
             os.makedirs(os.path.join(top, b"%d" % folder))
@@ -471,20 +471,13 @@ class Ways(Check):
 def replace_alike(name: bytes, is_same_name: bool) -> None:
     """Puts another file with the same owner, group, flags and lists at a name: by a rename, or made again at once,
     which often gets the number of the one before."""
-    look = os.stat(name)
-    lists = {it: os.getxattr(name, it) for it in os.listxattr(name)}
-    end = b"/" if stat.S_ISDIR(look.st_mode) else b""
-    if is_same_name and not end:
-        os.unlink(name)
-    elif is_same_name:
+    copy(name, name + b".new")
+    if is_same_name:
+        remove(name)
+        copy(name + b".new", name)
+    else:
         os.rename(name, name + b".away")
-    place = make((name if is_same_name else name + b".new") + end, owner=look.st_uid, group=look.st_gid)
-    for attribute, data in lists.items():
-        os.setxattr(place, attribute, data)
-    os.chmod(place, look.st_mode & 0o7777)
-    if not is_same_name:
-        os.rename(name, name + b".away")
-        os.rename(place, name)
+        os.rename(name + b".new", name)
 
 
 def ask_kernel(user: bytes, file: bytes) -> bytes:
@@ -497,4 +490,4 @@ def ask_kernel(user: bytes, file: bytes) -> bytes:
 
 
 if __name__ == "__main__":
-    main(Ways, PARTS, __doc__)
+    script.run(lambda: main(Ways, __doc__))

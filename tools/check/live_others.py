@@ -1,26 +1,8 @@
 #!/usr/bin/env python3
 """Other users and other commands at work beside facl-apply, facl-plan, by_hand and by_hand_undo, as root on a real file
-system.
+system. One user without rights, MALLORY, meddles.
 
-It makes a folder of its own, and removes it; it needs the packages acl and strace. Its parts, each with a number of
-tries:
-
-- races: a user without rights (MALLORY) owns a folder in which the files of a plan are, and some of these. At a call of
-  facl-apply, which strace stops there, the user exchanges (renameat2) a file or its folder with a symbolic link to one
-  of root, or with a private one of root or of another user that is in the same folder, or changes its own files; in
-  every other race all is exchanged back at a later call. Each call of an apply, of one whose last list fails, and of an
-  undo has its turn. free: the user exchanges as fast as it can during a whole run.
-- watched: files that get another owner, group, list and flags one after the other, with some milliseconds between two
-  calls; three other users ask the kernel all the time what it grants them.
-- trusted: plans and snapshots that others can write, or that are reached by a link of theirs.
-- locks: facl-apply and facl-plan at once on one plan; each of them while the other one is stopped in the middle.
-- by_hand: MALLORY owns the folder in which by_hand removes a file and a directory and makes a tree and a file. It
-  exchanges, links and renames there all the time, or once, at a random moment: the folder, what goes, the closed
-  folders, what is made, with symbolic links to a folder of root, and with files and directories of root in its own
-  folder. In two of three races each call of the script that looks at or changes a file is delayed, so that each step is
-  hit; in two of five only by_hand_undo is raced; in half what is made inherits a list. Then the files of root are as
-  they were: names, kinds, owners, modes, lists, contents, inodes, times of change where nobody else may change them;
-  and MALLORY could enter no closed folder.
+It makes a folder of its own, and removes it; it needs the packages acl and strace. --help prints its parts.
 
 The exit status is 1 where something is not as it has to be, 2 where the words are others, a tool is not installed or it
 is not run as root.
@@ -41,14 +23,12 @@ from typing import Callable, Dict, List, NamedTuple, Optional, Set
 
 sys.dont_write_bytecode = True
 sys.path.insert(0, os.path.join(os.path.dirname(os.path.realpath(__file__)), "..", "lib"))
+import script  # noqa: E402
 from live_tree import (  # noqa: E402
-    CHANGING, LIBRARY, MALLORY, UIDS, Call, Check, Done, Held, Parts, State, Table, Traced, Tree, child, copy, exchange,
-    expect, main, make, make_tree, must, remove, run, state_of, trace, word,
+    CHANGING, LIBRARY, MALLORY, UIDS, Call, Check, Done, Held, State, Table, Traced, Tree, child, copy, exchange, expect,
+    main, make, make_tree, must, remove, run, state_of, trace, word,
 )
 
-PARTS: Parts = {
-    "races": (520, 12), "free": (45, 9), "watched": (20, 1), "trusted": (1, 1), "locks": (20, 1), "by_hand": (320, 6),
-}
 BEN, MARA, GUEST = UIDS[1:]
 UNDO = b"--undo"
 PR_SET_DUMPABLE = 4
@@ -116,7 +96,8 @@ class Race(NamedTuple):
 class Others(Check):
     """What other processes do meanwhile."""
 
-    tools = ["getfacl", "setfacl", "strace", "dash", "bash"]
+    tools = [*Check.tools, "dash", "bash"]
+    parts = {"races": 520, "free": 45, "watched": 20, "trusted": 1, "locks": 20, "by_hand": 320}
 
     # --- races
 
@@ -178,10 +159,13 @@ class Others(Check):
         return (found * (1 + number // len(found)))[:number]
 
     def check_races(self, seed: int) -> None:
-        """All races are of one plan; the first seed starts it."""
+        """MALLORY owns the folder of a plan's files, and some of these. At a call of facl-apply, which strace stops there,
+        it exchanges a file or the folder with a link to one of root or with another's private file there, or changes its
+        own files; in every other race all is exchanged back at a later call. Each call of an apply, of one whose last list
+        fails, and of an undo has its turn."""
         if seed % 100000 == 0:
             self.race_tree()
-            self.races = self.all_races(self.given.races, seed)
+            self.races = self.all_races(self.given.tries["races"], seed)
         self.one_race(self.races[seed % 100000])
 
     def one_race(self, race: Race) -> None:
@@ -244,7 +228,7 @@ class Others(Check):
         expect(now == wanted if wanted else done.status == 4 and not unsaid, what)
 
     def check_free(self, seed: int) -> None:
-        """MALLORY exchanges as fast as it can during a run."""
+        """MALLORY exchanges as fast as it can during a whole run."""
         if seed % 100000 == 0:
             self.race_tree()
         one, other = EXCHANGES[seed % (len(EXCHANGES) - 1)]
@@ -265,7 +249,8 @@ class Others(Check):
         self.count(f"runs of {mode} with exchanges all the time, status {done.returncode}")
 
     def check_watched(self, seed: int) -> None:
-        """Ten files and three directories change; nobody gets what neither record grants."""
+        """Files get another owner, group, list and flags, some milliseconds apart, while three users ask the kernel what it
+        grants them: nobody gets what neither record grants."""
         top = self.name("watched")
         make_tree(top, {name: (0, 0o755) for name in [*"0123456789", "d/", "e/", "f/"]})
         tree = Tree.of(top)
@@ -300,6 +285,7 @@ class Others(Check):
         self.count("changes of files that were watched", len(descriptors))
 
     def check_trusted(self, seed: int) -> None:
+        """Plans and snapshots that others can write, or that are reached by a link of theirs."""
         tree = Tree(self.work, seed)
         expect(self.planned(tree, tree.record(tree.top)), "no plan")
         first = tree.listing()
@@ -366,6 +352,7 @@ class Others(Check):
         return self.words(name, *words)
 
     def check_locks(self, seed: int) -> None:
+        """facl-apply and facl-plan at once on one plan; each of them while the other one is stopped in the middle."""
         tree = Tree(self.work, seed)
         first = tree.listing()
         if not self.planned(tree, tree.record(tree.chance.choice(tree.all()))):
@@ -407,7 +394,10 @@ class Others(Check):
             found.clear()
 
     def check_by_hand(self, seed: int) -> None:
-        """One race of by_hand and by_hand_undo, by one of two shells."""
+        """MALLORY owns the folder in which by_hand, or by_hand_undo alone, removes and makes files. It exchanges, links and
+        renames there all the time, or once: the folder, what goes, the closed folders, what is made, with links to a folder
+        of root, and with files of root in its own. In two of three races each call of the script is delayed, so that each
+        step is hit. Then the files of root are as they were, and MALLORY could enter no closed folder."""
         chance = random.Random(seed)
         what, shell = STEPS[seed % len(STEPS)], (b"dash", b"bash")[seed // len(STEPS) % 2]
         self.hand, folder = self.name("hand"), self.name("hand/mine/d")
@@ -573,4 +563,4 @@ def look_at(descriptor: int, seen: Set[str]) -> None:
 
 
 if __name__ == "__main__":
-    main(Others, PARTS, __doc__)
+    script.run(lambda: main(Others, __doc__))

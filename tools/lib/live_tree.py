@@ -15,13 +15,14 @@ import stat
 import subprocess
 import sys
 import tempfile
+import textwrap
 import time
 import traceback
 from collections import Counter
-from typing import Callable, Dict, Iterator, List, NamedTuple, NoReturn, Optional, Sequence, Tuple, Type, Union
+from typing import Callable, Dict, Iterator, List, NamedTuple, Optional, Sequence, Tuple, Type, Union
 
 import script
-from session import program_at
+from session import conclude, options_of
 
 COMMANDS = os.fsencode(os.path.join(script.TOP, "commands"))
 USERS = {b"ines": (70001, 70100), b"ben": (70002, 70100), b"mara": (70003, 70200), b"guest": (70009, 70300)}
@@ -40,12 +41,6 @@ Done = subprocess.CompletedProcess[bytes]
 State = Tuple[object, ...]
 Table = Dict[str, Tuple[int, int]]  # Owners and modes of files, and of directories, whose names end in a slash.
 Name = Union[str, bytes]
-Parts = Dict[str, Tuple[int, int]]  # How often each part of a check is tried, and with --quick.
-
-
-class Fault(Exception):
-    """Something is not as it has to be."""
-
 
 # --- users and commands
 
@@ -59,9 +54,10 @@ def become(user: int) -> None:
         os.setresuid(user, user, user)
 
 
-def run(words: Sequence[bytes], text: bytes = b"", user: int = 0, variables: Optional[Dict[str, str]] = None) -> Done:
+def run(words: Sequence[bytes], text: bytes = b"", user: int = 0, variables: Optional[Dict[str, str]] = None,
+        folder: Optional[bytes] = None) -> Done:
     return subprocess.run(words, input=text, capture_output=True, env={**os.environ, **(variables or {})}, check=False,
-                          preexec_fn=lambda: become(user))
+                          cwd=folder, preexec_fn=lambda: become(user))
 
 
 def must(done: Done, *statuses: int, said: bytes = b"") -> bytes:
@@ -72,7 +68,7 @@ def must(done: Done, *statuses: int, said: bytes = b"") -> bytes:
 
 def expect(is_so: bool, fault: str) -> None:
     if not is_so:
-        raise Fault(fault)
+        raise script.Failed(fault)
 
 
 def child(user: int, what: Callable[[], object]) -> int:
@@ -371,8 +367,8 @@ def wait_for_all(group: int) -> None:
 class Check:
     """A check: each part is a method check_PART, which is called with a seed for each try."""
 
-    tools = ["getfacl", "setfacl", "strace", "setcap", "chattr", "mkfs.ext4", "prlimit", "mount"]
-    without_root: Sequence[str] = ()  # The parts that every user can run.
+    tools = ["getfacl", "setfacl", "strace"]
+    parts: Dict[str, int] = {}  # How often each is tried.
 
     def __init__(self, given: argparse.Namespace, work: bytes) -> None:
         self.given, self.program, self.work = given, os.fsencode(given.program), work
@@ -473,78 +469,50 @@ class Check:
 # --- how it runs
 
 
-def given_of(parts: Parts, document: Optional[str]) -> argparse.Namespace:
-    """The options; of each part the number of tries. Where a part has an option, those without one are left out."""
-    options = argparse.ArgumentParser(description=document, formatter_class=argparse.RawDescriptionHelpFormatter)
-    options.add_argument("program", metavar="PROGRAM", type=program_at, help="one that is built")
+def given_of(kind: Type[Check], head: Optional[str]) -> argparse.Namespace:
+    """The options; where parts have one, the other parts are left out."""
+    told = [f"{part} ({usual}): {getattr(kind, 'check_' + part).__doc__}" for part, usual in kind.parts.items()]
+    parts = "\n".join(textwrap.fill(" ".join(text.split()), 100, subsequent_indent="    ") for text in told)
+    options = options_of(f"{head}\nParts, with the usual number of tries:\n\n{parts}", seed=1, **dict.fromkeys(kind.parts))
     options.add_argument("--folder", default="/tmp", help="where the files are made (/tmp)")
-    options.add_argument("--seed", type=int, default=1)
-    options.add_argument("--quick", action="store_true", help="few tries of each part")
-    options.add_argument("--record", action="store_true", help="write the row of docs/CHECKS.md")
-    for name, (usual, quick) in parts.items():
-        options.add_argument("--" + name, type=int, metavar="N", help=f"so many tries of it ({usual}, or {quick})")
     given = options.parse_args()
-    is_all = all(getattr(given, name) is None for name in parts)
-    for name, (usual, quick) in parts.items():
-        setattr(given, name, (quick if given.quick else usual) if is_all else getattr(given, name) or 0)
+    given.tries = {part: vars(given)[part] for part in kind.parts if vars(given)[part]} or kind.parts
     return given
 
 
-def run_part(check: Check, part: str) -> List[str]:
-    """Tries a part, and returns its faults."""
-    faults = []
-    started = time.monotonic()
-    for seed in range(check.given.seed * 100000, check.given.seed * 100000 + getattr(check.given, part)):
-        try:
-            check.begin()
-            getattr(check, "check_" + part)(seed)
-        except Exception as fault:  # Of the check itself too, which goes on.
-            faults.append(f"{part}, seed {seed}: {type(fault).__name__}: {fault}")
-            edits = check.read("edits") if os.path.exists(check.name("edits")) else b""
-            print(f"{faults[-1]}\n{edits.decode(errors='backslashreplace')}", flush=True)
-    print(f"{time.monotonic() - started:7.1f} seconds of {part}", flush=True)
-    return faults
+def faults_of(check: Check) -> Iterator[str]:
+    """Tries all parts."""
+    for part, number in check.given.tries.items():
+        started = time.monotonic()
+        for seed in range(check.given.seed * 100000, check.given.seed * 100000 + number):
+            try:
+                check.begin()
+                getattr(check, "check_" + part)(seed)
+            except Exception as fault:  # Of the check itself too, which goes on.
+                found = f"{part}, seed {seed}: {type(fault).__name__}: {fault}"
+                edits = check.read("edits") if os.path.exists(check.name("edits")) else b""
+                print(f"{found}\n{edits.decode(errors='backslashreplace')}", flush=True)
+                yield found
+        print(f"{time.monotonic() - started:7.1f} seconds of {part}", flush=True)
 
 
-def run_parts(check: Check, parts: List[str]) -> Tuple[List[str], bool]:
-    """The faults of all parts, and whether it came to its end; what was counted so far counts in any case."""
-    faults = []
-    try:
-        for part in parts:
-            if os.geteuid() and part not in check.without_root:
-                script.say(f"without {part}, which needs root")
-            else:
-                faults += run_part(check, part)
-    except KeyboardInterrupt:
-        print("ended early")
-        return faults, False
-    return faults, True
-
-
-def main(kind: Type[Check], parts: Parts, document: Optional[str]) -> NoReturn:
-    """Runs a check: the status is 1 where something is not as it has to be, 2 where it cannot run."""
-    given = given_of(parts, document)
-    missing = [f"{tool} is not installed" for tool in kind.tools if shutil.which(tool) is None]
-    if os.geteuid() and not kind.without_root:
-        missing.append("run it as root")
-    if missing:
-        script.say(missing[0])
-        sys.exit(2)
-    script.at_signals(signal.default_int_handler)
+def main(kind: Type[Check], head: Optional[str]) -> int:
+    """Runs a check, and returns its exit status; where a signal ends it, what was counted so far is printed."""
+    given = given_of(kind, head)
+    missing = [tool for tool in kind.tools if shutil.which(tool) is None]
+    if missing or os.geteuid():
+        script.say(f"{missing[0]} is not installed" if missing else "run it as root")
+        return 2
     work = os.fsencode(os.path.realpath(tempfile.mkdtemp(prefix="facl-live.", dir=given.folder)))
-    tried = [part for part in parts if getattr(given, part)]
+    counts: Counter[str] = Counter()
     try:
         os.chmod(work, 0o755)
         check = kind(given, work)
-        faults, is_whole = run_parts(check, tried)
+        counts = check.counts
+        faults = list(faults_of(check))
     finally:
         run([b"chattr", b"-R", b"-f", b"-i", b"-a", work])
         remove(work)
-    counts = sorted(check.counts.items())
-    print("\n".join([f"{number:7,d} {name}" for name, number in counts] + [f"{len(faults)} faults"]))
-    if given.record and is_whole:
-        numbers = {part: getattr(given, part) for part in tried}
-        amount = ", ".join(part if number == 1 else f"{part} {number:,}" for part, number in numbers.items())
-        found = f"{len(faults)} faults, first: {faults[0]:.300}" if faults else "nothing"
-        script.record(amount, found)
-    sys.exit(1 if faults else 0)
+        print("\n".join(f"{number:7,d} {name}" for name, number in sorted(counts.items())))
+    amount = ", ".join(part if number == 1 else f"{part} {number:,}" for part, number in given.tries.items())
+    return conclude(given, amount, [f"{len(faults)} faults, first: {faults[0]:.300}"] if faults else [])
