@@ -22,7 +22,7 @@ sys.dont_write_bytecode = True
 sys.path.insert(0, os.path.join(os.path.dirname(os.path.realpath(__file__)), "..", "lib"))
 import script  # noqa: E402
 from live_tree import (  # noqa: E402
-    CHANGING, MALLORY, USERS, Call, Check, Done, Tree, child, copy, expect, main, make, mounted, must, records_of, remove,
+    CHANGING, MALLORY, UNDO, USERS, Call, Check, Done, Tree, child, copy, expect, main, make, mounted, must, records_of, remove,
     run, trace, word,
 )
 
@@ -30,9 +30,7 @@ TEXTS = [b"---", b"--x", b"-w-", b"-wx", b"r--", b"r-x", b"rw-", b"rwx"]
 SEEN = CHANGING + ["fsync", "syncfs", "rename", "unlink", "unlinkat", "openat"]
 KNOWN = {b"plan", b"lock", b"meta", b"edits", b"old", b"new", b"files", b"by_hand", b"by_hand_undo", b"by_hand_done",
          b"journal", b"state"}
-UNDO = b"--undo"
-NO_OPTIONS: List[bytes] = []
-Planned = Tuple[Tree, bytes]  # A tree with a plan that has an effect, and its listing.
+WAYS: List[List[bytes]] = [[], [UNDO]]
 
 
 class Ways(Check):
@@ -108,56 +106,51 @@ class Ways(Check):
         must(self.apply(), 0)
         planned = records_of(self.read("before.plan/new"))
         self.check_tree(tree, {**records_of(before), **planned}, "after somebody's change of another file")
-        must(self.apply(UNDO), 0)
-        expect(tree.listing() == before, "undo after somebody's change of another file")
+        tree.first = before
+        self.undo(tree)
 
     def check_plans(self, seed: int) -> None:
         """A random tree, with default lists, masks, flags, hard links and odd names; a plan of one to ten lines, applied and
         undone, beside the kernel; in every other one somebody changes, removes, replaces or adds a file before."""
         tree = Tree(self.work, seed)
-        first = tree.listing()
         if not self.planned(tree, b"".join(tree.line() for _ in range(tree.chance.randrange(1, 11)))):
             self.count("plans with nothing to restore")
             return
         must(self.apply(b"--dry-run"), 0)
-        expect(tree.listing() == first, "--dry-run changed something")
-        must(self.apply(), 0)
-        self.check_tree(tree, self.expected(), "applied")
+        self.is_back(tree, "--dry-run")
+        self.do(tree)
         self.check_kernel(tree)
-        must(self.apply(UNDO), 0)
-        expect(tree.listing() == first, "undone, and not as before")
+        self.undo(tree)
         self.count("plans applied and undone")
         self.count("records restored", len(records_of(self.read("before.plan/new"))))
         if seed % 2 == 0:
-            self.forget()
             self.check_meddled(tree)
 
-    def small_plan(self, seed: int) -> Optional[Planned]:
+    def small_plan(self, seed: int) -> Tree:
         tree = Tree(self.work, seed)
-        first = tree.listing()
-        lines = [tree.line(), tree.record(tree.chance.choice(tree.all())), tree.record(tree.chance.choice(tree.all()))]
-        return (tree, first) if self.planned(tree, b"".join(lines)) else None
+        records = [tree.record(tree.chance.choice(tree.all())) for _ in range(2)]
+        while not self.planned(tree, b"".join([tree.line(), *records])):
+            records.append(tree.record(tree.chance.choice(tree.all())))
+        return tree
 
-    def whole_plan(self, seed: int) -> Planned:
+    def whole_plan(self, seed: int) -> Tree:
         """One that changes all files of a larger tree; how long that takes is in seconds."""
         tree = Tree(self.work, seed, 40)
-        first = tree.listing()
         line = b"setfacl -R -m u:%d:rwX,g:audit:--x %s\n" % (tree.chance.randrange(2 ** 31), word(tree.top))
         expect(self.planned(tree, line), "no plan")
         started = time.monotonic()
         must(self.apply(), 0)
         self.seconds = time.monotonic() - started
-        must(self.apply(UNDO), 0)
-        self.back_to(tree, first)
-        return tree, first
+        self.undo(tree)
+        return tree
 
-    def recover(self, tree: Tree, first: bytes, turn: int, user: int = 0) -> None:
+    def recover(self, tree: Tree, turn: int, user: int = 0) -> None:
         """After a kill: by --undo, or by a second run and then --undo."""
         if turn % 2:
             must(self.apply(user=user), 0, 3)
             self.check_tree(tree, self.expected(), "run again after a kill")
         must(self.apply(UNDO, user=user), 0, 3)
-        expect(tree.listing() == first, "not undone after a kill")
+        expect(tree.listing() == tree.first, "not undone after a kill")
 
     def points(self, *options: bytes) -> List[Call]:
         """The calls of a run that change a file, or write the plan."""
@@ -165,26 +158,23 @@ class Ways(Check):
         expect(done.status == 0, f"status {done.status} under strace: {done.said!r}")
         return [call for call, line in done.calls() if call.name != "openat" or b".new" in line]
 
-    def each_point(self, seed: int) -> Iterator[Tuple[Tree, bytes, Call, List[bytes]]]:
-        """Each such call of facl-apply and of --undo of a small plan, with the options; before --undo it is applied."""
-        made = self.small_plan(seed)
-        there, back = (self.points(), self.points(UNDO)) if made else ([], [])
-        for options, calls in ((NO_OPTIONS, there), ([UNDO], back)):
-            for call in calls:
-                assert made is not None
-                self.back_to(*made)
-                if options:
-                    must(self.apply(), 0)
-                yield (*made, call, options)
+    def each_point(self) -> Iterator[Tuple[Call, List[bytes]]]:
+        """Each such call of facl-apply and of --undo, with the options; before --undo the plan is applied."""
+        for call, options in [(call, options) for options in WAYS for call in self.points(*options)]:
+            self.forget()
+            if options:
+                must(self.apply(), 0)
+            yield call, options
 
     def check_kills(self, seed: int) -> None:
-        """facl-apply and --undo are killed at each call that changes a file or writes the plan; then --undo, or a second
-        run, reaches the tree before or the planned one."""
-        for turn, (tree, first, call, options) in enumerate(self.each_point(seed)):
+        """facl-apply and --undo are killed at each call that changes a file or writes the plan; then --undo, or a
+        second run, reaches the tree before or the planned one."""
+        tree = self.small_plan(seed)
+        for turn, (call, options) in enumerate(self.each_point()):
             inject = f"{call.name}:signal=KILL:when={call.number}"
             done = trace(self, self.words(b"facl-apply", *options, self.plan), SEEN, [inject])
             expect(done.status == -9, f"status {done.status} of one that is killed at {call}: {done.said!r}")
-            self.recover(tree, first, turn)
+            self.recover(tree, turn)
             self.count(f"kills of {'--undo' if options else 'facl-apply'} at a call that changes or writes")
 
     def at_random(self, tree: Tree, number: int, *options: bytes, ignored: int = 0) -> Done:
@@ -201,26 +191,25 @@ class Ways(Check):
 
     def check_moments(self, seed: int) -> None:
         """Ten kills at random moments."""
-        tree, first = self.whole_plan(seed)
+        tree = self.whole_plan(seed)
         for turn in range(10):
             if turn % 3 == 2:
                 must(self.apply(), 0)
             self.at_random(tree, signal.SIGKILL, *[UNDO] * (turn % 3 == 2))
             state = os.path.exists(self.name("before.plan/state")) and self.read("before.plan/state")
             self.count("kills at random moments" + " in the middle" * (state in (b"applying\n", b"undoing\n")))
-            self.recover(tree, first, tree.chance.randrange(2))
+            self.recover(tree, tree.chance.randrange(2))
             self.forget()
 
     def check_signals(self, seed: int) -> None:
         """HUP, INT, QUIT and TERM at random moments, and HUP where that is ignored."""
-        tree, first = self.whole_plan(seed)
+        tree = self.whole_plan(seed)
         for number in (signal.SIGHUP, signal.SIGINT, signal.SIGQUIT, signal.SIGTERM):
             self.check_signalled(tree, number, self.at_random(tree, number))
-            self.back_to(tree, first)
+            self.is_back(tree)
         done = self.at_random(tree, signal.SIGHUP, ignored=signal.SIGHUP)
         expect(done.returncode == 0 and not done.stderr, f"a signal that is ignored: {done}")
-        must(self.apply(UNDO), 0)
-        self.back_to(tree, first)
+        self.undo(tree)
         self.count("signals that are ignored")
 
     def check_signalled(self, tree: Tree, number: int, done: Done) -> None:
@@ -240,18 +229,18 @@ class Ways(Check):
 
     def check_faults(self, seed: int) -> None:
         """Each call that changes a file or writes the plan fails once, and from then on, by random errors."""
-        for tree, first, call, options in self.each_point(seed):
+        tree = self.small_plan(seed)
+        for call, options in self.each_point():
             for often in [tree.chance.choice(["", "+"])] if options else ["", "+"]:
-                self.fail(tree, first, call, often, options)
-                must(self.apply(UNDO), 0, 3)
-                self.back_to(tree, first)
+                self.fail(tree, call, often, options)
+                self.undo(tree, 0, 3)
 
-    def fail(self, tree: Tree, first: bytes, call: Call, often: str, options: List[bytes]) -> None:
+    def fail(self, tree: Tree, call: Call, often: str, options: List[bytes]) -> None:
         """A run in which a call fails, once or from then on; what it says is so."""
         error = tree.chance.choice(["EIO", "ENOSPC", "EPERM", "EROFS"])
         inject = f"{call.name}:error={error}:when={call.number}{often}"
         done = trace(self, self.words(b"facl-apply", *options, self.plan), SEEN, [inject])
-        is_old = tree.listing() == first
+        is_old = tree.listing() == tree.first
         what = f"status {done.status} where {inject}, {options}: {done.said!r}"
         expect(done.status in (0, 1, 2, 4), what)
         expect(done.status not in (1, 2) or is_old != bool(options), what)
@@ -264,21 +253,20 @@ class Ways(Check):
 
     def check_disks(self, seed: int) -> None:
         """Full, read-only and small disks, files that nobody may change, overlays."""
-        made = self.small_plan(seed)
-        if made is None:
-            return
+        tree = self.small_plan(seed)
         for what in (self.full_disk, self.read_only, self.nobody_may):  # The tree stays as it was.
-            what(*made)
+            what(tree)
+            self.is_back(tree)
         self.too_large()
-        self.overlay(made[0])
+        self.overlay(tree)
 
-    def full_disk(self, tree: Tree, first: bytes) -> None:
+    def full_disk(self, tree: Tree) -> None:
         """The plan's folder is on a full disk: nothing is touched."""
         place = self.name("small")
         plan, filled = os.path.join(place, b"plan"), os.path.join(place, b"filled")
         with mounted(place, b"-t", b"tmpfs", b"-o", b"size=1m,mode=755", b"none"):
             copy(self.plan, plan)
-            for options in (NO_OPTIONS, [UNDO]):
+            for options in WAYS:
                 before = tree.listing()
                 run([b"cp", b"/dev/zero", filled])
                 done = self.command(b"facl-apply", *options, plan)
@@ -288,17 +276,15 @@ class Ways(Check):
                 must(self.command(b"facl-apply", *options, plan), 0)
                 if not options:
                     self.check_tree(tree, self.expected(), "applied after a full disk")
-        self.back_to(tree, first)
         self.count("full disks")
 
-    def read_only(self, tree: Tree, first: bytes) -> None:
+    def read_only(self, tree: Tree) -> None:
         with mounted(tree.top, b"--bind", tree.top):
             must(run([b"mount", b"-o", b"remount,ro,bind", tree.top]), 0)
             must(self.apply(), 2, said=b"is on a file system that is mounted read-only")
-        self.back_to(tree, first)
         self.count("file systems that are read-only")
 
-    def nobody_may(self, tree: Tree, first: bytes) -> None:
+    def nobody_may(self, tree: Tree) -> None:
         """A file of the plan is immutable, or can only be appended to: all is put back; at --undo all but that file."""
         planned = sorted(records_of(self.read("before.plan/new")))
         name = planned[len(planned) // 2]
@@ -308,15 +294,14 @@ class Ways(Check):
                 return
             try:
                 must(self.apply(), 1, said=b": Operation not permitted")
-                expect(tree.listing() == first, f"chattr +{flag!r}: not put back")
+                expect(tree.listing() == tree.first, f"chattr +{flag!r}: not put back")
                 must(run([b"chattr", b"-" + flag, b"--", name]), 0)
                 must(self.apply(), 0)
                 must(run([b"chattr", b"+" + flag, b"--", name]), 0)
                 must(self.apply(UNDO), 4, said=b"1 file is not as before")
             finally:
                 must(run([b"chattr", b"-" + flag, b"--", name]), 0)
-            must(self.apply(UNDO), 0)
-            self.back_to(tree, first)
+            self.undo(tree)
             self.count("files that nobody may change")
 
     def too_large(self) -> None:
@@ -327,13 +312,12 @@ class Ways(Check):
         must(run([b"mkfs.ext4", b"-q", b"-b", b"1024", b"-F", image]), 0)
         with mounted(place, b"-o", b"loop", image):
             small = Tree.of(place, [b"a", b"b", b"c"])
-            first = small.listing()
             many = b",".join(b"u:%d:r" % (80000 + number) for number in range(300))
             text = b"".join(b"setfacl -m %s %s\n" % (many if file == small.files[1] else b"u:1:r", word(file))
                             for file in small.files)
             expect(self.planned(small, text), "no plan of a large list")
             must(self.apply(), 1, said=b": No space left on device")
-            self.back_to(small, first)
+            self.is_back(small)
         self.count("lists that are too large for their file system")
 
     def overlay(self, tree: Tree) -> None:
@@ -349,11 +333,9 @@ class Ways(Check):
             lines = b"setfacl -m u:1:r %s\n" % word(tree.top + b"/f"), b"setfacl -R -m u:1:r %s\n" % word(tree.top)
             for line, status, back in ((lines[0], 0, 0), (lines[1], 2, 3)):
                 with mounted(tree.top, b"-t", b"overlay", b"-o", options, b"none"):
-                    first = tree.listing()
                     self.planned(tree, line)
                     must(self.apply(), status)
-                    must(self.apply(UNDO), back)
-                    self.back_to(tree, first)
+                    self.undo(tree, back)
                 self.count("overlays")
 
     def check_hands(self, seed: int) -> None:
@@ -383,17 +365,14 @@ class Ways(Check):
         program = os.path.join(tree.top, b"capable")
         shutil.copy(b"/bin/true", program)
         must(run([b"setcap", b"cap_net_raw+ep", program]), 0)
-        first = tree.listing()
         text = b"setfacl --restore=-\n# file: %s\n# owner: 70002\n# group: 70100\nu::rwx\ng::r-x\no::---\n.\n"
         expect(self.planned(tree, text % program + b"setfacl -R -m u:mara:r %s\n" % word(tree.top)), "no plan")
         done = must(self.apply(), 2)
-        is_untouched = run([b"getcap", program]).stdout != b"" and tree.listing() == first and not done
+        is_untouched = run([b"getcap", program]).stdout != b"" and tree.listing() == tree.first and not done
         expect(is_untouched, "a file with capabilities was touched")
-        must(self.apply(b"--drop-capabilities"), 0)
-        self.check_tree(tree, self.expected(), "without capabilities")
+        self.do(tree, b"--drop-capabilities")
         expect(run([b"getcap", program]).stdout == b"", "the kernel has left the capabilities")
-        must(self.apply(UNDO), 0)
-        self.back_to(tree, first)
+        self.undo(tree)
         self.count("files with capabilities")
 
     def check_owners(self, seed: int) -> None:
@@ -406,7 +385,6 @@ class Ways(Check):
                 run([b"setfacl", b"-b", b"-k", b"--", place])
                 os.chmod(place, tree.chance.choice([0o700, 0o750, 0o600, 0o300, 0o000]))
         os.chmod(tree.top, 0o711)
-        first = tree.listing()
         lines = [b"chmod %o %s\n" % (tree.chance.choice([0o700, 0o711, 0o600]), word(it)) for it in tree.folders[1:]]
         plain = [it for it in tree.files if not os.stat(it).st_mode & stat.S_ISGID]
         if not self.planned(tree, b"".join(lines + [b"setfacl -m u:mara:r %s\n" % word(it) for it in plain])):
@@ -414,16 +392,15 @@ class Ways(Check):
         for place in [self.plan, *(os.path.join(self.plan, name) for name in os.listdir(self.plan))]:
             os.chown(place, MALLORY, 70100)
         done = self.apply(user=MALLORY)
-        if done.returncode in (1, 2) and b"ermission denied" in done.stderr and tree.listing() == first:
+        if done.returncode in (1, 2) and b"ermission denied" in done.stderr and tree.listing() == tree.first:
             self.count("plans that their owner cannot apply: behind a directory that stays closed")
             return
         must(done, 0)
         self.check_tree(tree, self.expected(), "applied by the owner")
-        must(self.apply(UNDO, user=MALLORY), 0)
-        self.back_to(tree, first)
-        self.kill_as_owner(tree, first)
+        self.undo(tree, user=MALLORY)
+        self.kill_as_owner(tree)
 
-    def kill_as_owner(self, tree: Tree, first: bytes) -> None:
+    def kill_as_owner(self, tree: Tree) -> None:
         """The plan is not forgotten between two kills."""
         words = self.words(b"facl-apply", self.plan), self.words(b"facl-apply", UNDO, self.plan)
         done = trace(self, words[0], CHANGING, [], user=MALLORY)
@@ -435,8 +412,7 @@ class Ways(Check):
             if is_undo:
                 must(self.apply(user=MALLORY), 0)
             trace(self, words[is_undo], CHANGING, [f"{call.name}:signal=KILL:when={call.number}"], user=MALLORY)
-            self.recover(tree, first, turn, MALLORY)
-        self.back_to(tree, first)
+            self.recover(tree, turn, MALLORY)
         self.count("plans that their owner applied")
         self.count("kills of the owner's facl-apply and --undo", 2 * len(calls))
 
@@ -457,8 +433,8 @@ class Ways(Check):
 
     def timed(self, top: bytes, what: str, limit: float) -> None:
         """There and back, with a limit of seconds for each, and of descriptors."""
-        expect(self.planned(Tree.of(top), b"setfacl -R -m u:mara:rX %s\n" % word(top)), "no plan")
-        for each in (NO_OPTIONS, [UNDO]):
+        expect(self.has_plan(top, b"setfacl -R -m u:mara:rX %s\n" % word(top)), "no plan")
+        for each in WAYS:
             started = time.monotonic()
             must(run([b"prlimit", b"--nofile=300", *self.words(b"facl-apply", *each, self.plan)]), 0)
             seconds = time.monotonic() - started

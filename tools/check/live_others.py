@@ -25,12 +25,11 @@ sys.dont_write_bytecode = True
 sys.path.insert(0, os.path.join(os.path.dirname(os.path.realpath(__file__)), "..", "lib"))
 import script  # noqa: E402
 from live_tree import (  # noqa: E402
-    CHANGING, LIBRARY, MALLORY, UIDS, Call, Check, Done, Held, State, Table, Traced, Tree, child, copy, exchange, expect,
+    CHANGING, LIBRARY, MALLORY, UIDS, UNDO, Call, Check, Done, Held, State, Table, Traced, Tree, child, copy, exchange, expect,
     main, make, make_tree, must, remove, run, state_of, trace, word,
 )
 
 BEN, MARA, GUEST = UIDS[1:]
-UNDO = b"--undo"
 PR_SET_DUMPABLE = 4
 STEPS = ["the folder", "the file", "the directory", "closed folders", "targets", "all"]
 ENTERED = 77  # The status of a process of MALLORY that could enter a closed folder.
@@ -288,13 +287,15 @@ class Others(Check):
         """Plans and snapshots that others can write, or that are reached by a link of theirs."""
         tree = Tree(self.work, seed)
         expect(self.planned(tree, tree.record(tree.top)), "no plan")
-        first = tree.listing()
         for name, how in TAMPERED:
-            self.tampered(tree, first, name, how)
-        self.tampered_ways(tree, first)
+            self.tampered(name, how)
+            self.is_back(tree)
+        for owner, mode, status in FOLDERS:
+            self.tampered_way(owner, mode, status)
+            self.is_back(tree)
         self.name_wanted()
 
-    def tampered(self, tree: Tree, first: bytes, name: str, how: str) -> None:
+    def tampered(self, name: str, how: str) -> None:
         """A plan, or a snapshot, that somebody else can have written: nothing is touched."""
         is_plan = name.startswith("before.plan")
         folder, kept = self.plan if is_plan else self.name("before"), self.name("kept")
@@ -309,24 +310,20 @@ class Others(Check):
         expect(is_refused, f"{name}, {how}: facl-plan took it: {done}")
         self.remove_plans() if is_plan else remove(folder)
         os.rename(kept, folder)
-        self.back_to(tree, first)
         self.count("plans and snapshots that others could write")
 
-    def tampered_ways(self, tree: Tree, first: bytes) -> None:
+    def tampered_way(self, owner: int, mode: int, status: int) -> None:
         """A plan of root in a folder of another user, or reached by a link of one; a sticky folder of root will do."""
-        folder = self.name("folder")
+        folder = make(self.name("folder/"), mode, owner, 70100)
         plan, link = os.path.join(folder, b"plan"), os.path.join(folder, b"link")
-        for owner, mode, status in FOLDERS:
-            make(folder + b"/", mode, owner, 70100)
-            copy(self.plan, plan)
-            must(self.command(b"facl-apply", plan), status)
-            must(self.command(b"facl-apply", UNDO, plan), status)
-            os.symlink(self.plan, link)
-            os.lchown(link, MALLORY, -1)
-            must(self.command(b"facl-apply", link), 2)
-            remove(folder)
-            self.back_to(tree, first)
-            self.count("plans in folders of others", 2)
+        copy(self.plan, plan)
+        must(self.command(b"facl-apply", plan), status)
+        must(self.command(b"facl-apply", UNDO, plan), status)
+        os.symlink(self.plan, link)
+        os.lchown(link, MALLORY, -1)
+        must(self.command(b"facl-apply", link), 2)
+        remove(folder)
+        self.count("plans in folders of others", 2)
 
     def name_wanted(self) -> None:
         """In a sticky folder another user waits for the name of a plan to be free while facl-plan replaces it."""
@@ -354,7 +351,6 @@ class Others(Check):
     def check_locks(self, seed: int) -> None:
         """facl-apply and facl-plan at once on one plan; each of them while the other one is stopped in the middle."""
         tree = Tree(self.work, seed)
-        first = tree.listing()
         if not self.planned(tree, tree.record(tree.chance.choice(tree.all()))):
             return
         names = [b"facl-apply"] * 4 + [b"facl-plan"] * 2
@@ -371,12 +367,12 @@ class Others(Check):
         expect(is_clear and is_left, f"at once: {plans} are left, with a state {with_state}: {ended}")
         for plan in with_state:
             must(self.command(b"facl-apply", UNDO, plan), 0)
-        expect(tree.listing() == first, f"at once: not undone: {ended}")
+        expect(tree.listing() == tree.first, f"at once: not undone: {ended}")
         self.count("rounds of six commands at once")
         self.count("rounds of six commands at once of which none applied the plan", 1 - len(applied))
-        self.stopped(tree, first)
+        self.stopped(tree)
 
-    def stopped(self, tree: Tree, first: bytes) -> None:
+    def stopped(self, tree: Tree) -> None:
         """Each command while the other one is in the middle."""
         self.planned(tree, self.read("edits"))
         found: List[Done] = []
@@ -389,8 +385,7 @@ class Others(Check):
             is_locked = all(it.returncode == 2 and b"is at work on it" in it.stderr for it in found)
             expect(done.status == 0 and found != [] and is_locked, f"{name!r} is at work: {done}: {found}")
             self.count(f"commands while {name.decode()} is in the middle", len(found))
-            must(self.apply(UNDO), 0, 3)
-            self.back_to(tree, first)
+            self.undo(tree, 0, 3)
             found.clear()
 
     def check_by_hand(self, seed: int) -> None:

@@ -37,6 +37,7 @@ PYTHON = b"/usr/bin/python3" if os.path.exists("/usr/bin/python3") else os.fsenc
 CHANGING = ["setxattr", "removexattr", "chmod", "fchmodat", "chown", "lchown", "fchownat"]
 LIBRARY = ctypes.CDLL(None, use_errno=True)
 HERE, EXCHANGE = -100, 2
+UNDO = b"--undo"
 Done = subprocess.CompletedProcess[bytes]
 State = Tuple[object, ...]
 Table = Dict[str, Tuple[int, int]]  # Owners and modes of files, and of directories, whose names end in a slash.
@@ -183,6 +184,8 @@ def records_of(text: bytes) -> Dict[bytes, List[bytes]]:
 
 class Tree:
     """A random tree, with a chance of its own."""
+
+    first = b""  # Its listing when it was planned.
 
     def __init__(self, work: bytes, seed: int, more: int = 0) -> None:
         self.chance = random.Random(seed)
@@ -434,19 +437,33 @@ class Check:
             with contextlib.suppress(FileNotFoundError):
                 os.unlink(os.path.join(self.plan, name))
 
-    def back_to(self, tree: Tree, first: bytes) -> None:
+    def is_back(self, tree: Tree, when: str = "") -> None:
         """The next attempt starts from the first tree and a plan that was not applied."""
-        expect(tree.listing() == first, "not as before")
+        expect(tree.listing() == tree.first, "not as before" + when)
         self.forget()
+
+    def do(self, tree: Tree, *options: bytes, user: int = 0) -> None:
+        """Applies the plan."""
+        must(self.apply(*options, user=user), 0)
+        self.check_tree(tree, self.expected(), f"applied, {options}")
+
+    def undo(self, tree: Tree, *statuses: int, user: int = 0) -> None:
+        must(self.apply(UNDO, user=user), *(statuses or [0]))
+        self.is_back(tree)
 
     def remove_plans(self) -> None:
         for left in glob.glob(self.name("before.plan*")):
             remove(left)
 
     def planned(self, tree: Tree, text: bytes) -> bool:
+        """Keeps the tree's listing, and plans."""
+        tree.first = tree.listing()
+        return self.has_plan(tree.top, text)
+
+    def has_plan(self, top: bytes, text: bytes) -> bool:
         """Takes a snapshot, which facl-plan loads, and makes a plan; whether there is something to restore."""
         self.remove_plans()
-        must(self.command(b"facl-snapshot", b"--program", b"true", self.name("before"), tree.top), 0)
+        must(self.command(b"facl-snapshot", b"--program", b"true", self.name("before"), top), 0)
         make(self.name("edits"), text=text)
         done = self.command(b"facl-plan", b"--keep-going", self.name("before"), self.name("edits"))
         must(done, 0, 1, 3)
