@@ -121,7 +121,6 @@ class Ways(Check):
         self.do(tree)
         self.check_kernel(tree)
         self.undo(tree)
-        self.count("plans applied and undone")
         self.count("records restored", len(records_of(self.read("before.plan/new"))))
         if seed % 2 == 0:
             self.check_meddled(tree)
@@ -152,30 +151,34 @@ class Ways(Check):
         must(self.apply(UNDO, user=user), 0, 3)
         expect(tree.listing() == tree.first, "not undone after a kill")
 
-    def points(self, *options: bytes) -> List[Call]:
-        """The calls of a run that change a file, or write the plan."""
-        done = trace(self, self.words(b"facl-apply", *options, self.plan), SEEN, [])
-        expect(done.status == 0, f"status {done.status} under strace: {done.said!r}")
-        return [call for call, line in done.calls() if call.name != "openat" or b".new" in line]
-
-    def each_point(self) -> Iterator[Tuple[Call, List[bytes]]]:
-        """Each such call of facl-apply and of --undo, with the options; before --undo the plan is applied."""
-        for call, options in [(call, options) for options in WAYS for call in self.points(*options)]:
-            self.forget()
+    def points(self, names: List[str], user: int) -> Iterator[Tuple[Call, List[bytes]]]:
+        """The calls of facl-apply and of --undo that change a file, or write the plan, with the options; before those of
+        --undo the plan is applied."""
+        found = []
+        for options in WAYS:
+            done = trace(self, self.words(b"facl-apply", *options, self.plan), names, [], user=user)
+            expect(done.status == 0, f"status {done.status} under strace: {done.said!r}")
+            found += [(call, options) for call, line in done.calls() if call.name != "openat" or b".new" in line]
+        for call, options in found:
+            if names is SEEN:
+                self.forget()
             if options:
-                must(self.apply(), 0)
+                must(self.apply(user=user), 0)
             yield call, options
+
+    def kill(self, tree: Tree, names: List[str], user: int = 0) -> None:
+        """Kills facl-apply and --undo at each call; then by --undo, or by a second run and --undo, all is as before."""
+        for turn, (call, options) in enumerate(self.points(names, user)):
+            inject = f"{call.name}:signal=KILL:when={call.number}"
+            done = trace(self, self.words(b"facl-apply", *options, self.plan), names, [inject], user=user)
+            expect(done.status == -9, f"status {done.status} of one that is killed at {call}: {done.said!r}")
+            self.recover(tree, turn, user)
+            self.count("kills of facl-apply at a call" + " of --undo" * len(options) + " by the owner" * (user != 0))
 
     def check_kills(self, seed: int) -> None:
         """facl-apply and --undo are killed at each call that changes a file or writes the plan; then --undo, or a
         second run, reaches the tree before or the planned one."""
-        tree = self.small_plan(seed)
-        for turn, (call, options) in enumerate(self.each_point()):
-            inject = f"{call.name}:signal=KILL:when={call.number}"
-            done = trace(self, self.words(b"facl-apply", *options, self.plan), SEEN, [inject])
-            expect(done.status == -9, f"status {done.status} of one that is killed at {call}: {done.said!r}")
-            self.recover(tree, turn)
-            self.count(f"kills of {'--undo' if options else 'facl-apply'} at a call that changes or writes")
+        self.kill(self.small_plan(seed), SEEN)
 
     def at_random(self, tree: Tree, number: int, *options: bytes, ignored: int = 0) -> Done:
         """A run that gets a signal at a random moment: of all, or since it has changed the first file."""
@@ -210,7 +213,6 @@ class Ways(Check):
         done = self.at_random(tree, signal.SIGHUP, ignored=signal.SIGHUP)
         expect(done.returncode == 0 and not done.stderr, f"a signal that is ignored: {done}")
         self.undo(tree)
-        self.count("signals that are ignored")
 
     def check_signalled(self, tree: Tree, number: int, done: Done) -> None:
         """Old or new, and the status says which."""
@@ -230,7 +232,7 @@ class Ways(Check):
     def check_faults(self, seed: int) -> None:
         """Each call that changes a file or writes the plan fails once, and from then on, by random errors."""
         tree = self.small_plan(seed)
-        for call, options in self.each_point():
+        for call, options in self.points(SEEN, 0):
             for often in [tree.chance.choice(["", "+"])] if options else ["", "+"]:
                 self.fail(tree, call, often, options)
                 self.undo(tree, 0, 3)
@@ -276,13 +278,11 @@ class Ways(Check):
                 must(self.command(b"facl-apply", *options, plan), 0)
                 if not options:
                     self.check_tree(tree, self.expected(), "applied after a full disk")
-        self.count("full disks")
 
     def read_only(self, tree: Tree) -> None:
         with mounted(tree.top, b"--bind", tree.top):
             must(run([b"mount", b"-o", b"remount,ro,bind", tree.top]), 0)
             must(self.apply(), 2, said=b"is on a file system that is mounted read-only")
-        self.count("file systems that are read-only")
 
     def nobody_may(self, tree: Tree) -> None:
         """A file of the plan is immutable, or can only be appended to: all is put back; at --undo all but that file."""
@@ -302,7 +302,6 @@ class Ways(Check):
             finally:
                 must(run([b"chattr", b"-" + flag, b"--", name]), 0)
             self.undo(tree)
-            self.count("files that nobody may change")
 
     def too_large(self) -> None:
         """A list that ext4 with small blocks cannot hold, in the middle of a plan."""
@@ -318,7 +317,6 @@ class Ways(Check):
             expect(self.planned(small, text), "no plan of a large list")
             must(self.apply(), 1, said=b": No space left on device")
             self.is_back(small)
-        self.count("lists that are too large for their file system")
 
     def overlay(self, tree: Tree) -> None:
         """Files of a lower layer, copied when they are first changed: there and back; one of two names is refused."""
@@ -336,7 +334,6 @@ class Ways(Check):
                     self.planned(tree, line)
                     must(self.apply(), status)
                     self.undo(tree, back)
-                self.count("overlays")
 
     def check_hands(self, seed: int) -> None:
         """A plan that makes and removes files: by_hand is run after facl-apply, and the tree is the planned one."""
@@ -357,7 +354,6 @@ class Ways(Check):
         found = set(records_of(tree.listing()))
         expect(found == {it for it in wanted if it.startswith(tree.top)}, f"other files: {found ^ set(wanted)}")
         self.check_tree(tree, wanted, "by hand")
-        self.count("plans with files made and removed by hand")
 
     def check_capabilities(self, seed: int) -> None:
         """A file with capabilities, which are dropped only where that is asked for."""
@@ -373,7 +369,6 @@ class Ways(Check):
         self.do(tree, b"--drop-capabilities")
         expect(run([b"getcap", program]).stdout == b"", "the kernel has left the capabilities")
         self.undo(tree)
-        self.count("files with capabilities")
 
     def check_owners(self, seed: int) -> None:
         """The owner of the files, who is not root, applies and undoes, and is killed at each change; directories get and
@@ -389,8 +384,7 @@ class Ways(Check):
         plain = [it for it in tree.files if not os.stat(it).st_mode & stat.S_ISGID]
         if not self.planned(tree, b"".join(lines + [b"setfacl -m u:mara:r %s\n" % word(it) for it in plain])):
             return
-        for place in [self.plan, *(os.path.join(self.plan, name) for name in os.listdir(self.plan))]:
-            os.chown(place, MALLORY, 70100)
+        must(run([b"chown", b"-R", b"%d:70100" % MALLORY, self.plan]), 0)
         done = self.apply(user=MALLORY)
         if done.returncode in (1, 2) and b"ermission denied" in done.stderr and tree.listing() == tree.first:
             self.count("plans that their owner cannot apply: behind a directory that stays closed")
@@ -398,23 +392,7 @@ class Ways(Check):
         must(done, 0)
         self.check_tree(tree, self.expected(), "applied by the owner")
         self.undo(tree, user=MALLORY)
-        self.kill_as_owner(tree)
-
-    def kill_as_owner(self, tree: Tree) -> None:
-        """The plan is not forgotten between two kills."""
-        words = self.words(b"facl-apply", self.plan), self.words(b"facl-apply", UNDO, self.plan)
-        done = trace(self, words[0], CHANGING, [], user=MALLORY)
-        expect(done.status == 0, f"applied by the owner under strace: {done}")
-        calls = [call for call, _ in done.calls()]
-        must(self.apply(UNDO, user=MALLORY), 0)
-        for turn, call in enumerate(calls * 2):
-            is_undo = turn >= len(calls)
-            if is_undo:
-                must(self.apply(user=MALLORY), 0)
-            trace(self, words[is_undo], CHANGING, [f"{call.name}:signal=KILL:when={call.number}"], user=MALLORY)
-            self.recover(tree, turn, MALLORY)
-        self.count("plans that their owner applied")
-        self.count("kills of the owner's facl-apply and --undo", 2 * len(calls))
+        self.kill(tree, CHANGING, MALLORY)  # And the plan is not forgotten between two kills.
 
     def check_chains(self, _seed: int) -> None:
         """1,900 directories, one in the other, with a file in each; with few descriptors, in some seconds."""
@@ -441,7 +419,6 @@ class Ways(Check):
             print(f"{seconds:7.1f} seconds of facl-apply {b' '.join(each).decode()} for {what}", flush=True)
             expect(seconds <= limit, f"{what}: {seconds} seconds")
         remove(top)
-        self.count(what)
 
 
 def replace_alike(name: bytes, is_same_name: bool) -> None:

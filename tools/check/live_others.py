@@ -10,8 +10,8 @@ is not run as root.
 from __future__ import annotations
 
 import contextlib
-import json
 import os
+import pickle
 import random
 import signal
 import stat
@@ -25,8 +25,8 @@ sys.dont_write_bytecode = True
 sys.path.insert(0, os.path.join(os.path.dirname(os.path.realpath(__file__)), "..", "lib"))
 import script  # noqa: E402
 from live_tree import (  # noqa: E402
-    CHANGING, LIBRARY, MALLORY, UIDS, UNDO, Call, Check, Done, Held, State, Table, Traced, Tree, child, copy, exchange, expect,
-    main, make, make_tree, must, remove, run, state_of, trace, word,
+    CHANGING, LIBRARY, MALLORY, UIDS, UNDO, Call, Check, Done, State, Table, Traced, Tree, child, copy, exchange, expect,
+    held, main, make, make_tree, must, remove, run, state_of, states_of, trace, word,
 )
 
 BEN, MARA, GUEST = UIDS[1:]
@@ -108,14 +108,14 @@ class Others(Check):
         top = os.path.join(self.race, b"open")
         expect(self.planned(Tree.of(top), RECORDS % {b"o": top}), "no plan of the races")
         kept = [name for name in RACE if RACE[name][0] != BEN and name.rstrip("/") not in [*PLANNED, "open"]]
-        self.others = Held([os.path.join(self.race, it.rstrip("/").encode()) for it in kept])
-        self.files = Held([os.path.join(self.race, it.encode()) for it in PLANNED])
-        self.kept, self.old = self.others.states(), self.files.states()
-        self.listed = must(run([b"getfacl", b"-n", b"-p", *self.files.open]), 0)
+        self.others = held([os.path.join(self.race, it.rstrip("/").encode()) for it in kept])
+        self.files = held([os.path.join(self.race, it.encode()) for it in PLANNED])
+        self.kept, self.old = states_of(self.others), states_of(self.files)
+        self.listed = must(run([b"getfacl", b"-n", b"-p", *self.files]), 0)
         must(self.apply(), 0)
-        self.new = self.files.states()
+        self.new = states_of(self.files)
         must(self.apply(UNDO), 0)
-        is_back = self.files.states() == self.old and self.kept == self.others.states() and self.old != self.new
+        is_back = states_of(self.files) == self.old and self.kept == states_of(self.others) and self.old != self.new
         expect(is_back, "the plan of the races does not go there and back")
         self.forget()
 
@@ -195,28 +195,28 @@ class Others(Check):
         """After a race: nothing of others is changed, what was said is so, and --undo brings back all."""
         self.check_kept(race)
         self.check_answer(race, done)
-        inodes = {name: os.fstat(descriptor).st_ino for name, descriptor in self.files.open.items()}
+        inodes = {name: os.fstat(descriptor).st_ino for name, descriptor in self.files.items()}
         if race.one and os.lstat(self.of(race.one)).st_ino != inodes[self.of(race.one)]:
             exchange(self.of(race.one), self.of(race.other))
         if race.one:
             must(self.apply(UNDO), 0, 3)
-            now = self.files.states()
+            now = states_of(self.files)
             expect(now == self.old, f"{race}: --undo did not bring back all: {now}")
             self.check_kept(race)
         else:
             must(run([b"setfacl", b"--restore=-"], self.listed), 0)
-            now = self.files.states()
+            now = states_of(self.files)
             expect(now == self.old, f"{race}: the files of MALLORY are not as they were: {now}")
         self.forget()
 
     def check_kept(self, race: Race) -> None:
-        now = self.others.states()
+        now = states_of(self.others)
         expect(now == self.kept, f"{race}: a file of root or of another user is changed: {now} and not {self.kept}")
 
     def check_answer(self, race: Race, done: Traced) -> None:
         """What facl-apply says of the files that were compared is so."""
         before, after = (self.new, self.old) if race.mode == "undo" else (self.old, self.new)
-        now = self.files.states()
+        now = states_of(self.files)
         what = f"{race}: status {done.status}: {done.said!r}: {now}"
         if not race.one:  # The owner may have made them anything, but not after another user has them.
             is_so = done.status != 0 or race.mode != "apply" or now[self.of("d/f")] == after[self.of("d/f")]
@@ -258,10 +258,11 @@ class Others(Check):
         for place in tree.files:
             tree.look(place)
         if self.planned(tree, b"".join(tree.record(place) for place in tree.files)):
-            held = Held(tree.files)
-            self.watch(list(held.open.values()))
-            self.watch(list(held.open.values()), UNDO)
-            held.close()
+            descriptors = list(held(tree.files).values())
+            self.watch(descriptors)
+            self.watch(descriptors, UNDO)
+            for each in descriptors:
+                os.close(each)
 
     def watch(self, descriptors: List[int], *options: bytes) -> None:
         """One way, with each moment seen some times."""
@@ -281,7 +282,6 @@ class Others(Check):
                 name = os.readlink(b"/proc/self/fd/%d" % descriptor)
                 expect(seen <= first | last, f"user {user} saw {seen - first - last} of {name!r}; {first}, {last}")
         self.count("moments in which somebody looked", sum(watcher.rounds for watcher in watchers))
-        self.count("changes of files that were watched", len(descriptors))
 
     def check_trusted(self, seed: int) -> None:
         """Plans and snapshots that others can write, or that are reached by a link of theirs."""
@@ -310,7 +310,6 @@ class Others(Check):
         expect(is_refused, f"{name}, {how}: facl-plan took it: {done}")
         self.remove_plans() if is_plan else remove(folder)
         os.rename(kept, folder)
-        self.count("plans and snapshots that others could write")
 
     def tampered_way(self, owner: int, mode: int, status: int) -> None:
         """A plan of root in a folder of another user, or reached by a link of one; a sticky folder of root will do."""
@@ -323,7 +322,6 @@ class Others(Check):
         os.lchown(link, MALLORY, -1)
         must(self.command(b"facl-apply", link), 2)
         remove(folder)
-        self.count("plans in folders of others", 2)
 
     def name_wanted(self) -> None:
         """In a sticky folder another user waits for the name of a plan to be free while facl-plan replaces it."""
@@ -341,7 +339,6 @@ class Others(Check):
             expect(is_kept, f"a name that is wanted: {done}: {os.listdir(folder)}")
             must(self.command(b"facl-apply", plan), 0)
             must(self.command(b"facl-apply", UNDO, plan), 0)
-            self.count("plans whose name is wanted")
         remove(folder)
 
     def words_of(self, name: bytes) -> List[bytes]:
@@ -368,7 +365,6 @@ class Others(Check):
         for plan in with_state:
             must(self.command(b"facl-apply", UNDO, plan), 0)
         expect(tree.listing() == tree.first, f"at once: not undone: {ended}")
-        self.count("rounds of six commands at once")
         self.count("rounds of six commands at once of which none applied the plan", 1 - len(applied))
         self.stopped(tree)
 
@@ -409,7 +405,6 @@ class Others(Check):
             del scripts[0]
         for script in scripts:
             self.race_script(before, what, [shell, os.path.join(self.plan, script.encode())], chance)
-        self.count("races of by_hand and by_hand_undo")
 
     def plan_by_hand(self, folder: bytes, with_identities: bool) -> None:
         """Plans to remove bait and empty, and to make new, new/f and newfile. Without identities in the snapshot a file
@@ -528,7 +523,7 @@ class Watcher:
     access(2), and the whole status where a plain file runs as somebody else."""
 
     def __init__(self, user: int, descriptors: List[int], stop: bytes = b"") -> None:
-        self.rounds, self.file = 0, tempfile.TemporaryFile("w+")
+        self.rounds, self.file = 0, tempfile.TemporaryFile()
         self.number = child(user, lambda: self.look(descriptors, stop))
 
     def look(self, descriptors: List[int], stop: bytes) -> None:
@@ -538,15 +533,16 @@ class Watcher:
             for descriptor, seen in zip(descriptors, found):
                 look_at(descriptor, seen)
             self.rounds += 1
-        json.dump([self.rounds, [sorted(seen) for seen in found]], self.file)
+        pickle.dump((self.rounds, found), self.file)
         self.file.flush()
 
     def end(self) -> List[Set[str]]:
         os.waitpid(self.number, 0)
         with self.file:
             self.file.seek(0)
-            self.rounds, found = json.load(self.file)
-        return [set(seen) for seen in found]
+            found: List[Set[str]]
+            self.rounds, found = pickle.load(self.file)
+        return found
 
 
 def look_at(descriptor: int, seen: Set[str]) -> None:

@@ -23,8 +23,8 @@ from live_tree import (  # noqa: E402
     COMMANDS, Check, State, child, expect, main, make, mounted, must, records_of, remove, run, state_of,
 )
 
-NAMES = ("reach words targets replacing programs names links warnings rows kills chain streams packages large_dump trust "
-         "private_groups exchange group unreadable without_lists file_systems full_disk")
+NAMES = ("words targets replacing programs names links warnings rows kills chain streams packages large_dump trust "
+         "private_groups exchange unreadable without_lists file_systems full_disk")
 SNAPSHOT = os.fsdecode(os.path.join(COMMANDS, b"facl-snapshot"))
 NOBODY = 65534
 SIGNALS = [getattr(signal, "SIG" + name) for name in "HUP INT QUIT USR1 USR2 ALRM TERM KILL".split()]
@@ -113,18 +113,6 @@ class Snapshots(Check):
     def contents(self, folder: str) -> Dict[str, State]:
         return {name: state_of(self.name(f"{folder}/{name}")) for name in sorted(os.listdir(self.text(folder)))}
 
-    def check_reach(self, _seed: int) -> None:
-        """A folder below a directory of mode 700, and FOLDERs that overlap."""
-        note = self.text("closed/share/note")
-        for mode, wanted in ((0o700, b"r--\nnone\n"), (0o711, b"r--\nr--\n")):
-            os.chmod(self.name("closed"), mode)
-            self.took(0, "before closed/share/team closed/share closed/share/", out=["users, "],
-                      has=["closed/share/team/empty/", "closed/share/", "closed/", "", "/"])
-            answers = self.ask(f"can nobody {note}\ncan --reach nobody {note}\n")
-            expect(answers == wanted, f"not the answers that were wanted: {answers!r}")
-        files = [it for it in self.lines("dump") if it.startswith(b"# file: ")]
-        expect(len(files) == len(set(files)), "a name comes twice")
-
     def check_words(self, _seed: int) -> None:
         """Words that are none of its own."""
         self.took(0, "--help", out=["usage: facl-snapshot "])
@@ -161,7 +149,7 @@ class Snapshots(Check):
     def check_replacing(self, _seed: int) -> None:
         """By another folder, with the same owner and list; not where the program does not load the new one."""
         self.took(0, "before closed")
-        self.shell("chmod 750 before; setfacl -m u:nobody:rx before; setfacl -m u:nobody:r before/*")
+        self.shell("chgrp daemon before before/*; chmod 750 before; setfacl -m u:nobody:rx before; setfacl -m u:nobody:r before/*")
         looks = [state_of(self.name(it))[:4] for it in ("before", "before/dump")]
         old = os.stat(self.name("before")).st_ino
         self.took(0, "before closed/share/team", lacks=["closed/share/note"])
@@ -190,8 +178,8 @@ class Snapshots(Check):
         self.took(0, "before closed")
 
     def check_names(self, _seed: int) -> None:
-        """Odd names, and FOLDERs that look like options."""
-        self.took(0, ["before", "odd", "odd/-d", "odd/t\n"], has=["odd/" + it for it in ODD])
+        """Odd names, FOLDERs that look like options or are in others, and the directories above."""
+        self.took(0, ["before", "odd", "odd/-d", "odd/t\n"], has=["odd/" + it for it in ODD] + ["/"])
         inside = [it for it in self.lines("dump") if it.startswith(self.shown("odd/")) and it != self.shown("odd/")]
         expect(len(inside) == 18, f"{len(inside)} names in place of 18")
         listed = records_of(self.ask("getfacl -R .\n"))
@@ -289,7 +277,6 @@ class Snapshots(Check):
                 status = int(self.read("status"))
                 expect(status == 5 * (words in UNWRITTEN), f"status {status}: {shell} {words}")
                 expect(self.read("before/inodes") != b"", f"no snapshot: {shell} {words}")
-                self.count("snapshots with other streams")
 
     def check_packages(self, _seed: int) -> None:
         """Nothing but sh, getent and the programs of three packages is called."""
@@ -454,12 +441,6 @@ class Snapshots(Check):
         os.waitpid(number, 0)
         expect(state_of(prey + b"/secret") == before, "a file of root is overwritten, or has another list")
         expect(os.listdir(prey) == [b"secret"], f"written in a folder of another user: {os.listdir(prey)}")
-
-    def check_group(self, _seed: int) -> None:
-        """A group that may read the snapshot, and may read the one that takes its place."""
-        for words in ("--group daemon ", ""):
-            self.took(0, words + "shared masks")
-            self.modes("shared", 0o750, 0o640, 1)
 
 
 if __name__ == "__main__":

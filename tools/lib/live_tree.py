@@ -149,18 +149,13 @@ def state_of(name: bytes, follow: bool = True) -> State:
     return look.st_uid, look.st_gid, look.st_mode, sorted(lists), content
 
 
-class Held:
-    """Files that are held open, with what the system says of each, whatever becomes of its name."""
+def held(names: Sequence[bytes]) -> Dict[bytes, int]:
+    """Files that are held open, whatever becomes of their names."""
+    return {name: os.open(name, os.O_PATH | os.O_NOFOLLOW | os.O_CLOEXEC) for name in names}
 
-    def __init__(self, names: List[bytes]) -> None:
-        self.open = {name: os.open(name, os.O_PATH | os.O_NOFOLLOW | os.O_CLOEXEC) for name in names}
 
-    def close(self) -> None:
-        for descriptor in self.open.values():
-            os.close(descriptor)
-
-    def states(self) -> Dict[bytes, State]:
-        return {name: state_of(b"/proc/self/fd/%d" % descriptor) for name, descriptor in self.open.items()}
+def states_of(files: Dict[bytes, int]) -> Dict[bytes, State]:
+    return {name: state_of(b"/proc/self/fd/%d" % descriptor) for name, descriptor in files.items()}
 
 
 # --- trees and records
@@ -354,16 +349,6 @@ def trace(check: Check, words: List[bytes], names: List[str], injected: List[str
         return Traced(traced.returncode, said.read(), lines)
 
 
-def wait_for_all(group: int) -> None:
-    """Until no process of a group is there."""
-    try:
-        while True:
-            os.killpg(group, 0)
-            time.sleep(0.01)
-    except ProcessLookupError:
-        pass
-
-
 # --- a check
 
 
@@ -428,7 +413,10 @@ class Check:
             with contextlib.suppress(ProcessLookupError):
                 (os.killpg if to_all else os.kill)(running.pid, number)
             out, said = running.communicate()
-        wait_for_all(running.pid)
+        with contextlib.suppress(ProcessLookupError):
+            while True:
+                os.killpg(running.pid, 0)
+                time.sleep(0.01)
         return Done(words, running.returncode, out, said)
 
     def forget(self) -> None:
