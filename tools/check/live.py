@@ -95,18 +95,17 @@ class Ways(Check):
     def check_meddled(self, tree: Tree) -> None:
         """Apply after somebody's change: it is refused, and nothing is touched; or the change stays as it is."""
         said = self.meddle(tree)
-        before = tree.listing()
+        tree.first = tree.listing()
         if said is not None:
             done = self.apply()
             must(done, 1, said=said)
             must(done, 1, said=b"nothing is touched")
-            is_untouched = tree.listing() == before and not os.path.exists(self.name("before.plan/state"))
+            is_untouched = tree.listing() == tree.first and not os.path.exists(self.name("before.plan/state"))
             expect(is_untouched, "something was touched, though it was refused")
             return
         must(self.apply(), 0)
         planned = records_of(self.read("before.plan/new"))
-        self.check_tree(tree, {**records_of(before), **planned}, "after somebody's change of another file")
-        tree.first = before
+        self.check_tree(tree, {**records_of(tree.first), **planned}, "after somebody's change of another file")
         self.undo(tree)
 
     def check_plans(self, seed: int) -> None:

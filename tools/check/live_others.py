@@ -62,15 +62,11 @@ PLANNED = ["open/a", "open/d", "open/d/f", "open/z"]
 # What MALLORY exchanges; the last one is a change of its own files.
 EXCHANGES = [("a", "link_a"), ("d", "link_d"), ("a", "private"), ("a", "other"), ("d", "root_folder"), ("z", "private"),
              ("d/f", "private"), ("d", "empty"), ("a", "alike"), ("", "")]
-TAMPER = {"owner": b'chown 70001 "$0"', "all": b'chmod 777 "$0"', "group": b'chgrp 70100 "$0"; chmod 770 "$0"',
-          "list": b'setfacl -m u:70001:rwx "$0"', "link": b'mv "$0" "$0.old"; ln -s "$0.old" "$0"',
-          "fifo": b'mv "$0" "$0.old"; mkfifo -m 600 "$0"'}
+TAMPER = {"owner": b'chown 70001 "$0"', "group": b'chgrp 70100 "$0"; chmod 770 "$0"',
+          "list": b'setfacl -m u:70001:rwx "$0"', "fifo": b'mv "$0" "$0.old"; mkfifo -m 600 "$0"'}
 # What somebody else changes of a plan and of a snapshot; and folders of a plan, with the status of facl-apply.
-TAMPERED = [("before.plan" + name, how) for name, how in (
-    ("", "owner"), ("", "all"), ("", "group"), ("", "list"), ("/files", "owner"), ("/files", "all"), ("/files", "list"),
-    ("/plan", "owner"), ("/files", "link"), ("/files", "fifo"))]
-TAMPERED += [("before" + name, how) for name, how in (
-    ("", "owner"), ("", "all"), ("/dump", "owner"), ("/dump", "all"), ("/links", "owner"), ("/passwd", "all"))]
+TAMPERED = [("before.plan", "owner"), ("before.plan", "group"), ("before.plan", "list"), ("before.plan/files", "owner"),
+            ("before.plan/files", "list"), ("before.plan/files", "fifo"), ("before.plan/plan", "owner"), ("before/links", "owner")]
 FOLDERS = [(MALLORY, 0o755, 2), (0, 0o775, 2), (0, 0o777, 2), (MALLORY, 0o1777, 2), (0, 0o1777, 0)]
 # The folder of MALLORY for by_hand, with files of root in it, and a folder of root.
 HAND: Table = {
@@ -195,18 +191,15 @@ class Others(Check):
         """After a race: nothing of others is changed, what was said is so, and --undo brings back all."""
         self.check_kept(race)
         self.check_answer(race, done)
-        inodes = {name: os.fstat(descriptor).st_ino for name, descriptor in self.files.items()}
-        if race.one and os.lstat(self.of(race.one)).st_ino != inodes[self.of(race.one)]:
-            exchange(self.of(race.one), self.of(race.other))
         if race.one:
+            if os.lstat(self.of(race.one)).st_ino != os.fstat(self.files[self.of(race.one)]).st_ino:
+                exchange(self.of(race.one), self.of(race.other))
             must(self.apply(UNDO), 0, 3)
-            now = states_of(self.files)
-            expect(now == self.old, f"{race}: --undo did not bring back all: {now}")
-            self.check_kept(race)
         else:
             must(run([b"setfacl", b"--restore=-"], self.listed), 0)
-            now = states_of(self.files)
-            expect(now == self.old, f"{race}: the files of MALLORY are not as they were: {now}")
+        now = states_of(self.files)
+        expect(now == self.old, f"{race}: the files are not as they were: {now}")
+        self.check_kept(race)
         self.forget()
 
     def check_kept(self, race: Race) -> None:
@@ -303,8 +296,7 @@ class Others(Check):
         must(run([b"sh", b"-ec", TAMPER[how], self.name(name)]), 0)
         if is_plan:
             done = self.apply()
-            is_said = b"not trusted" in done.stderr or b"symbolic links" in done.stderr
-            expect(done.returncode == 2 and is_said, f"{name}, {how}: {done}")
+            expect(done.returncode == 2 and b"not trusted" in done.stderr, f"{name}, {how}: {done}")
         done = self.command(b"facl-plan", self.name("before"), self.name("edits"))
         is_refused = done.returncode == 2 or is_plan and (name != "before.plan" or done.returncode != 0)
         expect(is_refused, f"{name}, {how}: facl-plan took it: {done}")
@@ -506,14 +498,11 @@ def step(hand: bytes, what: str, chance: random.Random) -> None:
 def attack_for_a_while(hand: bytes, what: str, chance: random.Random) -> None:
     """What MALLORY's process does: a step once, at a random moment, and back; or all the time."""
     is_once = chance.random() < 0.3
-    until = time.monotonic() + 20
     time.sleep(chance.random() * 0.8 if is_once else 0)
-    while time.monotonic() < until:
+    for _ in range(1 if is_once else 20_000):
         with contextlib.suppress(OSError):
             step(hand, what, chance)
         time.sleep(chance.choice([0.001, 0.01, 0.1] if is_once else [0, 0.0002, 0.001, 0.005]))
-        if is_once:
-            break
     with contextlib.suppress(OSError):
         step(hand, what, chance)
 

@@ -263,12 +263,9 @@ class Tree:
         return b"setfacl --restore=-\n" + head + entries.replace(b",", b"\n") + b"\n.\n"
 
     def line(self) -> bytes:
-        kind = self.chance.randrange(13)
         place = self.chance.choice(self.all())
         folder = self.chance.choice(self.folders)
         both = b" ".join(map(word, {place, self.chance.choice(self.all())}))
-        if kind == 12:
-            return self.record(place)
         modes = [0o750, 0o640, 0o2770, 0o4711, 0o604, 0o1777]
         lines: List[Callable[[], bytes]] = [
             lambda: b"setfacl -m %s %s" % (self.entries(), both),
@@ -283,8 +280,9 @@ class Tree:
             lambda: b"chmod %s%o %s" % (b"-R " * (self.chance.random() < 0.3), self.chance.choice(modes), both),
             lambda: b"chacl -B %s" % word(place),
             lambda: b"who r %s" % word(place),
+            lambda: self.record(place).rstrip(),
         ]
-        return lines[kind]() + b"\n"
+        return self.chance.choice(lines)() + b"\n"
 
     def listing(self) -> bytes:
         """All of it, with the kinds and modes too; nothing where it is gone."""
