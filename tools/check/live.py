@@ -31,6 +31,20 @@ SEEN = CHANGING + ["fsync", "syncfs", "rename", "unlink", "unlinkat", "openat"]
 KNOWN = {b"plan", b"lock", b"meta", b"edits", b"old", b"new", b"files", b"by_hand", b"by_hand_undo", b"by_hand_done",
          b"journal", b"state"}
 WAYS: List[List[bytes]] = [[], [UNDO]]
+# What somebody changes between plan and apply, and what facl-apply says: nothing of files that are not planned. A file that
+# is made again at once often gets the number of the one before.
+REPLACED = b": was replaced by another file"
+CHANGES = {
+    "list": (b'setfacl -m u:4711:r "$0"', b": was changed: access list"),
+    "owner": (b'chown 4711 "$0"', b": was changed: owner"),
+    "flags": (b'if [ -k "$0" ]; then chmod -t "$0"; else chmod +t "$0"; fi', b": was changed: flags"),
+    "gone": (b'mv "$0" "$0.away"', b": is "),
+    "link": (b'mv "$0" "$0.away"; ln -s "$0.away" "$0"', b": is "),
+    "renamed": (b'cp -aT "$0" "$0.new"; mv "$0" "$0.away"; mv -T "$0.new" "$0"', REPLACED),
+    "made again": (b'cp -aT "$0" "$0.new"; rm -r "$0"; cp -aT "$0.new" "$0"', REPLACED),
+    "added": (b': >"$0"', b""),
+    "other": (b'chmod 700 "$0"', b""),
+}
 
 
 class Ways(Check):
@@ -61,42 +75,23 @@ class Ways(Check):
         expect(len(answers) == len(pairs), f"{len(answers)} answers to {len(pairs)} questions")
         self.count("pairs that the kernel answered alike", len(pairs))
 
-    def meddle(self, tree: Tree) -> Optional[bytes]:
-        """Changes something between plan and apply; what facl-apply has to say, or None where it has to go on."""
-        planned = records_of(self.read("before.plan/new"))
-        name = tree.chance.choice(sorted(planned))
-        kind = tree.chance.choice(["list", "owner", "flags", "gone", "link", "renamed", "made again", "other", "added"])
+    def meddle(self, tree: Tree) -> bytes:
+        """Changes something; what facl-apply has to say."""
+        planned = sorted(records_of(self.read("before.plan/new")))
+        inodes = {os.stat(it).st_ino for it in planned}
+        places = [it for it in tree.all() if os.stat(it).st_ino not in inodes]
+        kind = tree.chance.choice([it for it in CHANGES if it != "other" or places])
+        if kind != "other":
+            places = [os.path.join(tree.top, b"added")] if kind == "added" else planned
+        must(run([b"sh", b"-ec", CHANGES[kind][0], tree.chance.choice(places)]), 0)
         self.count(f"changed before apply: {kind}")
-        if kind == "list":
-            must(run([b"setfacl", b"-m", b"u:4711:r", b"--", name]), 0)
-            return b": was changed: access list"
-        if kind == "owner":
-            os.chown(name, 4711, -1)
-            return b": was changed: owner"
-        if kind == "flags":
-            os.chmod(name, os.stat(name).st_mode & 0o7777 ^ 0o1000)
-            return b": was changed: flags"
-        if kind in ("gone", "link"):
-            os.rename(name, name + b".away")
-            if kind == "link":
-                os.symlink(name + b".away", name)
-            return b": is "
-        if kind in ("renamed", "made again"):
-            replace_alike(name, is_same_name=kind == "made again")
-            return b": was replaced by another file"
-        if kind == "added":
-            make(os.path.join(tree.top, b"added"))
-        elif len(planned) < len(tree.all()):
-            other = tree.chance.choice([it for it in tree.all() if it not in planned])
-            if os.stat(other).st_ino not in {os.stat(it).st_ino for it in planned}:
-                os.chmod(other, 0o700)
-        return None
+        return CHANGES[kind][1]
 
     def check_meddled(self, tree: Tree) -> None:
         """Apply after somebody's change: it is refused, and nothing is touched; or the change stays as it is."""
         said = self.meddle(tree)
         tree.first = tree.listing()
-        if said is not None:
+        if said:
             done = self.apply()
             must(done, 1, said=said)
             must(done, 1, said=b"nothing is touched")
@@ -418,18 +413,6 @@ class Ways(Check):
             print(f"{seconds:7.1f} seconds of facl-apply {b' '.join(each).decode()} for {what}", flush=True)
             expect(seconds <= limit, f"{what}: {seconds} seconds")
         remove(top)
-
-
-def replace_alike(name: bytes, is_same_name: bool) -> None:
-    """Puts another file with the same owner, group, flags and lists at a name: by a rename, or made again at once,
-    which often gets the number of the one before."""
-    copy(name, name + b".new")
-    if is_same_name:
-        remove(name)
-        copy(name + b".new", name)
-    else:
-        os.rename(name, name + b".away")
-        os.rename(name + b".new", name)
 
 
 def ask_kernel(user: bytes, file: bytes) -> bytes:
