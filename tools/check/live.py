@@ -16,14 +16,14 @@ import stat
 import sys
 import tempfile
 import time
-from typing import Iterator, List, Optional, Tuple
+from typing import Iterator, List, Tuple
 
 sys.dont_write_bytecode = True
 sys.path.insert(0, os.path.join(os.path.dirname(os.path.realpath(__file__)), "..", "lib"))
 import script  # noqa: E402
 from live_tree import (  # noqa: E402
-    CHANGING, MALLORY, UNDO, USERS, Call, Check, Done, Tree, child, copy, expect, main, make, mounted, must, records_of, remove,
-    run, trace, word,
+    CHANGING, MALLORY, UNDO, USERS, Call, Check, Done, Tree, child, copy, expect, main, make, mounted, must, records_of,
+    remove, run, trace, word,
 )
 
 TEXTS = [b"---", b"--x", b"-w-", b"-wx", b"r--", b"r-x", b"rw-", b"rwx"]
@@ -31,8 +31,8 @@ SEEN = CHANGING + ["fsync", "syncfs", "rename", "unlink", "unlinkat", "openat"]
 KNOWN = {b"plan", b"lock", b"meta", b"edits", b"old", b"new", b"files", b"by_hand", b"by_hand_undo", b"by_hand_done",
          b"journal", b"state"}
 WAYS: List[List[bytes]] = [[], [UNDO]]
-# What somebody changes between plan and apply, and what facl-apply says: nothing of files that are not planned. A file that
-# is made again at once often gets the number of the one before.
+# What somebody changes between plan and apply, and what facl-apply says: nothing of files that are not planned. A file
+# that is made again at once often gets the number of the one before.
 REPLACED = b": was replaced by another file"
 CHANGES = {
     "list": (b'setfacl -m u:4711:r "$0"', b": was changed: access list"),
@@ -51,8 +51,8 @@ class Ways(Check):
     """There and back again, and what can come in between."""
 
     tools = [*Check.tools, "setcap", "chattr", "mkfs.ext4", "prlimit", "mount"]
-    parts = {"plans": 200, "kills": 3, "moments": 50, "signals": 20, "faults": 3, "disks": 2, "hands": 30, "capabilities": 1,
-             "owners": 10, "chains": 1, "large": 1}
+    parts = {"plans": 200, "kills": 3, "moments": 50, "signals": 20, "faults": 3, "disks": 2, "hands": 30,
+             "capabilities": 1, "owners": 10, "chains": 1, "large": 1}
 
     def check_kernel(self, tree: Tree) -> None:
         """The kernel grants 20 pairs what the program says of the snapshot with the planned records restored."""
@@ -104,8 +104,8 @@ class Ways(Check):
         self.undo(tree)
 
     def check_plans(self, seed: int) -> None:
-        """A random tree, with default lists, masks, flags, hard links and odd names; a plan of one to ten lines, applied and
-        undone, beside the kernel; in every other one somebody changes, removes, replaces or adds a file before."""
+        """A random tree, with default lists, masks, flags, hard links and odd names; a plan of one to ten lines is
+        applied and undone, beside the kernel; in every other one somebody changes, removes, replaces or adds a file."""
         tree = Tree(self.work, seed)
         if not self.planned(tree, b"".join(tree.line() for _ in range(tree.chance.randrange(1, 11)))):
             self.count("plans with nothing to restore")
@@ -146,8 +146,8 @@ class Ways(Check):
         expect(tree.listing() == tree.first, "not undone after a kill")
 
     def points(self, names: List[str], user: int) -> Iterator[Tuple[Call, List[bytes]]]:
-        """The calls of facl-apply and of --undo that change a file, or write the plan, with the options; before those of
-        --undo the plan is applied."""
+        """The calls of facl-apply and of --undo that change a file, or write the plan, with the options; before those
+        of --undo the plan is applied."""
         found = []
         for options in WAYS:
             done = trace(self, self.words(b"facl-apply", *options, self.plan), names, [], user=user)
@@ -365,8 +365,8 @@ class Ways(Check):
         self.undo(tree)
 
     def check_owners(self, seed: int) -> None:
-        """The owner of the files, who is not root, applies and undoes, and is killed at each change; directories get and
-        lose x, and files below them change."""
+        """The owner of the files, who is not root, applies and undoes, and is killed at each change; directories get
+        and lose x, and files below them change."""
         tree = Tree(self.work, seed)
         for place in tree.all():
             os.chown(place, MALLORY, 70100)

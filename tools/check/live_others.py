@@ -25,8 +25,8 @@ sys.dont_write_bytecode = True
 sys.path.insert(0, os.path.join(os.path.dirname(os.path.realpath(__file__)), "..", "lib"))
 import script  # noqa: E402
 from live_tree import (  # noqa: E402
-    CHANGING, LIBRARY, MALLORY, UIDS, UNDO, Call, Check, Done, State, Table, Traced, Tree, child, copy, exchange, expect,
-    held, main, make, make_tree, must, remove, run, state_of, states_of, trace, word,
+    CHANGING, LIBRARY, MALLORY, UIDS, UNDO, Call, Check, Done, State, Table, Traced, Tree, child, copy, exchange,
+    expect, held, main, make, make_tree, must, remove, run, state_of, states_of, trace, word,
 )
 
 BEN, MARA, GUEST = UIDS[1:]
@@ -66,7 +66,8 @@ TAMPER = {"owner": b'chown 70001 "$0"', "group": b'chgrp 70100 "$0"; chmod 770 "
           "list": b'setfacl -m u:70001:rwx "$0"', "fifo": b'mv "$0" "$0.old"; mkfifo -m 600 "$0"'}
 # What somebody else changes of a plan and of a snapshot; and folders of a plan, with the status of facl-apply.
 TAMPERED = [("before.plan", "owner"), ("before.plan", "group"), ("before.plan", "list"), ("before.plan/files", "owner"),
-            ("before.plan/files", "list"), ("before.plan/files", "fifo"), ("before.plan/plan", "owner"), ("before/links", "owner")]
+            ("before.plan/files", "list"), ("before.plan/files", "fifo"), ("before.plan/plan", "owner"),
+            ("before/links", "owner")]
 FOLDERS = [(MALLORY, 0o755, 2), (0, 0o775, 2), (0, 0o777, 2), (MALLORY, 0o1777, 2), (0, 0o1777, 0)]
 # The folder of MALLORY for by_hand, with files of root in it, and a folder of root.
 HAND: Table = {
@@ -154,10 +155,10 @@ class Others(Check):
         return (found * (1 + number // len(found)))[:number]
 
     def check_races(self, seed: int) -> None:
-        """MALLORY owns the folder of a plan's files, and some of these. At a call of facl-apply, which strace stops there,
-        it exchanges a file or the folder with a link to one of root or with another's private file there, or changes its
-        own files; in every other race all is exchanged back at a later call. Each call of an apply, of one whose last list
-        fails, and of an undo has its turn."""
+        """MALLORY owns the folder of a plan's files, and some of these. At a call of facl-apply, which strace stops
+        there, it exchanges a file or the folder with a link to one of root or with another's private file there, or
+        changes its own files; in every other race all is exchanged back at a later call. Each call of an apply, of one
+        whose last list fails, and of an undo has its turn."""
         if seed % 100000 == 0:
             self.race_tree()
             self.races = self.all_races(self.given.tries["races"], seed)
@@ -241,8 +242,8 @@ class Others(Check):
         self.count(f"runs of {mode} with exchanges all the time, status {done.returncode}")
 
     def check_watched(self, seed: int) -> None:
-        """Files get another owner, group, list and flags, some milliseconds apart, while three users ask the kernel what it
-        grants them: nobody gets what neither record grants."""
+        """Files get another owner, group, list and flags, with some milliseconds between the calls, while three users
+        ask the kernel: nobody gets what neither record grants."""
         top = self.name("watched")
         make_tree(top, {name: (0, 0o755) for name in [*"0123456789", "d/", "e/", "f/"]})
         tree = Tree.of(top)
@@ -377,10 +378,10 @@ class Others(Check):
             found.clear()
 
     def check_by_hand(self, seed: int) -> None:
-        """MALLORY owns the folder in which by_hand, or by_hand_undo alone, removes and makes files. It exchanges, links and
-        renames there all the time, or once: the folder, what goes, the closed folders, what is made, with links to a folder
-        of root, and with files of root in its own. In two of three races each call of the script is delayed, so that each
-        step is hit. Then the files of root are as they were, and MALLORY could enter no closed folder."""
+        """MALLORY owns the folder in which by_hand, or by_hand_undo alone, removes and makes files. It exchanges, links
+        and renames there all the time, or once: the folder, what goes, the closed folders, what is made, with links to
+        a folder of root, and with files of root in its own. In two of three races each call of the script is delayed,
+        so that each step is hit. Then the files of root are as they were, and MALLORY could enter no closed folder."""
         chance = random.Random(seed)
         what, shell = STEPS[seed % len(STEPS)], (b"dash", b"bash")[seed // len(STEPS) % 2]
         self.hand, folder = self.name("hand"), self.name("hand/mine/d")
@@ -520,7 +521,11 @@ class Watcher:
         found: List[Set[str]] = [set() for _ in descriptors]
         while not self.rounds or stop and not os.path.exists(stop):
             for descriptor, seen in zip(descriptors, found):
-                look_at(descriptor, seen)
+                name = b"/proc/self/fd/%d" % descriptor
+                seen.update("may %d" % request for request in range(1, 8) if os.access(name, request))
+                look = os.stat(name)
+                if stat.S_ISREG(look.st_mode) and look.st_mode & 0o6000:
+                    seen.add("runs as %d %d %o" % (look.st_uid, look.st_gid, look.st_mode))
             self.rounds += 1
         pickle.dump((self.rounds, found), self.file)
         self.file.flush()
@@ -532,14 +537,6 @@ class Watcher:
             found: List[Set[str]]
             self.rounds, found = pickle.load(self.file)
         return found
-
-
-def look_at(descriptor: int, seen: Set[str]) -> None:
-    name = b"/proc/self/fd/%d" % descriptor
-    seen.update("may %d" % request for request in range(1, 8) if os.access(name, request))
-    look = os.stat(name)
-    if stat.S_ISREG(look.st_mode) and look.st_mode & 0o6000:
-        seen.add("runs as %d %d %o" % (look.st_uid, look.st_gid, look.st_mode))
 
 
 if __name__ == "__main__":

@@ -80,8 +80,8 @@ class Snapshots(Check):
     def took(self, status: int, words: Union[str, List[str]], *said: str, out: Sequence[str] = (),
              has: Sequence[str] = (), lacks: Sequence[str] = (), user: int = 0, start: Sequence[str] = (),
              folder: str = "", **variables: str) -> None:
-        """Takes a snapshot with these words. It ends with this status; messages have what is said, standard output has out,
-        and the dump of `before` records the names of has, but not those of lacks."""
+        """Takes a snapshot with these words. It ends with this status; messages have what is said, standard output has
+        out, and the dump of `before` records the names of has, but not those of lacks."""
         words = words if isinstance(words, list) else words.split()
         self.done = done = run([os.fsencode(it) for it in [*start, SNAPSHOT, *words]], user=user,
                                variables={**self.variables(), **variables}, folder=self.name(folder))
@@ -133,9 +133,9 @@ class Snapshots(Check):
         self.took(2, "mine closed")
         self.took(2, "full closed", "full: is there, and is no snapshot")
         expect(self.read("mine") + self.read("full/mine") == b"mine\nmine\n", "a file of mine is gone")
-        for words in (["empty", "closed"], ["leads", "closed"], ["--program", "./program", "--", "-dash", "closed/share"],
-                      ["--", "a\udce9 b\n", "closed/share"]):
+        for words in ("empty closed", "leads closed", "--program ./program -- -dash closed/share"):
             self.took(0, words)
+        self.took(0, ["--", "a\udce9 b\n", "closed/share"])
         expect(os.path.islink(self.name("leads")), "a link to a snapshot is replaced")
         made = [os.path.isfile(self.name(name + "/links")) for name in ("empty", "-dash", "a\udce9 b\n")]
         expect(all(made), f"no snapshot: {made}")
@@ -145,7 +145,8 @@ class Snapshots(Check):
         """By another folder, with the same owner and list; not where the program, by an option or on the path, does not
         load the new one."""
         self.took(0, "before closed")
-        self.shell("chgrp daemon before before/*; chmod 750 before; setfacl -m u:nobody:rx before; setfacl -m u:nobody:r before/*")
+        self.shell("""chgrp daemon before before/*; chmod 750 before
+            setfacl -m u:nobody:rx before; setfacl -m u:nobody:r before/*""")
         looks = [state_of(self.name(it))[:4] for it in ("before", "before/dump")]
         old = os.stat(self.name("before")).st_ino
         self.took(0, "before closed/share/team", lacks=["closed/share/note"])
@@ -159,7 +160,7 @@ class Snapshots(Check):
         before = self.contents("before")
         self.tool("refuses/facl", 'echo "facl: setup: dump: text line 1: bad row" >&2\nexit 2')
         for words, program in (("--program refuses/facl ", self.given.program), ("", "")):
-            self.took(2, words + "before closed", "does not load it: facl: setup: dump: text line 1: bad row", FACL=program)
+            self.took(2, words + "before closed", "not load it: facl: setup: dump: text line 1: bad row", FACL=program)
             expect(self.contents("before") == before, "a snapshot that does not load replaced one")
         self.took(1, "--program refuses/facl refused closed")
         expect(os.path.isfile(self.name("refused/dump")), "one that does not load is not there, where there was none")
@@ -241,7 +242,8 @@ class Snapshots(Check):
     def slow(self, seconds: float) -> None:
         """A getent that leaves a mark and waits before it lists the groups."""
         self.mark, real = self.name("at_work"), self.text("bin/getent")
-        self.tool("slow/getent", f'[ "$*" != group ] || : >"{self.text("at_work")}"\nsleep {seconds}\nexec "{real}" "$@"')
+        text = f'[ "$*" != group ] || : >"{self.text("at_work")}"\nsleep {seconds}\nexec "{real}" "$@"'
+        self.tool("slow/getent", text)
 
     def check_chain(self, _seed: int) -> None:
         """A long chain of directories, which sorts before a folder: that is recorded."""
@@ -300,7 +302,8 @@ class Snapshots(Check):
             self.took(0, "mount/before mount")
 
     def check_full_disk(self, _seed: int) -> None:
-        """A disk that is full at one of several places, in the dump too: the snapshot is in place, or all is as before."""
+        """A disk that is full at one of several places, in the dump too: the snapshot is in place, or all is as
+        before."""
         self.make(*[f"many/a file with a long name {number}" for number in range(2000)])
         self.shell("setfacl -m $(seq -f u:%g:r -s , 30) many/*")
         for size in SIZES:
@@ -372,23 +375,19 @@ class Snapshots(Check):
         self.untrusted("theirs/mine/other", "theirs/mine: others than its owner can write there")
         self.shell("cd trust/theirs; setfacl -b mine; setfacl -d -m u:nobody:rwx,o::rwx mine")
         self.took(0, "trust/theirs/mine/third masks")
-        self.modes("trust/theirs/mine/third", 0o700, 0o600, 0)
-
-    def modes(self, folder: str, mode: int, inside: int, group: int) -> None:
-        """The mode and the group of a snapshot, and of its files."""
-        looks = [os.stat(self.name(folder)), *[os.stat(it.path) for it in os.scandir(self.name(folder))]]
-        found = [(it.st_mode & 0o7777, it.st_gid) for it in looks]
-        expect(found == [(mode, group)] + [(inside, group)] * 6, f"modes and groups of a snapshot: {found}")
+        third = self.text("trust/theirs/mine/third")
+        modes = {os.stat(place).st_mode & 0o7777 for place in (third, *(it.path for it in os.scandir(third)))}
+        expect(modes == {0o700, 0o600}, f"modes by a default list: {modes}")
 
     def check_private_groups(self, _seed: int) -> None:
         """A folder of the group of one user alone, which its owner may use, until somebody else is in the group."""
-        script = 'if [ $# -eq 2 ] && [ "$1" = passwd ]; then cat "${0%/*}/user.txt"; else cat "${0%/*}/$1.txt"; fi'
+        text = 'if [ $# -eq 2 ] && [ "$1" = passwd ]; then cat "${0%/*}/user.txt"; else cat "${0%/*}/$1.txt"; fi'
         make(self.name("own/"), 0o775, NOBODY, 7)
         user, other, mara = "own:x:65534:7:::\n", "own:x:65534:8:::\n", "mara:x:3:7:::\n"
         for status, group, rows in (
                 (1, "own:x:7:", user), (1, "own:x:7:own", user), (2, "own:x:7:mara", user), (2, "staff:x:7:", user),
                 (2, "own:x:7:", other), (2, "own:x:7:", user + mara)):
-            self.with_getent(rows, group + "\n", script)
+            self.with_getent(rows, group + "\n", text)
             make(self.name("fake/user.txt"), text=rows[: len(user)].encode())
             remove(self.name("own/new"))
             self.took(status, "own/new masks", start=["setpriv", "--reuid=65534", "--regid=7", "--clear-groups"])

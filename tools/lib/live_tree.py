@@ -453,11 +453,7 @@ class Check:
         make(self.name("edits"), text=text)
         done = self.command(b"facl-plan", b"--keep-going", self.name("before"), self.name("edits"))
         must(done, 0, 1, 3)
-        self.count("lines", text.count(b"\n"))
-        refused = [it for it in done.stderr.splitlines() if b", line " in it and b"warning" not in it]
-        self.count("lines refused", len(refused))
-        if b"names of one file get different lists" in done.stderr:
-            self.count("plans refused for hard links")
+        self.count(f"plans, status {done.returncode} of facl-plan")
         return os.path.exists(self.name("before.plan/new")) and self.read("before.plan/new") != b""
 
     def expected(self) -> Dict[bytes, List[bytes]]:
@@ -474,9 +470,11 @@ class Check:
 
 def given_of(kind: Type[Check], head: Optional[str]) -> argparse.Namespace:
     """The options; where parts have one, the other parts are left out."""
-    told = [f"{part} ({usual}): {getattr(kind, 'check_' + part).__doc__}" for part, usual in kind.parts.items()]
-    parts = "\n".join(textwrap.fill(" ".join(text.split()), 100, subsequent_indent="    ") for text in told)
-    options = options_of(f"{head}\nParts, with the usual number of tries:\n\n{parts}", seed=1, **dict.fromkeys(kind.parts))
+    text = f"{head}\nIts parts, with the usual number of tries:\n"
+    for part, usual in kind.parts.items():
+        told = " ".join(f"{part} ({usual}): {getattr(kind, 'check_' + part).__doc__}".split())
+        text += "\n" + textwrap.fill(told, 100, subsequent_indent="    ")
+    options = options_of(text, seed=1, **dict.fromkeys(kind.parts))
     options.add_argument("--folder", default="/tmp", help="where the files are made (/tmp)")
     given = options.parse_args()
     given.tries = {part: vars(given)[part] for part in kind.parts if vars(given)[part]} or kind.parts
@@ -514,7 +512,6 @@ def main(kind: Type[Check], head: Optional[str]) -> int:
         counts = check.counts
         faults = list(faults_of(check))
     finally:
-        run([b"chattr", b"-R", b"-f", b"-i", b"-a", work])
         remove(work)
         print("\n".join(f"{number:7,d} {name}" for name, number in sorted(counts.items())))
     amount = ", ".join(part if number == 1 else f"{part} {number:,}" for part, number in given.tries.items())
