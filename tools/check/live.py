@@ -111,7 +111,7 @@ class Ways(Check):
             self.count("plans with nothing to restore")
             return
         must(self.apply(b"--dry-run"), 0)
-        self.is_back(tree, "--dry-run")
+        self.expect_back(tree, "--dry-run")
         self.do(tree)
         self.check_kernel(tree)
         self.undo(tree)
@@ -203,7 +203,7 @@ class Ways(Check):
         tree = self.whole_plan(seed)
         for number in (signal.SIGHUP, signal.SIGINT, signal.SIGQUIT, signal.SIGTERM):
             self.check_signalled(tree, number, self.at_random(tree, number))
-            self.is_back(tree)
+            self.expect_back(tree)
         done = self.at_random(tree, signal.SIGHUP, ignored=signal.SIGHUP)
         expect(done.returncode == 0 and not done.stderr, f"a signal that is ignored: {done}")
         self.undo(tree)
@@ -252,7 +252,7 @@ class Ways(Check):
         tree = self.small_plan(seed)
         for what in (self.full_disk, self.read_only, self.nobody_may):  # The tree stays as it was.
             what(tree)
-            self.is_back(tree)
+            self.expect_back(tree)
         self.too_large()
         self.overlay(tree)
 
@@ -292,7 +292,7 @@ class Ways(Check):
                 must(run([b"chattr", b"-" + flag, b"--", name]), 0)
                 must(self.apply(), 0)
                 must(run([b"chattr", b"+" + flag, b"--", name]), 0)
-                must(self.apply(UNDO), 4, said=b"1 file is not as before")
+                must(self.apply(UNDO), 4, said=b" not as before")  # Each name of it is counted.
             finally:
                 must(run([b"chattr", b"-" + flag, b"--", name]), 0)
             self.undo(tree)
@@ -310,7 +310,7 @@ class Ways(Check):
                             for file in small.files)
             expect(self.planned(small, text), "no plan of a large list")
             must(self.apply(), 1, said=b": No space left on device")
-            self.is_back(small)
+            self.expect_back(small)
 
     def overlay(self, tree: Tree) -> None:
         """Files of a lower layer, copied when they are first changed: there and back; one of two names is refused."""

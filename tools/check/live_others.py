@@ -162,9 +162,7 @@ class Others(Check):
         if seed % 100000 == 0:
             self.race_tree()
             self.races = self.all_races(self.given.tries["races"], seed)
-        self.one_race(self.races[seed % 100000])
-
-    def one_race(self, race: Race) -> None:
+        race = self.races[seed % 100000]
         reached = []
 
         def act(stop: int) -> None:
@@ -283,10 +281,10 @@ class Others(Check):
         expect(self.planned(tree, tree.record(tree.top)), "no plan")
         for name, how in TAMPERED:
             self.tampered(name, how)
-            self.is_back(tree)
+            self.expect_back(tree)
         for owner, mode, status in FOLDERS:
             self.tampered_way(owner, mode, status)
-            self.is_back(tree)
+            self.expect_back(tree)
         self.name_wanted()
 
     def tampered(self, name: str, how: str) -> None:

@@ -423,7 +423,7 @@ class Check:
             with contextlib.suppress(FileNotFoundError):
                 os.unlink(os.path.join(self.plan, name))
 
-    def is_back(self, tree: Tree, when: str = "") -> None:
+    def expect_back(self, tree: Tree, when: str = "") -> None:
         """The next attempt starts from the first tree and a plan that was not applied."""
         expect(tree.listing() == tree.first, "not as before" + when)
         self.forget()
@@ -435,7 +435,7 @@ class Check:
 
     def undo(self, tree: Tree, *statuses: int, user: int = 0) -> None:
         must(self.apply(UNDO, user=user), *(statuses or [0]))
-        self.is_back(tree)
+        self.expect_back(tree)
 
     def remove_plans(self) -> None:
         for left in glob.glob(self.name("before.plan*")):
