@@ -203,7 +203,6 @@ class Ways(Check):
         tree = self.whole_plan(seed)
         for number in (signal.SIGHUP, signal.SIGINT, signal.SIGQUIT, signal.SIGTERM):
             self.check_signalled(tree, number, self.at_random(tree, number))
-            self.expect_back(tree)
         done = self.at_random(tree, signal.SIGHUP, ignored=signal.SIGHUP)
         expect(done.returncode == 0 and not done.stderr, f"a signal that is ignored: {done}")
         self.undo(tree)
@@ -214,14 +213,14 @@ class Ways(Check):
         expect(not left, f"left in the plan: {left}")
         if done.returncode == 0:
             self.check_tree(tree, self.expected(), "applied, though a signal came")
-            must(self.apply(UNDO), 0)
             self.count("signals after which the plan was applied")
+            self.undo(tree)
         else:
             is_ended = done.returncode in (128 + number, -number)
             is_early = done.returncode == 1 and b"KeyboardInterrupt" in done.stderr
             expect(is_ended or is_early, f"status {done.returncode} at signal {number}: {done.stderr!r}")
             self.count("signals after which the files were as before")
-            must(self.apply(UNDO), 3)
+            self.undo(tree, 3)
 
     def check_faults(self, seed: int) -> None:
         """Each call that changes a file or writes the plan fails once, and from then on, by random errors."""
