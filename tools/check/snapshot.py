@@ -20,10 +20,10 @@ sys.dont_write_bytecode = True
 sys.path.insert(0, os.path.join(os.path.dirname(os.path.realpath(__file__)), "..", "lib"))
 import script  # noqa: E402
 from live_tree import (  # noqa: E402
-    COMMANDS, Check, State, child, expect, main, make, mounted, must, records_of, remove, run, state_of,
+    COMMANDS, Check, State, expect, main, make, mounted, must, records_of, remove, run, state_of,
 )
 
-NAMES = ("words targets replacing names links warnings rows kills chain streams packages trust private_groups exchange "
+NAMES = ("words targets replacing names links warnings rows kills chain streams packages trust private_groups "
          "unreadable without_lists file_systems full_disk").split()
 SNAPSHOT = os.fsdecode(os.path.join(COMMANDS, b"facl-snapshot"))
 NOBODY = 65534
@@ -39,7 +39,7 @@ class Snapshots(Check):
     """Each part has a clean folder, in which it runs, with the folders closed, masks and odd in it."""
 
     tools = ["getfacl", "setfacl", "getent", "setpriv", "dash", "bash"]
-    parts = {**dict.fromkeys(NAMES, 1), "kills": 15, "exchange": 5}
+    parts = {**dict.fromkeys(NAMES, 1), "kills": 15}
 
     def variables(self) -> Dict[str, str]:
         return {"PATH": ":".join([*self.ahead, os.environ["PATH"]]), "FACL": self.given.program}
@@ -239,12 +239,6 @@ class Snapshots(Check):
             expect(self.read("before/inodes") != b"", f"a snapshot without inodes after {number}")
             self.count("snapshots that get a signal at a random moment" + ", before their end" * (done.returncode != 0))
 
-    def slow(self, seconds: float) -> None:
-        """A getent that leaves a mark and waits before it lists the groups."""
-        self.mark, real = self.name("at_work"), self.text("bin/getent")
-        text = f'[ "$*" != group ] || : >"{self.text("at_work")}"\nsleep {seconds}\nexec "{real}" "$@"'
-        self.tool("slow/getent", text)
-
     def check_chain(self, _seed: int) -> None:
         """A long chain of directories, which sorts before a folder: that is recorded."""
         self.make(*[f"chain/z_payroll/{number}" for number in range(21)], "chain/a/", "chain/b/")
@@ -357,7 +351,8 @@ class Snapshots(Check):
         """Folders and files of another user, or that another one can write by a list or a group."""
         self.make("trust/empty/", "trust/theirs/mine/", "trust/sticky/")
         self.took(0, "trust/theirs/mine/snapshot masks")
-        self.slow(0)
+        self.mark, real = self.name("at_work"), self.text("bin/getent")
+        self.tool("mark/getent", f'[ "$*" != group ] || : >"{self.text("at_work")}"\nexec "{real}" "$@"')
         self.shell("""cd trust; chown 65534 empty theirs; chmod 1777 sticky; ln -s "$PWD" sticky/leads
             chown -h 65534 sticky/leads""")
         self.untrusted("empty", "empty: belongs to user 65534")
@@ -391,29 +386,6 @@ class Snapshots(Check):
             make(self.name("fake/user.txt"), text=rows[: len(user)].encode())
             remove(self.name("own/new"))
             self.took(status, "own/new masks", start=["setpriv", "--reuid=65534", "--regid=7", "--clear-groups"])
-
-    def check_exchange(self, _seed: int) -> None:
-        """Another user exchanges the folder in which the snapshot is made for one with a link to a file of root: it is
-        never made there."""
-        prey = make(self.name("prey/"), 0o755, NOBODY)
-        make(prey + b"/secret", 0o600, text=b"secret")
-        before = state_of(prey + b"/secret")
-        self.slow(0.3)
-
-        def exchange_for_ever() -> None:
-            while True:
-                for name in [prey + b"/" + it for it in os.listdir(prey) if it.startswith(b"before.")]:
-                    os.rename(name, prey + b"/away")
-                    os.makedirs(name + b"/made")
-                    os.symlink(prey + b"/secret", name + b"/made/group")
-                time.sleep(0.01)
-
-        number = child(NOBODY, exchange_for_ever)
-        self.took(2, "prey/before masks")
-        os.kill(number, signal.SIGKILL)
-        os.waitpid(number, 0)
-        expect(state_of(prey + b"/secret") == before, "a file of root is overwritten, or has another list")
-        expect(os.listdir(prey) == [b"secret"], f"written in a folder of another user: {os.listdir(prey)}")
 
 
 if __name__ == "__main__":
