@@ -428,9 +428,9 @@ class Check:
         expect(tree.listing() == tree.first, "not as before" + when)
         self.forget()
 
-    def do(self, tree: Tree, *options: bytes, user: int = 0) -> None:
+    def do(self, tree: Tree, *options: bytes) -> None:
         """Applies the plan."""
-        must(self.apply(*options, user=user), 0)
+        must(self.apply(*options), 0)
         self.check_tree(tree, self.expected(), f"applied, {options}")
 
     def undo(self, tree: Tree, *statuses: int, user: int = 0) -> None:
