@@ -1,26 +1,8 @@
 #!/usr/bin/env python3
 """Other users and other commands at work beside facl-apply, facl-plan, by_hand and by_hand_undo, as root on a real file
-system.
+system. One user without rights, MALLORY, meddles.
 
-It makes a folder of its own, and removes it; it needs the packages acl and strace. Its parts, each with a number of
-tries:
-
-- races: a user without rights (MALLORY) owns a folder in which the files of a plan are, and some of these. At a call of
-  facl-apply, which strace stops there, the user exchanges (renameat2) a file or its folder with a symbolic link to one
-  of root, or with a private one of root or of another user that is in the same folder, or changes its own files; in
-  every other race all is exchanged back at a later call. Each call of an apply, of one whose last list fails, and of an
-  undo has its turn. free: the user exchanges as fast as it can during a whole run.
-- watched: files that get another owner, group, list and flags one after the other, with some milliseconds between two
-  calls; three other users ask the kernel all the time what it grants them.
-- trusted: plans and snapshots that others can write, or that are reached by a link of theirs.
-- locks: facl-apply and facl-plan at once on one plan; each of them while the other one is stopped in the middle.
-- by_hand: MALLORY owns the folder in which by_hand removes a file and a directory and makes a tree and a file. It
-  exchanges, links and renames there all the time, or once, at a random moment: the folder, what goes, the closed
-  folders, what is made, with symbolic links to a folder of root, and with files and directories of root in its own
-  folder. In two of three races each call of the script that looks at or changes a file is delayed, so that each step is
-  hit; in two of five only by_hand_undo is raced; in half what is made inherits a list. Then the files of root are as
-  they were: names, kinds, owners, modes, lists, contents, inodes, times of change where nobody else may change them;
-  and MALLORY could enter no closed folder.
+It makes a folder of its own, and removes it; it needs the packages acl and strace. --help prints its parts.
 
 The exit status is 1 where something is not as it has to be, 2 where the words are others, a tool is not installed or it
 is not run as root.
@@ -28,8 +10,8 @@ is not run as root.
 from __future__ import annotations
 
 import contextlib
-import json
 import os
+import pickle
 import random
 import signal
 import stat
@@ -41,16 +23,13 @@ from typing import Callable, Dict, List, NamedTuple, Optional, Set
 
 sys.dont_write_bytecode = True
 sys.path.insert(0, os.path.join(os.path.dirname(os.path.realpath(__file__)), "..", "lib"))
+import script  # noqa: E402
 from live_tree import (  # noqa: E402
-    CHANGING, LIBRARY, MALLORY, UIDS, Call, Check, Done, Held, Parts, State, Table, Traced, Tree, child, copy, exchange,
-    expect, main, make, make_tree, must, remove, run, state_of, trace, word,
+    CHANGING, LIBRARY, MALLORY, UIDS, UNDO, Call, Check, Done, State, Table, Traced, Tree, child, copy, exchange,
+    expect, held, main, make, make_tree, must, remove, run, state_of, states_of, trace, word,
 )
 
-PARTS: Parts = {
-    "races": (520, 12), "free": (45, 9), "watched": (20, 1), "trusted": (1, 1), "locks": (20, 1), "by_hand": (320, 6),
-}
 BEN, MARA, GUEST = UIDS[1:]
-UNDO = b"--undo"
 PR_SET_DUMPABLE = 4
 STEPS = ["the folder", "the file", "the directory", "closed folders", "targets", "all"]
 ENTERED = 77  # The status of a process of MALLORY that could enter a closed folder.
@@ -83,15 +62,12 @@ PLANNED = ["open/a", "open/d", "open/d/f", "open/z"]
 # What MALLORY exchanges; the last one is a change of its own files.
 EXCHANGES = [("a", "link_a"), ("d", "link_d"), ("a", "private"), ("a", "other"), ("d", "root_folder"), ("z", "private"),
              ("d/f", "private"), ("d", "empty"), ("a", "alike"), ("", "")]
-TAMPER = {"owner": b'chown 70001 "$0"', "all": b'chmod 777 "$0"', "group": b'chgrp 70100 "$0"; chmod 770 "$0"',
-          "list": b'setfacl -m u:70001:rwx "$0"', "link": b'mv "$0" "$0.old"; ln -s "$0.old" "$0"',
-          "fifo": b'mv "$0" "$0.old"; mkfifo -m 600 "$0"'}
+TAMPER = {"owner": b'chown 70001 "$0"', "group": b'chgrp 70100 "$0"; chmod 770 "$0"',
+          "list": b'setfacl -m u:70001:rwx "$0"', "fifo": b'mv "$0" "$0.old"; mkfifo -m 600 "$0"'}
 # What somebody else changes of a plan and of a snapshot; and folders of a plan, with the status of facl-apply.
-TAMPERED = [("before.plan" + name, how) for name, how in (
-    ("", "owner"), ("", "all"), ("", "group"), ("", "list"), ("/files", "owner"), ("/files", "all"), ("/files", "list"),
-    ("/plan", "owner"), ("/files", "link"), ("/files", "fifo"))]
-TAMPERED += [("before" + name, how) for name, how in (
-    ("", "owner"), ("", "all"), ("/dump", "owner"), ("/dump", "all"), ("/links", "owner"), ("/passwd", "all"))]
+TAMPERED = [("before.plan", "owner"), ("before.plan", "group"), ("before.plan", "list"), ("before.plan/files", "owner"),
+            ("before.plan/files", "list"), ("before.plan/files", "fifo"), ("before.plan/plan", "owner"),
+            ("before/links", "owner")]
 FOLDERS = [(MALLORY, 0o755, 2), (0, 0o775, 2), (0, 0o777, 2), (MALLORY, 0o1777, 2), (0, 0o1777, 0)]
 # The folder of MALLORY for by_hand, with files of root in it, and a folder of root.
 HAND: Table = {
@@ -116,7 +92,8 @@ class Race(NamedTuple):
 class Others(Check):
     """What other processes do meanwhile."""
 
-    tools = ["getfacl", "setfacl", "strace", "dash", "bash"]
+    tools = [*Check.tools, "dash", "bash"]
+    parts = {"races": 520, "free": 45, "watched": 20, "trusted": 1, "locks": 20, "by_hand": 320}
 
     # --- races
 
@@ -128,14 +105,14 @@ class Others(Check):
         top = os.path.join(self.race, b"open")
         expect(self.planned(Tree.of(top), RECORDS % {b"o": top}), "no plan of the races")
         kept = [name for name in RACE if RACE[name][0] != BEN and name.rstrip("/") not in [*PLANNED, "open"]]
-        self.others = Held([os.path.join(self.race, it.rstrip("/").encode()) for it in kept])
-        self.files = Held([os.path.join(self.race, it.encode()) for it in PLANNED])
-        self.kept, self.old = self.others.states(), self.files.states()
-        self.listed = must(run([b"getfacl", b"-n", b"-p", *self.files.open]), 0)
+        self.others = held([os.path.join(self.race, it.rstrip("/").encode()) for it in kept])
+        self.files = held([os.path.join(self.race, it.encode()) for it in PLANNED])
+        self.kept, self.old = states_of(self.others), states_of(self.files)
+        self.listed = must(run([b"getfacl", b"-n", b"-p", *self.files]), 0)
         must(self.apply(), 0)
-        self.new = self.files.states()
+        self.new = states_of(self.files)
         must(self.apply(UNDO), 0)
-        is_back = self.files.states() == self.old and self.kept == self.others.states() and self.old != self.new
+        is_back = states_of(self.files) == self.old and self.kept == states_of(self.others) and self.old != self.new
         expect(is_back, "the plan of the races does not go there and back")
         self.forget()
 
@@ -178,13 +155,14 @@ class Others(Check):
         return (found * (1 + number // len(found)))[:number]
 
     def check_races(self, seed: int) -> None:
-        """All races are of one plan; the first seed starts it."""
+        """MALLORY owns the folder of a plan's files, and some of these. At a call of facl-apply, which strace stops
+        there, it exchanges a file or the folder with a link to one of root or with another's private file there, or
+        changes its own files; in every other race all is exchanged back at a later call. Each call of an apply, of one
+        whose last list fails, and of an undo has its turn."""
         if seed % 100000 == 0:
             self.race_tree()
-            self.races = self.all_races(self.given.races, seed)
-        self.one_race(self.races[seed % 100000])
-
-    def one_race(self, race: Race) -> None:
+            self.races = self.all_races(self.given.tries["races"], seed)
+        race = self.races[seed % 100000]
         reached = []
 
         def act(stop: int) -> None:
@@ -212,28 +190,25 @@ class Others(Check):
         """After a race: nothing of others is changed, what was said is so, and --undo brings back all."""
         self.check_kept(race)
         self.check_answer(race, done)
-        inodes = {name: os.fstat(descriptor).st_ino for name, descriptor in self.files.open.items()}
-        if race.one and os.lstat(self.of(race.one)).st_ino != inodes[self.of(race.one)]:
-            exchange(self.of(race.one), self.of(race.other))
         if race.one:
+            if os.lstat(self.of(race.one)).st_ino != os.fstat(self.files[self.of(race.one)]).st_ino:
+                exchange(self.of(race.one), self.of(race.other))
             must(self.apply(UNDO), 0, 3)
-            now = self.files.states()
-            expect(now == self.old, f"{race}: --undo did not bring back all: {now}")
-            self.check_kept(race)
         else:
             must(run([b"setfacl", b"--restore=-"], self.listed), 0)
-            now = self.files.states()
-            expect(now == self.old, f"{race}: the files of MALLORY are not as they were: {now}")
+        now = states_of(self.files)
+        expect(now == self.old, f"{race}: the files are not as they were: {now}")
+        self.check_kept(race)
         self.forget()
 
     def check_kept(self, race: Race) -> None:
-        now = self.others.states()
+        now = states_of(self.others)
         expect(now == self.kept, f"{race}: a file of root or of another user is changed: {now} and not {self.kept}")
 
     def check_answer(self, race: Race, done: Traced) -> None:
         """What facl-apply says of the files that were compared is so."""
         before, after = (self.new, self.old) if race.mode == "undo" else (self.old, self.new)
-        now = self.files.states()
+        now = states_of(self.files)
         what = f"{race}: status {done.status}: {done.said!r}: {now}"
         if not race.one:  # The owner may have made them anything, but not after another user has them.
             is_so = done.status != 0 or race.mode != "apply" or now[self.of("d/f")] == after[self.of("d/f")]
@@ -244,7 +219,7 @@ class Others(Check):
         expect(now == wanted if wanted else done.status == 4 and not unsaid, what)
 
     def check_free(self, seed: int) -> None:
-        """MALLORY exchanges as fast as it can during a run."""
+        """MALLORY exchanges as fast as it can during a whole run."""
         if seed % 100000 == 0:
             self.race_tree()
         one, other = EXCHANGES[seed % (len(EXCHANGES) - 1)]
@@ -265,7 +240,8 @@ class Others(Check):
         self.count(f"runs of {mode} with exchanges all the time, status {done.returncode}")
 
     def check_watched(self, seed: int) -> None:
-        """Ten files and three directories change; nobody gets what neither record grants."""
+        """Files get another owner, group, list and flags, with some milliseconds between the calls, while three users
+        ask the kernel: nobody gets what neither record grants."""
         top = self.name("watched")
         make_tree(top, {name: (0, 0o755) for name in [*"0123456789", "d/", "e/", "f/"]})
         tree = Tree.of(top)
@@ -274,10 +250,11 @@ class Others(Check):
         for place in tree.files:
             tree.look(place)
         if self.planned(tree, b"".join(tree.record(place) for place in tree.files)):
-            held = Held(tree.files)
-            self.watch(list(held.open.values()))
-            self.watch(list(held.open.values()), UNDO)
-            held.close()
+            descriptors = list(held(tree.files).values())
+            self.watch(descriptors)
+            self.watch(descriptors, UNDO)
+            for each in descriptors:
+                os.close(each)
 
     def watch(self, descriptors: List[int], *options: bytes) -> None:
         """One way, with each moment seen some times."""
@@ -297,18 +274,20 @@ class Others(Check):
                 name = os.readlink(b"/proc/self/fd/%d" % descriptor)
                 expect(seen <= first | last, f"user {user} saw {seen - first - last} of {name!r}; {first}, {last}")
         self.count("moments in which somebody looked", sum(watcher.rounds for watcher in watchers))
-        self.count("changes of files that were watched", len(descriptors))
 
     def check_trusted(self, seed: int) -> None:
+        """Plans and snapshots that others can write, or that are reached by a link of theirs."""
         tree = Tree(self.work, seed)
         expect(self.planned(tree, tree.record(tree.top)), "no plan")
-        first = tree.listing()
         for name, how in TAMPERED:
-            self.tampered(tree, first, name, how)
-        self.tampered_ways(tree, first)
+            self.tampered(name, how)
+            self.expect_back(tree)
+        for owner, mode, status in FOLDERS:
+            self.tampered_way(owner, mode, status)
+            self.expect_back(tree)
         self.name_wanted()
 
-    def tampered(self, tree: Tree, first: bytes, name: str, how: str) -> None:
+    def tampered(self, name: str, how: str) -> None:
         """A plan, or a snapshot, that somebody else can have written: nothing is touched."""
         is_plan = name.startswith("before.plan")
         folder, kept = self.plan if is_plan else self.name("before"), self.name("kept")
@@ -316,31 +295,24 @@ class Others(Check):
         must(run([b"sh", b"-ec", TAMPER[how], self.name(name)]), 0)
         if is_plan:
             done = self.apply()
-            is_said = b"not trusted" in done.stderr or b"symbolic links" in done.stderr
-            expect(done.returncode == 2 and is_said, f"{name}, {how}: {done}")
+            expect(done.returncode == 2 and b"not trusted" in done.stderr, f"{name}, {how}: {done}")
         done = self.command(b"facl-plan", self.name("before"), self.name("edits"))
         is_refused = done.returncode == 2 or is_plan and (name != "before.plan" or done.returncode != 0)
         expect(is_refused, f"{name}, {how}: facl-plan took it: {done}")
         self.remove_plans() if is_plan else remove(folder)
         os.rename(kept, folder)
-        self.back_to(tree, first)
-        self.count("plans and snapshots that others could write")
 
-    def tampered_ways(self, tree: Tree, first: bytes) -> None:
+    def tampered_way(self, owner: int, mode: int, status: int) -> None:
         """A plan of root in a folder of another user, or reached by a link of one; a sticky folder of root will do."""
-        folder = self.name("folder")
+        folder = make(self.name("folder/"), mode, owner, 70100)
         plan, link = os.path.join(folder, b"plan"), os.path.join(folder, b"link")
-        for owner, mode, status in FOLDERS:
-            make(folder + b"/", mode, owner, 70100)
-            copy(self.plan, plan)
-            must(self.command(b"facl-apply", plan), status)
-            must(self.command(b"facl-apply", UNDO, plan), status)
-            os.symlink(self.plan, link)
-            os.lchown(link, MALLORY, -1)
-            must(self.command(b"facl-apply", link), 2)
-            remove(folder)
-            self.back_to(tree, first)
-            self.count("plans in folders of others", 2)
+        copy(self.plan, plan)
+        must(self.command(b"facl-apply", plan), status)
+        must(self.command(b"facl-apply", UNDO, plan), status)
+        os.symlink(self.plan, link)
+        os.lchown(link, MALLORY, -1)
+        must(self.command(b"facl-apply", link), 2)
+        remove(folder)
 
     def name_wanted(self) -> None:
         """In a sticky folder another user waits for the name of a plan to be free while facl-plan replaces it."""
@@ -358,7 +330,6 @@ class Others(Check):
             expect(is_kept, f"a name that is wanted: {done}: {os.listdir(folder)}")
             must(self.command(b"facl-apply", plan), 0)
             must(self.command(b"facl-apply", UNDO, plan), 0)
-            self.count("plans whose name is wanted")
         remove(folder)
 
     def words_of(self, name: bytes) -> List[bytes]:
@@ -366,8 +337,8 @@ class Others(Check):
         return self.words(name, *words)
 
     def check_locks(self, seed: int) -> None:
+        """facl-apply and facl-plan at once on one plan; each of them while the other one is stopped in the middle."""
         tree = Tree(self.work, seed)
-        first = tree.listing()
         if not self.planned(tree, tree.record(tree.chance.choice(tree.all()))):
             return
         names = [b"facl-apply"] * 4 + [b"facl-plan"] * 2
@@ -384,12 +355,11 @@ class Others(Check):
         expect(is_clear and is_left, f"at once: {plans} are left, with a state {with_state}: {ended}")
         for plan in with_state:
             must(self.command(b"facl-apply", UNDO, plan), 0)
-        expect(tree.listing() == first, f"at once: not undone: {ended}")
-        self.count("rounds of six commands at once")
+        expect(tree.listing() == tree.first, f"at once: not undone: {ended}")
         self.count("rounds of six commands at once of which none applied the plan", 1 - len(applied))
-        self.stopped(tree, first)
+        self.stopped(tree)
 
-    def stopped(self, tree: Tree, first: bytes) -> None:
+    def stopped(self, tree: Tree) -> None:
         """Each command while the other one is in the middle."""
         self.planned(tree, self.read("edits"))
         found: List[Done] = []
@@ -402,12 +372,14 @@ class Others(Check):
             is_locked = all(it.returncode == 2 and b"is at work on it" in it.stderr for it in found)
             expect(done.status == 0 and found != [] and is_locked, f"{name!r} is at work: {done}: {found}")
             self.count(f"commands while {name.decode()} is in the middle", len(found))
-            must(self.apply(UNDO), 0, 3)
-            self.back_to(tree, first)
+            self.undo(tree, 0, 3)
             found.clear()
 
     def check_by_hand(self, seed: int) -> None:
-        """One race of by_hand and by_hand_undo, by one of two shells."""
+        """MALLORY owns the folder in which by_hand, or by_hand_undo alone, removes and makes files. It exchanges, links
+        and renames there all the time, or once: the folder, what goes, the closed folders, what is made, with links to
+        a folder of root, and with files of root in its own. In two of three races each call of the script is delayed,
+        so that each step is hit. Then the files of root are as they were, and MALLORY could enter no closed folder."""
         chance = random.Random(seed)
         what, shell = STEPS[seed % len(STEPS)], (b"dash", b"bash")[seed // len(STEPS) % 2]
         self.hand, folder = self.name("hand"), self.name("hand/mine/d")
@@ -424,7 +396,6 @@ class Others(Check):
             del scripts[0]
         for script in scripts:
             self.race_script(before, what, [shell, os.path.join(self.plan, script.encode())], chance)
-        self.count("races of by_hand and by_hand_undo")
 
     def plan_by_hand(self, folder: bytes, with_identities: bool) -> None:
         """Plans to remove bait and empty, and to make new, new/f and newfile. Without identities in the snapshot a file
@@ -526,14 +497,11 @@ def step(hand: bytes, what: str, chance: random.Random) -> None:
 def attack_for_a_while(hand: bytes, what: str, chance: random.Random) -> None:
     """What MALLORY's process does: a step once, at a random moment, and back; or all the time."""
     is_once = chance.random() < 0.3
-    until = time.monotonic() + 20
     time.sleep(chance.random() * 0.8 if is_once else 0)
-    while time.monotonic() < until:
+    for _ in range(1 if is_once else 20_000):
         with contextlib.suppress(OSError):
             step(hand, what, chance)
         time.sleep(chance.choice([0.001, 0.01, 0.1] if is_once else [0, 0.0002, 0.001, 0.005]))
-        if is_once:
-            break
     with contextlib.suppress(OSError):
         step(hand, what, chance)
 
@@ -543,7 +511,7 @@ class Watcher:
     access(2), and the whole status where a plain file runs as somebody else."""
 
     def __init__(self, user: int, descriptors: List[int], stop: bytes = b"") -> None:
-        self.rounds, self.file = 0, tempfile.TemporaryFile("w+")
+        self.rounds, self.file = 0, tempfile.TemporaryFile()
         self.number = child(user, lambda: self.look(descriptors, stop))
 
     def look(self, descriptors: List[int], stop: bytes) -> None:
@@ -551,26 +519,23 @@ class Watcher:
         found: List[Set[str]] = [set() for _ in descriptors]
         while not self.rounds or stop and not os.path.exists(stop):
             for descriptor, seen in zip(descriptors, found):
-                look_at(descriptor, seen)
+                name = b"/proc/self/fd/%d" % descriptor
+                seen.update("may %d" % request for request in range(1, 8) if os.access(name, request))
+                look = os.stat(name)
+                if stat.S_ISREG(look.st_mode) and look.st_mode & 0o6000:
+                    seen.add("runs as %d %d %o" % (look.st_uid, look.st_gid, look.st_mode))
             self.rounds += 1
-        json.dump([self.rounds, [sorted(seen) for seen in found]], self.file)
+        pickle.dump((self.rounds, found), self.file)
         self.file.flush()
 
     def end(self) -> List[Set[str]]:
         os.waitpid(self.number, 0)
         with self.file:
             self.file.seek(0)
-            self.rounds, found = json.load(self.file)
-        return [set(seen) for seen in found]
-
-
-def look_at(descriptor: int, seen: Set[str]) -> None:
-    name = b"/proc/self/fd/%d" % descriptor
-    seen.update("may %d" % request for request in range(1, 8) if os.access(name, request))
-    look = os.stat(name)
-    if stat.S_ISREG(look.st_mode) and look.st_mode & 0o6000:
-        seen.add("runs as %d %d %o" % (look.st_uid, look.st_gid, look.st_mode))
+            found: List[Set[str]]
+            self.rounds, found = pickle.load(self.file)
+        return found
 
 
 if __name__ == "__main__":
-    main(Others, PARTS, __doc__)
+    script.run(lambda: main(Others, __doc__))

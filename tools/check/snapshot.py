@@ -1,11 +1,9 @@
 #!/usr/bin/env python3
-"""Takes snapshots by commands/facl-snapshot, and compares what it writes, warns of and leaves, and what the program
-answers of them, with what has to be.
+"""Takes snapshots by commands/facl-snapshot as root, and compares what it writes, warns of and leaves, and what the
+program answers of them, with what has to be. commands/tests/test_snapshot.py tries what needs no root and no lists.
 
-It makes its files in a folder of its own, and asks about the user nobody. Without root it leaves out the parts that
-make mounts and files of others, and says so. Each part is tried once, but for kills (eight signals at a random moment,
-to the command or to all that it runs) and exchange. The exit status is 1 where something is not as it has to be, 2
-where the words are others or a tool is not installed.
+It makes its files in a folder of its own, and asks about the user nobody. --help prints its parts. The exit status is 1
+where something is not as it has to be, 2 where the words are others, a tool is not installed or it is not run as root.
 """
 from __future__ import annotations
 
@@ -16,46 +14,42 @@ import shutil
 import signal
 import sys
 import time
-from typing import Dict, List, Sequence
+from typing import Dict, List, Sequence, Union
 
 sys.dont_write_bytecode = True
 sys.path.insert(0, os.path.join(os.path.dirname(os.path.realpath(__file__)), "..", "lib"))
+import script  # noqa: E402
 from live_tree import (  # noqa: E402
-    COMMANDS, Check, Parts, State, child, expect, main, make, mounted, must, records_of, remove, run,
-    state_of,
+    COMMANDS, Check, State, expect, main, make, mounted, must, records_of, remove, run, state_of,
 )
 
-AS_ROOT = "trust private_groups exchange group unreadable without_lists file_systems full_disk".split()
-NAMES = "reach words targets replacing programs names links warnings rows kills chain streams packages".split()
-NAMES += ["large_dump", *AS_ROOT]
-PARTS: Parts = {**{name: (1, 1) for name in NAMES}, "kills": (15, 2), "exchange": (5, 1)}
+NAMES = ("words targets replacing names links warnings rows kills chain streams packages trust private_groups "
+         "unreadable without_lists file_systems full_disk").split()
 SNAPSHOT = os.fsdecode(os.path.join(COMMANDS, b"facl-snapshot"))
 NOBODY = 65534
 SIGNALS = [getattr(signal, "SIG" + name) for name in "HUP INT QUIT USR1 USR2 ALRM TERM KILL".split()]
 ODD = ["a\nb", "c\rd", "e\\f", "g\\012h", "i'j", 'k"l', "-x", " m ", "n\to", "p\udce9q", "*", "# file: x", "$x", "s\n",
        "t\n/u", "-d/", "sub /", "t\n/"]
-UNWRITTEN = [">&-", ">&- 2>&-", "<&- >&- 2>&-", ">/dev/full", ">/dev/full 2>/dev/full", "| true", "2>&1 | true"]
-WRITTEN = ["<&-", "2>&-", "2>/dev/full", "2>&1 >/dev/null | true"]
+STREAMS = {">&- 2>&-": 5, "<&- >&- 2>&-": 5, ">/dev/full": 5, "| true": 5, "<&-": 0, "2>/dev/full": 0,
+           "2>&1 >/dev/null | true": 0}
 SIZES = (8, 24, 48, 100, 200, 350, 500, 700, 900, 1100, 1300, 1500, 1700, 1900, 2200, 2500)
 
 
 class Snapshots(Check):
-    """Each part has a clean folder, with the folders closed, masks and odd in it."""
+    """Each part has a clean folder, in which it runs, with the folders closed, masks and odd in it."""
 
-    tools = ["getfacl", "setfacl", "getent", "setpriv", "prlimit", "dash", "bash"]
-    without_root = [part for part in NAMES if part not in AS_ROOT]
+    tools = ["getfacl", "setfacl", "getent", "setpriv", "dash", "bash"]
+    parts = {**dict.fromkeys(NAMES, 1), "kills": 15}
 
     def variables(self) -> Dict[str, str]:
-        return {"PATH": ":".join([*self.ahead, os.fsdecode(self.bin), os.environ["PATH"]])}
+        return {"PATH": ":".join([*self.ahead, os.environ["PATH"]]), "FACL": self.given.program}
 
     def begin(self) -> None:
-        os.environ.pop("FACL", None)
         for left in os.listdir(self.work):
             remove(self.name(left))
         self.ahead: List[str] = []  # What comes first on the path.
         real = shutil.which("getent")  # It is asked after one that lists a person, whoever else is there.
         self.tool("bin/getent", f'[ "$*" != passwd ] || echo ina:x:70001:0::/:/bin/sh\nexec "{real}" "$@"')
-        self.ahead.clear()
         self.make("closed/share/team/empty/", "closed/share/note", *["odd/" + name for name in ODD])
         self.make(*["masks/" + name for name in ("open", "shut", "cut", "plain")])
         self.shell("""chmod 700 closed; chmod 604 masks/plain
@@ -75,38 +69,29 @@ class Snapshots(Check):
 
     def shell(self, text: str) -> None:
         """Runs commands of sh in the work folder."""
-        must(run([b"sh", b"-euc", b'cd "$0"\n' + os.fsencode(text), self.work]), 0)
+        must(run([b"sh", b"-euc", os.fsencode(text)], folder=self.work), 0)
 
-    def tool(self, name: str, text: str) -> str:
+    def tool(self, name: str, text: str) -> None:
         """A program of sh; its folder comes first on the path."""
         self.make(name)
         make(self.name(name), 0o755, text=f"#!/bin/sh\n{text}\n".encode())
         self.ahead.insert(0, os.path.dirname(self.text(name)))
-        return self.text(name)
 
-    def took(self, status: int, text: str, *said: str, no: Sequence[str] = (), out: Sequence[str] = (),
+    def took(self, status: int, words: Union[str, List[str]], *said: str, out: Sequence[str] = (),
              has: Sequence[str] = (), lacks: Sequence[str] = (), user: int = 0, start: Sequence[str] = (),
-             **variables: str) -> None:
-        """Takes a snapshot with the words of a text. It ends with this status; messages have what is said, not what is
-        in no; standard output has out, and its dump records the names of has, but not those of lacks."""
-        words = [os.fsencode(it) for it in [*start, SNAPSHOT, *map(self.word, text.split(" ") if text else [])]]
-        self.done = done = run(words, user=user, variables={**self.variables(), **variables})
+             folder: str = "", **variables: str) -> None:
+        """Takes a snapshot with these words. It ends with this status; messages have what is said, standard output has
+        out, and the dump of `before` records the names of has, but not those of lacks."""
+        words = words if isinstance(words, list) else words.split()
+        self.done = done = run([os.fsencode(it) for it in [*start, SNAPSHOT, *words]], user=user,
+                               variables={**self.variables(), **variables}, folder=self.name(folder))
         self.count("snapshots")
         expect(done.returncode == status, f"status {done.returncode} in place of {status}: {done}")
         wrong = [it for it in said if os.fsencode(it) not in done.stderr]
-        wrong += [it for it in no if os.fsencode(it) in done.stderr]
         wrong += [it for it in out if os.fsencode(it) not in done.stdout]
-        expect(not wrong, f"not said, or said though it should not be: {wrong}: {done}")
         there = set(self.lines("dump")) if has or lacks else set()
-        wrong = [it for it in has if self.shown(it) not in there] + [it for it in lacks if self.shown(it) in there]
-        expect(not wrong, f"not recorded, or recorded though they should not be: {wrong}: {done}")
-
-    def word(self, text: str) -> str:
-        """An option, FACL for the program, what comes after an =, or a name in the work folder; a ~ is a space."""
-        if text[:1] in "-/":
-            return text
-        text = text.replace("~", " ")
-        return os.fsdecode(self.program) if text == "FACL" else text[1:] if text[:1] == "=" else self.text(text)
+        wrong += [it for it in has if self.shown(it) not in there] + [it for it in lacks if self.shown(it) in there]
+        expect(not wrong, f"lacking, or there though they should not be: {wrong}: {done}")
 
     def shown(self, name: str) -> bytes:
         for one, other in (("\\", "\\\\"), ("\n", "\\012"), ("\r", "\\015")):
@@ -120,66 +105,48 @@ class Snapshots(Check):
         left = must(run([b"find", self.work, b"-name", b"*.??????"]), 0)
         expect(not left, f"left behind: {left!r}")
 
-    def ask(self, script: str) -> bytes:
+    def ask(self, text: str) -> bytes:
         """What the program answers over the snapshot."""
         words = [it for name in ("passwd", "group", "dump") for it in ("--" + name, self.text("before/" + name))]
-        return must(run([self.program, *map(os.fsencode, words)], os.fsencode(script)), 0)
+        return must(run([self.program, *map(os.fsencode, words)], os.fsencode(text)), 0)
 
     def contents(self, folder: str) -> Dict[str, State]:
         return {name: state_of(self.name(f"{folder}/{name}")) for name in sorted(os.listdir(self.text(folder)))}
 
-    def check_reach(self, _seed: int) -> None:
-        """A folder below a directory of mode 700, and FOLDERs that overlap."""
-        note = self.text("closed/share/note")
-        for mode, wanted in ((0o700, b"r--\nnone\n"), (0o711, b"r--\nr--\n")):
-            os.chmod(self.name("closed"), mode)
-            self.took(0, "--program FACL before closed/share/team closed/share closed/share/", out=["users, "],
-                      has=["closed/share/team/empty/", "closed/share/", "closed/", "", "/"])
-            answers = self.ask(f"can nobody {note}\ncan --reach nobody {note}\n")
-            expect(answers == wanted, f"not the answers that were wanted: {answers!r}")
-        files = [it for it in self.lines("dump") if it.startswith(b"# file: ")]
-        expect(len(files) == len(set(files)), "a name comes twice")
-
     def check_words(self, _seed: int) -> None:
+        """Words that are none of its own."""
         self.took(0, "--help", out=["usage: facl-snapshot "])
         usage = b"".join(self.done.stdout.splitlines(True)[:2])
         for words in ("", "other", "--group", "--exclude", "--exclude / odd other", "--frob odd other", "--program",
                       "--program odd"):
             self.took(2, words)
             expect(self.done.stderr == usage, f"usage: {words}: {self.done}")
-        self.took(2, "--program absent other closed", f"facl-snapshot: {self.text('absent')}: no such program")
-        if shutil.which("shellcheck"):
-            must(run([b"shellcheck", os.fsencode(SNAPSHOT)]), 0)
+        self.took(2, "--program ./absent other closed", "./absent: no such program")
 
     def check_targets(self, _seed: int) -> None:
         """Where no snapshot is made, what was there is as it was."""
-        self.took(2, "other closed absent", "/absent: no such file")
+        self.took(2, "other closed absent", "absent: no such file")
         self.took(2, "absent/other closed")
         expect(not any(map(os.path.lexists, (self.name("other"), self.name("absent")))), "written, though it failed")
         self.shell("mkdir empty full; echo mine >mine; echo mine >full/mine; ln -s empty leads")
         os.symlink(self.program, self.name("program"))
         self.took(2, "mine closed")
-        self.took(2, "full closed", "/full: is there, and is no snapshot")
+        self.took(2, "full closed", "full: is there, and is no snapshot")
         expect(self.read("mine") + self.read("full/mine") == b"mine\nmine\n", "a file of mine is gone")
-        here = ["sh", "-c", 'cd "$0" && exec "$@"', self.text()]
-        for words in ("empty closed", "leads closed", "--program =./program -- =-dash =closed/share",
-                      "--program FACL -- a\udce9~b\n closed/share"):
-            self.took(0, words, start=here)
+        for words in ("empty closed", "leads closed", "--program ./program -- -dash closed/share"):
+            self.took(0, words)
+        self.took(0, ["--", "a\udce9 b\n", "closed/share"])
         expect(os.path.islink(self.name("leads")), "a link to a snapshot is replaced")
         made = [os.path.isfile(self.name(name + "/links")) for name in ("empty", "-dash", "a\udce9 b\n")]
         expect(all(made), f"no snapshot: {made}")
         self.nothing_left()
 
-    def refuses(self) -> str:
-        """A program that loads nothing, which is not on the path."""
-        place = self.tool("refuses/facl", 'echo "facl: setup: dump: text line 1: bad row" >&2\nexit 2')
-        self.ahead.pop(0)
-        return place
-
     def check_replacing(self, _seed: int) -> None:
-        """By another folder, with the same owner and list; not where the program does not load the new one."""
+        """By another folder, with the same owner and list; not where the program, by an option or on the path, does not
+        load the new one."""
         self.took(0, "before closed")
-        self.shell("chmod 750 before; setfacl -m u:nobody:rx before; setfacl -m u:nobody:r before/*")
+        self.shell("""chgrp daemon before before/*; chmod 750 before
+            setfacl -m u:nobody:rx before; setfacl -m u:nobody:r before/*""")
         looks = [state_of(self.name(it))[:4] for it in ("before", "before/dump")]
         old = os.stat(self.name("before")).st_ino
         self.took(0, "before closed/share/team", lacks=["closed/share/note"])
@@ -189,36 +156,27 @@ class Snapshots(Check):
             expect(now == looks, f"another owner or list: {now} and not {looks}")
         self.shell("rm before/links before/inodes before/meta")
         self.took(0, "before closed/share/team")
-        before, refuses = self.contents("before"), self.refuses()
-        self.took(2, f"--program {refuses} before closed", "does not load it: facl: setup: dump: text line 1: bad row")
-        expect(self.contents("before") == before, "a snapshot that does not load replaced one")
-        self.took(1, f"--program {refuses} refused closed")
+        self.took(0, "before closed", "whether facl loads it was not checked", FACL="")
+        before = self.contents("before")
+        self.tool("refuses/facl", 'echo "facl: setup: dump: text line 1: bad row" >&2\nexit 2')
+        for words, program in (("--program refuses/facl ", self.given.program), ("", "")):
+            self.took(2, words + "before closed", "not load it: facl: setup: dump: text line 1: bad row", FACL=program)
+            expect(self.contents("before") == before, "a snapshot that does not load replaced one")
+        self.took(1, "--program refuses/facl refused closed")
         expect(os.path.isfile(self.name("refused/dump")), "one that does not load is not there, where there was none")
         self.nothing_left()
 
-    def check_programs(self, _seed: int) -> None:
-        """The program by an option, a variable, on the path, or not at all."""
-        refuses = self.refuses()
-        self.took(0, "before closed", "whether facl loads it was not checked")
-        self.took(2, "before closed", FACL=refuses)
-        self.took(0, "--program FACL before closed", no=["not checked"], FACL=refuses)
-        self.ahead.insert(0, os.path.dirname(refuses))
-        self.took(2, "before closed")
-        self.took(0, "before closed", FACL=self.given.program)
-
     def check_names(self, _seed: int) -> None:
-        self.took(0, "--program FACL before odd odd/-d odd/t\n", has=["odd/" + it for it in ODD])
+        """Odd names, FOLDERs that look like options or are in others, and the directories above."""
+        self.took(0, ["before", "odd", "odd/-d", "odd/t\n"], has=["odd/" + it for it in ODD] + ["/"])
         inside = [it for it in self.lines("dump") if it.startswith(self.shown("odd/")) and it != self.shown("odd/")]
         expect(len(inside) == 18, f"{len(inside)} names in place of 18")
         listed = records_of(self.ask("getfacl -R .\n"))
         expect(len(listed) == len(records_of(self.read("before/dump"))), "the program lists other files")
-        here = ["sh", "-c", 'cd "$0" && exec "$@"', self.text("odd")]
-        self.took(0, "before =-d =-x =~m~", start=here, has=["odd/-d/", "odd/-x", "odd/ m "])
+        self.took(0, [self.text("before"), "-d", "-x", " m "], folder="odd", has=["odd/-d/", "odd/-x", "odd/ m "])
 
     def check_links(self, _seed: int) -> None:
-        """Sets of names, with escapes; files with links outside; no set where there is none; symbolic links."""
-        self.took(0, "before odd", no=["another name"])
-        expect(not self.read("before/links"), "links has names, though no file has two")
+        """Sets of names, with escapes; files with links outside; symbolic links."""
         odd = self.text("odd")
         self.shell("""cd odd; ln 'e\\f' 'a\nc'; ln 'e\\f' v; ln ./-x ./-d/x; ln "i'j" ../outside""")
         self.took(0, "before odd odd/-d", f"another name in the snapshot too (see links): 5, first: {odd}/-d/x",
@@ -234,55 +192,44 @@ class Snapshots(Check):
         expect(b"snapshot" not in self.read("odd/snapshot/dump"), "the snapshot has what the command makes meanwhile")
 
     def check_warnings(self, _seed: int) -> None:
-        """Lists with an empty mask; words of getfacl and find in the environment; names that a terminal would obey."""
+        """Lists with an empty mask; words of getfacl and find in the environment."""
         self.took(0, "before masks", "empty mask whose others have something, which Linux grants to named users and "
                   f"groups too, and facl does not: 1, first: {self.text('masks/open')}")
-        self.took(0, "--program FACL before odd", has=["odd/-x"], POSIXLY_CORRECT="1", TMPDIR="/nowhere", CDPATH="/",
+        self.took(0, "before odd", has=["odd/-x"], POSIXLY_CORRECT="1", TMPDIR="/nowhere", CDPATH="/",
                   QUOTING_STYLE="c", BLOCK_SIZE="1", _POSIX2_VERSION="199209")
-        name = "shown/e\033[31m\nfacl-snapshot: all is well\udcc2\udc9b\u202e\u00e9"
-        self.make(name)
-        os.link(self.name(name), self.name("shown/other"))
-        self.took(0, "before shown", "/shown/e\\033[31m\\012facl-snapshot: all is well\\302\\233\\342\\200\\256\u00e9")
 
-    def with_getent(self, passwd: str, group: str, script: str = 'cat "${0%/*}/$1.txt"') -> None:
+    def with_getent(self, passwd: str, group: str, text: str = 'cat "${0%/*}/$1.txt"') -> None:
         """A getent that prints these texts comes first on the path."""
-        self.tool("fake/getent", script)
+        self.tool("fake/getent", text)
         make(self.name("fake/passwd.txt"), text=passwd.encode())
         make(self.name("fake/group.txt"), text=group.encode())
 
     def check_rows(self, _seed: int) -> None:
+        """Users, groups and members without a row, and rows that are none."""
         returns = "with a carriage return, which facl takes for a part of a name: 1, first: "
-        self.with_getent(f"root:x:0:0::/:/bin/sh\nines:x:{os.getuid()}:0::/:/bin/sh\nmara:x:1:0::/:/bin/sh\r\n"
-                         "ina:x:70001:0::/:/bin/sh\n",
-                         f"root:x:0:\nown:x:{os.getgid()}:\nstaff:x:5:ines,dora,dora\nlab:x:6:emil\n")
+        self.with_getent("root:x:0:0::/:/bin/sh\nmara:x:1:0::/:/bin/sh\r\nina:x:70001:0::/:/bin/sh\n",
+                         "root:x:0:\nstaff:x:5:ines,dora,dora\nlab:x:6:emil\n")
         self.shell("cd masks; : >ids; setfacl -m u:4711:r,u:4714:r,g:4712:r,u:1:r,g:5:r ids; setfacl -m d:u:4713:r .")
-        self.took(1, "--program FACL before masks", "most users that the dump names have no row in passwd",
-                  "ids in the dump without a row in passwd or group: 5, first: user 4711",
-                  "members of groups without a row in passwd: 2, first: dora", f"rows of passwd {returns}mara",
-                  no=["rows of group", "passwd is empty"])
+        self.took(1, "before masks", "ids in the dump without a row in passwd or group: 5, first: user 4711",
+                  "members of groups without a row in passwd: 3, first: dora", f"rows of passwd {returns}mara")
+        wrong = [it for it in (b"rows of group", b"passwd is empty") if it in self.done.stderr]
+        expect(not wrong, f"said, though it is not so: {wrong}: {self.done}")
         self.with_getent("", "staff:x:0:ines\r\nlab:x:6:\n")
-        self.took(1, "--program FACL before masks", "there are no users but those of the system: name those of a "
-                  "directory service by --users FILE", "passwd is empty", f"rows of group {returns}staff",
-                  out=["0 users, 2 groups"])
+        self.took(1, "before masks", "passwd is empty", f"rows of group {returns}staff", out=["0 users, 2 groups"])
         self.with_getent("bad row\n", "")
-        self.took(1, "--program FACL bad masks", "does not load it: facl: setup: passwd: text line 1: bad row")
+        self.took(1, "bad masks", "does not load it: facl: setup: passwd: text line 1: bad row")
         self.with_getent("", "", "exit 3")
         self.took(2, "other masks", "getent passwd ended with status 3")
         self.nothing_left()
 
     def check_kills(self, seed: int) -> None:
-        """Signals at random moments, in every third try while getfacl is at work: the old snapshot or the new one is
+        """Eight signals at random moments, to the command or to all that it runs: the old snapshot or the new one is
         there, and nothing else."""
         self.took(0, "before closed masks")
         chance = random.Random(seed)
-        before, is_slow = self.contents("before"), seed % 3 == 2
-        if is_slow:
-            self.slow("getfacl", ":;", 1)
-        words = [os.fsencode(SNAPSHOT), b"--program", self.program, *map(self.name, ("before", "closed", "masks"))]
+        words = [os.fsencode(SNAPSHOT), *map(self.name, ("before", "closed", "masks"))]
         for number in SIGNALS:
-            remove(self.name("at_work"))
-            wait = self.wait_for_mark if is_slow else lambda: time.sleep(chance.uniform(0.01, 0.45))
-            done = self.ended_by(words, number, wait, chance.random() < 0.5)
+            done = self.ended_by(words, number, lambda: time.sleep(chance.uniform(0.01, 0.45)), chance.random() < 0.5)
             for left in [self.name(it) for it in os.listdir(self.work) if it.startswith(b"before.")]:
                 expect(number == signal.SIGKILL, f"left behind after {number}: {left!r}: {done}")
                 if not os.path.exists(self.name("before")):
@@ -290,43 +237,30 @@ class Snapshots(Check):
                 remove(left)
             self.ask("")
             expect(self.read("before/inodes") != b"", f"a snapshot without inodes after {number}")
-            status = -number if number == signal.SIGKILL else 128 + number
-            is_as_before = done.returncode == status and self.contents("before") == before
-            expect(is_as_before or not is_slow, f"ended while getfacl is at work: {done}")
             self.count("snapshots that get a signal at a random moment" + ", before their end" * (done.returncode != 0))
-
-    def slow(self, name: str, when: str, seconds: float) -> None:
-        """A tool that leaves a mark where it is called with some words, and is slow."""
-        self.mark = self.name("at_work")
-        real = self.text("bin/getent") if name == "getent" else shutil.which(name)
-        self.tool(f"slow/{name}", f'{when} : >"{self.text("at_work")}"\nsleep {seconds}\nexec "{real}" "$@"')
-
-    def wait_for_mark(self) -> None:
-        while not os.path.exists(self.mark):
-            time.sleep(0.05)
 
     def check_chain(self, _seed: int) -> None:
         """A long chain of directories, which sorts before a folder: that is recorded."""
         self.make(*[f"chain/z_payroll/{number}" for number in range(21)], "chain/a/", "chain/b/")
-        self.shell("""cd chain; down() { for i in $(seq $1); do mkdir $name && cd -P ./$name || exit 1; done; }
-            name=$(printf %250s | tr ' ' d); (cd b && down 300); (cd a && down 299 && mv "$0/chain/b" ./$name)""")
-        self.took(1, "--program FACL before chain", has=[f"chain/z_payroll/{number}" for number in range(21)])
+        self.shell("""here=$PWD; cd chain; name=$(printf %250s | tr ' ' d)
+            down() { for i in $(seq $1); do mkdir $name && cd -P ./$name || exit 1; done; }
+            (cd b && down 300); (cd a && down 299 && mv "$here/chain/b" ./$name)""")
+        self.took(1, "before chain", has=[f"chain/z_payroll/{number}" for number in range(21)])
         long = len([it for it in self.lines("dump") if it.startswith(self.shown("chain/a/d"))])
         said = f"more than 4,095 bytes, which are not recorded: {600 - long}, first: {self.text('chain')}/a/ddd"
         expect(said.encode() in self.done.stderr, f"{long} names of a chain: {self.done}")
 
     def check_streams(self, _seed: int) -> None:
         """By each shell, with its streams as the words have it, a snapshot is in place, and ends with this status."""
-        for words in UNWRITTEN + WRITTEN:
+        for words, wanted in STREAMS.items():
             for shell in ("dash", "bash"):
                 remove(self.name("before"))
-                inner = '{ status=0; "$@" || status=$?; echo $status >"$0"; } ' + words
-                start = ["sh", "-c", inner, self.text("status"), shell, SNAPSHOT, "--program", self.given.program]
-                run([*map(os.fsencode, start), self.name("before"), self.name("masks")], variables=self.variables())
+                inner = '{ status=0; "$@" || status=$?; echo $status >status; } ' + words
+                start = ["sh", "-c", inner, "sh", shell, SNAPSHOT, "before", "masks"]
+                run([*map(os.fsencode, start)], variables=self.variables(), folder=self.work)
                 status = int(self.read("status"))
-                expect(status == 5 * (words in UNWRITTEN), f"status {status}: {shell} {words}")
+                expect(status == wanted, f"status {status}: {shell} {words}")
                 expect(self.read("before/inodes") != b"", f"no snapshot: {shell} {words}")
-                self.count("snapshots with other streams")
 
     def check_packages(self, _seed: int) -> None:
         """Nothing but sh, getent and the programs of three packages is called."""
@@ -338,22 +272,6 @@ class Snapshots(Check):
             if os.path.dirname(file).endswith(b"/bin"):
                 os.symlink(file, self.name(b"only/" + os.path.basename(file)))
         self.took(0, "before odd masks", PATH=self.text("only"))
-
-    def many(self) -> None:
-        """2,000 files with lists, whose dump is large, and the other files of a snapshot small."""
-        self.make(*[f"many/a file with a long name {number}" for number in range(2000)])
-        self.shell("setfacl -m $(seq -f u:%g:r -s , 30) many/*")
-
-    def check_large_dump(self, _seed: int) -> None:
-        """A disk that takes every file but the dump. Most of the users in the lists have no row."""
-        self.many()
-        limit = 716800
-        limited = ["sh", "-c", f'trap "" XFSZ; exec prlimit --fsize={limit} "$0" "$@"']
-        self.took(2, "before many", "facl-snapshot: cannot write dump", start=limited)
-        self.took(1, "before many")
-        large = [it.name for it in os.scandir(self.text("before")) if it.stat().st_size > limit]
-        expect(large == ["dump"], f"larger than the limit: {large}")
-        self.nothing_left()
 
     def check_unreadable(self, _seed: int) -> None:
         """As nobody: files that cannot be read are counted; a directory that cannot be looked into is a directory."""
@@ -371,26 +289,29 @@ class Snapshots(Check):
         with mounted(self.name("mount"), b"-t", b"ramfs", b"-o", b"mode=755", b"none"):
             make(self.name("mount/file"), 0o640)
             must(run([b"setfacl", b"-m", b"u:nobody:r", self.name("mount/file")]), 1)
-            self.took(0, "--program FACL before mount")
+            self.took(0, "before mount")
             found = records_of(self.read("before/dump")).get(self.name("mount/file"), [])
             expect(b"group::r--" in found, f"not the mode of a file: {found}")
             self.took(0, "mount/before mount")
             self.took(0, "mount/before mount")
 
     def check_full_disk(self, _seed: int) -> None:
-        """A full disk, at each of several places: the snapshot is in place, or all is as before."""
-        self.many()
+        """A disk that is full at one of several places, in the dump too: the snapshot is in place, or all is as
+        before."""
+        self.make(*[f"many/a file with a long name {number}" for number in range(2000)])
+        self.shell("setfacl -m $(seq -f u:%g:r -s , 30) many/*")
         for size in SIZES:
             with mounted(self.name("mount"), b"-t", b"tmpfs", b"-o", b"size=%dk,mode=755" % size, b"none"):
                 self.make("mount/before/passwd", "mount/before/group", "mount/before/dump")
                 words = map(self.name, ("mount/before", "many"))
-                done = run([os.fsencode(SNAPSHOT), b"--program", self.program, *words], variables=self.variables())
+                done = run([os.fsencode(SNAPSHOT), *words], variables=self.variables())
                 expect(os.listdir(self.name("mount")) == [b"before"], f"left behind on a full disk: {done}")
                 records = records_of(self.read("mount/before/dump"))
                 is_so = {1: len(records) >= 2000, 2: not records and b"facl-snapshot: " in done.stderr}
                 expect(is_so.get(done.returncode, False), f"a disk of {size} KiB: {done}")
                 self.count("disks that were full" if done.returncode == 2 else "disks that took a snapshot")
-        expect(self.counts["disks that were full"] >= 8, "few disks were full")
+                self.count("disks without room for the dump", done.stderr.count(b"facl-snapshot: cannot write dump"))
+        expect(self.counts["disks without room for the dump"] >= 2, "few disks were full")
 
     def left_out(self, *names: str) -> List[str]:
         """What is said of other file systems that are left out."""
@@ -406,7 +327,7 @@ class Snapshots(Check):
                 mounts.enter_context(mounted(below + name, *words))
             self.make("systems/mount/below/")
             all_three = ("in/", "kernel/", "mount/")
-            self.took(0, "--program FACL before systems", out=self.left_out(*all_three), has=["systems/proc/"],
+            self.took(0, "before systems", out=self.left_out(*all_three), has=["systems/proc/"],
                       lacks=["systems/" + it for it in all_three])
             known = [it for it in self.lines("meta") if it.startswith(b"other-file-system ")]
             expect(known == [b"other-file-system %s%s" % (below, it.encode()) for it in all_three], f"meta has {known}")
@@ -415,7 +336,7 @@ class Snapshots(Check):
             self.took(0, "--cross-file-systems before systems", out=self.left_out("kernel/"),
                       has=["systems/in/below/", "systems/mount/below/"],
                       lacks=["systems/kernel/", "systems/kernel/kernel/"])
-            for place in ("/proc", "/proc/sys", "/sys/fs", self.text("systems/kernel/kernel")):
+            for place in ("/proc", "/proc/sys", "/sys/fs", "systems/kernel/kernel"):
                 self.took(2, "other " + place, f"facl-snapshot: {place}: is never recorded")
         with mounted(self.name("mount"), b"--bind", self.name("odd/-d")):
             self.took(0, "before mount odd/-d")
@@ -423,21 +344,21 @@ class Snapshots(Check):
 
     def untrusted(self, name: str, text: str) -> None:
         """No snapshot is made there, nothing is recorded for it, and the message says why."""
-        self.took(2, f"trust/{name} masks", f"{self.text('trust')}/{text}")
+        self.took(2, f"trust/{name} masks", f"trust/{text}")
         expect(not os.path.exists(self.mark), f"{name}: the groups were recorded")
 
     def check_trust(self, _seed: int) -> None:
         """Folders and files of another user, or that another one can write by a list or a group."""
         self.make("trust/empty/", "trust/theirs/mine/", "trust/sticky/")
         self.took(0, "trust/theirs/mine/snapshot masks")
-        self.slow("getent", '[ "$*" != group ] ||', 0)
+        self.mark, real = self.name("at_work"), self.text("bin/getent")
+        self.tool("mark/getent", f'[ "$*" != group ] || : >"{self.text("at_work")}"\nexec "{real}" "$@"')
         self.shell("""cd trust; chown 65534 empty theirs; chmod 1777 sticky; ln -s "$PWD" sticky/leads
             chown -h 65534 sticky/leads""")
         self.untrusted("empty", "empty: belongs to user 65534")
         for last in ("new", "mine/new", "mine/snapshot"):
             self.untrusted("theirs/" + last, "theirs: belongs to")
         self.untrusted("sticky/leads/new", "sticky/leads: belongs to user 65534")
-        self.untrusted("sticky", "sticky: everybody can write there")
         self.shell("cd trust/theirs; chown 0 .; chown 65534 mine/snapshot/links")
         has_other = "is there, and is no snapshot of yours, or has other files too: links"
         self.untrusted("theirs/mine/snapshot", f"theirs/mine/snapshot: {has_other}")
@@ -449,57 +370,23 @@ class Snapshots(Check):
         self.untrusted("theirs/mine/other", "theirs/mine: others than its owner can write there")
         self.shell("cd trust/theirs; setfacl -b mine; setfacl -d -m u:nobody:rwx,o::rwx mine")
         self.took(0, "trust/theirs/mine/third masks")
-        self.modes("trust/theirs/mine/third", 0o700, 0o600, 0)
-
-    def modes(self, folder: str, mode: int, inside: int, group: int) -> None:
-        """The mode and the group of a snapshot, and of its files."""
-        looks = [os.stat(self.name(folder)), *[os.stat(it.path) for it in os.scandir(self.name(folder))]]
-        found = [(it.st_mode & 0o7777, it.st_gid) for it in looks]
-        expect(found == [(mode, group)] + [(inside, group)] * 6, f"modes and groups of a snapshot: {found}")
+        third = self.text("trust/theirs/mine/third")
+        modes = {os.stat(place).st_mode & 0o7777 for place in (third, *(it.path for it in os.scandir(third)))}
+        expect(modes == {0o700, 0o600}, f"modes by a default list: {modes}")
 
     def check_private_groups(self, _seed: int) -> None:
         """A folder of the group of one user alone, which its owner may use, until somebody else is in the group."""
-        script = 'if [ $# -eq 2 ] && [ "$1" = passwd ]; then cat "${0%/*}/user.txt"; else cat "${0%/*}/$1.txt"; fi'
+        text = 'if [ $# -eq 2 ] && [ "$1" = passwd ]; then cat "${0%/*}/user.txt"; else cat "${0%/*}/$1.txt"; fi'
         make(self.name("own/"), 0o775, NOBODY, 7)
         user, other, mara = "own:x:65534:7:::\n", "own:x:65534:8:::\n", "mara:x:3:7:::\n"
         for status, group, rows in (
                 (1, "own:x:7:", user), (1, "own:x:7:own", user), (2, "own:x:7:mara", user), (2, "staff:x:7:", user),
                 (2, "own:x:7:", other), (2, "own:x:7:", user + mara)):
-            self.with_getent(rows, group + "\n", script)
+            self.with_getent(rows, group + "\n", text)
             make(self.name("fake/user.txt"), text=rows[: len(user)].encode())
             remove(self.name("own/new"))
             self.took(status, "own/new masks", start=["setpriv", "--reuid=65534", "--regid=7", "--clear-groups"])
 
-    def check_exchange(self, _seed: int) -> None:
-        """Another user exchanges the folder in which the snapshot is made for one with a link to a file of root: it is
-        never made there."""
-        prey = make(self.name("prey/"), 0o755, NOBODY)
-        make(prey + b"/secret", 0o600, text=b"secret")
-        before = state_of(prey + b"/secret")
-        self.slow("getent", '[ "$*" != group ] ||', 0.3)
-
-        def exchange_for_ever() -> None:
-            while True:
-                for name in [prey + b"/" + it for it in os.listdir(prey) if it.startswith(b"before.")]:
-                    os.rename(name, prey + b"/away")
-                    os.makedirs(name + b"/made")
-                    os.symlink(prey + b"/secret", name + b"/made/group")
-                time.sleep(0.01)
-
-        number = child(NOBODY, exchange_for_ever)
-        self.took(2, "prey/before masks")
-        os.kill(number, signal.SIGKILL)
-        os.waitpid(number, 0)
-        expect(state_of(prey + b"/secret") == before, "a file of root is overwritten, or has another list")
-        expect(os.listdir(prey) == [b"secret"], f"written in a folder of another user: {os.listdir(prey)}")
-
-    def check_group(self, _seed: int) -> None:
-        self.took(2, "--group =no~such~group shared masks")
-        expect(not os.path.exists(self.name("shared")), "made for an unknown group")
-        for words in ("--group =daemon ", "--group =1 ", ""):
-            self.took(0, words + "shared masks")
-            self.modes("shared", 0o750, 0o640, 1)
-
 
 if __name__ == "__main__":
-    main(Snapshots, PARTS, __doc__)
+    script.run(lambda: main(Snapshots, __doc__))

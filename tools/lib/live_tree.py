@@ -15,13 +15,14 @@ import stat
 import subprocess
 import sys
 import tempfile
+import textwrap
 import time
 import traceback
 from collections import Counter
-from typing import Callable, Dict, Iterator, List, NamedTuple, NoReturn, Optional, Sequence, Tuple, Type, Union
+from typing import Callable, Dict, Iterator, List, NamedTuple, Optional, Sequence, Tuple, Type, Union
 
 import script
-from session import program_at
+from session import conclude, options_of
 
 COMMANDS = os.fsencode(os.path.join(script.TOP, "commands"))
 USERS = {b"ines": (70001, 70100), b"ben": (70002, 70100), b"mara": (70003, 70200), b"guest": (70009, 70300)}
@@ -36,16 +37,11 @@ PYTHON = b"/usr/bin/python3" if os.path.exists("/usr/bin/python3") else os.fsenc
 CHANGING = ["setxattr", "removexattr", "chmod", "fchmodat", "chown", "lchown", "fchownat"]
 LIBRARY = ctypes.CDLL(None, use_errno=True)
 HERE, EXCHANGE = -100, 2
+UNDO = b"--undo"
 Done = subprocess.CompletedProcess[bytes]
 State = Tuple[object, ...]
 Table = Dict[str, Tuple[int, int]]  # Owners and modes of files, and of directories, whose names end in a slash.
 Name = Union[str, bytes]
-Parts = Dict[str, Tuple[int, int]]  # How often each part of a check is tried, and with --quick.
-
-
-class Fault(Exception):
-    """Something is not as it has to be."""
-
 
 # --- users and commands
 
@@ -59,9 +55,10 @@ def become(user: int) -> None:
         os.setresuid(user, user, user)
 
 
-def run(words: Sequence[bytes], text: bytes = b"", user: int = 0, variables: Optional[Dict[str, str]] = None) -> Done:
+def run(words: Sequence[bytes], text: bytes = b"", user: int = 0, variables: Optional[Dict[str, str]] = None,
+        folder: Optional[bytes] = None) -> Done:
     return subprocess.run(words, input=text, capture_output=True, env={**os.environ, **(variables or {})}, check=False,
-                          preexec_fn=lambda: become(user))
+                          cwd=folder, preexec_fn=lambda: become(user))
 
 
 def must(done: Done, *statuses: int, said: bytes = b"") -> bytes:
@@ -72,7 +69,7 @@ def must(done: Done, *statuses: int, said: bytes = b"") -> bytes:
 
 def expect(is_so: bool, fault: str) -> None:
     if not is_so:
-        raise Fault(fault)
+        raise script.Failed(fault)
 
 
 def child(user: int, what: Callable[[], object]) -> int:
@@ -152,18 +149,13 @@ def state_of(name: bytes, follow: bool = True) -> State:
     return look.st_uid, look.st_gid, look.st_mode, sorted(lists), content
 
 
-class Held:
-    """Files that are held open, with what the system says of each, whatever becomes of its name."""
+def held(names: Sequence[bytes]) -> Dict[bytes, int]:
+    """Files that are held open, whatever becomes of their names."""
+    return {name: os.open(name, os.O_PATH | os.O_NOFOLLOW | os.O_CLOEXEC) for name in names}
 
-    def __init__(self, names: List[bytes]) -> None:
-        self.open = {name: os.open(name, os.O_PATH | os.O_NOFOLLOW | os.O_CLOEXEC) for name in names}
 
-    def close(self) -> None:
-        for descriptor in self.open.values():
-            os.close(descriptor)
-
-    def states(self) -> Dict[bytes, State]:
-        return {name: state_of(b"/proc/self/fd/%d" % descriptor) for name, descriptor in self.open.items()}
+def states_of(files: Dict[bytes, int]) -> Dict[bytes, State]:
+    return {name: state_of(b"/proc/self/fd/%d" % descriptor) for name, descriptor in files.items()}
 
 
 # --- trees and records
@@ -187,6 +179,8 @@ def records_of(text: bytes) -> Dict[bytes, List[bytes]]:
 
 class Tree:
     """A random tree, with a chance of its own."""
+
+    first = b""  # Its listing when it was planned.
 
     def __init__(self, work: bytes, seed: int, more: int = 0) -> None:
         self.chance = random.Random(seed)
@@ -269,12 +263,9 @@ class Tree:
         return b"setfacl --restore=-\n" + head + entries.replace(b",", b"\n") + b"\n.\n"
 
     def line(self) -> bytes:
-        kind = self.chance.randrange(13)
         place = self.chance.choice(self.all())
         folder = self.chance.choice(self.folders)
         both = b" ".join(map(word, {place, self.chance.choice(self.all())}))
-        if kind == 12:
-            return self.record(place)
         modes = [0o750, 0o640, 0o2770, 0o4711, 0o604, 0o1777]
         lines: List[Callable[[], bytes]] = [
             lambda: b"setfacl -m %s %s" % (self.entries(), both),
@@ -289,8 +280,9 @@ class Tree:
             lambda: b"chmod %s%o %s" % (b"-R " * (self.chance.random() < 0.3), self.chance.choice(modes), both),
             lambda: b"chacl -B %s" % word(place),
             lambda: b"who r %s" % word(place),
+            lambda: self.record(place).rstrip(),
         ]
-        return lines[kind]() + b"\n"
+        return self.chance.choice(lines)() + b"\n"
 
     def listing(self) -> bytes:
         """All of it, with the kinds and modes too; nothing where it is gone."""
@@ -355,24 +347,14 @@ def trace(check: Check, words: List[bytes], names: List[str], injected: List[str
         return Traced(traced.returncode, said.read(), lines)
 
 
-def wait_for_all(group: int) -> None:
-    """Until no process of a group is there."""
-    try:
-        while True:
-            os.killpg(group, 0)
-            time.sleep(0.01)
-    except ProcessLookupError:
-        pass
-
-
 # --- a check
 
 
 class Check:
     """A check: each part is a method check_PART, which is called with a seed for each try."""
 
-    tools = ["getfacl", "setfacl", "strace", "setcap", "chattr", "mkfs.ext4", "prlimit", "mount"]
-    without_root: Sequence[str] = ()  # The parts that every user can run.
+    tools = ["getfacl", "setfacl", "strace"]
+    parts: Dict[str, int] = {}  # How often each is tried.
 
     def __init__(self, given: argparse.Namespace, work: bytes) -> None:
         self.given, self.program, self.work = given, os.fsencode(given.program), work
@@ -429,7 +411,10 @@ class Check:
             with contextlib.suppress(ProcessLookupError):
                 (os.killpg if to_all else os.kill)(running.pid, number)
             out, said = running.communicate()
-        wait_for_all(running.pid)
+        with contextlib.suppress(ProcessLookupError):
+            while True:
+                os.killpg(running.pid, 0)
+                time.sleep(0.01)
         return Done(words, running.returncode, out, said)
 
     def forget(self) -> None:
@@ -438,27 +423,37 @@ class Check:
             with contextlib.suppress(FileNotFoundError):
                 os.unlink(os.path.join(self.plan, name))
 
-    def back_to(self, tree: Tree, first: bytes) -> None:
+    def expect_back(self, tree: Tree, when: str = "") -> None:
         """The next attempt starts from the first tree and a plan that was not applied."""
-        expect(tree.listing() == first, "not as before")
+        expect(tree.listing() == tree.first, "not as before" + when)
         self.forget()
+
+    def do(self, tree: Tree, *options: bytes) -> None:
+        """Applies the plan."""
+        must(self.apply(*options), 0)
+        self.check_tree(tree, self.expected(), f"applied, {options}")
+
+    def undo(self, tree: Tree, *statuses: int, user: int = 0) -> None:
+        must(self.apply(UNDO, user=user), *(statuses or [0]))
+        self.expect_back(tree)
 
     def remove_plans(self) -> None:
         for left in glob.glob(self.name("before.plan*")):
             remove(left)
 
     def planned(self, tree: Tree, text: bytes) -> bool:
+        """Keeps the tree's listing, and plans."""
+        tree.first = tree.listing()
+        return self.has_plan(tree.top, text)
+
+    def has_plan(self, top: bytes, text: bytes) -> bool:
         """Takes a snapshot, which facl-plan loads, and makes a plan; whether there is something to restore."""
         self.remove_plans()
-        must(self.command(b"facl-snapshot", b"--program", b"true", self.name("before"), tree.top), 0)
+        must(self.command(b"facl-snapshot", b"--program", b"true", self.name("before"), top), 0)
         make(self.name("edits"), text=text)
         done = self.command(b"facl-plan", b"--keep-going", self.name("before"), self.name("edits"))
         must(done, 0, 1, 3)
-        self.count("lines", text.count(b"\n"))
-        refused = [it for it in done.stderr.splitlines() if b", line " in it and b"warning" not in it]
-        self.count("lines refused", len(refused))
-        if b"names of one file get different lists" in done.stderr:
-            self.count("plans refused for hard links")
+        self.count(f"plans, status {done.returncode} of facl-plan")
         return os.path.exists(self.name("before.plan/new")) and self.read("before.plan/new") != b""
 
     def expected(self) -> Dict[bytes, List[bytes]]:
@@ -473,78 +468,51 @@ class Check:
 # --- how it runs
 
 
-def given_of(parts: Parts, document: Optional[str]) -> argparse.Namespace:
-    """The options; of each part the number of tries. Where a part has an option, those without one are left out."""
-    options = argparse.ArgumentParser(description=document, formatter_class=argparse.RawDescriptionHelpFormatter)
-    options.add_argument("program", metavar="PROGRAM", type=program_at, help="one that is built")
+def given_of(kind: Type[Check], head: Optional[str]) -> argparse.Namespace:
+    """The options; where parts have one, the other parts are left out."""
+    text = f"{head}\nIts parts, with the usual number of tries:\n"
+    for part, usual in kind.parts.items():
+        told = " ".join(f"{part} ({usual}): {getattr(kind, 'check_' + part).__doc__}".split())
+        text += "\n" + textwrap.fill(told, 100, subsequent_indent="    ")
+    options = options_of(text, seed=1, **dict.fromkeys(kind.parts))
     options.add_argument("--folder", default="/tmp", help="where the files are made (/tmp)")
-    options.add_argument("--seed", type=int, default=1)
-    options.add_argument("--quick", action="store_true", help="few tries of each part")
-    options.add_argument("--record", action="store_true", help="write the row of docs/CHECKS.md")
-    for name, (usual, quick) in parts.items():
-        options.add_argument("--" + name, type=int, metavar="N", help=f"so many tries of it ({usual}, or {quick})")
     given = options.parse_args()
-    is_all = all(getattr(given, name) is None for name in parts)
-    for name, (usual, quick) in parts.items():
-        setattr(given, name, (quick if given.quick else usual) if is_all else getattr(given, name) or 0)
+    given.tries = {part: vars(given)[part] for part in kind.parts if vars(given)[part]} or kind.parts
     return given
 
 
-def run_part(check: Check, part: str) -> List[str]:
-    """Tries a part, and returns its faults."""
-    faults = []
-    started = time.monotonic()
-    for seed in range(check.given.seed * 100000, check.given.seed * 100000 + getattr(check.given, part)):
-        try:
-            check.begin()
-            getattr(check, "check_" + part)(seed)
-        except Exception as fault:  # Of the check itself too, which goes on.
-            faults.append(f"{part}, seed {seed}: {type(fault).__name__}: {fault}")
-            edits = check.read("edits") if os.path.exists(check.name("edits")) else b""
-            print(f"{faults[-1]}\n{edits.decode(errors='backslashreplace')}", flush=True)
-    print(f"{time.monotonic() - started:7.1f} seconds of {part}", flush=True)
-    return faults
+def faults_of(check: Check) -> Iterator[str]:
+    """Tries all parts."""
+    for part, number in check.given.tries.items():
+        started = time.monotonic()
+        for seed in range(check.given.seed * 100000, check.given.seed * 100000 + number):
+            try:
+                check.begin()
+                getattr(check, "check_" + part)(seed)
+            except Exception as fault:  # Of the check itself too, which goes on.
+                found = f"{part}, seed {seed}: {type(fault).__name__}: {fault}"
+                edits = check.read("edits") if os.path.exists(check.name("edits")) else b""
+                print(f"{found}\n{edits.decode(errors='backslashreplace')}", flush=True)
+                yield found
+        print(f"{time.monotonic() - started:7.1f} seconds of {part}", flush=True)
 
 
-def run_parts(check: Check, parts: List[str]) -> Tuple[List[str], bool]:
-    """The faults of all parts, and whether it came to its end; what was counted so far counts in any case."""
-    faults = []
-    try:
-        for part in parts:
-            if os.geteuid() and part not in check.without_root:
-                script.say(f"without {part}, which needs root")
-            else:
-                faults += run_part(check, part)
-    except KeyboardInterrupt:
-        print("ended early")
-        return faults, False
-    return faults, True
-
-
-def main(kind: Type[Check], parts: Parts, document: Optional[str]) -> NoReturn:
-    """Runs a check: the status is 1 where something is not as it has to be, 2 where it cannot run."""
-    given = given_of(parts, document)
-    missing = [f"{tool} is not installed" for tool in kind.tools if shutil.which(tool) is None]
-    if os.geteuid() and not kind.without_root:
-        missing.append("run it as root")
-    if missing:
-        script.say(missing[0])
-        sys.exit(2)
-    script.at_signals(signal.default_int_handler)
+def main(kind: Type[Check], head: Optional[str]) -> int:
+    """Runs a check, and returns its exit status; where a signal ends it, what was counted so far is printed."""
+    given = given_of(kind, head)
+    missing = [tool for tool in kind.tools if shutil.which(tool) is None]
+    if missing or os.geteuid():
+        script.say(f"{missing[0]} is not installed" if missing else "run it as root")
+        return 2
     work = os.fsencode(os.path.realpath(tempfile.mkdtemp(prefix="facl-live.", dir=given.folder)))
-    tried = [part for part in parts if getattr(given, part)]
+    counts: Counter[str] = Counter()
     try:
         os.chmod(work, 0o755)
         check = kind(given, work)
-        faults, is_whole = run_parts(check, tried)
+        counts = check.counts
+        faults = list(faults_of(check))
     finally:
-        run([b"chattr", b"-R", b"-f", b"-i", b"-a", work])
         remove(work)
-    counts = sorted(check.counts.items())
-    print("\n".join([f"{number:7,d} {name}" for name, number in counts] + [f"{len(faults)} faults"]))
-    if given.record and is_whole:
-        numbers = {part: getattr(given, part) for part in tried}
-        amount = ", ".join(part if number == 1 else f"{part} {number:,}" for part, number in numbers.items())
-        found = f"{len(faults)} faults, first: {faults[0]:.300}" if faults else "nothing"
-        script.record(amount, found)
-    sys.exit(1 if faults else 0)
+        print("\n".join(f"{number:7,d} {name}" for name, number in sorted(counts.items())))
+    amount = ", ".join(part if number == 1 else f"{part} {number:,}" for part, number in given.tries.items())
+    return conclude(given, amount, [f"{len(faults)} faults, first: {faults[0]:.300}"] if faults else [])
