@@ -160,7 +160,7 @@ def give_all(command: Command, way: Way, carrier: Carrier, is_whole: bool) -> in
     left = carrier.run()
     if way.is_undo and left:
         return say_in_part(command, way, left)
-    if left or carrier.is_interrupted() and not way.is_undo:
+    if left or carrier.is_stopped() and not way.is_undo:
         say_list(command, way, left)
         return put_back(command, way, carrier)
     whole = plan_folder.UNDONE if way.is_undo else plan_folder.APPLIED

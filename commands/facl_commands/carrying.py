@@ -136,7 +136,9 @@ class Carrier:
         left: Dict[bytes, bytes] = {}
         with Opener() as opener:
             for number, path in enumerate(paths):
-                if not is_whole and (self.stop.is_set() or number % OFTEN == 0 and self.is_interrupted()):
+                if not is_whole and number % OFTEN == 0:
+                    self.stop_at_signal()
+                if not is_whole and self.stop.is_set():
                     break
                 fault = fault_of(step, opener, path)
                 if fault is not None:
@@ -154,7 +156,7 @@ class Carrier:
     def given_by(self, helper: Helper, part: List[bytes]) -> Dict[bytes, bytes]:
         """What a process could not change; it is stopped where a signal waits."""
         while not helper.has_result():
-            self.is_interrupted()
+            self.stop_at_signal()
         result = helper.result()
         if not isinstance(result, tuple):
             self.stop.set()
@@ -221,10 +223,14 @@ class Carrier:
         finally:
             file.close()
 
-    def is_interrupted(self) -> bool:
-        """Whether a signal waits; then no process changes a further file."""
+    def stop_at_signal(self) -> None:
+        """Where a signal waits, no process changes a further file."""
         if signal.sigpending() & set(SIGNALS):
             self.stop.set()
+
+    def is_stopped(self) -> bool:
+        """Whether no process changes a further file: one could not be changed, or a signal waits."""
+        self.stop_at_signal()
         return self.stop.is_set()
 
     def put_back(self) -> Dict[bytes, bytes]:

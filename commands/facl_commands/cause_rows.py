@@ -53,8 +53,7 @@ AS_SUCH: List[Cause] = [
         "setfacl -x u:mara srv/share/notes; changes", "setfacl -x u:mara srv/share/notes\nchanges"),
     row("pipe", SHELLS, has_unquoted(rb"\|"),
         "No shell reads the line, so | is a word like any other. What facl-ask prints goes to another command: "
-        "facl-ask "
-        "SNAPSHOT SCRIPT | wc -l", before_pipe, "may ines r | wc -l", "may ines r"),
+        "facl-ask SNAPSHOT SCRIPT | wc -l", before_pipe, "may ines r | wc -l", "may ines r"),
     row("redirection", SHELLS, has_unquoted(rb"(?:^|\s)\d?(?:>|<)|>\S*\Z"),
         "No shell reads the line, so > and < are words like any other. What facl-ask prints goes to a file: facl-ask "
         "SNAPSHOT SCRIPT >FILE", without_redirection, "may ines r > out.txt", "may ines r"),
@@ -84,8 +83,7 @@ UNKNOWN_TOOLS: List[Cause] = [
         lambda line: [line.text.strip(b" \t'")], "'who r FILE'", "who r FILE"),
     row("chown in a question", rb"facl: unknown tool", first("chown chgrp"),
         "facl-plan takes this line in its scripts. Here an owner and a group are set by a record of setfacl "
-        "--restore=- "
-        "alone.", "", "chown ines FILE"),
+        "--restore=- alone.", "", "chown ines FILE"),
     row("namei", UNKNOWN, first("namei ancestors"), "What decides on each directory of a path is asked of a user:",
         "why --reach USER {files}", "namei -l FILE", "why --reach ines FILE"),
     row("find", UNKNOWN, first("find fd locate"),
@@ -117,10 +115,8 @@ UNKNOWN_TOOLS: List[Cause] = [
         "groupmems -g audit -a ines", "gpasswd -a ines audit"),
     row("groups are not made", UNKNOWN, first("groupadd addgroup groupdel delgroup groupmod"),
         "Groups are those of the snapshot: no line adds or removes one, as facl-apply makes none. Make it on the "
-        "system "
-        "and take a new snapshot, or add its row to the file group of a copy. An entry may have an id without a row, "
-        "as "
-        "g:4711:r", "", "groupadd crew"),
+        "system and take a new snapshot, or add its row to the file group of a copy. An entry may have an id without "
+        "a row, as g:4711:r", "", "groupadd crew"),
     row("adduser", UNKNOWN, first("adduser newusers luseradd"),
         "A user is added by useradd, with an id and a primary group:", "useradd -u {uid} -g {group} {name}",
         "adduser nell", "useradd -u 1010 -g audit nell"),
@@ -156,8 +152,7 @@ UNKNOWN_TOOLS: List[Cause] = [
     row("chattr", UNKNOWN, first("chattr"), "Attributes such as immutable are not recorded.", "", "chattr +i FILE"),
     row("passwd", UNKNOWN, first("passwd chpasswd newgrp sg chage vipw vigr chsh chfn"),
         "Passwords, shells and sessions are not recorded. A membership is changed by gpasswd, a primary group by "
-        "usermod "
-        "-g.", "", "newgrp audit"),
+        "usermod -g.", "", "newgrp audit"),
     row("cd", UNKNOWN, first("cd pwd pushd popd chroot"),
         "There is no working directory: each path starts at the root of the file system.", "", "cd srv/share"),
     row("effective", UNKNOWN, first("effective rights perms permissions acl facl"), "What a user may do with a file:",
@@ -168,9 +163,8 @@ UNKNOWN_TOOLS: List[Cause] = [
         "help and quit are words of facl-ask at a terminal; a script ends where its lines end.", "", "help who"),
     row("a shell's line", UNKNOWN, first(
         "echo printf for while if do done then else fi case esac set export source . eval exec sh bash zsh python "
-        "python3 "
-        "perl awk sed grep egrep cut sort uniq xargs time env true false sleep test facl-ask facl-plan facl-apply "
-        "facl-report facl-snapshot parallel { ( :"),
+        "python3 perl awk sed grep egrep cut sort uniq xargs time env true false sleep test facl-ask facl-plan "
+        "facl-apply facl-report facl-snapshot parallel { ( :"),
         "No shell reads the line: each is a tool of facl with its words, and loops, filters and commands are around "
         "facl-ask.", "", "for u in ines ben; do can $u FILE; done"),
     row("a tool's name", UNKNOWN, lambda line: line.tool() not in OPTIONS and nearest_tool(line) is not None,

@@ -44,8 +44,7 @@ OF_OWNERS: List[Cause] = [
         "", "chown --from=mara ines FILE", "chown ines FILE"),
     row("primary group of an id", USAGE, operands(b"chown", lambda word: re.match(rb"\d+:\Z", word) is not None),
         "After an id and a colon comes a GROUP; USER: without one takes the name of a user, and means the user's "
-        "primary "
-        "group.", "", "chown 1001: FILE", "chown ines: FILE"),
+        "primary group.", "", "chown 1001: FILE", "chown ines: FILE"),
     row("no owner", USAGE, operands(b"chown", lambda word: word in (b":", b""), is_any), "A USER, a :GROUP or both say what to change.", "",
         "chown : FILE", "chown :audit FILE"),
 ]
@@ -60,8 +59,7 @@ OF_TOOLS: List[Cause] = [
         "gpasswd -M ines,ben audit", "gpasswd -a ines audit\ngpasswd -a ben audit"),
     row("text from a file", USAGE, first("setfacl", takes_file),
         "The text is not read from a file: it comes in the lines after this one, up to a line with a dot alone, and "
-        "the "
-        "option's value is -", "", "setfacl -M acl.txt FILE", "setfacl -M - FILE\nu:guest:r\n."),
+        "the option's value is -", "", "setfacl -M acl.txt FILE", "setfacl -M - FILE\nu:guest:r\n."),
     row("force", USAGE, has_option("rm -f --force"), "There is no -f: each FILE has to be there.",
         lambda line: as_written("rm {-r} {operands}")(line) if line.operands else [],
         "rm -rf srv/share/drafts", "rm -r srv/share/drafts"),
@@ -69,8 +67,7 @@ OF_TOOLS: List[Cause] = [
         "rm -R srv/share/drafts", "rm -r srv/share/drafts"),
     row("a question with -R", USAGE, first("can who may why", lambda line: line.has(b"-R")),
         "A question has no -R: can, who and why ask of the files they name; may USER PERMS asks of all files, and "
-        "index of "
-        "all users too.", "", "who -R r srv/share", "index"),
+        "index of all users too.", "", "who -R r srv/share", "index"),
     row("nine letters for a mode", USAGE, first("chmod", lambda line: triads_of(line) is not None), ONE_MODE + ":",
         letters_as_digits, "chmod -rw-r----- FILE", "chmod 640 FILE"),
     row("a whole symbolic mode", USAGE,
@@ -78,13 +75,11 @@ OF_TOOLS: List[Cause] = [
         ONE_MODE + ":", mode_line, "chmod u=rw,g=r,o= FILE", "chmod 640 FILE"),
     row("symbolic mode", USAGE, first("chmod", has_symbolic_mode),
         ONE_MODE + ". setfacl puts whole entries, and PERMS are those that getfacl prints, changed as wanted. chmod "
-                   "changes "
-        "the mask in the place of g, where there is one:", mode_line,
+                   "changes the mask in the place of g, where there is one:", mode_line,
         "chmod g+w FILE", "setfacl -n -m g::rw FILE\nsetfacl -n -m m::rw FILE"),
     row("symbolic flags", USAGE, first("chmod", lambda line: mode_of(line) != b""),
         "Flags are the first of four octal digits: 4 set-user-ID, 2 set-group-ID, 1 sticky. NNN are those of the "
-        "present "
-        "mode, the second one that of the mask where there is one:", mode_line,
+        "present mode, the second one that of the mask where there is one:", mode_line,
         "chmod g+s srv/share", "chmod 2770 srv/share"),
     row("options of the system's useradd", USAGE, first("useradd", has_left_out_option),
         "{tool} has no {options} here; it takes -u UID and -g GROUP.", "useradd -u {uid} -g {group} {name}",
@@ -183,8 +178,7 @@ OF_NAMES: List[Cause] = [
         "gpasswd -a ines,mara audit", "gpasswd -a ines audit\ngpasswd -a mara audit"),
     row("a group in place of a user", NO_USER, always,
         "No user has this name or id. A group is none: what it gives is asked of a user who has that group alone, see "
-        "help "
-        "recipes.", "", "may audit r", "useradd -u 60001 -g audit probe"),
+        "help recipes.", "", "may audit r", "useradd -u 60001 -g audit probe"),
     row("a group before its member", rb"gpasswd: .*: no such user", always,
         "No user has this name or id. USER is the option's value, and GROUP the operand: gpasswd -a USER GROUP", "",
         "gpasswd -a audit ines", "gpasswd -a ines audit"),
@@ -209,8 +203,7 @@ OF_NAMES: List[Cause] = [
         "useradd -u 1001 -g staff nell", "useradd -u 1010 -g staff nell"),
     row("names are not expanded", NO_FILE, is_about(rb"[*?~]|\{.*,.*\}"),
         "Names are not expanded: no *, ?, ~ or {a,b}. With -R a line goes to all files below a directory; may and "
-        "index "
-        "print all files.", "", "getfacl srv/share/*", "getfacl -R srv/share"),
+        "index print all files.", "", "getfacl srv/share/*", "getfacl -R srv/share"),
     row("backslashes in a path", NO_FILE, is_about(rb"\\134."), "Components of a path have / between them.",
         replaced(rb"\\(?![0-7]{3}|\\)", b"/"), "who r srv\\share\\one", "who r FILE"),
     row("an entry in place of a file", NO_FILE,

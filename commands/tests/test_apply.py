@@ -248,7 +248,7 @@ class Meanwhile(Tree):
         os.kill(os.getpid(), signal.SIGQUIT)
         try:
             self.assertEqual(carrier.run(), {})
-            self.assertTrue(carrier.is_interrupted())
+            self.assertTrue(carrier.is_stopped())
             self.assertEqual(self.mode("a"), 0o640)
         finally:
             signal.sigwait({signal.SIGQUIT})
@@ -299,7 +299,7 @@ class SideBySide(Meanwhile):
         self.make("secret")
         self.exchange("f20", "secret")
         self.assertEqual(list(carrier.run().values()), [b"was replaced by another file"])
-        self.assertTrue(carrier.is_interrupted())
+        self.assertTrue(carrier.is_stopped())
         self.assertEqual(carrier.put_back(), {})
         self.assertEqual(self.all_modes() | {self.mode("secret")}, {0o640})
 
